@@ -40,7 +40,7 @@ IsUnanswered entries call = All (λ e. (reply : Reply) → e.reply ≢ Some (cal
 abbrev pub IsParted : List PlayedLine → ℕ → ℕ → Type 0
 IsParted lines i j = (k : ℕ) × (n : PlayedLine) × (i < k) × (k ≤ j) × (slice_get lines k ≡ Some n) × (is_call n.line.command ≡ false)
 
--- a call of an earlier line is open: of the same process, or in an earlier phase
+-- a call of an earlier line is open: of the same process, or before a line that is no call
 abbrev pub IsBarred : List PlayedLine → ℕ → PlayedLine → Type 0
 IsBarred lines j m = (i : ℕ) × (l : PlayedLine) × (i < j) × (slice_get lines i ≡ Some l) × (is_open l.outcome ≡ true) × ((asker l.line.command ≡ asker m.line.command) ⊎ IsParted lines i j)
 

@@ -1,5 +1,5 @@
 -- What the lines of a script come to on threads, and which entries of the journal they made.
-use Rattle.std.specs.Prelude.{◌≡◌, ⊤, ℕ, ◌-◌, ◌<◌, ◌≤◌, ◌==◌, ◌&&◌, nat_lt, Bool, true, false, List, Option, Some, None, filter, filter_map, map, slice_get}
+use Rattle.std.specs.Prelude.{◌≡◌, ⊤, ℕ, ◌-◌, ◌<◌, ◌≤◌, ◌==◌, ◌&&◌, nat_lt, not, Bool, true, false, List, Option, Some, None, filter, filter_map, map, slice_get}
 use Rattle.std.specs.Option.{option_map}
 use Rattle.std.specs.List.{enumerate_from}
 use Rattle.book.specs.Fields.{ReceiptFields}
@@ -100,9 +100,16 @@ ends _ = None
 abbrev pub Precedes : PlayedLine → PlayedLine → Type 0
 Precedes l m = (p q : ℕ) → ends l.outcome ≡ Some p → begins m.outcome ≡ Some q → p < q
 
--- a line that is no call parts the lines into phases: what stands before it precedes it, and that and itself precede what stands behind it
-abbrev pub ArePhases : List PlayedLine → Type 0
-ArePhases lines = (i j k : ℕ) (l m n : PlayedLine) → i ≤ j → j ≤ k → i < k → slice_get lines i ≡ Some l → slice_get lines j ≡ Some m → slice_get lines k ≡ Some n → is_call m.line.command ≡ false → Precedes l n
+-- which lines part the lines into phases: each that is no call, or, where lines of failures and starts don't join the clients, `settle` alone
+abbrev pub parts : Bool → Command → Bool
+parts no_join Settle = true
+parts no_join (Call n pid op) = false
+parts no_join _ = not no_join
+
+-- a line that parts the lines into phases stands between them: what stands before it precedes it, and that and itself precede what stands behind it
+abbrev pub ArePhases : (Command → Bool) → List PlayedLine → Type 0
+ArePhases is_between lines =
+    (i j k : ℕ) (l m n : PlayedLine) → i ≤ j → j ≤ k → i < k → slice_get lines i ≡ Some l → slice_get lines j ≡ Some m → slice_get lines k ≡ Some n → is_between m.line.command ≡ true → Precedes l n
 
 -- what the line asked for, with the index of the entry that it made, from 0
 abbrev pub made_by : PlayedLine → Option Asked

@@ -51,13 +51,6 @@ impl<'a> Client<'a> {
         self.process
     }
 
-    /// Whether the client is of that process of the node, in whatever incarnation.
-    pub(crate) fn is_of(&self, node: u8, pid: u16) -> bool
-        ensures { IsTrue result ↔ ((self.now.process.node ≡ node) × (self.now.process.pid ≡ pid)) }
-    {
-        self.process.node == node && self.process.pid == pid
-    }
-
     /// The position of the last reply that the client has got or was told of, from 1; 0 with none.
     pub fn last(&self) -> u32
         ensures { result ≡ self.now.last }

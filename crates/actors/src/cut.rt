@@ -83,7 +83,7 @@ fn has(askers: &[(u8, u16)], asker: (u8, u16)) -> bool
     askers.contains(&asker)
 }
 
-/// Whether each line that was left stands behind an open call, of its process or of an earlier phase.
+/// Whether each line that was left stands behind an open call, of its process or before a line that is no call.
 pub(crate) fn are_barred(alloc: Global, lines: &[PlayedLine]) -> Result<bool, AllocError>
     ensures { IfOk result (λ are. are ≡ true → AreBarred lines.now) }
 {

@@ -3,6 +3,7 @@
 
 pub mod asked;
 pub mod call_error;
+mod call_queue;
 pub mod client;
 pub mod cluster;
 mod cut;
@@ -12,6 +13,7 @@ mod halt;
 mod held_back;
 mod letter;
 pub mod line_outcome;
+pub mod manner;
 mod open_calls;
 mod outgoing;
 mod pacer;
@@ -26,6 +28,7 @@ mod resends;
 pub mod run_error;
 pub mod seeded;
 mod shared;
+mod stage;
 mod stop;
 mod stuck;
 pub mod thread_run;

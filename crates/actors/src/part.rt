@@ -1,72 +1,75 @@
 //! The part of a process in a phase.
-use crate::call_error::CallError;
+use crate::call_queue::{CallQueue, NextCall};
 use crate::client::Client;
 use crate::line_outcome::LineOutcome;
 use crate::stop::Stop;
 use model::op::Op;
-use std::alloc::Global;
-use std::sync::Wait;
+use std::alloc::{AllocError, Global};
+use std::sync::{Mutex, Wait};
 
-/// The calls of a process in a phase, each with the index of its line in the script, its client, what the
-/// calls so far came to, and why no more are made, if that was met.
+/// The node of a process, and its calls in a phase, which one thread at most makes, while others may be added.
 #[derive(Drop)]
 pub(crate) struct Part<'a> {
-    pub(crate) client: Client<'a>,
-    pub(crate) calls: Vec<(usize, Op)>,
-    pub(crate) outcomes: Vec<(usize, LineOutcome)>,
-    pub(crate) stopped: Option<Stop>,
+    node: u8,
+    queue: Mutex<CallQueue<'a>>,
 }
 
 impl<'a> Part<'a> {
-    /// The part of a process that makes no call.
-    pub(crate) fn new(alloc: Global, client: Client<'a>) -> Part<'a> {
+    /// The part of a process of the node that makes no call.
+    pub(crate) fn new(alloc: Global, node: u8) -> Part<'a> {
         Part {
-            client,
-            calls: Vec::new(alloc),
-            outcomes: Vec::new(alloc),
-            stopped: None,
+            node,
+            queue: Mutex::new(CallQueue::new(alloc)),
         }
     }
 
-    /// Makes the calls in order, each after the reply to the one before, up to one that has no answer since the
-    /// run was ended. False where no more are made for another reason.
-    pub(crate) fn play<R: Wait>(&mut self, rt: &R) -> bool {
-        let Part {
-            client,
-            calls,
-            outcomes,
-            stopped,
-        } = self;
-        for (index, op) in calls.iter() {
-            match make(rt, client, *index, *op, outcomes) {
-                Ok(goes_on) if goes_on => {}
-                Ok(_) => break,
-                Err(why) => {
-                    *stopped = Some(why);
-                    return false;
-                }
-            }
-        }
-        true
+    /// Whether the next call that is added needs a client.
+    pub(crate) fn needs_client<R: Wait>(&self, rt: &R) -> bool {
+        self.queue.lock(rt).needs_client()
     }
-}
 
-// Makes the call of the line at the index, and keeps what it came to, unless that ends the run. Whether the
-// next may be made.
-fn make<R: Wait>(
-    rt: &R,
-    client: &mut Client<'_>,
-    index: usize,
-    op: Op,
-    outcomes: &mut Vec<(usize, LineOutcome)>,
-) -> Result<bool, Stop> {
-    let outcome = match client.call(rt, op) {
-        Ok(receipt) => LineOutcome::Answered(receipt),
-        Err(CallError::NoMemory) => return Err(Stop::NoMemory),
-        Err(CallError::JournalFull) => return Err(Stop::JournalFull),
-        Err(CallError::Unanswered { call_at }) => LineOutcome::Open(call_at),
-        Err(why) => LineOutcome::Denied(why),
-    };
-    outcomes.push((index, outcome))?;
-    Ok(!outcome.is_open())
+    /// The node has begun again: if it is that of the process, the next call that is added needs a client.
+    pub(crate) fn learn_restart<R: Wait>(&self, rt: &R, node: u8) {
+        if self.node == node {
+            self.queue.lock(rt).lose_client();
+        }
+    }
+
+    /// Adds a call, with its client if one is needed.
+    pub(crate) fn add<R: Wait>(&self, rt: &R, call: NextCall<'a>) -> Result<(), AllocError> {
+        self.queue.lock(rt).add(call)
+    }
+
+    /// Whether a thread is to be started that plays the part.
+    pub(crate) fn begin<R: Wait>(&self, rt: &R) -> bool {
+        self.queue.lock(rt).begin()
+    }
+
+    /// Makes the calls in order, each after the reply to the one before, as long as there are some, up to one
+    /// that has no answer since the run was ended. False where no more are made for another reason.
+    pub(crate) fn play<R: Wait>(&self, rt: &R) -> bool {
+        for _ in rt.forever() {
+            let next = self.queue.lock(rt).next();
+            let Some((index, op, client)) = next else {
+                break;
+            };
+            self.make(rt, index, op, client);
+        }
+        !self.queue.lock(rt).is_stopped()
+    }
+
+    // Makes the call of the line at the index, with this client.
+    fn make<R: Wait>(&self, rt: &R, index: usize, op: Op, client: Client<'a>) {
+        let mut client = client;
+        let made = client.call(rt, op);
+        self.queue.lock(rt).end_call(client, index, made);
+    }
+
+    /// What the calls came to, each with the index of its line, and the client for later calls, if there is one.
+    pub(crate) fn into_outcomes(
+        self,
+    ) -> Result<(Vec<(usize, LineOutcome)>, Option<Client<'a>>), Stop> {
+        let Part { queue, .. } = self;
+        queue.into_inner().into_outcomes()
+    }
 }

@@ -1,11 +1,11 @@
 //! Whether lines that were played are phases.
 ghost use Rattle.std.specs.Prelude.{◌≡◌, ◌<◌, ℕ, max, Some, unwrap_or, if◌then◌else◌, IfSome, IsTrue};
-ghost use Rattle.actors.specs.Lines.{ArePhases, begins, ends, is_call};
+ghost use Rattle.actors.specs.Lines.{ArePhases, begins, ends, parts};
 
 use crate::played_line::PlayedLine;
 
 // Up to which position the lines that were looked at stand, from 1, and those of them up to the last that
-// is no call; 0 for none.
+// parts phases; 0 for none.
 #[derive(Clone, Copy)]
 struct Known {
     all: u32,
@@ -13,30 +13,30 @@ struct Known {
 }
 
 impl Known {
-    // The same with the next line. None where its entry stands before what precedes it.
-    fn with(&self, played: &PlayedLine) -> Option<Known>
+    // The same with the next line, which may part phases. None where its entry stands before what precedes it.
+    fn with(&self, no_join: bool, played: &PlayedLine) -> Option<Known>
         ensures all { IfSome result (λ k. k.all ≡ max self.now.all (unwrap_or (ends played.now.outcome) 0)) }
-        ensures earlier { IfSome result (λ k. k.earlier ≡ (if is_call played.now.line.command then self.now.earlier else k.all)) }
-        ensures later { IfSome result (λ k. (at : ℕ) → begins played.now.outcome ≡ Some at → (if is_call played.now.line.command then self.now.earlier else self.now.all) < at) }
+        ensures earlier { IfSome result (λ k. k.earlier ≡ (if parts no_join played.now.line.command then k.all else self.now.earlier)) }
+        ensures later { IfSome result (λ k. (at : ℕ) → begins played.now.outcome ≡ Some at → (if parts no_join played.now.line.command then self.now.all else self.now.earlier) < at) }
     {
-        let is_call = played.is_call();
-        let before = if is_call { self.earlier } else { self.all };
+        let parts = played.parts(no_join);
+        let before = if parts { self.all } else { self.earlier };
         if played.outcome.begins().is_some_and(|at| at <= before) {
             return None;
         }
         let all = self.all.max(played.outcome.ends().unwrap_or(0));
-        let earlier = if is_call { self.earlier } else { all };
+        let earlier = if parts { all } else { self.earlier };
         Some(Known { all, earlier })
     }
 }
 
 /// Whether the lines are phases, each of which stands after the one before.
-pub(crate) fn are_phases(lines: &[PlayedLine]) -> bool
-    ensures { IsTrue result → ArePhases lines.now }
+pub(crate) fn are_phases(no_join: bool, lines: &[PlayedLine]) -> bool
+    ensures { IsTrue result → ArePhases (parts no_join) lines.now }
 {
     let mut known = Known { all: 0, earlier: 0 };
     for line in lines {
-        match known.with(line) {
+        match known.with(no_join, line) {
             Some(next) => known = next,
             None => return false,
         }

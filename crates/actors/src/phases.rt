@@ -1,74 +1,104 @@
 //! The phases of a script.
 use crate::call_error::CallError;
+use crate::call_queue::NextCall;
 use crate::client::Client;
 use crate::cluster::Cluster;
 use crate::line_outcome::LineOutcome;
+use crate::manner::Manner;
 use crate::part::Part;
 use crate::played_line::PlayedLine;
+use crate::stage::Stage;
 use crate::stop::Stop;
 use book::receipt::Receipt;
 use lockscript::script_line::{Command, ScriptLine};
 use messages::refusal::Refused;
 use model::op::Op;
 use std::alloc::Global;
-use std::sync::atomic::{AtomicU64, Ordering};
-use std::sync::{Mutex, Wait};
-use std::thread::Threads;
-use std::time::{Clock, Duration};
+use std::collections::BTreeMap;
+use std::sync::Wait;
+use std::sync::atomic::AtomicU64;
+use std::thread::{Scope, Threads};
+use std::time::Clock;
 use std::{mem, thread};
 
-/// The phases of a script on a cluster: whether they may be ended where they are stuck, and were; the lines so
-/// far with what they came to, the parts of the phase that they have begun, the clients that have none in it,
-/// the last receipt of the earlier phases, and the files whose token servers are declared failed.
+/// The phases of a script on a cluster: how it is run, and whether the run was ended where it was stuck; the lines
+/// so far with what they came to, and the index of the first of the phase; the parts of the phase, with where that
+/// of each process stands, the clients that make no call in it, each by its process, the last receipt of the
+/// earlier phases, and the files whose token servers are declared failed.
 #[derive(Drop)]
 pub(crate) struct Phases<'a, 'b> {
     alloc: Global,
     cluster: &'b Cluster<'a>,
-    may_stop: bool,
+    manner: Manner,
     is_over: bool,
     lines: Vec<PlayedLine>,
+    first: usize,
     parts: Vec<Part<'a>>,
-    idle: Vec<Client<'a>>,
+    places: BTreeMap<(u8, u16), usize>,
+    idle: BTreeMap<(u8, u16), Client<'a>>,
     last: Option<Receipt>,
     failed: Vec<u16>,
 }
 
 impl<'a, 'b> Phases<'a, 'b> {
     /// No line was taken.
-    pub(crate) fn new(alloc: Global, cluster: &'b Cluster<'a>, may_stop: bool) -> Phases<'a, 'b> {
+    pub(crate) fn new(alloc: Global, cluster: &'b Cluster<'a>, manner: Manner) -> Phases<'a, 'b> {
         Phases {
             alloc,
             cluster,
-            may_stop,
+            manner,
             is_over: false,
             lines: Vec::new(alloc),
+            first: 0,
             parts: Vec::new(alloc),
-            idle: Vec::new(alloc),
+            places: BTreeMap::new(alloc),
+            idle: BTreeMap::new(alloc),
             last: None,
             failed: Vec::new(alloc),
         }
     }
 
-    /// Takes a line: a call goes into the phase, and another line ends it and is done. Once they are over, each
-    /// line is left.
+    /// Takes a line: one that parts phases ends the phase and is done, and another goes into it. Once they are
+    /// over, each line is left.
+    ///
+    /// # Errors
+    /// `NoMemory` where a request for memory or for a thread was refused; `JournalFull` where the run needs more entries
+    /// than a journal may have.
     pub(crate) fn take<R: Threads + Wait + Clock + Sync>(
         &mut self,
         rt: &R,
         line: &ScriptLine,
     ) -> Result<(), Stop> {
+        let played = PlayedLine::new(*line);
+        let parts = played.parts(self.manner.no_join);
+        if parts {
+            self.join(rt)?;
+        }
         let index = self.lines.len();
-        self.lines.push(PlayedLine::new(*line))?;
+        self.lines.push(played)?;
         if self.is_over {
             return Ok(());
         }
-        if let Command::Call { node, pid, op } = line.command() {
-            return self.add(rt, index, node, pid, op);
+        if !parts {
+            return self.add(line.command());
         }
-        self.join(rt)?;
-        if !self.is_over {
-            let outcome = self.change(rt, line.command())?;
-            self.note(index, outcome);
+        self.make(rt, index, line.command(), &[])?;
+        self.first = self.lines.len();
+        Ok(())
+    }
+
+    // The process of a line in the phase has a part in it.
+    fn add(&mut self, command: Command) -> Result<(), Stop> {
+        let Command::Call { node, pid, .. } = command else {
+            return Ok(());
+        };
+        if self.places.contains_key(&(node, pid)) {
+            return Ok(());
         }
+        if self.places.insert((node, pid), self.parts.len()).is_err() {
+            return Err(Stop::NoMemory);
+        }
+        self.parts.push(Part::new(self.alloc, node))?;
         Ok(())
     }
 
@@ -79,11 +109,29 @@ impl<'a, 'b> Phases<'a, 'b> {
         }
     }
 
-    // Does what a line between two phases asks for.
-    fn change<R: Wait>(&mut self, rt: &R, command: Command) -> Result<LineOutcome, Stop> {
+    // Makes the line at the index, which is no call, beside these parts.
+    fn make<R: Wait>(
+        &mut self,
+        rt: &R,
+        index: usize,
+        command: Command,
+        parts: &[Part<'a>],
+    ) -> Result<(), Stop> {
+        let outcome = self.change(rt, command, parts)?;
+        self.note(index, outcome);
+        Ok(())
+    }
+
+    // Does what a line that is no call asks for.
+    fn change<R: Wait>(
+        &mut self,
+        rt: &R,
+        command: Command,
+        parts: &[Part<'a>],
+    ) -> Result<LineOutcome, Stop> {
         let made = match command {
             Command::Declare { node } => self.declare(rt, node),
-            Command::Restart { node } => self.restart(rt, node),
+            Command::Restart { node } => self.restart(rt, node, parts),
             Command::FailServer { file } => self.fail_server(rt, file),
             Command::StartServer { file } => self.start_server(rt, file),
             _ => return Ok(LineOutcome::Settled),
@@ -118,101 +166,155 @@ impl<'a, 'b> Phases<'a, 'b> {
     }
 
     // The node begins again, whose clients are gone: the position of the entry.
-    fn restart<R: Wait>(&mut self, rt: &R, node: u8) -> Result<u32, Refused> {
+    fn restart<R: Wait>(&mut self, rt: &R, node: u8, parts: &[Part<'a>]) -> Result<u32, Refused> {
         let position = self.cluster.restart(rt, node)?;
-        self.idle.retain(|client| client.process().node != node);
+        self.idle.retain(|process, _| process.0 != node);
+        for part in parts {
+            part.learn_restart(rt, node);
+        }
         Ok(position)
     }
 
-    // Puts the call of the line at the index into the phase. It is refused where its process can have no
-    // client.
-    fn add<R: Wait>(
-        &mut self,
-        rt: &R,
-        index: usize,
-        node: u8,
-        pid: u16,
-        op: Op,
-    ) -> Result<(), Stop> {
-        if self.add_to_part(index, node, pid, op)? {
+    // The client of the process, after all earlier phases: the one that it has, or else a new one.
+    fn client<R: Wait>(&mut self, rt: &R, node: u8, pid: u16) -> Result<Client<'a>, CallError> {
+        let mut client = match self.idle.remove(&(node, pid)) {
+            Some(client) => client,
+            None => self.cluster.client(rt, node, pid)?,
+        };
+        if let Some(receipt) = &self.last {
+            client.told(receipt);
+        }
+        Ok(client)
+    }
+
+    /// Ends the phase: the calls of each part are made on a thread of its own, and all are waited for. Where one
+    /// stops before its end, or has no thread, the cluster ends, so that the others wait for nothing of it; so it
+    /// does where the parts are stuck, if they may be ended then.
+    ///
+    /// # Errors
+    /// As `take` has it.
+    pub(crate) fn join<R: Threads + Wait + Clock + Sync>(&mut self, rt: &R) -> Result<(), Stop> {
+        if self.is_over {
             return Ok(());
         }
-        match self.client(rt, node, pid) {
-            Ok(client) => self.begin(client, index, op)?,
-            Err(CallError::NoMemory) => return Err(Stop::NoMemory),
-            Err(why) => self.note(index, LineOutcome::Denied(why)),
-        }
-        Ok(())
-    }
-
-    // Puts a call into the part that its process has in the phase. Whether it has one.
-    fn add_to_part(&mut self, index: usize, node: u8, pid: u16, op: Op) -> Result<bool, Stop> {
-        for part in self.parts.iter_mut() {
-            if part.client.is_of(node, pid) {
-                part.calls.push((index, op))?;
-                return Ok(true);
-            }
-        }
-        Ok(false)
-    }
-
-    // The client of the process: the one that it has, or else a new one.
-    fn client<R: Wait>(&mut self, rt: &R, node: u8, pid: u16) -> Result<Client<'a>, CallError> {
-        match self.idle.iter().position(|client| client.is_of(node, pid)) {
-            Some(index) => Ok(self.idle.remove(index)),
-            None => self.cluster.client(rt, node, pid),
-        }
-    }
-
-    // The part of a client in the phase, which begins with this call, after all earlier phases.
-    fn begin(&mut self, client: Client<'a>, index: usize, op: Op) -> Result<(), Stop> {
-        let mut part = Part::new(self.alloc, client);
-        if let Some(receipt) = &self.last {
-            part.client.told(receipt);
-        }
-        part.calls.push((index, op))?;
-        self.parts.push(part)?;
-        Ok(())
-    }
-
-    /// Ends the phase: each part is played on a thread of its own, and all are waited for. Where one stops
-    /// before its end, or has no thread, the cluster ends, so that the others wait for nothing of it; so it
-    /// does where the parts are stuck, if they may be ended then.
-    pub(crate) fn join<R: Threads + Wait + Clock + Sync>(&mut self, rt: &R) -> Result<(), Stop> {
         let parts = mem::replace(&mut self.parts, Vec::new(self.alloc));
-        let mut slots = Vec::new(self.alloc);
+        let played = self.play_all(rt, parts.as_slice());
+        self.places.clear();
         for part in parts {
-            slots.push(Mutex::new(part))?;
+            self.end(part)?;
         }
-        let failed = self.failed.as_slice();
-        let watched = if self.may_stop { Some(failed) } else { None };
-        let all = play_all(rt, self.cluster, slots.as_slice(), watched);
-        for slot in slots {
-            self.end(slot.into_inner())?;
-        }
-        if !all || self.cluster.is_short() {
+        played?;
+        if self.cluster.is_short() {
             return Err(Stop::NoMemory);
         }
         Ok(())
     }
 
+    // Plays the parts of the phase, on threads that have ended when it comes back.
+    fn play_all<R: Threads + Wait + Clock + Sync>(
+        &mut self,
+        rt: &R,
+        parts: &[Part<'a>],
+    ) -> Result<(), Stop> {
+        let cluster = self.cluster;
+        let playing = AtomicU64::new(0);
+        let playing = &playing;
+        thread::scope(thread::scope_env(), rt, |scope| {
+            let stage = Stage {
+                rt,
+                cluster,
+                parts,
+                playing,
+            };
+            let played = self.play_on(scope, &stage);
+            if played.is_err() {
+                cluster.stop();
+            }
+            played
+        })
+    }
+
+    // Makes the lines of the phase in their order, each that is no call when no call before it can be answered
+    // without it. Waits for no call at the end, but for their being stuck where that ends the run.
+    fn play_on<'s, E, R: Threads + Wait + Clock + Sync>(
+        &mut self,
+        scope: &Scope<'s, E>,
+        stage: &Stage<'s, 'a, R>,
+    ) -> Result<(), Stop> {
+        for index in self.first..self.lines.len() {
+            let Some(played) = self.lines.get(index) else {
+                break;
+            };
+            let command = played.line.command();
+            if let Command::Call { node, pid, op } = command {
+                self.queue(stage, index, node, pid, op)?;
+                continue;
+            }
+            stage.start(scope)?;
+            stage.wait_until_stuck(self.failed.as_slice());
+            self.make(stage.rt, index, command, stage.parts)?;
+        }
+        stage.start(scope)?;
+        if self.manner.may_stop && stage.wait_until_stuck(self.failed.as_slice()) {
+            self.cluster.stop();
+        }
+        Ok(())
+    }
+
+    // Adds the call of the line at the index to the part of its process. It is refused where that can have no
+    // client.
+    fn queue<R: Wait>(
+        &mut self,
+        stage: &Stage<'_, 'a, R>,
+        index: usize,
+        node: u8,
+        pid: u16,
+        op: Op,
+    ) -> Result<(), Stop> {
+        let Some(part) = self.part_of(stage.parts, node, pid) else {
+            return Ok(());
+        };
+        let client = if part.needs_client(stage.rt) {
+            match self.client(stage.rt, node, pid) {
+                Ok(client) => Some(client),
+                Err(CallError::NoMemory) => return Err(Stop::NoMemory),
+                Err(why) => {
+                    self.note(index, LineOutcome::Denied(why));
+                    return Ok(());
+                }
+            }
+        } else {
+            None
+        };
+        part.add(stage.rt, NextCall { index, op, client })?;
+        Ok(())
+    }
+
+    // The part of the process, of those of the phase, if it has one.
+    fn part_of<'p>(&self, parts: &'p [Part<'a>], node: u8, pid: u16) -> Option<&'p Part<'a>> {
+        parts.get(*self.places.get(&(node, pid))?)
+    }
+
+    // Keeps the client of a process that makes no call now.
+    fn keep(&mut self, client: Client<'a>) -> Result<(), Stop> {
+        let process = client.process();
+        match self.idle.insert((process.node, process.pid), client) {
+            Ok(_) => Ok(()),
+            Err(_) => Err(Stop::NoMemory),
+        }
+    }
+
     // Takes in a part that was played.
     fn end(&mut self, part: Part<'a>) -> Result<(), Stop> {
-        let Part {
-            client,
-            outcomes,
-            stopped,
-            ..
-        } = part;
-        if let Some(why) = stopped {
-            return Err(why);
-        }
+        let (outcomes, client) = part.into_outcomes()?;
         for (index, outcome) in outcomes.iter() {
             self.note(*index, *outcome);
             self.see(outcome);
             self.is_over = self.is_over || outcome.is_open();
         }
-        self.idle.push(client)?;
+        if let Some(client) = client {
+            self.keep(client)?;
+        }
         Ok(())
     }
 
@@ -230,61 +332,5 @@ impl<'a, 'b> Phases<'a, 'b> {
     /// The lines with what they came to.
     pub(crate) fn into_lines(self) -> Vec<PlayedLine> {
         self.lines
-    }
-}
-
-// Plays each part on a thread of its own, and waits for all; where files are given, whose token servers are
-// declared failed, until they are stuck. False where a thread can't be made.
-fn play_all<R: Threads + Wait + Clock + Sync>(
-    rt: &R,
-    cluster: &Cluster<'_>,
-    parts: &[Mutex<Part<'_>>],
-    watched: Option<&[u16]>,
-) -> bool {
-    let playing = AtomicU64::new(parts.len() as u64);
-    let playing = &playing;
-    thread::scope(thread::scope_env(), rt, |scope| {
-        for part in parts {
-            if scope
-                .spawn(move || play(rt, cluster, part, playing))
-                .is_err()
-            {
-                cluster.stop();
-                return false;
-            }
-        }
-        if let Some(failed) = watched {
-            watch(rt, cluster, playing, failed);
-        }
-        true
-    })
-}
-
-// Plays a part. Where it stops before its end, the cluster ends.
-fn play<R: Wait>(rt: &R, cluster: &Cluster<'_>, part: &Mutex<Part<'_>>, playing: &AtomicU64) {
-    if !part.lock(rt).play(rt) {
-        cluster.stop();
-    }
-    playing.fetch_sub(1, Ordering::SeqCst);
-}
-
-// The longest pause between two looks, in milliseconds.
-const LONGEST_PAUSE: u64 = 64;
-
-// Looks again and again whether those who play are stuck, at growing distances, and ends the cluster then.
-// Comes back when none plays any more.
-fn watch<R: Wait + Clock>(rt: &R, cluster: &Cluster<'_>, playing: &AtomicU64, failed: &[u16]) {
-    let mut looks: u64 = 0;
-    for _ in rt.forever() {
-        let processes = playing.load(Ordering::SeqCst) as usize;
-        if processes == 0 {
-            return;
-        }
-        if cluster.is_stuck(rt, processes, failed) {
-            cluster.stop();
-            return;
-        }
-        thread::sleep(rt, Duration::from_millis((looks / 16).min(LONGEST_PAUSE)));
-        looks = looks.saturating_add(1);
     }
 }

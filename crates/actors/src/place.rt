@@ -30,6 +30,10 @@ impl Place {
     }
 
     /// The process has a client from here on, of the incarnation that is answered.
+    ///
+    /// # Errors
+    /// In this order: `Fenced` while the node is declared failed; `Busy` where the process has a client already;
+    /// `NoMemory` where a request for memory was refused.
     pub(crate) fn hand_out(&mut self, pid: u16) -> Result<u16, CallError>
         ensures from_one { IfOk result (λ incarnation. 1 ≤ incarnation) }
         ensures value { IfOk result (λ incarnation. incarnation ≡ self.old.incarnation) }

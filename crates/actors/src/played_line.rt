@@ -1,7 +1,7 @@
 //! Lines of a script with what they came to.
 ghost use Rattle.std.specs.Prelude.{◌≡◌, ◌↔◌, IsTrue};
 ghost use Rattle.actors.specs.declared.line_outcome.LineOutcome.TheVariants.{Left};
-ghost use Rattle.actors.specs.Lines.{Fits, asker, is_call, is_change, made_by, may_be_denied, may_be_refused, receipt_in, refused_in};
+ghost use Rattle.actors.specs.Lines.{Fits, asker, is_call, is_change, made_by, may_be_denied, may_be_refused, parts, receipt_in, refused_in};
 ghost use Rattle.lockscript.specs.declared.script_line.Command.TheVariants.{Call, Settle};
 
 use crate::asked::{Asked, asker_of};
@@ -78,6 +78,17 @@ impl PlayedLine {
         ensures { result ≡ is_call self.now.line.command }
     {
         is_call(&self.line.command())
+    }
+
+    /// Whether the line parts phases.
+    pub(crate) fn parts(&self, no_join: bool) -> bool
+        ensures { result ≡ parts no_join self.now.line.command }
+    {
+        match self.line.command() {
+            Command::Settle => true,
+            Command::Call { .. } => false,
+            _ => !no_join,
+        }
     }
 
     /// Whether the line may come to this.

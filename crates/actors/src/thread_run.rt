@@ -2,11 +2,12 @@
 ghost use Rattle.std.specs.Prelude.{◌≡◌, ◌↔◌, true, false, All, IfOk, IsTrue, filter_map, map};
 ghost use Rattle.lockscript.specs.Scripts.{LineFields};
 ghost use Rattle.actors.specs.Cuts.{AreBarred, IsUnanswered, is_cut, open_by};
-ghost use Rattle.actors.specs.Lines.{AreLinesOf, ArePhases, Fits, receipt_in, refused_in};
+ghost use Rattle.actors.specs.Lines.{AreLinesOf, ArePhases, Fits, parts, receipt_in, refused_in};
 ghost use Rattle.actors.specs.Runs.{IsOfScript};
 
 use crate::asked::are_made;
 use crate::cut::{are_barred, are_unanswered};
+use crate::manner::Manner;
 use crate::phase_order::are_phases;
 use crate::played_line::PlayedLine;
 use book::receipt::Receipt;
@@ -48,18 +49,18 @@ impl ThreadRun {
     pub(crate) fn new(
         alloc: Global,
         script: &Script,
-        may_stop: bool,
+        manner: Manner,
         lines: Vec<PlayedLine>,
         journal: Journal,
     ) -> Result<ThreadRun, AllocError>
         requires { journal.shape ≡ script.now.shape }
         ensures journal { IfOk result (λ run. run.journal ≡ journal) }
-        ensures of_script { IfOk result (IsOfScript script.now may_stop) }
+        ensures of_script { IfOk result (IsOfScript script.now manner.no_join manner.may_stop) }
     {
         let (told, entries) = (lines.as_slice(), journal.entries());
         let open_calls = open_in(alloc, entries, told)?;
         let calls = open_calls.as_slice();
-        if !are_of_script(alloc, script.lines(), may_stop, entries, told, calls)? {
+        if !are_of_script(alloc, script.lines(), manner, entries, told, calls)? {
             return Err(AllocError);
         }
         let receipts = receipts_in(alloc, told)?;
@@ -114,22 +115,23 @@ impl ThreadRun {
 fn are_of_script(
     alloc: Global,
     script: &[ScriptLine],
-    may_stop: bool,
+    manner: Manner,
     entries: &[Entry],
     lines: &[PlayedLine],
     open_calls: &[CallId],
 ) -> Result<bool, AllocError>
     ensures lines { IfOk result (λ are. are ≡ true → AreLinesOf script.now entries.now lines.now) }
     ensures fit { IfOk result (λ are. are ≡ true → All (λ l. Fits l.line.command l.outcome) lines.now) }
-    ensures phases { IfOk result (λ are. are ≡ true → ArePhases lines.now) }
+    ensures phases { IfOk result (λ are. are ≡ true → ArePhases (parts manner.no_join) lines.now) }
     ensures unanswered { IfOk result (λ are. are ≡ true → All (IsUnanswered entries.now) open_calls.now) }
     ensures barred { IfOk result (λ are. are ≡ true → AreBarred lines.now) }
-    ensures whole { IfOk result (λ are. are ≡ true → may_stop ≡ false → All (λ l. is_cut l.outcome ≡ false) lines.now) }
+    ensures whole { IfOk result (λ are. are ≡ true → manner.may_stop ≡ false → All (λ l. is_cut l.outcome ≡ false) lines.now) }
 {
-    if !are_lines_of(alloc, script, entries, lines)? || !all_fit(lines) || !are_phases(lines) {
+    let are_lines = are_lines_of(alloc, script, entries, lines)?;
+    if !are_lines || !all_fit(lines) || !are_phases(manner.no_join, lines) {
         return Ok(false);
     }
-    are_cut_so(alloc, may_stop, entries, lines, open_calls)
+    are_cut_so(alloc, manner.may_stop, entries, lines, open_calls)
 }
 
 // Whether the run of these lines may have been ended with these open calls.

@@ -9,6 +9,7 @@ ghost use Rattle.lockscript.specs.ThreadLines.{bad_line};
 use crate::cluster::{Cluster, with_cluster};
 use crate::full::is_full;
 use crate::gate::Gate;
+use crate::manner::Manner;
 use crate::phases::Phases;
 use crate::played_line::PlayedLine;
 use crate::run_error::RunError;
@@ -31,6 +32,11 @@ use std::time::Clock;
 /// refused, but for want of memory or of room in the journal, is listed and the run goes on. Messages
 /// meet the weather of the seed.
 ///
+/// In a run with `no_join` the lines between two of `settle` form a phase. There a line of failures or
+/// starts waits only until no call before it can be answered without it, as below; the later calls of a
+/// process whose call is open wait behind that. A call that is open where its node is declared failed is
+/// `Killed`.
+///
 /// A run that may stop where it is stuck is ended where the calls that are open can't be answered any more:
 /// each waits for a lock that somebody holds, or for a server that is declared failed, and no process is left
 /// to make a call. They stay open, and the lines behind them, of their processes and of later phases, are left.
@@ -45,11 +51,11 @@ pub fn run_threads<G: Gate + Sync, R: Threads + Wait + Clock + Sync>(
     script: &Script,
     gate: &G,
     seed: u32,
-    may_stop: bool,
+    manner: Manner,
 ) -> Result<ThreadRun, RunError>
     // The run is of the script: each line has just one outcome, which is of what it asks, and the calls,
     // failures and starts in the journal are those of its lines.
-    ensures of_script { IfOk result (IsOfScript script.now may_stop) }
+    ensures of_script { IfOk result (IsOfScript script.now manner.no_join manner.may_stop) }
 
     // One table explains every reply, and ends as what the nodes hold.
     ensures one_table { IfOk result (λ run. HasOneHistory run.journal.shape run.journal.entries) }
@@ -62,11 +68,11 @@ pub fn run_threads<G: Gate + Sync, R: Threads + Wait + Clock + Sync>(
     if let Some(number) = script.bad_line_on_threads() {
         return Err(RunError::BadLine(number));
     }
-    let Ok((lines, journal)) = run_script(rt, alloc, script, gate, seed, may_stop) else {
+    let Ok((lines, journal)) = run_script(rt, alloc, script, gate, seed, manner) else {
         return Err(RunError::NoMemory);
     };
     match lines {
-        Ok(lines) => Ok(ThreadRun::new(alloc, script, may_stop, lines, journal)?),
+        Ok(lines) => Ok(ThreadRun::new(alloc, script, manner, lines, journal)?),
         Err(Stop::JournalFull) if is_full(alloc, script, &journal) => {
             Err(RunError::JournalFull(journal))
         }
@@ -81,7 +87,7 @@ fn run_script<G: Gate + Sync, R: Threads + Wait + Clock + Sync>(
     script: &Script,
     gate: &G,
     seed: u32,
-    may_stop: bool,
+    manner: Manner,
 ) -> Result<(Result<Vec<PlayedLine>, Stop>, Journal), AllocError>
     ensures shape { IfOk result (λ run. run.1.shape ≡ script.now.shape) }
     ensures one_table { IfOk result (λ run. HasOneHistory run.1.shape run.1.entries) }
@@ -90,7 +96,7 @@ fn run_script<G: Gate + Sync, R: Threads + Wait + Clock + Sync>(
     let actors = u32::from(shape.nodes()) + u32::from(shape.files());
     let weathers = weathers_of(alloc, seed, actors)?;
     let run = with_cluster(rt, alloc, shape, gate, weathers, |cluster| {
-        run_lines(rt, alloc, cluster, script.lines(), may_stop)
+        run_lines(rt, alloc, cluster, script.lines(), manner)
     });
     match run {
         // A lock says nothing of the book that it gives back, so the shape is looked at.
@@ -123,9 +129,9 @@ fn run_lines<R: Threads + Wait + Clock + Sync>(
     alloc: Global,
     cluster: &Cluster<'_>,
     lines: &[ScriptLine],
-    may_stop: bool,
+    manner: Manner,
 ) -> Result<Vec<PlayedLine>, Stop> {
-    let mut phases = Phases::new(alloc, cluster, may_stop);
+    let mut phases = Phases::new(alloc, cluster, manner);
     for line in lines {
         phases.take(rt, line)?;
     }

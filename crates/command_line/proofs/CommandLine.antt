@@ -86,7 +86,7 @@ name_in met = option_map_or (λ (values : Values). values.0) met []
 
 abbrev pub name_of : Task → Text
 name_of (run s a j o q) = codes "run"
-name_of (threads s n h j) = codes "threads"
+name_of (threads s n h k j) = codes "threads"
 name_of (audit j) = codes "audit"
 name_of (history j) = codes "history"
 name_of (explain j c) = codes "explain"
@@ -99,7 +99,7 @@ name_of (schedule s n f) = codes "schedule"
 
 pub name_is : (p : Text × List Row) (task : Task) → IsMet (Some p) task → p.0 ≡ name_of task
 name_is p (run s a j o q) met = ap name_in met.0
-name_is p (threads s n h j) met = ap name_in met.1
+name_is p (threads s n h k j) met = ap name_in met.1
 name_is p (audit j) met = ap name_in met
 name_is p (history j) met = ap name_in met
 name_is p (explain j c) met = ap name_in met
@@ -139,7 +139,7 @@ abbrev flag_in : Text → List Row → Bool
 flag_in id rows = is_given (unwrap_or (one_of id rows) [])
 
 abbrev threads_of : List Row → Task
-threads_of rows = threads (path_in (codes "SCRIPT") rows) (number_in (codes "N") rows) (flag_in (codes "stop-when-stuck") rows) (first_of (codes "FILE") rows)
+threads_of rows = threads (path_in (codes "SCRIPT") rows) (number_in (codes "N") rows) (flag_in (codes "stop-when-stuck") rows) (flag_in (codes "no-join") rows) (first_of (codes "FILE") rows)
 
 abbrev picture_of : List Row → Task
 picture_of rows = picture (path_in (codes "JOURNAL") rows) (first_of (codes "CALL") rows) (number_in (codes "K") rows) (number_in (codes "L") rows) (format_named (path_in (codes "FORMAT") rows))
@@ -181,12 +181,13 @@ met_is p (run s a j o q) met =
     let open_flag = flag_there 3 _ _ o met.0 refl in
     let quiet_flag = flag_there 4 _ _ q met.0 refl in
     named p (run s a j o q) met ∙ (λ i. run (script i) (after i) (file i) (open_flag i) (quiet_flag i))
-met_is p (threads s n h j) met =
+met_is p (threads s n h k j) met =
     let script = ap (text_at 0) met.1 in
     let number = number_there 1 _ _ 0 greatest_seed met.0 n met.1 refl met.2 in
     let flag = flag_there 2 _ _ h met.1 refl in
-    let file = ap (value_at 3) met.1 in
-    named p (threads s n h j) met ∙ (λ i. threads (script i) (number i) (flag i) (file i))
+    let no_join = flag_there 3 _ _ k met.1 refl in
+    let file = ap (value_at 4) met.1 in
+    named p (threads s n h k j) met ∙ (λ i. threads (script i) (number i) (flag i) (no_join i) (file i))
 met_is p (audit j) met = named p (audit j) met ∙ ap (λ (v : Option Values). audit (text_at 0 v)) met
 met_is p (history j) met = named p (history j) met ∙ ap (λ (v : Option Values). history (text_at 0 v)) met
 met_is p (explain j c) met = named p (explain j c) met ∙ ap (λ (v : Option Values). explain (text_at 0 v) (text_at 1 v)) met
@@ -221,7 +222,7 @@ unmet values is = cc
 -- where nothing is met, or a name that no task has, or a name without one of its values
 pub nothing_met : (task : Task) → IsMet None task → ⊥
 nothing_met (run s a j o q) is = unmet _ is.0
-nothing_met (threads s n h j) is = unmet _ is.1
+nothing_met (threads s n h k j) is = unmet _ is.1
 nothing_met (audit j) is = cc
 nothing_met (history j) is = cc
 nothing_met (explain j c) is = cc
@@ -297,6 +298,9 @@ no_seed rows none task met =
 
 pub no_flag : (rows : List Row) → NoFlag (codes "stop-when-stuck") rows → Unmet (codes "threads") rows
 no_flag rows none task met = none _ (ap (value_at 2) (as_named (codes "threads") rows task met).1)
+
+pub no_join_flag : (rows : List Row) → NoFlag (codes "no-join") rows → Unmet (codes "threads") rows
+no_join_flag rows none task met = none _ (ap (value_at 3) (as_named (codes "threads") rows task met).1)
 
 pub no_audit : (rows : List Row) → first_of (codes "JOURNAL") rows ≡ None → Unmet (codes "audit") rows
 no_audit rows none task met = nowhere _ _ none (ap (value_at 0) (as_named (codes "audit") rows task met))

@@ -44,9 +44,9 @@ module _ (program path : Text) (p : IsPath path) where
   check_asks = asks_by _ _ check_command program (path ∷ []) (check path) (rw (p.no_dashes, p.no_minus, p.no_minus) refl) (rw (p.no_dashes, p.no_minus, p.no_minus) refl)
 
   -- what is left out
-  left_threads : AsksFor (program ∷ codes "threads" ∷ path ∷ []) (threads path 1 false None)
+  left_threads : AsksFor (program ∷ codes "threads" ∷ path ∷ []) (threads path 1 false false None)
   unfolding clap_on_literals
-  left_threads = asks_by _ _ threads_command program (path ∷ []) (threads path 1 false None) (rw (p.no_dashes, p.no_minus, p.no_minus) refl) (codes "1", rw (p.no_dashes, p.no_minus, p.no_minus) refl, one_writes 0 greatest_seed (omega arith) (omega arith))
+  left_threads = asks_by _ _ threads_command program (path ∷ []) (threads path 1 false false None) (rw (p.no_dashes, p.no_minus, p.no_minus) refl) (codes "1", rw (p.no_dashes, p.no_minus, p.no_minus) refl, one_writes 0 greatest_seed (omega arith) (omega arith))
 
   left_picture : AsksFor (program ∷ codes "picture" ∷ path ∷ []) (picture path None 1 greatest_seed Svg)
   unfolding clap_on_literals
@@ -70,7 +70,7 @@ module _ (program path : Text) (p : IsPath path) where
 
 -- what is asked where no option is given
 module _ (program path : Text) (plain : slice_get path 0 ≢ Some 45) where
-  pub bare_threads_asks : AsksFor (program ∷ codes "threads" ∷ path ∷ []) (threads path 1 false None)
+  pub bare_threads_asks : AsksFor (program ∷ codes "threads" ∷ path ∷ []) (threads path 1 false false None)
   bare_threads_asks = left_threads program path (is_path path plain)
 
   pub bare_picture_asks : AsksFor (program ∷ codes "picture" ∷ path ∷ []) (picture path None 1 greatest_seed Svg)
@@ -157,16 +157,11 @@ plain_task program (run script (Some after) None listed false) plain within =
 plain_task program (run script (Some after) None listed true) plain within = absurd within
 plain_task program (run script (Some after) (Some file) listed quiet) plain within =
     run_after_to_asks program script (is_path script (plain 0 [] (omega arith))) after file (is_path after (plain 1 [] (omega arith))) (is_path file (plain 2 [] (omega arith))) listed quiet
-plain_task program (threads script seed false None) plain within =
-    threads_asks program script (decimal seed) seed (is_path script (plain 0 [] (omega arith))) (number_text 0 greatest_seed seed (omega arith) (omega arith) within) false
-plain_task program (threads script seed true None) plain within =
-    threads_asks program script (decimal seed) seed (is_path script (plain 0 [] (omega arith))) (number_text 0 greatest_seed seed (omega arith) (omega arith) within) true
-plain_task program (threads script seed false (Some file)) plain within =
+plain_task program (threads script seed stop no_join None) plain within =
+    threads_asks program script (decimal seed) seed (is_path script (plain 0 [] (omega arith))) (number_text 0 greatest_seed seed (omega arith) (omega arith) within) stop no_join
+plain_task program (threads script seed stop no_join (Some file)) plain within =
     written_asks program script (decimal seed) seed (is_path script (plain 0 [] (omega arith))) (number_text 0 greatest_seed seed (omega arith) (omega arith) within) file
-    (is_path file (plain 1 [] (omega arith))) false
-plain_task program (threads script seed true (Some file)) plain within =
-    written_asks program script (decimal seed) seed (is_path script (plain 0 [] (omega arith))) (number_text 0 greatest_seed seed (omega arith) (omega arith) within) file
-    (is_path file (plain 1 [] (omega arith))) true
+    (is_path file (plain 1 [] (omega arith))) stop no_join
 plain_task program (audit journal) plain within = audit_asks program journal (is_path journal (plain 0 [] (omega arith)))
 plain_task program (history journal) plain within = history_asks program journal (is_path journal (plain 0 [] (omega arith)))
 plain_task program (explain journal call) plain within = explain_asks program journal call (is_path journal (plain 0 [] (omega arith))) (is_path call (plain 1 [] (omega arith)))

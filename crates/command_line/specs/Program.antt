@@ -62,7 +62,7 @@ abbrev pub run_app : App
 run_app = with_rule (with_rule (with_rule (with_rule (with_rule (new_app (codes "run")) (path_rule (codes "SCRIPT"))) after_rule) file_rule) (flag_rule (codes "open"))) (flag_rule (codes "quiet"))
 
 abbrev pub threads_app : App
-threads_app = with_rule (with_rule (with_rule (with_rule (new_app (codes "threads")) (path_rule (codes "SCRIPT"))) (seed_rule (codes "seed"))) (flag_rule (codes "stop-when-stuck"))) file_rule
+threads_app = with_rule (with_rule (with_rule (with_rule (with_rule (new_app (codes "threads")) (path_rule (codes "SCRIPT"))) (seed_rule (codes "seed"))) (flag_rule (codes "stop-when-stuck"))) (flag_rule (codes "no-join"))) file_rule
 
 abbrev pub audit_app : App
 audit_app = with_rule (new_app (codes "audit")) (path_rule (codes "JOURNAL"))
@@ -128,7 +128,7 @@ abbrev pub run_values_in : Option (Text × List Row) → Option (Text × List (O
 run_values_in = read_in (first_of (codes "SCRIPT") ∷ first_of (codes "JOURNAL") ∷ first_of (codes "FILE") ∷ one_of (codes "open") ∷ one_of (codes "quiet") ∷ [])
 
 abbrev pub threads_values_in : Option (Text × List Row) → Option (Text × List (Option Text))
-threads_values_in = read_in (first_of (codes "SCRIPT") ∷ one_of (codes "N") ∷ one_of (codes "stop-when-stuck") ∷ first_of (codes "FILE") ∷ [])
+threads_values_in = read_in (first_of (codes "SCRIPT") ∷ one_of (codes "N") ∷ one_of (codes "stop-when-stuck") ∷ one_of (codes "no-join") ∷ first_of (codes "FILE") ∷ [])
 
 abbrev pub picture_values_in : Option (Text × List Row) → Option (Text × List (Option Text))
 picture_values_in = read_in (first_of (codes "JOURNAL") ∷ first_of (codes "CALL") ∷ one_of (codes "K") ∷ one_of (codes "L") ∷ first_of (codes "FORMAT") ∷ [])
@@ -146,8 +146,8 @@ schedule_values_in = read_in (first_of (codes "SCRIPT") ∷ one_of (codes "N") �
 abbrev pub IsMet : Option (Text × List Row) → Task → Type 0
 IsMet met (run script after journal listed quiet) =
     (run_values_in met ≡ Some (codes "run", Some script ∷ after ∷ journal ∷ Some (flag_text listed) ∷ Some (flag_text quiet) ∷ [])) × MayBeQuiet journal quiet
-IsMet met (threads script seed stop journal) =
-    (text : Text) × (threads_values_in met ≡ Some (codes "threads", Some script ∷ Some text ∷ Some (flag_text stop) ∷ journal ∷ [])) × IsNumber 0 greatest_seed text seed
+IsMet met (threads script seed stop no_join journal) =
+    (text : Text) × (threads_values_in met ≡ Some (codes "threads", Some script ∷ Some text ∷ Some (flag_text stop) ∷ Some (flag_text no_join) ∷ journal ∷ [])) × IsNumber 0 greatest_seed text seed
 IsMet met (audit journal) = values_in (codes "JOURNAL" ∷ []) met ≡ Some (codes "audit", Some journal ∷ [])
 IsMet met (history journal) = values_in (codes "JOURNAL" ∷ []) met ≡ Some (codes "history", Some journal ∷ [])
 IsMet met (explain journal call) = values_in (codes "JOURNAL" ∷ codes "CALL" ∷ []) met ≡ Some (codes "explain", Some journal ∷ Some call ∷ [])

@@ -10,8 +10,8 @@ use Rattle.command_line.specs.declared.line.Line.TheVariants.{Run, Threads, Audi
 pub data Task : Type 0 where
   -- to run the script of the first path, behind the journal of the second, if there is one, to write the journal to the third, if there is one, to list the calls without a reply, if that is asked for, and to leave the listing away, if that is
   run : Text → Option Text → Option Text → Bool → Bool → Task
-  -- to run the script of the first path on threads, with this seed, to end the run where it is stuck, if that is asked for, and to write the journal to the second, if there is one
-  threads : Text → ℕ → Bool → Option Text → Task
+  -- to run the script of the first path on threads, with this seed, to end the run where it is stuck and to make lines of failures and starts beside open calls, if that is asked for, and to write the journal to the second, if there is one
+  threads : Text → ℕ → Bool → Bool → Option Text → Task
   -- to say whether the journal is one of a run
   audit : Text → Task
   -- to print the history of the journal
@@ -33,7 +33,7 @@ pub data Task : Type 0 where
 
 abbrev pub task_of : Line → Task
 task_of (Run script after journal listed quiet) = run script.now (option_map (λ file. file.now) after) (option_map (λ file. file.now) journal) listed quiet
-task_of (Threads script seed stop journal) = threads script.now seed stop (option_map (λ file. file.now) journal)
+task_of (Threads script seed stop no_join journal) = threads script.now seed stop no_join (option_map (λ file. file.now) journal)
 task_of (Audit journal) = audit journal.now
 task_of (History journal) = history journal.now
 task_of (Explain journal call) = explain journal.now call.now
@@ -51,7 +51,7 @@ given (Some text) = text ∷ []
 -- the paths, and the name of a call
 abbrev pub paths_of : Task → List Text
 paths_of (run script after journal listed quiet) = script ∷ given after ++ given journal
-paths_of (threads script seed stop journal) = script ∷ given journal
+paths_of (threads script seed stop no_join journal) = script ∷ given journal
 paths_of (audit journal) = journal ∷ []
 paths_of (history journal) = journal ∷ []
 paths_of (explain journal call) = journal ∷ call ∷ []
@@ -65,7 +65,7 @@ paths_of (schedule script seed failures) = script ∷ []
 -- the path of the file to which the journal of a run is written
 abbrev pub journal_path : Task → Option Text
 journal_path (run script after to listed quiet) = to
-journal_path (threads script seed stop to) = to
+journal_path (threads script seed stop no_join to) = to
 journal_path (audit journal) = None
 journal_path (history journal) = None
 journal_path (explain journal call) = None
@@ -98,7 +98,8 @@ format_text Trace = codes "trace"
 abbrev pub plain_words_of : Task → List Text
 plain_words_of (run script after journal listed quiet) =
     codes "run" ∷ script ∷ option_words (codes "--after") after ++ option_words (codes "--journal") journal ++ flag_words (codes "--open") listed ++ flag_words (codes "--quiet") quiet
-plain_words_of (threads script seed stop journal) = codes "threads" ∷ script ∷ number_words (codes "--seed") seed ++ flag_words (codes "--stop-when-stuck") stop ++ option_words (codes "--journal") journal
+plain_words_of (threads script seed stop no_join journal) =
+    codes "threads" ∷ script ∷ number_words (codes "--seed") seed ++ flag_words (codes "--stop-when-stuck") stop ++ flag_words (codes "--no-join") no_join ++ option_words (codes "--journal") journal
 plain_words_of (audit journal) = codes "audit" ∷ journal ∷ []
 plain_words_of (history journal) = codes "history" ∷ journal ∷ []
 plain_words_of (explain journal call) = codes "explain" ∷ journal ∷ call ∷ []
@@ -127,7 +128,7 @@ MayBeQuiet (Some path) true = ⊤
 -- the words are those of numbers in their range, and a run that leaves its listing away keeps its journal
 abbrev pub HasPlainWords : Task → Type 0
 HasPlainWords (run script after journal listed quiet) = MayBeQuiet journal quiet
-HasPlainWords (threads script seed stop journal) = seed ≤ greatest_seed
+HasPlainWords (threads script seed stop no_join journal) = seed ≤ greatest_seed
 HasPlainWords (audit journal) = ⊤
 HasPlainWords (history journal) = ⊤
 HasPlainWords (explain journal call) = ⊤

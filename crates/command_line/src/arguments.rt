@@ -34,6 +34,16 @@ pub(crate) fn stop_argument<'a>(alloc: Global) -> Arg<'a>
         .help("End the run where no open call can be answered any more")
 }
 
+// Whether a run on threads makes failures and starts beside open calls.
+pub(crate) fn no_join_argument<'a>(alloc: Global) -> Arg<'a>
+    ensures { rule_of result ≡ flag_rule (codes "no-join") }
+{
+    Arg::new(alloc, "no-join")
+        .long("no-join")
+        .action(ArgAction::SetTrue)
+        .help("Make failures and starts while calls are open")
+}
+
 // The name of the call around which a journal is drawn.
 pub(crate) fn around_argument<'a>(alloc: Global) -> Arg<'a>
     ensures { rule_of result ≡ around_rule }

@@ -5,9 +5,9 @@ ghost use Rattle.command_line.specs.Program.{audit_app, check_app, explain_app, 
 
 use crate::arguments::{
     after_argument, around_argument, call_argument, failures_argument, file_argument,
-    format_argument, from_argument, journal_argument, nodes_argument, open_argument,
-    quiet_argument, recording_argument, script_argument, seed_argument, seeds_argument,
-    stop_argument, to_argument,
+    format_argument, from_argument, journal_argument, no_join_argument, nodes_argument,
+    open_argument, quiet_argument, recording_argument, script_argument, seed_argument,
+    seeds_argument, stop_argument, to_argument,
 };
 use crate::notes::{
     AUDIT_NOTES, CHECK_NOTES, EXPLAIN_NOTES, EXPLORE_NOTES, HISTORY_NOTES, OPEN_NOTES,
@@ -64,6 +64,7 @@ fn threads_command<'a>(alloc: Global) -> Result<Command<'a>, AllocError>
         .arg(script_argument(alloc))?
         .arg(seed)?
         .arg(stop_argument(alloc))?
+        .arg(no_join_argument(alloc))?
         .arg(file_argument(alloc))
 }
 

@@ -6,7 +6,8 @@ ghost use Rattle.command_line.specs.Words.{AsksFor, IsPlain};
 
 /// The words `PROGRAM run SCRIPT`, with `--after JOURNAL`, `--journal FILE`, `--open` and `--quiet` behind it, or
 /// some of them in this order, `--quiet` where `--journal FILE` is one, `PROGRAM threads SCRIPT --seed N`, with
-/// `--stop-when-stuck`, `--journal FILE`, both or none behind it, `PROGRAM audit JOURNAL`, `PROGRAM history JOURNAL`, `PROGRAM explain JOURNAL CALL`,
+/// `--stop-when-stuck`, `--no-join` and `--journal FILE`, or some of them in this order, behind it,
+/// `PROGRAM audit JOURNAL`, `PROGRAM history JOURNAL`, `PROGRAM explain JOURNAL CALL`,
 /// `PROGRAM open JOURNAL`, `PROGRAM check SCRIPT`, `PROGRAM picture JOURNAL`, with `--around CALL` or without,
 /// and `--from K --to L --format FORMAT` behind it, `PROGRAM from-strace RECORDING --nodes N`,
 /// `PROGRAM explore SCRIPT --seeds COUNT --first N` and `PROGRAM schedule SCRIPT --seed N`, with `--failures` or
@@ -15,10 +16,10 @@ pub fn plain_words_ask_for_their_task()
     ensures { (words : List (List ℕ)) (task : Task) → IsPlain words task → AsksFor words task }
 {}
 
-/// The words `PROGRAM threads SCRIPT` ask for the seed 1, for no stop where the run is stuck, and for no
-/// journal.
+/// The words `PROGRAM threads SCRIPT` ask for the seed 1, for no stop where the run is stuck, for failures and
+/// starts behind the calls before them, and for no journal.
 pub fn a_seed_left_out_is_1()
-    ensures { (program script : List ℕ) → slice_get script 0 ≢ Some 45 → AsksFor (program ∷ codes "threads" ∷ script ∷ []) (threads script 1 false None) }
+    ensures { (program script : List ℕ) → slice_get script 0 ≢ Some 45 → AsksFor (program ∷ codes "threads" ∷ script ∷ []) (threads script 1 false false None) }
 {}
 
 /// The words `PROGRAM picture JOURNAL` ask for a picture as SVG, of the entries from 1 to 4294967295, around no

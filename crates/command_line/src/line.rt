@@ -28,14 +28,16 @@ pub enum Line<'a> {
         open: bool,
         quiet: bool,
     },
-    /// `threads SCRIPT [--seed N] [--stop-when-stuck] [--journal FILE]`: to run the script on threads, with
-    /// this seed or 1, until its end or, if that is asked for, until no open call can be answered any more,
-    /// to print the listing, how many receipts its journal holds and whether that is one of a run, and
-    /// first to write it to the file, if there is one.
+    /// `threads SCRIPT [--seed N] [--stop-when-stuck] [--no-join] [--journal FILE]`: to run the script on
+    /// threads, with this seed or 1, until its end or, if that is asked for, until no open call can be
+    /// answered any more, its failures and starts beside open calls, if that is asked for, to print the
+    /// listing, how many receipts its journal holds and whether that is one of a run, and first to write it to
+    /// the file, if there is one.
     Threads {
         script: &'a str,
         seed: u32,
         stop_when_stuck: bool,
+        no_join: bool,
         journal: Option<&'a str>,
     },
     /// `audit JOURNAL`: to say whether the journal is one of a run.
@@ -180,11 +182,13 @@ fn threads_in<'a>(values: &ArgMatches<'a>) -> Option<Line<'a>>
     let script = values.get_str("SCRIPT")?;
     let seed = number_in(values, "N", 0, GREATEST_SEED)?;
     let stop_when_stuck = flag_in(values, "stop-when-stuck")?;
+    let no_join = flag_in(values, "no-join")?;
     let file = values.get_str("FILE");
     Some(Line::Threads {
         script,
         seed,
         stop_when_stuck,
+        no_join,
         journal: file,
     })
 }

@@ -16,7 +16,8 @@ Exit status:
      old to go on from, or FILE or the text can't be written; check: the file has bad
      lines
   4  no memory, or more entries than a journal may have (1048576)
-A line on standard error says which, of 2 to 4.
+Standard error says which, of 2 to 4: at 3 and 4 in one line, but of check of a script in
+one for each of the first hundred bad lines, and one for how many more there are.
 
 A journal is a file that holds the entries of a run in their order, each with its reply
 and the messages that it sends. To keep the journal of a run, to see later whether its
@@ -125,8 +126,13 @@ is interrupted, and lines that were not yet made are left out. The listing and t
 lines behind it are printed, a line 'open CALL' for each call without a reply goes to
 standard error, and the exit status is 1.
 
+With --no-join a line of failures or starts is made while calls are open: it waits only
+until no call before it can be answered without it. The later calls of a process whose
+call is open wait behind that. An open call ends, and is listed as refused with 17, where
+its node is declared failed. 'settle', and the end, waits for all calls as without it.
+
 The listing is that of the journal of this run, which depends on the schedule. The codes
-of refused lines are those of 'lockreplay run'. Two lines stand behind it:
+of refused lines are those of 'lockreplay run', and 17. Two lines stand behind it:
   receipts K     K calls were answered, and the journal has each with its reply where the
                  process was told that they stand; where it lacks another that was
                  answered, the exit status is 1
@@ -162,9 +168,9 @@ of 'lockreplay audit' (exit status 1).
 CALL is the name of a call as replies and history show it: its node, the incarnation of
 the node and the number of the call there, as 2.1.3. The text tells each entry that has
 to do with the call: who made it; each message about it with its number, as 'deliver K'
-of a script counts, from whom it goes to whom; which lock was in the way; its reply; and
-where the history places it (exit status 0). Where the journal has no call of that name,
-the text is 'no call CALL' (exit status 1).";
+of a script counts, from whom it goes to whom; which lock was in the way; its reply and
+where the history places it, or else which entry ended it (exit status 0). Where the
+journal has no call of that name, the text is 'no call CALL' (exit status 1).";
 
 /// What stands under the options of `open`.
 pub(crate) const OPEN_NOTES: &str = "\
@@ -233,8 +239,9 @@ lines, which say what becomes of each message. 'lockreplay run' replays it. With
 
 /// What stands under the options of `check`.
 pub(crate) const CHECK_NOTES: &str = "\
-The script is read and not run. Each bad line is told in a line on standard error, with
-the place in it where it goes wrong (exit status 3):
+The script is read and not run. Each bad line, of the first hundred, is told in a line on
+standard error, with the place in it where it goes wrong, and then how many more there
+are (exit status 3):
   SCRIPT:LINE:COLUMN: expected .., found \"..\"
 Where all lines are good, the text is 'script yes' and one of these (exit status 0):
   threads yes     'lockreplay threads' takes every line

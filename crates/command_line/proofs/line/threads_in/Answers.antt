@@ -1,6 +1,6 @@
 use Rattle.std.proofs.Common.{rules, codes, None, Some, [], ◌∷◌, ◌≡◌}
 use Rattle.clap.specs.Words.{found_of, rows_of}
-use Rattle.command_line.proofs.CommandLine.{no_flag, no_seed, no_threads_script}
+use Rattle.command_line.proofs.CommandLine.{no_flag, no_join_flag, no_seed, no_threads_script}
 use Rattle.command_line.proofs.Tables.{no_value, same_value, value_is}
 use Rattle.command_line.proofs.line.threads_in.Goals as goal
 
@@ -20,6 +20,11 @@ returns-in_err-stop_when_stuck c =
     let none : c.from_residual-in_err-stop_when_stuck.result ≡ None = search rules in
     rw none (no_flag (rows_of (found_of c.args.values.now)) c.in_err-stop_when_stuck.ensures)
 
+pub returns-in_err-no_join : goal.returns-in_err-no_join
+returns-in_err-no_join c =
+    let none : c.from_residual-in_err-no_join.result ≡ None = search rules in
+    rw none (no_join_flag (rows_of (found_of c.args.values.now)) c.in_err-no_join.ensures)
+
 pub returns : goal.returns
 returns c =
     let found = found_of c.args.values.now in
@@ -27,4 +32,5 @@ returns c =
     let file = same_value found (codes "FILE") c.get_str-file.result c.get_str-file.ensures in
     let seed = c.in_ok-seed.ensures in
     let stop_when_stuck = c.in_ok-stop_when_stuck.ensures in
-    (seed.0, (λ i. Some (codes "threads", script i ∷ seed.1 i ∷ stop_when_stuck i ∷ file i ∷ [])), seed.2)
+    let no_join = c.in_ok-no_join.ensures in
+    (seed.0, (λ i. Some (codes "threads", script i ∷ seed.1 i ∷ stop_when_stuck i ∷ no_join i ∷ file i ∷ [])), seed.2)

@@ -1,0 +1,143 @@
+//! The calls of a process in a phase.
+use crate::call_error::CallError;
+use crate::client::Client;
+use crate::line_outcome::LineOutcome;
+use crate::stop::Stop;
+use book::receipt::Receipt;
+use model::op::Op;
+use std::alloc::{AllocError, Global};
+use std::collections::VecDeque;
+
+/// A call that is to be made: the index of its line in the script, what it asks, and the client that makes it and
+/// those behind it, where that is another than before.
+#[derive(Drop)]
+pub(crate) struct NextCall<'a> {
+    pub(crate) index: usize,
+    pub(crate) op: Op,
+    pub(crate) client: Option<Client<'a>>,
+}
+
+/// The calls that a process is still to make in a phase, in order; its client, while no call is under way;
+/// whether a call that is added needs another, and whether a thread makes them; what the calls so far came to,
+/// and why no more are made, if that was met.
+#[derive(Drop)]
+pub(crate) struct CallQueue<'a> {
+    calls: VecDeque<NextCall<'a>>,
+    client: Option<Client<'a>>,
+    needs_client: bool,
+    has_thread: bool,
+    outcomes: Vec<(usize, LineOutcome)>,
+    stopped: Option<Stop>,
+}
+
+impl<'a> CallQueue<'a> {
+    /// No call, and no client.
+    pub(crate) fn new(alloc: Global) -> CallQueue<'a> {
+        CallQueue {
+            calls: VecDeque::new(alloc),
+            client: None,
+            needs_client: true,
+            has_thread: false,
+            outcomes: Vec::new(alloc),
+            stopped: None,
+        }
+    }
+
+    /// Whether the next call that is added needs a client.
+    pub(crate) fn needs_client(&self) -> bool {
+        self.needs_client
+    }
+
+    /// The client is gone, for calls that are added from here on: its node begins again.
+    pub(crate) fn lose_client(&mut self) {
+        self.needs_client = true;
+    }
+
+    /// Adds a call, with its client if one is needed.
+    pub(crate) fn add(&mut self, call: NextCall<'a>) -> Result<(), AllocError> {
+        self.calls.push_back(call)?;
+        self.needs_client = false;
+        Ok(())
+    }
+
+    /// Whether a thread is to be started for the calls, which has them from here on.
+    pub(crate) fn begin(&mut self) -> bool {
+        let begins = !self.has_thread && !self.calls.is_empty();
+        self.has_thread = self.has_thread || begins;
+        begins
+    }
+
+    /// The next call for the thread: the index of its line, what it asks, and the client that makes it. With none
+    /// the thread has ended.
+    pub(crate) fn next(&mut self) -> Option<(usize, Op, Client<'a>)> {
+        let next = self.take_next();
+        self.has_thread = next.is_some();
+        next
+    }
+
+    // Takes out the next call, and the client that makes it.
+    fn take_next(&mut self) -> Option<(usize, Op, Client<'a>)> {
+        let NextCall { index, op, client } = self.calls.pop_front()?;
+        let client = match client {
+            Some(client) => client,
+            None => self.client.take()?,
+        };
+        Some((index, op, client))
+    }
+
+    /// Takes the client back, and keeps what its call came to. No more calls are made where that ends the run,
+    /// or has no answer since the run was ended.
+    pub(crate) fn end_call(
+        &mut self,
+        client: Client<'a>,
+        index: usize,
+        made: Result<Receipt, CallError>,
+    ) {
+        self.client = Some(client);
+        match self.keep(index, made) {
+            Ok(goes_on) if goes_on => {}
+            Ok(_) => self.calls.clear(),
+            Err(why) => {
+                self.calls.clear();
+                self.stopped = Some(why);
+            }
+        }
+    }
+
+    // Keeps what the call of the line at the index came to, unless that ends the run. Whether the next may be
+    // made.
+    fn keep(&mut self, index: usize, made: Result<Receipt, CallError>) -> Result<bool, Stop> {
+        let outcome = match made {
+            Ok(receipt) => LineOutcome::Answered(receipt),
+            Err(CallError::NoMemory) => return Err(Stop::NoMemory),
+            Err(CallError::JournalFull) => return Err(Stop::JournalFull),
+            Err(CallError::Unanswered { call_at }) => LineOutcome::Open(call_at),
+            Err(why) => LineOutcome::Denied(why),
+        };
+        self.outcomes.push((index, outcome))?;
+        Ok(!outcome.is_open())
+    }
+
+    /// Whether it was met why no more calls are made.
+    pub(crate) fn is_stopped(&self) -> bool {
+        self.stopped.is_some()
+    }
+
+    /// What the calls came to, each with the index of its line, and the client for later calls, if there is one.
+    pub(crate) fn into_outcomes(
+        self,
+    ) -> Result<(Vec<(usize, LineOutcome)>, Option<Client<'a>>), Stop> {
+        let CallQueue {
+            client,
+            needs_client,
+            outcomes,
+            stopped,
+            ..
+        } = self;
+        match stopped {
+            Some(why) => Err(why),
+            None if needs_client => Ok((outcomes, None)),
+            None => Ok((outcomes, client)),
+        }
+    }
+}
