@@ -2,13 +2,17 @@
 #![tactic(auto)]
 
 use replay::disk::Disk;
+use replay::meter::Meter;
 use replay::respond::{refuse, respond};
 use replay::words::read_words;
+use std::io::IsTerminal;
 use std::process::ExitCode;
 
 fn main(rt: HostRuntime) -> ExitCode {
     let mut out = rt.stdout();
     let mut err = rt.stderr();
+    let terminal = Some(rt.stderr()).filter(|err| err.is_terminal());
+    let mut meter = Meter::new(&rt, terminal);
     let status = match read_words(&rt) {
         Ok(words) => {
             let mut disk = Disk::new(&rt);
@@ -19,6 +23,7 @@ fn main(rt: HostRuntime) -> ExitCode {
                 &mut disk,
                 &mut out,
                 &mut err,
+                &mut meter,
             )
         }
         Err(refusal) => refuse(&refusal, &mut out, &mut err),

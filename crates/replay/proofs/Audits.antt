@@ -1,6 +1,7 @@
 -- Audits, one entry more at a time.
-use Rattle.std.proofs.Common.{◌≡◌, ℕ, ◌+◌, ◌<◌, ◌≤◌, true, false, List, [], ◌∷◌, ◌++◌, Option, Some, None, Ok, refl, sym, ap, ◌∙◌, arith, length, append_assoc, length-append}
+use Rattle.std.proofs.Common.{◌≡◌, ℕ, ◌+◌, ◌<◌, ◌≤◌, true, false, List, [], ◌∷◌, ◌++◌, Option, Some, None, Ok, inl, inr, refl, sym, ap, ◌∙◌, arith, length, append_assoc, length-append}
 use Rattle.std.specs.Prelude.{◌≢◌, is_some}
+use Rattle.std.proofs.lemmas.Bool.{cases_lt}
 use Rattle.messages.specs.Shapes.{ShapeFields}
 use Rattle.messages.specs.declared.entry.Entry.{Entry}
 use Rattle.cluster_core.specs.Next.{next}
@@ -8,43 +9,48 @@ use Rattle.cluster_core.specs.World.{WorldState, first_world, journal_limit}
 use Rattle.cluster_core.proofs.common.Lengths.{leads-count}
 use Rattle.cluster_core.proofs.runs.JournalRuns.{leads_push}
 use Rattle.cluster_core.specs.Journals.{IsFirstWrong}
-use Rattle.replay.specs.Audits.{IsVerdict, Knows}
+use Rattle.replay.specs.Audits.{Counts, IsVerdict, Tells}
 
--- the world has as many entries as were taken
-knows-count : (shape : ShapeFields) (w : WorldState) (taken : ℕ) (es : List Entry) → Knows shape w taken None es → (w.length ≡ taken) × (length es ≡ taken)
-knows-count shape w taken es knows = (omega (arith, knows.1, leads-count (first_world shape) w es knows.0), sym knows.1)
+-- one entry more is counted, up to one more than a journal may have
+pub counts-more : (taken after : ℕ) (es : List Entry) (e : Entry) → (taken ≤ journal_limit → after ≡ taken + 1) → (journal_limit < taken → after ≡ taken) → Counts taken es → Counts after (es ++ e ∷ [])
+counts-more taken after es e more full counts =
+    let longer = length-append es (e ∷ []) in
+    elim (cases_lt journal_limit taken) [
+      | inl over ↦ (λ few. absurd (omega (arith, few, over, full over)), λ _. omega (arith, counts.1 over, longer))
+      | inr within ↦
+          let same = counts.0 within in
+          let next = more within in
+          (λ _. omega (arith, same, next, longer), λ many. omega (arith, many, same, next, longer))
+    ]
 
 -- the next step
-pub knows-next : (shape : ShapeFields) (w v : WorldState) (taken position : ℕ) (wrong : Option ℕ) (es : List Entry) (e : Entry) → is_some wrong ≡ false → (taken ≤ journal_limit → position ≡ taken + 1)
-    → w.length < journal_limit → next w e.event ≡ Ok (v, e) → Knows shape w taken wrong es → Knows shape v position wrong (es ++ e ∷ [])
-knows-next shape w v taken position None es e none counted room step knows =
-    let count = knows-count shape w taken es knows in
-    (leads_push (first_world shape) w v es e knows.0 step, omega (arith, counted (omega (arith, room, count.0)), knows.1, length-append es (e ∷ [])))
-knows-next shape w v taken position (Some wrong) es e none counted room step knows = absurd (cc)
+pub tells-next : (shape : ShapeFields) (w v : WorldState) (wrong : Option ℕ) (es : List Entry) (e : Entry) → is_some wrong ≡ false → next w e.event ≡ Ok (v, e) → Tells shape w wrong es → Tells shape v wrong (es ++ e ∷ [])
+tells-next shape w v None es e none step leads = leads_push (first_world shape) w v es e leads step
+tells-next shape w v (Some wrong) es e none step knows = absurd (cc)
 
 -- the first that is not
-pub knows-wrong : (shape : ShapeFields) (w v : WorldState) (taken position after : ℕ) (wrong : Option ℕ) (es : List Entry) (e : Entry) → is_some wrong ≡ false → (taken ≤ journal_limit → position ≡ taken + 1)
-    → (w.length < journal_limit → (u : WorldState) → next w e.event ≢ Ok (u, e)) → Knows shape w taken wrong es → Knows shape v after (Some position) (es ++ e ∷ [])
-knows-wrong shape w v taken position after None es e none counted other knows = λ few.
-    let count = knows-count shape w taken es knows in
+pub tells-wrong : (shape : ShapeFields) (w v : WorldState) (taken position : ℕ) (wrong : Option ℕ) (es : List Entry) (e : Entry) → is_some wrong ≡ false → (taken ≤ journal_limit → position ≡ taken + 1)
+    → (w.length < journal_limit → (u : WorldState) → next w e.event ≢ Ok (u, e)) → Counts taken es → Tells shape w wrong es → Tells shape v (Some position) (es ++ e ∷ [])
+tells-wrong shape w v taken position None es e none counted other counts leads = λ few.
     let more = length-append es (e ∷ []) in
-    let room : w.length < journal_limit = omega (arith, few, more, count.0, count.1) in
+    let within : taken ≤ journal_limit = elim (cases_lt journal_limit taken) [ inl over ↦ absurd (omega (arith, few, more, counts.1 over)) | inr less ↦ less ] in
+    let same = counts.0 within in
     record {
       before = es;
       world = w;
-      leads = knows.0;
+      leads = leads;
       wrong = e;
       rest = [];
       in_order = refl;
-      stands_there = omega (arith, counted (omega (arith, room, count.0)), knows.1);
-      not_next = other room;
+      stands_there = omega (arith, counted within, same);
+      not_next = other (omega (arith, few, more, leads-count (first_world shape) w es leads));
     }
-knows-wrong shape w v taken position after (Some wrong) es e none counted other knows = absurd (cc)
+tells-wrong shape w v taken position (Some wrong) es e none counted other counts knows = absurd (cc)
 
 -- those behind it change nothing
-pub knows-more : (shape : ShapeFields) (w : WorldState) (taken : ℕ) (wrong : Option ℕ) (es : List Entry) (e : Entry) → is_some wrong ≡ true → Knows shape w taken wrong es → Knows shape w taken wrong (es ++ e ∷ [])
-knows-more shape w taken None es e some knows = absurd (cc)
-knows-more shape w taken (Some position) es e some knows = λ few.
+pub tells-more : (shape : ShapeFields) (w : WorldState) (wrong : Option ℕ) (es : List Entry) (e : Entry) → is_some wrong ≡ true → Tells shape w wrong es → Tells shape w wrong (es ++ e ∷ [])
+tells-more shape w None es e some knows = absurd (cc)
+tells-more shape w (Some position) es e some knows = λ few.
     let before : IsFirstWrong shape es position = knows (omega (arith, few, length-append es (e ∷ []))) in
     record {
       before = before.before;
@@ -58,6 +64,6 @@ knows-more shape w taken (Some position) es e some knows = λ few.
     }
 
 -- at the end
-pub verdict : (shape : ShapeFields) (w : WorldState) (taken : ℕ) (wrong : Option ℕ) (es : List Entry) → length es ≤ journal_limit → Knows shape w taken wrong es → IsVerdict (record { shape = shape; entries = es }) wrong
-verdict shape w taken None es few knows = (w, knows.0)
-verdict shape w taken (Some position) es few knows = knows few
+pub verdict : (shape : ShapeFields) (w : WorldState) (wrong : Option ℕ) (es : List Entry) → length es ≤ journal_limit → Tells shape w wrong es → IsVerdict (record { shape = shape; entries = es }) wrong
+verdict shape w None es few leads = (w, leads)
+verdict shape w (Some position) es few knows = knows few

@@ -98,7 +98,7 @@ going-weaker old RanShort script after fault (inr is) = inr (is.0, is.1, is.2, b
 input-weaker : (old : Files) (RanShort : Type 0) (task : Task) (fault : Fault) → IsInputFault old RanShort task fault → IsInputFault old ⊤ task fault
 input-weaker old RanShort (run script None to with_open quiet) fault is = script-weaker (old script) RanShort script fault is
 input-weaker old RanShort (run script (Some after) to with_open quiet) fault is = going-weaker old RanShort script after fault is
-input-weaker old RanShort (threads script seed may_stop to) fault is = threads-weaker (old script) RanShort script fault is
+input-weaker old RanShort (threads script seed may_stop no_join to) fault is = threads-weaker (old script) RanShort script fault is
 input-weaker old RanShort (audit journal) fault is = journal-weaker (old journal) RanShort journal fault is
 input-weaker old RanShort (history journal) fault is = journal-weaker (old journal) RanShort journal fault is
 input-weaker old RanShort (explain journal name) fault is = journal-weaker (old journal) RanShort journal fault is
@@ -124,7 +124,7 @@ fault-weaker old new RanShort Refuses task (Faulty report) is = (input-weaker ol
 pub short-memory : (old : Files) (task : Task) → IsInputFault old ⊤ task NoMemory
 short-memory old (run script None to with_open quiet) = inl tt
 short-memory old (run script (Some after) to with_open quiet) = inl (inl tt)
-short-memory old (threads script seed may_stop to) = inl tt
+short-memory old (threads script seed may_stop no_join to) = inl tt
 short-memory old (audit journal) = inl tt
 short-memory old (history journal) = inl tt
 short-memory old (explain journal name) = inl tt

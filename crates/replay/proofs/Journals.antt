@@ -1,18 +1,16 @@
 -- Lemmas on texts of journals that are audited.
-use Rattle.std.proofs.Common.{◌≡◌, ℕ, ◌≤◌, List, Option, Some, length, inr, ap, arith}
-use Rattle.std.specs.Prelude.{◌≢◌, IsUtf8}
+use Rattle.std.proofs.Common.{◌≡◌, ℕ, ◌≤◌, List, Option, Some, length, inr, arith, Result, Ok, Err}
+use Rattle.std.specs.Prelude.{◌≢◌, IfErr, IsUtf8}
 use Rattle.cluster_core.specs.Journals.{JournalFields}
 use Rattle.cluster_core.specs.World.{journal_limit}
 use Rattle.messages.specs.Shapes.{ShapeFields}
-use Rattle.messages.specs.declared.entry.Entry.{Entry}
-use Rattle.journal_text.specs.declared.error.JournalError.{JournalError}
-use Rattle.journal_text.specs.declared.error.JournalError.TheVariants.{NoMemory, BadLine}
-use Rattle.journal_text.specs.Readings.{HasLength, IsBadLine, WritesJournal}
-use Rattle.journal_text.proofs.OneReading.{one_reading}
+use Rattle.lockscript.specs.declared.error.ParseError.{ParseError}
+use Rattle.lockscript.specs.declared.error.ParseError.TheVariants.{NoMemory, BadLine}
+use Rattle.journal_text.specs.Readings.{HasLength, IsBadLine}
 use Rattle.replay.specs.declared.fault.Fault.{Fault}
 use Rattle.replay.specs.declared.fault.Fault.TheVariants as fault
 use Rattle.replay.specs.Audits.{HasJournal, WritesFew}
-use Rattle.replay.specs.Faults.{IsJournalFault, IsTextFault, fault_of_journal}
+use Rattle.replay.specs.Faults.{IsJournalFault, IsTextFault, fault_of_parse}
 
 -- what the text writes, the file does
 pub has-journal : (Holds : Option (List ℕ) → Type 0) (bytes : List ℕ) (j : JournalFields) → Holds (Some bytes) → IsUtf8 bytes → WritesFew bytes j → HasJournal Holds j
@@ -30,7 +28,7 @@ text-fault Holds RanShort path bytes fault.OldJournal holds text is = absurd is
 text-fault Holds RanShort path bytes (fault.Faulty report) holds text is = absurd is
 
 -- a bad line is a fault of the text
-pub bad-fault : (bytes : List ℕ) (error : JournalError) → IsBadLine bytes error → IsTextFault bytes (fault_of_journal error)
+pub bad-fault : (bytes : List ℕ) (error : ParseError) → IsBadLine bytes error → IsTextFault bytes (fault_of_parse error)
 bad-fault bytes NoMemory bad = absurd bad
 bad-fault bytes (BadLine line) bad = bad
 
@@ -42,13 +40,17 @@ pub record IsMeasured (bytes : List ℕ) (s : ShapeFields) (count : ℕ) : Type 
 pub short-fault : (bytes : List ℕ) (s : ShapeFields) (count : ℕ) → IsMeasured bytes s count → IsTextFault bytes fault.NoMemory
 short-fault bytes s count is = (record { shape = s; entries = is.measured.0 }, (is.measured.1, omega (arith, is.measured.2, is.within)))
 
--- reading the text again tells of want of memory alone
-pub later-fault : (bytes : List ℕ) (s : ShapeFields) (count : ℕ) (error : JournalError) → IsMeasured bytes s count → (error ≢ NoMemory → IsBadLine bytes error) → IsTextFault bytes (fault_of_journal error)
-later-fault bytes s count NoMemory is bad = short-fault bytes s count is
-later-fault bytes s count (BadLine line) is bad = bad (λ e. absurd (cc))
+-- what the walk over the text tells, but want of memory, is a fault of it, and so is that once it was measured
+told-fault : (bytes : List ℕ) (f : Fault) → (f ≢ fault.NoMemory → IsTextFault bytes f) → IsTextFault bytes fault.NoMemory → IsTextFault bytes f
+told-fault bytes (fault.BadLine line) told short = told (λ e. absurd (cc))
+told-fault bytes (fault.CannotRead named) told short = told (λ e. absurd (cc))
+told-fault bytes (fault.CannotWrite named) told short = told (λ e. absurd (cc))
+told-fault bytes fault.CannotWriteOutput told short = told (λ e. absurd (cc))
+told-fault bytes fault.NoMemory told short = short
+told-fault bytes fault.JournalFull told short = told (λ e. absurd (cc))
+told-fault bytes fault.OldJournal told short = told (λ e. absurd (cc))
+told-fault bytes (fault.Faulty report) told short = told (λ e. absurd (cc))
 
--- and gives the same journal
-pub read-again : (bytes : List ℕ) (s t : ShapeFields) (count : ℕ) (es : List Entry) → IsMeasured bytes s count → WritesJournal bytes t es → (t ≡ s) × WritesFew bytes (record { shape = t; entries = es })
-read-again bytes s t count es is writes =
-    let same = (one_reading bytes).one_journal t s es is.measured.0 writes is.measured.1 in
-    (same.0, (writes, omega (arith, is.measured.2, is.within, ap (λ (xs : List Entry). length xs) same.1)))
+pub told-result : {A : Type 0} (bytes : List ℕ) (s : ShapeFields) (count : ℕ) (r : Result A Fault) → IfErr r (λ f. f ≢ fault.NoMemory → IsTextFault bytes f) → IsMeasured bytes s count → IfErr r (IsTextFault bytes)
+told-result bytes s count (Ok made) told is = told
+told-result bytes s count (Err f) told is = told-fault bytes f told (short-fault bytes s count is)

@@ -5,7 +5,7 @@ use Rattle.cluster_core.specs.Journals.{JournalFields}
 use Rattle.messages.specs.declared.version.Version.{Version}
 use Rattle.messages.specs.declared.version.Version.TheVariants.{First, Second}
 use Rattle.journal_text.specs.Readings.{IsOld, WritesJournal}
-use Rattle.journal_text.proofs.OldTexts.{old_text}
+use Rattle.journal_text.proofs.FirstLines.{old_text}
 use Rattle.lockscript.specs.Scripts.{ScriptFields}
 use Rattle.lockscript.specs.ShapedScripts.{IsForShape, IsRefusedForShape}
 use Rattle.lockscript.specs.declared.error.ParseError.{ParseError}

@@ -13,8 +13,8 @@ use Rattle.replay.specs.Stores.{Files, SameFiles, SameOthers}
 same-but : (old new : Files) (task : Task) → SameFiles old new → SameButJournal task old new
 same-but old new (run script after None with_open quiet) same = same
 same-but old new (run script after (Some path) with_open quiet) same = λ other file differs. same other file
-same-but old new (threads script seed may_stop None) same = same
-same-but old new (threads script seed may_stop (Some path)) same = λ other file differs. same other file
+same-but old new (threads script seed may_stop no_join None) same = same
+same-but old new (threads script seed may_stop no_join (Some path)) same = λ other file differs. same other file
 same-but old new (audit path) same = same
 same-but old new (history path) same = same
 same-but old new (explain path name) same = same
@@ -41,8 +41,8 @@ gone-on old new script after to with_open quiet j (No position) is = same-but ol
 done-files : (old new : Files) (task : Task) (shown : Shown) → Does old task new shown → SameButJournal task old new
 done-files old new (run script None to with_open quiet) shown is = kept-run old new script None to with_open quiet _ is.3
 done-files old new (run script (Some after) to with_open quiet) shown is = gone-on old new script after to with_open quiet is.0 shown is.2
-done-files old new (threads script seed may_stop None) shown is = is.3
-done-files old new (threads script seed may_stop (Some path)) shown is = is.3.1
+done-files old new (threads script seed may_stop no_join None) shown is = is.3
+done-files old new (threads script seed may_stop no_join (Some path)) shown is = is.3.1
 done-files old new (audit path) shown is = is.3
 done-files old new (history path) shown is = is.3
 done-files old new (explain path name) shown is = is.3
@@ -59,8 +59,8 @@ unwritten old new (run script None None with_open quiet) named has others = absu
 unwritten old new (run script None (Some path) with_open quiet) named has others = subst (λ (p : List ℕ). SameOthers old new p) has.0 others
 unwritten old new (run script (Some after) None with_open quiet) named has others = absurd has
 unwritten old new (run script (Some after) (Some path) with_open quiet) named has others = subst (λ (p : List ℕ). SameOthers old new p) has.0 others
-unwritten old new (threads script seed may_stop None) named has others = absurd has
-unwritten old new (threads script seed may_stop (Some path)) named has others = subst (λ (p : List ℕ). SameOthers old new p) has.0 others
+unwritten old new (threads script seed may_stop no_join None) named has others = absurd has
+unwritten old new (threads script seed may_stop no_join (Some path)) named has others = subst (λ (p : List ℕ). SameOthers old new p) has.0 others
 unwritten old new (audit path) named has others = absurd has
 unwritten old new (history path) named has others = absurd has
 unwritten old new (explain path name) named has others = absurd has

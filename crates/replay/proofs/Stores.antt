@@ -35,8 +35,8 @@ had-no_text old new path same (inr no_text) = inr (no_text.0, (same path (Some n
 pub same-unless : (old new : Files) (task : Task) (path : List ℕ) (file : Option (List ℕ)) → SameButJournal task old new → journal_path task ≢ Some path → new path file ↔ old path file
 same-unless old new (run script after None with_open quiet) path file kept unasked = kept path file
 same-unless old new (run script after (Some other) with_open quiet) path file kept unasked = kept path file (λ is. unasked (ap (λ (p : List ℕ). Some p) (sym is)))
-same-unless old new (threads script seed may_stop None) path file kept unasked = kept path file
-same-unless old new (threads script seed may_stop (Some other)) path file kept unasked = kept path file (λ is. unasked (ap (λ (p : List ℕ). Some p) (sym is)))
+same-unless old new (threads script seed may_stop no_join None) path file kept unasked = kept path file
+same-unless old new (threads script seed may_stop no_join (Some other)) path file kept unasked = kept path file (λ is. unasked (ap (λ (p : List ℕ). Some p) (sym is)))
 same-unless old new (audit journal) path file kept unasked = kept path file
 same-unless old new (history journal) path file kept unasked = kept path file
 same-unless old new (explain journal name) path file kept unasked = kept path file

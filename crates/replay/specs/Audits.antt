@@ -1,5 +1,5 @@
 -- What the journal of a file is.
-use Rattle.std.specs.Prelude.{◌≡◌, ℕ, ◌≤◌, List, length, string_bytes, Option, Some, None}
+use Rattle.std.specs.Prelude.{◌≡◌, ℕ, ◌<◌, ◌≤◌, List, length, string_bytes, Option, Some, None}
 use Rattle.cluster_core.specs.declared.item.Item.{Item}
 use Rattle.cluster_core.specs.Histories.{HasHistory, EachAtItsPlace}
 use Rattle.cluster_core.specs.Journals.{JournalFields, IsFirstWrong}
@@ -37,10 +37,18 @@ abbrev pub IsAudited : JournalFields → Audited → Type 0
 IsAudited j (Run journal) = (journal ≡ j) × IsRun j.shape j.entries
 IsAudited j (Wrong position) = IsFirstWrong j.shape j.entries position
 
--- what an audit that goes on knows of the entries so far: that they lead to this world, and how many they are, or, of no more than a journal may have, the first wrong one
+-- so many entries came, or more than a journal may have
+abbrev pub Counts : ℕ → List Entry → Type 0
+Counts taken es = (taken ≤ journal_limit → taken ≡ length es) × (journal_limit < taken → journal_limit < length es)
+
+-- what an audit that goes on knows of the entries so far: that they lead to this world, or, of no more than a journal may have, the first wrong one
+abbrev pub Tells : ShapeFields → WorldState → Option ℕ → List Entry → Type 0
+Tells shape world None es = Leads (first_world shape) es world
+Tells shape world (Some position) es = length es ≤ journal_limit → IsFirstWrong shape es position
+
+-- and how many they are
 abbrev pub Knows : ShapeFields → WorldState → ℕ → Option ℕ → List Entry → Type 0
-Knows shape world taken None es = Leads (first_world shape) es world × (taken ≡ length es)
-Knows shape world taken (Some position) es = length es ≤ journal_limit → IsFirstWrong shape es position
+Knows shape world taken wrong es = Counts taken es × Tells shape world wrong es
 
 -- they are a run where no position is told, else the first wrong one is there
 abbrev pub IsVerdict : JournalFields → Option ℕ → Type 0

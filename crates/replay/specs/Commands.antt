@@ -64,7 +64,7 @@ GoesOn old script j to with_open quiet new shown = IsRun j.shape j.entries × We
 abbrev pub Does : Files → Task → Files → Shown → Type 0
 Does old (run script None to with_open quiet) new shown = (played : PlayedState) × HasRun (old script) played × ShowsRun played with_open quiet shown × KeepsJournal old to (journal_text played.journal.shape played.journal.entries) new × IsReadFrom to played.journal
 Does old (run script (Some after) to with_open quiet) new shown = (j : JournalFields) × HasNewJournal (old after) j × GoesOn old script j to with_open quiet new shown
-Does old (threads script seed may_stop to) new shown = (t : ThreadedFields) × IsTold (old script) may_stop t × ShowsThreads t shown × KeepsJournal old to t.journal new
+Does old (threads script seed may_stop no_join to) new shown = (t : ThreadedFields) × IsTold (old script) no_join may_stop t × ShowsThreads t shown × KeepsJournal old to t.journal new
 Does old (audit path) new shown = (j : JournalFields) × HasJournal (old path) j × IsAudit j shown × SameFiles old new
 Does old (history path) new shown = (j : JournalFields) × HasJournal (old path) j × IsHistory j shown × SameFiles old new
 Does old (explain path name) new shown = (j : JournalFields) × HasJournal (old path) j × IsExplained j name shown × SameFiles old new
@@ -82,7 +82,7 @@ Shows IsDone old new IsToldBeside status = (shown : Shown) × IsDone shown × (s
 -- no file but the one of the journal that is asked for changed
 abbrev pub SameButJournal : Task → Files → Files → Type 0
 SameButJournal (run script after (Some path) with_open quiet) old new = SameOthers old new path
-SameButJournal (threads script seed may_stop (Some path)) old new = SameOthers old new path
+SameButJournal (threads script seed may_stop no_join (Some path)) old new = SameOthers old new path
 SameButJournal task old new = SameFiles old new
 
 -- the fault is in the journal behind which the script is to run, or that is a run and the fault is in the script
@@ -94,7 +94,7 @@ IsGoingFault old RanShort script after fault =
 abbrev pub IsInputFault : Files → Type 0 → Task → Fault → Type 0
 IsInputFault old RanShort (run script None to with_open quiet) fault = IsScriptFault (old script) RanShort script fault
 IsInputFault old RanShort (run script (Some after) to with_open quiet) fault = IsGoingFault old RanShort script after fault
-IsInputFault old RanShort (threads script seed may_stop to) fault = IsThreadsFault (old script) RanShort script fault
+IsInputFault old RanShort (threads script seed may_stop no_join to) fault = IsThreadsFault (old script) RanShort script fault
 IsInputFault old RanShort (audit path) fault = IsJournalFault (old path) RanShort path fault
 IsInputFault old RanShort (history path) fault = IsJournalFault (old path) RanShort path fault
 IsInputFault old RanShort (explain path name) fault = IsJournalFault (old path) RanShort path fault
@@ -109,7 +109,7 @@ IsInputFault old RanShort (schedule path seed failures) fault = IsExploreFault f
 abbrev pub HasJournalFor : Files → Task → List ℕ → Type 0
 HasJournalFor old (run script None (Some path) with_open quiet) named = (named ≡ path) × ((played : PlayedState) × HasRun (old script) played)
 HasJournalFor old (run script (Some after) (Some path) with_open quiet) named = (named ≡ path) × ((j : JournalFields) × HasNewJournal (old after) j × ((played : PlayedState) × HasRunBehind (old script) j played))
-HasJournalFor old (threads script seed may_stop (Some path)) named = (named ≡ path) × IsTaken (old script)
+HasJournalFor old (threads script seed may_stop no_join (Some path)) named = (named ≡ path) × IsTaken (old script)
 HasJournalFor old task named = ⊥
 
 -- the fault is there, and none that is looked for before it, with the files that it leaves: those that were there, but for the journal of a run, which is written before standard output

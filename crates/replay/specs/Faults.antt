@@ -5,8 +5,6 @@ use Rattle.cluster_core.specs.Journals.{JournalFields}
 use Rattle.cluster_core.specs.World.{journal_limit}
 use Rattle.diagnosis.specs.JournalReports.{BeginsAsJournal, IsJournalReport}
 use Rattle.diagnosis.specs.Reports.{IsReport}
-use Rattle.journal_text.specs.declared.error.JournalError.{JournalError}
-use Rattle.journal_text.specs.declared.error.JournalError.TheVariants as journal
 use Rattle.journal_text.specs.Readings as readings
 use Rattle.lockscript.specs.declared.error.ParseError.{ParseError}
 use Rattle.lockscript.specs.declared.error.ParseError.TheVariants as parse
@@ -31,10 +29,6 @@ fault_of_parse (parse.BadLine line) = BadLine line
 abbrev pub fault_of_play : PlayError → Fault
 fault_of_play play.NoMemory = NoMemory
 fault_of_play play.JournalFull = JournalFull
-
-abbrev pub fault_of_journal : JournalError → Fault
-fault_of_journal journal.NoMemory = NoMemory
-fault_of_journal (journal.BadLine line) = BadLine line
 
 -- why the bytes of the file of this path are not there: it can't be read, or memory is short
 abbrev pub IsUnread : (Option (List ℕ) → Type 0) → Type 0 → List ℕ → Fault → Type 0

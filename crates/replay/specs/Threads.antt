@@ -60,13 +60,13 @@ pub record Tells (run : ThreadRunFields) (t : ThreadedFields) : Type 0 where
 abbrev pub IsThreaded : ThreadedFields → Type 0
 IsThreaded t = (run : ThreadRunFields) × Tells run t
 
--- of a run of the script, which may have been ended where it was stuck
-abbrev pub IsToldOf : ScriptFields → Bool → ThreadedFields → Type 0
-IsToldOf s may_stop t = (run : ThreadRunFields) × IsOfScript s may_stop run × Tells run t
+-- of a run of the script, whose failures and starts may stand beside open calls, and which may have been ended where it was stuck
+abbrev pub IsToldOf : ScriptFields → Bool → Bool → ThreadedFields → Type 0
+IsToldOf s no_join may_stop t = (run : ThreadRunFields) × IsOfScript s no_join may_stop run × Tells run t
 
 -- the file writes the script of that run, and threads take its lines
-abbrev pub IsTold : (Option (List ℕ) → Type 0) → Bool → ThreadedFields → Type 0
-IsTold Holds may_stop t = (s : ScriptFields) × HasThreadScript Holds s × IsToldOf s may_stop t
+abbrev pub IsTold : (Option (List ℕ) → Type 0) → Bool → Bool → ThreadedFields → Type 0
+IsTold Holds no_join may_stop t = (s : ScriptFields) × HasThreadScript Holds s × IsToldOf s no_join may_stop t
 
 -- behind the listing stands how many receipts the journal holds, and that it is one of a run
 abbrev pub threads_text : ThreadedFields → List ℕ

@@ -5,7 +5,7 @@ ghost use Rattle.cluster_core.specs.World.{journal_limit};
 ghost use Rattle.command_line.specs.Tasks.{audit, history};
 ghost use Rattle.journal_text.specs.Readings.{HasLength};
 ghost use Rattle.messages.specs.declared.version.Version.TheVariants.{Second};
-ghost use Rattle.replay.specs.declared.fault.Fault.TheVariants.{CannotWriteOutput};
+ghost use Rattle.replay.specs.declared.fault.Fault.TheVariants.{CannotWriteOutput, NoMemory};
 ghost use Rattle.replay.specs.Audits.{HasJournal, HasNewJournal, IsAudited, IsHistoryText, IsVerdict, WritesFew};
 ghost use Rattle.replay.specs.Commands.{Does, IsFault};
 ghost use Rattle.replay.specs.Faults.{IsJournalFault, IsOldFault, IsOldTextFault, IsTextFault};
@@ -20,11 +20,12 @@ use cluster_core::check_error::CheckError;
 use cluster_core::journal::Journal;
 use cluster_core::world::JOURNAL_LIMIT;
 use intervals::span_map::NoMemory;
-use journal_text::parse::{is_old, measure, read_each};
+use journal_text::parse::{is_old, measure, read_each, shape_of};
 use lockscript::listing::push_history;
 use messages::entry::Entry;
 use messages::shape::Shape;
 use placement::placed::placed;
+use player::watcher::Watcher;
 use std::alloc::Global;
 
 // What an audit of the entries of a journal comes to.
@@ -37,16 +38,17 @@ pub(crate) enum Audited {
 }
 
 // Whether the journal of a file is one of a run.
-pub(crate) fn audit<'a, S: Store>(
+pub(crate) fn audit<'a, S: Store, V: Watcher>(
     alloc: Global,
     store: &mut S,
     path: &'a str,
+    watcher: &mut V,
 ) -> Result<Shown, Fault<'a>>
     ensures done { IfOk result (Does (S.holds store.old) (audit path.now) (S.holds store.new)) }
     ensures fault { IfErr result (λ fault. (fault ≢ CannotWriteOutput)
         × IsFault (S.holds store.old) (S.ran_short store.new) (S.refuses store.new) (audit path.now) (S.holds store.new) fault) }
 {
-    match first_wrong(alloc, store, path)? {
+    match first_wrong(alloc, store, path, watcher)? {
         None => Ok(Shown::Yes),
         Some(position) => Ok(Shown::No(position)),
     }
@@ -72,10 +74,11 @@ pub(crate) fn history<'a, S: Store>(
 }
 
 // The position of the first entry of the journal of a file that is not the next step, if there is one.
-fn first_wrong<'a, S: Store>(
+fn first_wrong<'a, S: Store, V: Watcher>(
     alloc: Global,
     store: &mut S,
     path: &'a str,
+    watcher: &mut V,
 ) -> Result<Option<u32>, Fault<'a>>
     ensures verdict { IfOk result (λ wrong. (j : JournalFields) × HasJournal (S.holds store.old path.now) j × IsVerdict j wrong) }
     ensures fault { IfErr result (IsJournalFault (S.holds store.old path.now) (S.ran_short store.new) path.now) }
@@ -83,20 +86,51 @@ fn first_wrong<'a, S: Store>(
 {
     let bytes = bytes_of(alloc, store, path)?;
     match str::from_utf8(bytes.as_slice()) {
-        Ok(text) => first_wrong_in(alloc, text),
+        Ok(text) => first_wrong_in(alloc, text, watcher),
         Err(_) => Err(Fault::CannotRead(path)),
     }
 }
 
-// The same of the journal that the text writes. Its entries are not kept.
-fn first_wrong_in<'a>(alloc: Global, text: &str) -> Result<Option<u32>, Fault<'a>>
+// The same of the journal that the text writes. Its entries are not kept. Where memory is short, what is wrong
+// with the text is still told first.
+fn first_wrong_in<'a, V: Watcher>(
+    alloc: Global,
+    text: &str,
+    watcher: &mut V,
+) -> Result<Option<u32>, Fault<'a>>
     ensures verdict { IfOk result (λ wrong. (j : JournalFields) × WritesFew text.now j × IsVerdict j wrong) }
     ensures fault { IfErr result (IsTextFault text.now) }
 {
-    let (shape, _) = measured(text)?;
-    let mut auditor = Auditor::new(alloc, shape)?;
-    read_each(alloc, text, &mut auditor)?;
+    let wrong = audited_in(alloc, text, watcher);
+    if let Err(Fault::NoMemory) = &wrong {
+        let _ = measured(text)?;
+    }
+    wrong
+}
+
+// The same by one walk over the text, where memory may be short before a bad line is reached.
+fn audited_in<'a, V: Watcher>(
+    alloc: Global,
+    text: &str,
+    watcher: &mut V,
+) -> Result<Option<u32>, Fault<'a>>
+    ensures verdict { IfOk result (λ wrong. (j : JournalFields) × WritesFew text.now j × IsVerdict j wrong) }
+    ensures fault { IfErr result (λ fault. fault ≢ NoMemory → IsTextFault text.now fault) }
+{
+    let shape = shape_of(text)?;
+    watcher.begin("entries", count_told(text));
+    let mut auditor = Auditor::new(alloc, shape, watcher)?;
+    let _ = read_each(alloc, text, &mut auditor)?;
+    if auditor.taken > JOURNAL_LIMIT {
+        return Err(Fault::JournalFull);
+    }
     Ok(auditor.wrong)
+}
+
+// How many entries the last line tells, if it does.
+fn count_told(text: &str) -> Option<u64> {
+    let (_, line) = text.trim_end_matches('\n').rsplit_once('\n')?;
+    line.strip_prefix("end ")?.parse().ok()
 }
 
 // The shape and the number of the entries of the journal that the text writes, where they are no more
@@ -196,14 +230,30 @@ fn entries_of<'a, S: Store>(
     }
 }
 
-// The shape and the entries of the journal that the text writes.
+// The shape and the entries of the journal that the text writes. Where memory is short, what is wrong with the
+// text is still told first.
 fn entries_in<'a>(alloc: Global, text: &str) -> Result<(Shape, Vec<Entry>), Fault<'a>>
     ensures entries { IfOk result (λ made. WritesFew text.now (record { shape = made.0; entries = made.1.items })) }
     ensures fault { IfErr result (IsTextFault text.now) }
 {
-    let (_, count) = measured(text)?;
+    let made = entries_read(alloc, text);
+    if let Err(Fault::NoMemory) = &made {
+        let _ = measured(text)?;
+    }
+    made
+}
+
+// The same by one walk over the text, where memory may be short before a bad line is reached.
+fn entries_read<'a>(alloc: Global, text: &str) -> Result<(Shape, Vec<Entry>), Fault<'a>>
+    ensures entries { IfOk result (λ made. WritesFew text.now (record { shape = made.0; entries = made.1.items })) }
+    ensures fault { IfErr result (λ fault. fault ≢ NoMemory → IsTextFault text.now fault) }
+{
+    let count = count_told(text).unwrap_or(0).min(u64::from(JOURNAL_LIMIT));
     let mut entries = Vec::with_capacity(alloc, count as usize)?;
     let shape = read_each(alloc, text, &mut entries)?;
+    if entries.len() > JOURNAL_LIMIT as usize {
+        return Err(Fault::JournalFull);
+    }
     Ok((shape, entries))
 }
 

@@ -1,52 +1,74 @@
 //! Audits that go on.
-ghost use Rattle.std.specs.Prelude.{[], None, IfOk};
+ghost use Rattle.std.specs.Prelude.{◌≡◌, ◌≤◌, ◌<◌, ◌+◌, [], None, IfOk};
 ghost use Rattle.cluster_core.specs.Parts.{world_state};
+ghost use Rattle.cluster_core.specs.World.{journal_limit};
 ghost use Rattle.replay.specs.Audits.{Knows};
 
 use cluster_core::journal::comes_next;
-use cluster_core::world::World;
+use cluster_core::world::{JOURNAL_LIMIT, World};
 use intervals::span_map::NoMemory;
 use journal_text::sink::Sink;
 use messages::entry::Entry;
 use messages::shape::Shape;
+use player::watcher::Watcher;
 use std::alloc::{AllocError, Global};
 
-// An audit of entries that come one after the other. None is kept.
+// An audit of entries that come one after the other. None is kept, and a watcher is told of each.
 #[derive(Drop)]
-pub(crate) struct Auditor {
-    // Where the entries so far led, and how many they are, while each was the next step.
+pub(crate) struct Auditor<'a, V> {
+    // Where the entries so far led, while each was the next step.
     world: World,
-    taken: u32,
+    // How many entries came, or one more than a journal may have where they are more.
+    pub(crate) taken: u32,
     // The position of the first that was not.
     pub(crate) wrong: Option<u32>,
+    watcher: &'a mut V,
 }
 
-impl Auditor {
+// One entry more, but no more than one more than a journal may have.
+fn counted(taken: u32) -> u32
+    ensures more { taken ≤ journal_limit → result ≡ taken + 1 }
+    ensures full { journal_limit < taken → result ≡ taken }
+{
+    if taken > JOURNAL_LIMIT {
+        taken
+    } else {
+        taken + 1
+    }
+}
+
+impl<'a, V: Watcher> Auditor<'a, V> {
     // Before the first entry.
-    pub(crate) fn new(alloc: Global, shape: Shape) -> Result<Auditor, NoMemory>
+    pub(crate) fn new(
+        alloc: Global,
+        shape: Shape,
+        watcher: &'a mut V,
+    ) -> Result<Auditor<'a, V>, NoMemory>
         ensures { IfOk result (λ auditor. Knows shape (world_state auditor.world) auditor.taken auditor.wrong []) }
     {
         Ok(Auditor {
             world: World::new(alloc, shape)?,
             taken: 0,
             wrong: None,
+            watcher,
         })
     }
 }
 
-impl Sink for Auditor {
+impl<V: Watcher> Sink for Auditor<'_, V> {
     ghost took = { λ a s es. Knows s (world_state a.world) a.taken a.wrong es };
 
     fn take(&mut self, alloc: Global, entry: Entry) -> Result<(), AllocError> {
+        self.watcher.pass();
+        let taken = counted(self.taken);
         if self.wrong.is_some() {
+            self.taken = taken;
             return Ok(());
         }
-        let position = self.taken.saturating_add(1);
-        if comes_next(&mut self.world, alloc, &entry)? {
-            self.taken = position;
-        } else {
-            self.wrong = Some(position);
+        if !comes_next(&mut self.world, alloc, &entry)? {
+            self.wrong = Some(taken);
         }
+        self.taken = taken;
         Ok(())
     }
 }

@@ -24,6 +24,7 @@ use lockscript::script::Script;
 use messages::shape::Shape;
 use player::play::play_after;
 use player::played::Played;
+use player::watcher::Watcher;
 use std::alloc::Global;
 
 // What a script that goes on behind a journal comes to.
@@ -36,37 +37,39 @@ pub(crate) enum Behind {
 }
 
 // What is shown of the script of a file that goes on behind the journal of another.
-pub(crate) fn run_behind<'a, S: Store>(
+pub(crate) fn run_behind<'a, S: Store, V: Watcher>(
     alloc: Global,
     store: &mut S,
     path: &'a str,
     after: &'a str,
     wanted: Wanted,
+    watcher: &mut V,
 ) -> Result<Shown, Fault<'a>>
     ensures done { IfOk result (Does (S.holds store.old) (run path.now (Some after.now) None wanted.open wanted.quiet) (S.holds store.new)) }
     ensures fault { IfErr result (λ fault. (fault ≢ CannotWriteOutput)
         × IsFault (S.holds store.old) (S.ran_short store.new) (S.refuses store.new) (run path.now (Some after.now) None wanted.open wanted.quiet) (S.holds store.new) fault) }
 {
-    match played_behind(alloc, store, path, after)? {
+    match played_behind(alloc, store, path, after, watcher)? {
         Behind::Run(played) => Ok(Shown::Text(text_of(alloc, played, wanted)?)),
         Behind::Wrong(position) => Ok(Shown::No(position)),
     }
 }
 
 // The same, with the journal of the whole run written to a file. All that needs memory is done before.
-pub(crate) fn run_behind_with_journal<'a, S: Store>(
+pub(crate) fn run_behind_with_journal<'a, S: Store, V: Watcher>(
     alloc: Global,
     store: &mut S,
     path: &'a str,
     after: &'a str,
     file: &'a str,
     wanted: Wanted,
+    watcher: &mut V,
 ) -> Result<Shown, Fault<'a>>
     ensures done { IfOk result (Does (S.holds store.old) (run path.now (Some after.now) (Some file.now) wanted.open wanted.quiet) (S.holds store.new)) }
     ensures fault { IfErr result (λ fault. (fault ≢ CannotWriteOutput)
         × IsFault (S.holds store.old) (S.ran_short store.new) (S.refuses store.new) (run path.now (Some after.now) (Some file.now) wanted.open wanted.quiet) (S.holds store.new) fault) }
 {
-    let played = match played_behind(alloc, store, path, after)? {
+    let played = match played_behind(alloc, store, path, after, watcher)? {
         Behind::Run(played) => played,
         Behind::Wrong(position) => return Ok(Shown::No(position)),
     };
@@ -78,28 +81,30 @@ pub(crate) fn run_behind_with_journal<'a, S: Store>(
 }
 
 // What the script of a file comes to behind the journal of another, which is audited first.
-fn played_behind<'a, S: Store>(
+fn played_behind<'a, S: Store, V: Watcher>(
     alloc: Global,
     store: &mut S,
     path: &'a str,
     after: &'a str,
+    watcher: &mut V,
 ) -> Result<Behind, Fault<'a>>
     ensures behind { IfOk result (λ behind. (j : JournalFields) × HasNewJournal (S.holds store.old after.now) j × IsBehind (S.holds store.old path.now) j behind) }
     ensures fault { IfErr result (IsGoingFault (S.holds store.old) (S.ran_short store.new) path.now after.now) }
     ensures files { SameFiles (S.holds store.old) (S.holds store.new) }
 {
     match checked_new(alloc, store, after)? {
-        Audited::Run(journal) => Ok(Behind::Run(gone_on(alloc, store, path, journal)?)),
+        Audited::Run(journal) => Ok(Behind::Run(gone_on(alloc, store, path, journal, watcher)?)),
         Audited::Wrong(position) => Ok(Behind::Wrong(position)),
     }
 }
 
 // What the run of a journal comes to by the script of a file.
-fn gone_on<'a, S: Store>(
+fn gone_on<'a, S: Store, V: Watcher>(
     alloc: Global,
     store: &mut S,
     path: &'a str,
     journal: Journal,
+    watcher: &mut V,
 ) -> Result<Played, Fault<'a>>
     requires { journal.shape.version ≡ Second }
     ensures run { IfOk result (λ played. HasRunBehind (S.holds store.old path.now) journal (state_of played)) }
@@ -107,7 +112,7 @@ fn gone_on<'a, S: Store>(
     ensures files { SameFiles (S.holds store.old) (S.holds store.new) }
 {
     let script = script_for(alloc, store, path, &journal.shape())?;
-    Ok(play_after(alloc, &script, journal)?)
+    Ok(play_after(alloc, &script, journal, watcher)?)
 }
 
 // The script for a cluster of this shape that a file writes.

@@ -18,12 +18,12 @@ use diagrams::mermaid::sequence;
 use diagrams::trace::trace;
 use holdings::stretch::holdings;
 use intervals::span_map::NoMemory;
+use message_text::names::call_of;
 use pictures::around::around;
 use pictures::picture::picture;
 use pictures::window::Window;
 use placement::placed::placed;
 use std::alloc::{AllocError, Global};
-use stories::names::call_named;
 
 // How many entries a picture shows at most.
 const MOST_DRAWN: u64 = 400;
@@ -106,7 +106,7 @@ fn window_of(journal: &Journal, name: Option<&str>, asked: &Window) -> Option<Wi
 fn window_around(journal: &Journal, name: &str, asked: &Window) -> Option<Window>
     ensures { MatchOption result (HasNothingOf journal.now name.now) (IsWindow journal.now (Some name.now) asked.now.from asked.now.to) }
 {
-    let call = call_named(name)?;
+    let call = call_of(name)?;
     let wide = around(journal.entries(), &call, MARGIN)?;
     Some(narrowed(&between(asked, &wide)))
 }

@@ -12,9 +12,9 @@ use crate::shown::Shown;
 use crate::store::Store;
 use cluster_core::journal::Journal;
 use intervals::span_map::NoMemory;
+use message_text::names::call_of;
 use placement::placed::placed;
 use std::alloc::{AllocError, Global};
-use stories::names::call_named;
 use stories::{open_calls as calls, story};
 
 // The story of the call of this name, by the journal of a file, where that is one of a run.
@@ -52,7 +52,7 @@ fn explained(alloc: Global, journal: &Journal, name: &str) -> Result<Shown, NoMe
 fn story_of(alloc: Global, journal: &Journal, name: &str) -> Result<Option<String>, NoMemory>
     ensures { IfOk result (λ told. MatchOption told (HasNoCall journal.now name.now) (λ text. IsStoryOf journal.now name.now (string_bytes text))) }
 {
-    let Some(call) = call_named(name) else {
+    let Some(call) = call_of(name) else {
         return Ok(None);
     };
     let history = placed(alloc, journal)?;

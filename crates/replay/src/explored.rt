@@ -13,6 +13,7 @@ use explorer::explore::explore;
 use explorer::schedule::schedule;
 use explorer::text::script_text;
 use lockscript::script::Script;
+use player::watcher::Watcher;
 use std::alloc::Global;
 
 // The script of a schedule of that of a file.
@@ -51,13 +52,14 @@ fn scheduled_in<'a>(
 }
 
 // The outcomes of the script of a file.
-pub(crate) fn explored<'a, S: Store>(
+pub(crate) fn explored<'a, S: Store, V: Watcher>(
     alloc: Global,
     store: &mut S,
     path: &'a str,
     seeds: u32,
     first: u32,
     failures: bool,
+    watcher: &mut V,
 ) -> Result<Shown, Fault<'a>>
     ensures done { IfOk result (Does (S.holds store.old) (explore path.now seeds first failures) (S.holds store.new)) }
     ensures fault { IfErr result (λ fault. (fault ≢ CannotWriteOutput)
@@ -65,24 +67,25 @@ pub(crate) fn explored<'a, S: Store>(
 {
     let bytes = bytes_of(alloc, store, path)?;
     match str::from_utf8(bytes.as_slice()) {
-        Ok(text) => explored_in(alloc, text, seeds, first, failures),
+        Ok(text) => explored_in(alloc, text, seeds, first, failures, watcher),
         Err(_) => Err(Fault::CannotRead(path)),
     }
 }
 
 // The same of the text of a file.
-fn explored_in<'a>(
+fn explored_in<'a, V: Watcher>(
     alloc: Global,
     text: &str,
     seeds: u32,
     first: u32,
     failures: bool,
+    watcher: &mut V,
 ) -> Result<Shown, Fault<'a>>
     ensures done { IfOk result (IsExplored failures first seeds text.now) }
     ensures fault { IfErr result (IsExploreTextFault failures text.now) }
 {
     let script = Script::parse_for_threads(alloc, text)?;
-    let explored = explore(alloc, text, &script, first, seeds, failures)?;
+    let explored = explore(alloc, text, &script, first, seeds, failures, watcher)?;
     if explored.breaks {
         Ok(Shown::Wanting(explored.text))
     } else {

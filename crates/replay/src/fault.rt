@@ -1,13 +1,12 @@
 //! Why a command was not done.
 ghost use Rattle.std.specs.Prelude.{◌≡◌};
 ghost use Rattle.replay.specs.declared.fault.Fault.TheVariants.{NoMemory};
-ghost use Rattle.replay.specs.Faults.{fault_line, fault_of_journal, fault_of_parse, fault_of_play};
+ghost use Rattle.replay.specs.Faults.{fault_line, fault_of_parse, fault_of_play};
 ghost use Rattle.replay.specs.Outputs.{Writes};
 ghost use Rattle.replay.specs.Statuses.{status_of};
 
 use crate::output::{Output, WriteFailed, put_line};
 use itoa::Buffer;
-use journal_text::error::JournalError;
 use lockscript::error::ParseError;
 use player::play::PlayError;
 use std::alloc::{AllocError, AllocFailed};
@@ -94,17 +93,6 @@ impl From<ParseError> for Fault<'_> {
         match error {
             ParseError::NoMemory => Fault::NoMemory,
             ParseError::BadLine(line) => Fault::BadLine(line),
-        }
-    }
-}
-
-impl From<JournalError> for Fault<'_> {
-    ghost from_gives = { λ error made. made ≡ fault_of_journal error };
-
-    fn from(error: JournalError) -> Self {
-        match error {
-            JournalError::NoMemory => Fault::NoMemory,
-            JournalError::BadLine(line) => Fault::BadLine(line),
         }
     }
 }

@@ -13,6 +13,7 @@ mod explored;
 pub mod fault;
 mod input;
 mod listing;
+pub mod meter;
 mod on_threads;
 pub mod output;
 pub mod perform;

@@ -6,6 +6,7 @@ ghost use Rattle.replay.specs.Threads.{HasFullJournal, IsToldOf};
 
 use crate::threaded::Threaded;
 use actors::gate::OpenGate;
+use actors::manner::Manner;
 use actors::run_error::RunError;
 use actors::threads::run_threads;
 use lockscript::script::Script;
@@ -16,19 +17,19 @@ use std::thread::Threads;
 use std::time::Clock;
 
 // Runs the script, all of whose lines threads take, on threads that the runtime starts. Messages meet the
-// weather of the seed. A run that may stop is ended where it is stuck.
+// weather of the seed.
 pub(crate) fn run_on_threads<R: Threads + Wait + Clock + Sync>(
     rt: &R,
     alloc: Global,
     script: &Script,
     seed: u32,
-    may_stop: bool,
+    manner: Manner,
 ) -> Result<Threaded, PlayError>
     requires { bad_line script.now.lines ≡ None }
-    ensures told { IfOk result (IsToldOf script.now may_stop) }
+    ensures told { IfOk result (IsToldOf script.now manner.no_join manner.may_stop) }
     ensures full { IfErr result (λ error. error ≡ JournalFull → HasFullJournal script.now) }
 {
-    match run_threads(rt, alloc, script, &OpenGate, seed, may_stop) {
+    match run_threads(rt, alloc, script, &OpenGate, seed, manner) {
         Ok(run) => Ok(Threaded::new(alloc, &run)?),
         Err(RunError::NoMemory) => Err(PlayError::NoMemory),
         Err(RunError::JournalFull(_)) => Err(PlayError::JournalFull),

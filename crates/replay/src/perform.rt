@@ -24,32 +24,44 @@ use crate::shown::Shown;
 use crate::store::Store;
 use crate::threads::play_on_threads;
 use crate::wanted::Wanted;
+use actors::manner::Manner;
 use command_line::line::Line;
+use player::watcher::Watcher;
 use std::alloc::Global;
 use std::sync::Wait;
 use std::thread::Threads;
 use std::time::Clock;
 
-/// Does what the line asks for, and answers the exit status: 0 where it was done; 1 where the journal
-/// that it names is none of a run, or has no call of the name, or that of a run on threads lacks a receipt, or
-/// the run was ended as stuck, of which the second writer is told the open calls; 3 where the input or the output is at fault; 4
-/// where memory or the journal was too small. At 3 and 4 one line on the second writer says why (of a script that is
-/// checked, a line for each bad one), and the first has got nothing, but for a beginning of what is shown where it failed. Faults are looked for in
-/// this order: the file is read, its bytes are UTF-8, its lines are good, the run or the audit has room,
-/// the journal is written, what is shown is written. No file is changed but that of the journal that a
-/// run is asked for, once it comes to that.
-pub fn perform<R: Threads + Wait + Clock + Sync, S: Store, O: Output, E: Output>(
+/// Does what the line asks for, and answers the exit status. It is 0 where all was done, 1 where something is wrong or
+/// left out (see below), 3 where the input or the output is at fault, 4 where memory or the journal was too small.
+///
+/// It is 1 where the journal that the line names is none of a run, or has no call of the name. So it is where a run on
+/// threads lacks a receipt in its journal or was ended as stuck, where an outcome breaks what is expected, and where a
+/// part of a recording is left out. The second writer is told the open calls of a run that was ended as stuck, and the
+/// notes of a recording.
+///
+/// At 3 and 4 one line on the second writer says why (of a script that is checked, a line for each of the first hundred
+/// bad ones, and how many more there are), and the
+/// first has got nothing, but for a beginning of what is shown where it failed. Of a `Write` of std no clause says that
+/// it was flushed, or that it failed where the status says so, since std says neither. Faults are looked for in this
+/// order: the file is read, its bytes are UTF-8, its lines are good, the run or the audit has room, the journal is
+/// written, what is shown is written. No file is changed but that of the journal that a run is asked for, once it
+/// comes to that. Of the lines of a script that is run, the entries of a journal that is audited and the seeds that are
+/// explored the watcher is told each that is done.
+pub fn perform<R: Threads + Wait + Clock + Sync, S: Store, O: Output, E: Output, V: Watcher>(
     rt: &R,
     alloc: Global,
     line: &Line<'_>,
     store: &mut S,
     out: &mut O,
     err: &mut E,
+    watcher: &mut V,
 ) -> u8
     ensures status { IsStatus result }
 
     // Done: what the file comes to is written and has gone on, the journal that a run is asked for is in
-    // its file, and the second writer got nothing, but of a run that was ended as stuck its open calls.
+    // its file, and the second writer got nothing, but of a run that was ended as stuck its open calls, and of a
+    // recording its notes.
     ensures done { result ≤ 1 → Shows (Does (S.holds store.old) (task_of line.now) (S.holds store.new)) (O.taken out.old) (O.taken out.new)
         (TellsBeside E.taken E.has_failed err.old err.new) result }
     ensures flushed { result ≤ 1 → O.is_flushed out.new }
@@ -62,7 +74,7 @@ pub fn perform<R: Threads + Wait + Clock + Sync, S: Store, O: Output, E: Output>
 
     ensures files { SameButJournal (task_of line.now) (S.holds store.old) (S.holds store.new) }
 {
-    match done(rt, alloc, line, store, out) {
+    match done(rt, alloc, line, store, out, watcher) {
         Ok(shown) => {
             shown.tell(err);
             shown.status()
@@ -81,12 +93,13 @@ pub(crate) fn report<E: Output>(fault: &Fault<'_>, err: &mut E) -> u8
 }
 
 // Does what the line asks for: what is shown of it.
-fn done<'a, R: Threads + Wait + Clock + Sync, S: Store, O: Output>(
+fn done<'a, R: Threads + Wait + Clock + Sync, S: Store, O: Output, V: Watcher>(
     rt: &R,
     alloc: Global,
     line: &Line<'a>,
     store: &mut S,
     out: &mut O,
+    watcher: &mut V,
 ) -> Result<Shown, Fault<'a>>
     ensures done { IfOk result (Does (S.holds store.old) (task_of line.now) (S.holds store.new)) }
     ensures shown { IfOk result (λ shown. Appends (O.taken out.old) (O.taken out.new) (shown_text shown)) }
@@ -94,7 +107,9 @@ fn done<'a, R: Threads + Wait + Clock + Sync, S: Store, O: Output>(
     ensures fault { IfErr result (λ fault. IsFault (S.holds store.old) (S.ran_short store.new) (S.refuses store.new) (task_of line.now) (S.holds store.new) fault
         × Leaves (Does (S.holds store.old) (task_of line.now) (S.holds store.new)) O.taken O.has_failed out.old out.new fault) }
 {
-    let shown = shown_of(rt, alloc, line, store)?;
+    let shown = shown_of(rt, alloc, line, store, watcher);
+    watcher.end();
+    let shown = shown?;
     match shown.show(out) {
         Ok(()) => Ok(shown),
         Err(_) => Err(Fault::CannotWriteOutput),
@@ -103,67 +118,73 @@ fn done<'a, R: Threads + Wait + Clock + Sync, S: Store, O: Output>(
 
 // What is shown of a script that is run, once its journal is written, if a file for it is named, behind the
 // journal of another file, if one is named.
-fn run_shown<'a, S: Store>(
+fn run_shown<'a, S: Store, V: Watcher>(
     alloc: Global,
     store: &mut S,
     script: &'a str,
     after: Option<&'a str>,
     journal: Option<&'a str>,
     wanted: Wanted,
+    watcher: &mut V,
 ) -> Result<Shown, Fault<'a>>
     ensures done { IfOk result (Does (S.holds store.old) (run script.now (option_map (λ file. file.now) after.entry) (option_map (λ file. file.now) journal.entry) wanted.open wanted.quiet) (S.holds store.new)) }
     ensures fault { IfErr result (λ fault. (fault ≢ CannotWriteOutput)
         × IsFault (S.holds store.old) (S.ran_short store.new) (S.refuses store.new) (run script.now (option_map (λ file. file.now) after.entry) (option_map (λ file. file.now) journal.entry) wanted.open wanted.quiet) (S.holds store.new) fault) }
 {
     match after {
-        None => run_alone_shown(alloc, store, script, journal, wanted),
-        Some(after) => run_behind_shown(alloc, store, script, after, journal, wanted),
+        None => run_alone_shown(alloc, store, script, journal, wanted, watcher),
+        Some(after) => run_behind_shown(alloc, store, script, after, journal, wanted, watcher),
     }
 }
 
 // The same of a script that goes on behind no journal.
-fn run_alone_shown<'a, S: Store>(
+fn run_alone_shown<'a, S: Store, V: Watcher>(
     alloc: Global,
     store: &mut S,
     script: &'a str,
     journal: Option<&'a str>,
     wanted: Wanted,
+    watcher: &mut V,
 ) -> Result<Shown, Fault<'a>>
     ensures done { IfOk result (Does (S.holds store.old) (run script.now None (option_map (λ file. file.now) journal.entry) wanted.open wanted.quiet) (S.holds store.new)) }
     ensures fault { IfErr result (λ fault. (fault ≢ CannotWriteOutput)
         × IsFault (S.holds store.old) (S.ran_short store.new) (S.refuses store.new) (run script.now None (option_map (λ file. file.now) journal.entry) wanted.open wanted.quiet) (S.holds store.new) fault) }
 {
     match journal {
-        None => Ok(Shown::Text(run_script(alloc, store, script, wanted)?)),
-        Some(file) => Ok(Shown::Text(run_with_journal(alloc, store, script, file, wanted)?)),
+        None => Ok(Shown::Text(run_script(alloc, store, script, wanted, watcher)?)),
+        Some(file) => Ok(Shown::Text(run_with_journal(
+            alloc, store, script, file, wanted, watcher,
+        )?)),
     }
 }
 
 // The same of a script that goes on behind the journal of another file.
-fn run_behind_shown<'a, S: Store>(
+fn run_behind_shown<'a, S: Store, V: Watcher>(
     alloc: Global,
     store: &mut S,
     script: &'a str,
     after: &'a str,
     journal: Option<&'a str>,
     wanted: Wanted,
+    watcher: &mut V,
 ) -> Result<Shown, Fault<'a>>
     ensures done { IfOk result (Does (S.holds store.old) (run script.now (Some after.now) (option_map (λ file. file.now) journal.entry) wanted.open wanted.quiet) (S.holds store.new)) }
     ensures fault { IfErr result (λ fault. (fault ≢ CannotWriteOutput)
         × IsFault (S.holds store.old) (S.ran_short store.new) (S.refuses store.new) (run script.now (Some after.now) (option_map (λ file. file.now) journal.entry) wanted.open wanted.quiet) (S.holds store.new) fault) }
 {
     match journal {
-        None => run_behind(alloc, store, script, after, wanted),
-        Some(file) => run_behind_with_journal(alloc, store, script, after, file, wanted),
+        None => run_behind(alloc, store, script, after, wanted, watcher),
+        Some(file) => run_behind_with_journal(alloc, store, script, after, file, wanted, watcher),
     }
 }
 
 // What is shown of the line, once all else that it asks for is done.
-fn shown_of<'a, R: Threads + Wait + Clock + Sync, S: Store>(
+fn shown_of<'a, R: Threads + Wait + Clock + Sync, S: Store, V: Watcher>(
     rt: &R,
     alloc: Global,
     line: &Line<'a>,
     store: &mut S,
+    watcher: &mut V,
 ) -> Result<Shown, Fault<'a>>
     ensures done { IfOk result (Does (S.holds store.old) (task_of line.now) (S.holds store.new)) }
     ensures fault { IfErr result (λ fault. (fault ≢ CannotWriteOutput)
@@ -176,14 +197,29 @@ fn shown_of<'a, R: Threads + Wait + Clock + Sync, S: Store>(
             journal,
             open,
             quiet,
-        } => run_shown(alloc, store, script, after, journal, Wanted { open, quiet }),
+        } => run_shown(
+            alloc,
+            store,
+            script,
+            after,
+            journal,
+            Wanted { open, quiet },
+            watcher,
+        ),
         Line::Threads {
             script,
             seed,
             stop_when_stuck,
+            no_join,
             journal,
-        } => play_on_threads(rt, alloc, store, script, seed, stop_when_stuck, journal),
-        Line::Audit { journal } => audit(alloc, store, journal),
+        } => {
+            let manner = Manner {
+                no_join,
+                may_stop: stop_when_stuck,
+            };
+            play_on_threads(rt, alloc, store, script, seed, manner, journal)
+        }
+        Line::Audit { journal } => audit(alloc, store, journal, watcher),
         Line::History { journal } => history(alloc, store, journal),
         Line::Explain { journal, call } => explain(alloc, store, journal, call),
         Line::Open { journal } => open_calls(alloc, store, journal),
@@ -201,7 +237,7 @@ fn shown_of<'a, R: Threads + Wait + Clock + Sync, S: Store>(
             seeds,
             first,
             failures,
-        } => explored(alloc, store, script, seeds, first, failures),
+        } => explored(alloc, store, script, seeds, first, failures, watcher),
         Line::Schedule {
             script,
             seed,

@@ -18,6 +18,7 @@ use crate::perform::{perform, report};
 use crate::store::Store;
 use command_line::line::Line;
 use command_line::refusal::Refusal;
+use player::watcher::Watcher;
 use std::alloc::Global;
 use std::convert::AsStr;
 use std::sync::Wait;
@@ -26,14 +27,23 @@ use std::time::Clock;
 
 /// Does what the words ask for, the first of them being the program's name, and answers the exit
 /// status: that of `perform`; 0 where they ask for help or for the version, which the first writer
-/// gets; 2 where they are wrong, which the second writer is told; 4 where memory was short for them.
-pub fn respond<R: Threads + Wait + Clock + Sync, W: AsStr, S: Store, O: Output, E: Output>(
+/// gets; 2 where they are wrong, which the second writer is told; 4 where memory was short for them. Of long work
+/// the watcher is told how far it is.
+pub fn respond<
+    R: Threads + Wait + Clock + Sync,
+    W: AsStr,
+    S: Store,
+    O: Output,
+    E: Output,
+    V: Watcher,
+>(
     rt: &R,
     alloc: Global,
     words: &[W],
     store: &mut S,
     out: &mut O,
     err: &mut E,
+    watcher: &mut V,
 ) -> u8
     ensures status { (result ≡ 2) ⊎ IsStatus result }
 
@@ -69,7 +79,7 @@ pub fn respond<R: Threads + Wait + Clock + Sync, W: AsStr, S: Store, O: Output, 
         → S.holds store.new path file ↔ S.holds store.old path file }
 {
     match Line::read(alloc, words) {
-        Ok(line) => perform(rt, alloc, &line, store, out, err),
+        Ok(line) => perform(rt, alloc, &line, store, out, err, watcher),
         Err(refusal) => refuse(&refusal, out, err),
     }
 }

@@ -30,36 +30,39 @@ use lockscript::script::Script;
 use placement::history::History;
 use player::play::play;
 use player::played::Played;
+use player::watcher::Watcher;
 use std::alloc::Global;
 
 // What is shown of what the script of a file comes to.
-pub(crate) fn run_script<'a, S: Store>(
+pub(crate) fn run_script<'a, S: Store, V: Watcher>(
     alloc: Global,
     store: &mut S,
     path: &'a str,
     wanted: Wanted,
+    watcher: &mut V,
 ) -> Result<String, Fault<'a>>
     ensures done { IfOk result (λ text. Does (S.holds store.old) (run path.now None None wanted.open wanted.quiet) (S.holds store.new) (Text text)) }
     ensures fault { IfErr result (λ fault. (fault ≢ CannotWriteOutput)
         × IsFault (S.holds store.old) (S.ran_short store.new) (S.refuses store.new) (run path.now None None wanted.open wanted.quiet) (S.holds store.new) fault) }
 {
-    let played = played_of(alloc, store, path)?;
+    let played = played_of(alloc, store, path, watcher)?;
     Ok(text_of(alloc, played, wanted)?)
 }
 
 // The same, with the journal of the run written to a file. All that needs memory is done before.
-pub(crate) fn run_with_journal<'a, S: Store>(
+pub(crate) fn run_with_journal<'a, S: Store, V: Watcher>(
     alloc: Global,
     store: &mut S,
     path: &'a str,
     file: &'a str,
     wanted: Wanted,
+    watcher: &mut V,
 ) -> Result<String, Fault<'a>>
     ensures done { IfOk result (λ text. Does (S.holds store.old) (run path.now None (Some file.now) wanted.open wanted.quiet) (S.holds store.new) (Text text)) }
     ensures fault { IfErr result (λ fault. (fault ≢ CannotWriteOutput)
         × IsFault (S.holds store.old) (S.ran_short store.new) (S.refuses store.new) (run path.now None (Some file.now) wanted.open wanted.quiet) (S.holds store.new) fault) }
 {
-    let played = played_of(alloc, store, path)?;
+    let played = played_of(alloc, store, path, watcher)?;
     let (text, journal) = text_and_journal(alloc, played, wanted)?;
     match store.write(file, journal.as_bytes()) {
         Ok(()) => Ok(text),
@@ -68,13 +71,18 @@ pub(crate) fn run_with_journal<'a, S: Store>(
 }
 
 // What the script of a file comes to.
-fn played_of<'a, S: Store>(alloc: Global, store: &mut S, path: &'a str) -> Result<Played, Fault<'a>>
+fn played_of<'a, S: Store, V: Watcher>(
+    alloc: Global,
+    store: &mut S,
+    path: &'a str,
+    watcher: &mut V,
+) -> Result<Played, Fault<'a>>
     ensures run { IfOk result (λ played. HasRun (S.holds store.old path.now) (state_of played)) }
     ensures fault { IfErr result (IsScriptFault (S.holds store.old path.now) (S.ran_short store.new) path.now) }
     ensures files { SameFiles (S.holds store.old) (S.holds store.new) }
 {
     let script = script_of(alloc, store, path)?;
-    Ok(play(alloc, &script)?)
+    Ok(play(alloc, &script, watcher)?)
 }
 
 // The script that a file writes.

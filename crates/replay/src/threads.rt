@@ -14,6 +14,7 @@ use crate::on_threads::run_on_threads;
 use crate::shown::Shown;
 use crate::store::Store;
 use crate::threaded::Threaded;
+use actors::manner::Manner;
 use lockscript::script::Script;
 use std::alloc::Global;
 use std::sync::Wait;
@@ -27,16 +28,16 @@ pub(crate) fn play_on_threads<'a, R: Threads + Wait + Clock + Sync, S: Store>(
     store: &mut S,
     path: &'a str,
     seed: u32,
-    may_stop: bool,
+    manner: Manner,
     journal: Option<&'a str>,
 ) -> Result<Shown, Fault<'a>>
-    ensures done { IfOk result (Does (S.holds store.old) (threads path.now seed may_stop (option_map (λ file. file.now) journal.entry)) (S.holds store.new)) }
+    ensures done { IfOk result (Does (S.holds store.old) (threads path.now seed manner.may_stop manner.no_join (option_map (λ file. file.now) journal.entry)) (S.holds store.new)) }
     ensures fault { IfErr result (λ fault. (fault ≢ CannotWriteOutput)
-        × IsFault (S.holds store.old) (S.ran_short store.new) (S.refuses store.new) (threads path.now seed may_stop (option_map (λ file. file.now) journal.entry)) (S.holds store.new) fault) }
+        × IsFault (S.holds store.old) (S.ran_short store.new) (S.refuses store.new) (threads path.now seed manner.may_stop manner.no_join (option_map (λ file. file.now) journal.entry)) (S.holds store.new) fault) }
 {
     match journal {
-        None => run_threads(rt, alloc, store, path, seed, may_stop),
-        Some(file) => run_threads_with_journal(rt, alloc, store, path, seed, may_stop, file),
+        None => run_threads(rt, alloc, store, path, seed, manner),
+        Some(file) => run_threads_with_journal(rt, alloc, store, path, seed, manner, file),
     }
 }
 
@@ -47,13 +48,13 @@ fn run_threads<'a, R: Threads + Wait + Clock + Sync, S: Store>(
     store: &mut S,
     path: &'a str,
     seed: u32,
-    may_stop: bool,
+    manner: Manner,
 ) -> Result<Shown, Fault<'a>>
-    ensures done { IfOk result (Does (S.holds store.old) (threads path.now seed may_stop None) (S.holds store.new)) }
+    ensures done { IfOk result (Does (S.holds store.old) (threads path.now seed manner.may_stop manner.no_join None) (S.holds store.new)) }
     ensures fault { IfErr result (λ fault. (fault ≢ CannotWriteOutput)
-        × IsFault (S.holds store.old) (S.ran_short store.new) (S.refuses store.new) (threads path.now seed may_stop None) (S.holds store.new) fault) }
+        × IsFault (S.holds store.old) (S.ran_short store.new) (S.refuses store.new) (threads path.now seed manner.may_stop manner.no_join None) (S.holds store.new) fault) }
 {
-    let threaded = threaded_of(rt, alloc, store, path, seed, may_stop)?;
+    let threaded = threaded_of(rt, alloc, store, path, seed, manner)?;
     let (shown, _) = threaded.into_texts()?;
     Ok(shown)
 }
@@ -65,14 +66,14 @@ fn run_threads_with_journal<'a, R: Threads + Wait + Clock + Sync, S: Store>(
     store: &mut S,
     path: &'a str,
     seed: u32,
-    may_stop: bool,
+    manner: Manner,
     file: &'a str,
 ) -> Result<Shown, Fault<'a>>
-    ensures done { IfOk result (Does (S.holds store.old) (threads path.now seed may_stop (Some file.now)) (S.holds store.new)) }
+    ensures done { IfOk result (Does (S.holds store.old) (threads path.now seed manner.may_stop manner.no_join (Some file.now)) (S.holds store.new)) }
     ensures fault { IfErr result (λ fault. (fault ≢ CannotWriteOutput)
-        × IsFault (S.holds store.old) (S.ran_short store.new) (S.refuses store.new) (threads path.now seed may_stop (Some file.now)) (S.holds store.new) fault) }
+        × IsFault (S.holds store.old) (S.ran_short store.new) (S.refuses store.new) (threads path.now seed manner.may_stop manner.no_join (Some file.now)) (S.holds store.new) fault) }
 {
-    let threaded = threaded_of(rt, alloc, store, path, seed, may_stop)?;
+    let threaded = threaded_of(rt, alloc, store, path, seed, manner)?;
     let (shown, journal) = threaded.into_texts()?;
     match store.write(file, journal.as_bytes()) {
         Ok(()) => Ok(shown),
@@ -87,15 +88,15 @@ fn threaded_of<'a, R: Threads + Wait + Clock + Sync, S: Store>(
     store: &mut S,
     path: &'a str,
     seed: u32,
-    may_stop: bool,
+    manner: Manner,
 ) -> Result<Threaded, Fault<'a>>
-    ensures told { IfOk result (IsTold (S.holds store.old path.now) may_stop) }
+    ensures told { IfOk result (IsTold (S.holds store.old path.now) manner.no_join manner.may_stop) }
     ensures taken { IfOk result (λ threaded. IsTaken (S.holds store.old path.now)) }
     ensures fault { IfErr result (IsThreadsFault (S.holds store.old path.now) (S.ran_short store.new) path.now) }
     ensures files { SameFiles (S.holds store.old) (S.holds store.new) }
 {
     let script = script_of(alloc, store, path)?;
-    Ok(run_on_threads(rt, alloc, &script, seed, may_stop)?)
+    Ok(run_on_threads(rt, alloc, &script, seed, manner)?)
 }
 
 // The script that a file writes, all of whose lines threads take.

@@ -1,22 +1,19 @@
-use Rattle.std.proofs.Common.{◌≡◌, ◌+◌, ◌≤◌, sym, ◌∙◌, arith}
+use Rattle.std.proofs.Common.{◌≡◌, sym}
 use Rattle.cluster_core.specs.Parts.{world_state}
-use Rattle.cluster_core.specs.World.{journal_limit}
-use Rattle.replay.proofs.Audits.{knows-more, knows-next, knows-wrong}
+use Rattle.replay.proofs.Audits.{counts-more, tells-more, tells-next, tells-wrong}
 use Rattle.replay.proofs.auditor.AuditorSink.take.Goals as goal
-use Rattle.replay.proofs.auditor.AuditorSink.take.Goals.{then-branch, else-branch}
+use Rattle.replay.proofs.auditor.AuditorSink.take.Goals.{then-not-branch, else-not-branch}
 
 pub returns-then-is_some : goal.returns-then-is_some
-returns-then-is_some c = λ s es knows.
+returns-then-is_some g c = λ s es knows.
     let old = c.args.self.now in
-    knows-more s (world_state old.world) old.taken old.wrong es c.args.entry (sym c.is_some.ensures ∙ c.if-is_some.true) knows
+    (counts-more old.taken _ es c.args.entry c.counted-taken.ensures.more c.counted-taken.ensures.full knows.0, tells-more s (world_state old.world) old.wrong es c.args.entry (sym c.if-is_some.ensures) knows.1)
 
 pub returns : goal.returns
-returns c = λ s es knows.
+returns g c = λ s es knows.
     let old = c.args.self.now in
-    let position = c.saturating_add-position.result in
-    let counted : old.taken ≤ journal_limit → position ≡ old.taken + 1 = λ few. omega (arith, c.saturating_add-position.ensures) in
-    let none = sym c.is_some.ensures ∙ c.if-is_some.false in
-    elim c.if-branch.branch [
-      | then-branch w ↦ rw w.self-is (knows-next s (world_state old.world) (world_state c.comes_next.new.world) old.taken position old.wrong es c.args.entry none counted (c.in_ok-comes_next.ensures.room w.if-branch.true) (c.in_ok-comes_next.ensures.made w.if-branch.true) knows)
-      | else-branch w ↦ rw w.self-is (knows-wrong s (world_state old.world) (world_state c.comes_next.new.world) old.taken position old.taken old.wrong es c.args.entry none counted (c.in_ok-comes_next.ensures.other w.if-branch.false) knows)
+    let counts = counts-more old.taken _ es c.args.entry c.counted-taken.ensures.more c.counted-taken.ensures.full knows.0 in
+    elim c.if-not-branch.branch [
+      | then-not-branch w ↦ rw w.self-is (counts, tells-wrong s (world_state old.world) (world_state c.comes_next.new.world) old.taken c.counted-taken.result old.wrong es c.args.entry (sym c.if-is_some.ensures) c.counted-taken.ensures.more (c.in_ok-comes_next.ensures.other w.if-not-branch.true) knows.0 knows.1)
+      | else-not-branch w ↦ rw w.self-is (counts, tells-next s (world_state old.world) (world_state c.comes_next.new.world) old.wrong es c.args.entry (sym c.if-is_some.ensures) (c.in_ok-comes_next.ensures.made w.if-not-branch.false) knows.1)
     ]

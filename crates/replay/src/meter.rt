@@ -1,0 +1,100 @@
+//! How far long work is, on a terminal.
+use player::watcher::Watcher;
+use std::io::Write;
+use std::time::{Clock, Duration, Instant};
+
+// How many parts pass between two looks at the clock, once as many are done.
+const BETWEEN_LOOKS: u64 = 1024;
+
+// How many seconds it takes until a line is shown, and then until the next one is.
+const SECONDS_BETWEEN_LINES: u64 = 1;
+
+/// Shows some once a second in one line how far the work is, from the first second on, and takes the line away at its
+/// end; where there is no terminal it shows nothing.
+#[derive(Drop)]
+pub struct Meter<'a, C, W> {
+    clock: &'a C,
+    terminal: Option<W>,
+    parts: &'static str,
+    count: Option<u64>,
+    done: u64,
+    last: Option<Instant>,
+    is_shown: bool,
+}
+
+impl<'a, C: Clock, W: Write> Meter<'a, C, W> {
+    /// No work has begun.
+    pub fn new(clock: &'a C, terminal: Option<W>) -> Meter<'a, C, W> {
+        Meter {
+            clock,
+            terminal,
+            parts: "",
+            count: None,
+            done: 0,
+            last: None,
+            is_shown: false,
+        }
+    }
+
+    // What the clock says, where anybody looks.
+    fn now(&self) -> Option<Instant> {
+        if self.terminal.is_none() {
+            return None;
+        }
+        Instant::now(self.clock).ok()
+    }
+
+    // Shows a line where it is time. What can't be written is lost.
+    fn look(&mut self) {
+        let Some(last) = self.last else {
+            return;
+        };
+        let Some(now) = self.now() else {
+            return;
+        };
+        if now.saturating_duration_since(last) < Duration::from_secs(SECONDS_BETWEEN_LINES) {
+            return;
+        }
+        self.last = Some(now);
+        self.show();
+    }
+
+    fn show(&mut self) {
+        let Some(terminal) = self.terminal.as_mut() else {
+            return;
+        };
+        let (done, parts) = (self.done, self.parts);
+        let _ = match self.count {
+            Some(count) => write!(terminal, "\r{done} of {count} {parts}"),
+            None => write!(terminal, "\r{done} {parts}"),
+        };
+        self.is_shown = true;
+    }
+}
+
+impl<C: Clock, W: Write> Watcher for Meter<'_, C, W> {
+    fn begin(&mut self, parts: &'static str, count: Option<u64>) {
+        self.parts = parts;
+        self.count = count;
+        self.done = 0;
+        self.last = self.now();
+    }
+
+    fn pass(&mut self) {
+        self.done = self.done.saturating_add(1);
+        if self.done < BETWEEN_LOOKS || self.done % BETWEEN_LOOKS == 0 {
+            self.look();
+        }
+    }
+
+    fn end(&mut self) {
+        self.last = None;
+        if !self.is_shown {
+            return;
+        }
+        self.is_shown = false;
+        if let Some(terminal) = self.terminal.as_mut() {
+            let _ = write!(terminal, "\r\x1b[K");
+        }
+    }
+}
