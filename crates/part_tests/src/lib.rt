@@ -4,8 +4,6 @@
 #[cfg(test)]
 mod of_descriptors;
 #[cfg(test)]
-mod of_fcntl_table;
-#[cfg(test)]
 mod of_intervals;
 #[cfg(test)]
 mod of_lock_table;

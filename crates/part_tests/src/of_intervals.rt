@@ -65,35 +65,48 @@ fn write<S: SpanMap<Mode>>(
     }
 }
 
-// Whether the map has those runs behind each step.
-fn steps<S: SpanMap<Mode>>(map: &mut S) -> Result<bool, NoMemory> {
-    for (lo, hi, value, starts, byte, run) in STEPS {
-        if lo > hi || hi > GREATEST {
-            return Ok(false);
-        }
-        write(map, lo, hi, value)?;
-        if !has(map, starts, byte, run) {
+// Whether the map has those runs behind the step.
+fn takes<S: SpanMap<Mode>>(map: &mut S, step: &Step) -> Result<bool, NoMemory> {
+    let (lo, hi, value, starts, byte, run) = *step;
+    if lo > hi || hi > GREATEST {
+        return Ok(false);
+    }
+    write(map, lo, hi, value)?;
+    Ok(has(map, starts, byte, run))
+}
+
+// Whether the map has them behind each step.
+fn takes_each<S: SpanMap<Mode>>(map: &mut S, steps: &[Step]) -> Result<bool, NoMemory> {
+    for step in steps {
+        if !takes(map, step)? {
             return Ok(false);
         }
     }
     Ok(!map.is_empty())
 }
 
+// (A list is the only one in its function, since each statement there is proved beside it.)
+fn takes_all<S: SpanMap<Mode>>(map: &mut S) -> Result<bool, NoMemory> {
+    takes_each(map, &STEPS)
+}
+
 // Bytes, a value, and the first of them that has it, or any value where there is none.
-const FIRSTS: [(u64, u64, Option<Mode>, Option<u64>); 4] = [
+type First = (u64, u64, Option<Mode>, Option<u64>);
+
+const FIRSTS: [First; 4] = [
     (5, 40, None, Some(5)),
     (5, 40, B, Some(20)),
     (10, 19, None, None),
     (10, 40, A, Some(30)),
 ];
 
-fn has_first<S: SpanMap<Mode>>(map: &S) -> bool {
-    for (lo, hi, value, first) in FIRSTS {
-        if lo > hi || hi > GREATEST || map.first_where(Span { lo, hi }, value) != first {
-            return false;
-        }
-    }
-    true
+fn has_first<S: SpanMap<Mode>>(map: &S, first: &First) -> bool {
+    let (lo, hi, value, first) = *first;
+    lo <= hi && hi <= GREATEST && map.first_where(Span { lo, hi }, value) == first
+}
+
+fn has_firsts<S: SpanMap<Mode>>(map: &S) -> bool {
+    FIRSTS.iter().all(|first| has_first(map, first))
 }
 
 // Whether the last run covers those bytes, and the bytes between the other two are free for a write.
@@ -128,30 +141,25 @@ const WRITES: [Command<Mode>; 3] = [
     },
 ];
 
-// Whether the map is that of a list of writes, takes the steps, and is then told by its bytes. (In a box, since that is dropped in
-// fewer steps, each of which the check proves.)
+// Whether the map of a list of writes takes the steps, and is then told by its bytes.
+fn goes_on<S: SpanMap<Mode>>(map: &mut S) -> Result<bool, NoMemory> {
+    let is_made = has(map, 3, 6, Some((6, 9, Mode::Read)));
+    Ok(is_made && takes_all(map)? && has_firsts(map) && covers(map) && copies(map)?)
+}
+
+// The map of the writes. (In a box, since that is dropped in fewer steps, each of which the check proves.)
+fn made<S: SpanMap<Mode>>(alloc: Global) -> Result<Box<S>, NoMemory> {
+    Ok(Box::new(alloc, replay(alloc, &WRITES)?)?)
+}
+
 fn is_right<S: SpanMap<Mode>>(alloc: Global) -> Result<bool, NoMemory> {
-    let made: S = replay(alloc, &WRITES)?;
-    let mut map = Box::new(alloc, made)?;
-    Ok(
-        has(&*map, 3, 6, Some((6, 9, Mode::Read)))
-            && steps(&mut *map)?
-            && has_first(&*map)
-            && covers(&*map)
-            && copies(&*map)?,
-    )
+    let mut map: Box<S> = made(alloc)?;
+    goes_on(&mut *map)
 }
 
 #[test]
-fn vec_map_takes_steps(rt: HostRuntime) -> Result<(), Fail> {
-    let is_right = is_right::<VecMap<Mode>>(rt.alloc())?;
-    assert!(rt; is_right);
-    Ok(())
-}
-
-#[test]
-fn tree_map_takes_steps(rt: HostRuntime) -> Result<(), Fail> {
-    let is_right = is_right::<TreeMap<Mode>>(rt.alloc())?;
+fn each_map_takes_steps(rt: HostRuntime) -> Result<(), Fail> {
+    let is_right = is_right::<VecMap<Mode>>(rt.alloc())? && is_right::<TreeMap<Mode>>(rt.alloc())?;
     assert!(rt; is_right);
     Ok(())
 }
@@ -198,29 +206,35 @@ fn writes_over<S: SpanMap<Mode>>(
     Ok(is_same)
 }
 
-// Whether the map is as it was where a request for memory is refused, and the same call then goes through. `rt try --test
-// --fail-alloc N` refuses the Nth request of each test, and the tests named so pass at each N, so they keep no map in a box.
-fn keeps_what_it_had<S: SpanMap<Mode>>(map: &mut S) -> Result<bool, NoMemory> {
-    for (lo, value) in [(0, B), (10, B), (20, B), (30, B), (12, None)] {
-        let before = copy_again(map)?;
-        if !writes_over(map, &before, lo, value)? {
+// Whether the write is made so, and the map is as it was where it is refused at first.
+fn writes_again<S: SpanMap<Mode>>(
+    map: &mut S,
+    lo: u64,
+    value: Option<Mode>,
+) -> Result<bool, NoMemory>
+    requires { lo ≤ 100 }
+{
+    let before = copy_again(map)?;
+    writes_over(map, &before, lo, value)
+}
+
+// Whether a new map is as it was where a request for memory is refused, and the same call then goes through. `scripts/refused-memory`
+// refuses the Nth request of the test, which passes at each N, so it keeps no map in a box.
+fn keeps<S: SpanMap<Mode>>(alloc: Global) -> Result<bool, NoMemory> {
+    let mut map = S::new(alloc);
+    for place in 0..4 {
+        if !writes_again(&mut map, 10 * place, B)? {
             return Ok(false);
         }
     }
-    let copy = copy_again(map)?;
-    Ok(map.starts() == 4 && map.same(&copy))
+    let is_free = writes_again(&mut map, 12, None)?;
+    let copy = copy_again(&map)?;
+    Ok(is_free && map.starts() == 4 && map.same(&copy))
 }
 
 #[test]
-fn vec_map_keeps_what_it_had(rt: HostRuntime) -> Result<(), Fail> {
-    let mut map: VecMap<Mode> = VecMap::new(rt.alloc());
-    assert!(rt; keeps_what_it_had(&mut map)?);
-    Ok(())
-}
-
-#[test]
-fn tree_map_keeps_what_it_had(rt: HostRuntime) -> Result<(), Fail> {
-    let mut map: TreeMap<Mode> = TreeMap::new(rt.alloc());
-    assert!(rt; keeps_what_it_had(&mut map)?);
+fn each_map_keeps_what_it_had(rt: HostRuntime) -> Result<(), Fail> {
+    let is_kept = keeps::<VecMap<Mode>>(rt.alloc())? && keeps::<TreeMap<Mode>>(rt.alloc())?;
+    assert!(rt; is_kept);
     Ok(())
 }

@@ -117,17 +117,47 @@ const REST: LockInfo = LockInfo {
     ..LAST
 };
 
+// Each list of locks is the only one in its function, since each statement there is proved beside it.
+fn sets(table: &mut LockTable) -> Result<bool, LockError> {
+    all_change(table, &SETS)
+}
+
+fn unlocks(table: &mut LockTable) -> Result<bool, LockError> {
+    all_change(table, &UNLOCKS)
+}
+
+fn has_all(table: &LockTable) -> Result<bool, NoMemory> {
+    has_locks(table, &[LOW, MIDDLE, LAST])
+}
+
+fn has_rest(table: &LockTable) -> Result<bool, NoMemory> {
+    has_locks(table, &[MIDDLE, REST])
+}
+
+fn are_blocked(table: &LockTable) -> bool {
+    is_blocked_by(table, FIRST, LOW) && is_blocked_by(table, LOW.owner, MIDDLE)
+}
+
+// (An owner who is gone may go again.)
+fn goes_twice(table: &mut LockTable, owner: Owner) {
+    table.drop_owner(owner, FILE);
+    table.drop_owner(owner, FILE);
+}
+
+// Whether the locks are in their order as they are set, name what blocks, and are freed.
+fn is_right(table: &mut LockTable) -> Result<bool, LockError> {
+    let is_free = sets(table)? && has_all(table)? && are_blocked(table) && unlocks(table)?;
+    goes_twice(table, LOW.owner);
+    Ok(is_free && has_rest(table)?)
+}
+
 // The lowest first byte goes before the lowest owner, processes go before descriptions, and these before the next incarnation.
 // Where one request for memory is refused, the table is as it was, and the same call then goes through. `scripts/refused-memory`
 // refuses the Nth request of the test, which passes at each N, so it keeps no table in a box.
 #[test]
 fn keeps_what_it_had(rt: HostRuntime) -> Result<(), Fail> {
     let mut table = LockTable::new(rt.alloc(), 1024);
-    assert!(rt; all_change(&mut table, &SETS)? && has_locks(&table, &[LOW, MIDDLE, LAST])?);
-    assert!(rt; is_blocked_by(&table, FIRST, LOW) && is_blocked_by(&table, LOW.owner, MIDDLE));
-    assert!(rt; all_change(&mut table, &UNLOCKS)?);
-    table.drop_owner(LOW.owner, FILE);
-    table.drop_owner(LOW.owner, FILE);
-    assert!(rt; has_locks(&table, &[MIDDLE, REST])?);
+    let is_right = is_right(&mut table)?;
+    assert!(rt; is_right);
     Ok(())
 }

@@ -45,6 +45,7 @@ fn say<E: Display>(alloc: Global, refusals: &[(E, &str)]) -> Result<bool, AllocE
 
 #[test]
 fn refusals_say_why(rt: HostRuntime) -> Result<(), Fail> {
-    assert!(rt; say(rt.alloc(), &STEP_ERRORS)? && say(rt.alloc(), &REFUSALS)?);
+    let are_told = say(rt.alloc(), &STEP_ERRORS)? && say(rt.alloc(), &REFUSALS)?;
+    assert!(rt; are_told);
     Ok(())
 }

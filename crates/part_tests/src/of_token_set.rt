@@ -67,7 +67,9 @@ const BETWEEN: Span = Span { lo: 100, hi: 299 };
 
 // What is required in which mode, where every byte is desired, and the answer. A conflict changes nothing; a Revoke for read
 // leaves a shared token, and one for write takes all.
-const REVOKES: [(Mode, Span, GaveUp); 5] = [
+type Revoke = (Mode, Span, GaveUp);
+
+const REVOKES: [Revoke; 5] = [
     (Mode::Read, Span { lo: 50, hi: 59 }, GaveUp::Conflict(LOW)),
     (Mode::Write, Span { lo: 99, hi: 300 }, GaveUp::Conflict(LOW)),
     (
@@ -99,22 +101,34 @@ const LEFT: [(Span, Level); 2] = [
 ];
 
 // Whether the token answers each of these so.
-fn gives_up(locks: &LockTable, token: &mut TokenSet) -> Result<bool, NoMemory> {
-    for (mode, required, gives) in REVOKES {
+fn gives_up(locks: &LockTable, token: &mut TokenSet, revokes: &[Revoke]) -> Result<bool, NoMemory> {
+    for (mode, required, gives) in revokes {
         let _ = &required.lo; // tells the proof where the span ends
-        if token.give_up(mode, required, WHOLE, locks, FILE)? != gives {
+        if token.give_up(*mode, *required, WHOLE, locks, FILE)? != *gives {
             return Ok(false);
         }
     }
     Ok(true)
 }
 
+fn gives_all_up(locks: &LockTable, token: &mut TokenSet) -> Result<bool, NoMemory> {
+    gives_up(locks, token, &REVOKES)
+}
+
+fn is_left(alloc: Global, token: &TokenSet) -> Result<bool, NoMemory> {
+    Ok(token.runs(alloc)?.as_slice() == LEFT.as_slice())
+}
+
+// Whether the token answers so, and that is left of it.
+fn is_right(alloc: Global, locks: &LockTable, token: &mut TokenSet) -> Result<bool, NoMemory> {
+    Ok(gives_all_up(locks, token)? && is_left(alloc, token)?)
+}
+
 #[test]
 fn the_first_lock_in_the_way_is_a_conflict(rt: HostRuntime) -> Result<(), Fail> {
     let mut token = of_all(rt.alloc())?;
     let locks = both_locks(rt.alloc())?;
-    assert!(rt;
-        gives_up(&locks, &mut token)? && token.runs(rt.alloc())?.as_slice() == LEFT.as_slice()
-    );
+    let is_right = is_right(rt.alloc(), &locks, &mut token)?;
+    assert!(rt; is_right);
     Ok(())
 }

@@ -5,6 +5,8 @@
 #[cfg(test)]
 mod gates;
 #[cfg(test)]
+mod journals;
+#[cfg(test)]
 mod of_actors;
 #[cfg(test)]
 mod of_book;
@@ -22,5 +24,3 @@ mod of_placement;
 mod of_refused_memory;
 #[cfg(test)]
 mod of_token_server;
-#[cfg(test)]
-mod protocol;

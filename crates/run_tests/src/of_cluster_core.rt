@@ -16,25 +16,36 @@ fn spawn(pid: u16) -> Event {
     }
 }
 
-// How many entries the run of these events has, or why there is none.
-fn ran(alloc: Global, shape: Shape, events: &[Event]) -> Result<usize, Refused> {
-    Ok(run(alloc, shape, events)?.entries().len())
+// Whether a process begins, and the event behind that is refused as one of what the cluster doesn't have.
+fn is_refused(alloc: Global, shape: Shape, last: Event) -> bool {
+    run(alloc, shape, &[spawn(1), last]).err() == Some(Refused::Stranger)
+}
+
+// Whether no process of node 1 has the number, and no process has one of node 0.
+fn lacks_process(alloc: Global, shape: Shape, pid: u16) -> bool {
+    is_refused(alloc, shape, spawn(pid))
+        && is_refused(alloc, shape, Event::Interrupt { node: 1, pid })
+        && is_refused(alloc, shape, Event::Retry { node: 0, pid: 1 })
+}
+
+fn lacks_file(alloc: Global, shape: Shape, file: u16) -> bool {
+    is_refused(alloc, shape, Event::Resend { file })
+        && is_refused(alloc, shape, Event::FailServer { file })
+        && is_refused(alloc, shape, Event::StartServer { file })
+}
+
+// Whether a run of two processes has two entries.
+fn is_run(alloc: Global, shape: Shape) -> bool {
+    match run(alloc, shape, &[spawn(1), spawn(2)]) {
+        Ok(journal) => journal.entries().len() == 2,
+        Err(_) => false,
+    }
 }
 
 #[test]
 fn a_run_ends_at_the_first_refusal(rt: HostRuntime) -> Result<(), Fail> {
     let shape = Shape::new(1, 2, Policy::Wide)?;
-    assert!(rt; ran(rt.alloc(), shape, &[spawn(1), spawn(2)]) == Ok(2));
-    for last in [
-        spawn(257),
-        spawn(0),
-        Event::Retry { node: 0, pid: 1 },
-        Event::Interrupt { node: 1, pid: 257 },
-        Event::Resend { file: 0 },
-        Event::FailServer { file: 0 },
-        Event::StartServer { file: 0 },
-    ] {
-        assert!(rt; ran(rt.alloc(), shape, &[spawn(1), last]) == Err(Refused::Stranger));
-    }
+    assert!(rt; is_run(rt.alloc(), shape) && lacks_file(rt.alloc(), shape, 0));
+    assert!(rt; lacks_process(rt.alloc(), shape, 0) && lacks_process(rt.alloc(), shape, 257));
     Ok(())
 }

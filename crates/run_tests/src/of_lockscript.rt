@@ -12,6 +12,7 @@ use model::mode::Mode;
 use model::op::Op;
 use model::owner::{Kind, Owner};
 use model::reply::Reply;
+use std::alloc::{AllocError, Global};
 use std::test::Fail;
 
 const LISTING: &str = "refused
@@ -72,9 +73,14 @@ const LAST: Item = Item::Answered {
     reply: Reply::Done,
 };
 
+fn text(alloc: Global) -> Result<String, AllocError> {
+    listing(alloc, &[REFUSED], &[], &[TOKEN], &[LOCK], &[LAST])
+}
+
 #[test]
 fn has_room_for_the_greatest_numbers(rt: HostRuntime) -> Result<(), Fail> {
-    let text = listing(rt.alloc(), &[REFUSED], &[], &[TOKEN], &[LOCK], &[LAST])?;
-    assert!(rt; text.as_str() == LISTING, "{text}");
+    let text = text(rt.alloc())?;
+    let is_right = text.as_str() == LISTING;
+    assert!(rt; is_right, "{text}");
     Ok(())
 }

@@ -1,123 +1,87 @@
 //! Nodes, by messages that no server sends and calls that no script has.
-ghost use Rattle.std.specs.Prelude.{◌≤◌, IfOk};
-ghost use Rattle.node_core.specs.Plans.{Fits};
-
-use crate::protocol::{
-    ASKS, FOURTH, THIRD, are_sent, conflict, deny, freed, grant, released, request, revoke, taken,
-};
+use crate::journals::{is_of, read};
 use intervals::span::Span;
 use lock_table::error::LockError;
 use lock_table::lock_table::LockTable;
-use messages::message::{Message, Urgency};
+use messages::entry::Entry;
+use messages::event::Event;
 use messages::outcome::Outcome;
 use messages::refusal::StepError;
 use messages::shape::Shape;
-use model::access::Access;
-use model::call::CallId;
-use model::lock_info::LockInfo;
 use model::lock_target::LockTarget;
 use model::mode::Mode;
 use model::op::Op;
 use model::owner::{Kind, Owner};
-use model::policy::Policy;
-use model::reply::Reply;
-use node_core::change::Change;
 use node_core::event::NodeEvent;
 use node_core::locks::change_locks;
 use node_core::node::Node;
 use std::alloc::Global;
 use std::test::Fail;
 
-const HUNDRED: Span = Span { lo: 0, hi: 99 };
+// What node 1 takes. Commands with other numbers (4, 8) or for another incarnation (5, 9) do nothing, a wait is not denied (11), and
+// the node names its lock where another node needs its bytes (15), and gives them up once that is gone.
+const TAKEN: &str = "journal 2 nodes 1 files 2 policy exact
+entry 1 call 1.1.1 1 spawn
+reply 1.1.1 done
+entry 2 call 1.1.2 1 open 1 rw
+reply 1.1.2 fd 0
+entry 3 call 1.1.3 1 set 0 proc write 0 100
+send request 1 1.1.3 now write 0 99 0 99
+entry 4 deliver grant 1 1 2 1.1.3 write 0 99
+entry 5 deliver grant 1 1 1 1.2.3 write 0 99
+entry 6 deliver grant 1 1 1 1.1.3 write 0 99
+reply 1.1.3 done
+send taken 1 1 1 1.1.3
+entry 7 deliver grant 1 1 1 1.1.3 write 0 99
+send taken 1 1 1 1.1.3
+entry 8 deliver revoke 1 1 3 1.1 2.1.3 write 0 99 0 99
+entry 9 deliver revoke 1 1 2 1.2 2.1.3 write 0 99 0 99
+entry 10 call 1.1.4 1 wait 0 proc write 200 100
+send request 1 1.1.4 wait write 200 299 200 299
+entry 11 deliver deny 1 1.1.4 2.1 1 1 write 0 99 p1@2.1
+entry 12 interrupt 1.1 1
+reply 1.1.4 interrupted
+entry 13 call 1.1.5 1 dup 0
+reply 1.1.5 fd 1
+entry 14 call 1.1.6 1 fork 2
+reply 1.1.6 done
+entry 15 deliver revoke 1 1 2 1.1 2.1.3 write 0 99 0 99
+send conflict 1 1 2 1.1 2.1.3 write 0 99 p1@1.1
+entry 16 call 1.1.7 1 close 0
+reply 1.1.7 done
+send freed 1 1.1
+entry 17 deliver revoke 1 1 3 1.1 2.1.3 write 0 99 0 99
+send released 1 1 3 1.1 2.1.3 0 99
+entry 18 call 1.1.8 2 exit
+reply 1.1.8 done
+end 18
+";
 
-const ABOVE: Span = Span { lo: 200, hi: 299 };
-
-const OWNER: Owner = Owner {
-    node: 1,
-    incarnation: 1,
-    kind: Kind::OfProcess,
-    number: 1,
-};
-
-// The lock of the node's process, and one of another node.
-const LOCK: LockInfo = LockInfo {
-    owner: OWNER,
-    mode: Mode::Write,
-    span: HUNDRED,
-};
-
-const FAR: LockInfo = LockInfo {
-    owner: Owner { node: 2, ..OWNER },
-    ..LOCK
-};
-
-pub(crate) const OPEN: Op = Op::Open {
-    file: 1,
-    access: Access::ReadWrite,
-};
-
-pub(crate) const SET: Op = Op::Set {
-    fd: 0,
-    kind: Kind::OfProcess,
-    mode: Mode::Write,
-    start: 0,
-    len: 100,
-};
-
-const WAIT: Op = Op::Wait {
-    fd: 0,
-    kind: Kind::OfProcess,
-    mode: Mode::Write,
-    start: 200,
-    len: 100,
-};
-
-fn call(pid: u16, op: Op) -> NodeEvent {
-    NodeEvent::Call { pid, op }
+// Whether the node stays as it is at the entry in that place, from 0.
+fn stays(place: usize) -> bool {
+    matches!(place, 3 | 4 | 6 | 7 | 8 | 10)
 }
 
-fn granted(number: u32, call: CallId) -> NodeEvent
-    requires { 1 ≤ number }
-{
-    NodeEvent::Deliver(grant(number, call, HUNDRED))
-}
+// Events that no node 1 of that shape takes.
+const FOREIGN: &str = "journal 2 nodes 1 files 2 policy exact
+entry 1 call 1.1.1 1 open 3 rw
+entry 2 deliver taken 1 1 1 1.1.3
+end 2
+";
 
-fn revoked(number: u32, incarnation: u16) -> NodeEvent
-    requires { 1 ≤ number }
-{
-    NodeEvent::Deliver(revoke(number, incarnation, HUNDRED, HUNDRED))
-}
-
-// The reply to the node's call with that number.
-fn answered(number: u32, reply: Reply) -> Option<(CallId, Reply)>
-    requires { 1 ≤ number }
-{
-    Some((CallId { number, ..THIRD }, reply))
-}
-
-// An event, the reply and the one message that it must give, if any, and whether the node is another after it.
-type Move = (NodeEvent, Option<(CallId, Reply)>, Option<Message>, bool);
-
-fn is_right(expected: &Move, outcome: &Outcome) -> bool {
-    are_sent(outcome.sends.as_slice(), &expected.2) && expected.1 == outcome.reply
-}
-
-// The node in a box. A test keeps no other, since one is dropped in fewer steps, each of which the
-// check proves.
-fn boxed(alloc: Global, node: Node) -> Result<Box<Node>, StepError> {
-    Ok(Box::new(alloc, node)?)
-}
-
-fn begun(alloc: Global, shape: Shape) -> Result<Box<Node>, StepError> {
+// The node before any event, in a box. (A test keeps no other, since one is dropped in fewer steps, each of which the check proves.)
+fn begins(alloc: Global, shape: Shape) -> Result<Box<Node>, Fail> {
     let _ = shape.nodes(); // tells the proof that there is one
-    boxed(alloc, Node::new(alloc, shape, 1, 1)?)
+    Ok(Box::new(alloc, Node::new(alloc, shape, 1, 1)?)?)
 }
 
-fn begins(alloc: Global) -> Result<Box<Node>, Fail> {
-    let shape = Shape::new(1, 2, Policy::Exact)?;
-    match begun(alloc, shape) {
-        Ok(node) => Ok(node),
-        Err(_) => Ok(begun(alloc, shape)?),
+// The event as a node takes it, if one does.
+fn own(alloc: Global, event: &Event) -> Option<NodeEvent> {
+    match event {
+        Event::Call { pid, op, .. } => Some(NodeEvent::Call { pid: *pid, op: *op }),
+        Event::Deliver(message) => Some(NodeEvent::Deliver(message.copy(alloc).ok()?)),
+        Event::Interrupt { pid, .. } => Some(NodeEvent::Interrupt { pid: *pid }),
+        _ => None,
     }
 }
 
@@ -128,125 +92,22 @@ fn stepped(
     event: &NodeEvent,
 ) -> Result<(Box<Node>, Outcome), StepError> {
     let (next, outcome) = node.step(alloc, event)?;
-    Ok((boxed(alloc, next)?, outcome))
+    Ok((Box::new(alloc, next)?, outcome))
 }
 
-// The same, asked again where a request for memory is refused.
-fn stepped_again(
-    alloc: Global,
-    node: &Node,
-    event: &NodeEvent,
-) -> Result<(Box<Node>, Outcome), StepError> {
-    match stepped(alloc, node, event) {
-        Ok(next) => Ok(next),
-        Err(_) => stepped(alloc, node, event),
-    }
+// Whether the event gives what the entry says, and leaves the node as it is, or not.
+fn takes(alloc: Global, node: &mut Box<Node>, entry: &Entry, stays: bool) -> Option<bool> {
+    let event = own(alloc, entry.event())?;
+    let (next, outcome) = stepped(alloc, node, &event).ok()?;
+    let is_right = next.same(node) == stays && is_of(entry, &outcome);
+    *node = next;
+    Some(is_right)
 }
 
-// What the event will do, planned again where a request for memory is refused.
-fn planned_again(alloc: Global, node: &Node, event: &NodeEvent) -> Result<Change, StepError>
-    ensures { IfOk result (λ change. Fits node.now change.edit) }
-{
-    match node.plan(alloc, event) {
-        Ok(change) => Ok(change),
-        Err(_) => node.plan(alloc, event),
-    }
-}
-
-// Goes on by what was planned; whether this is what it must be.
-fn goes_on(alloc: Global, node: &mut Node, expected: &Move) -> Result<bool, StepError> {
-    let change = planned_again(alloc, node, &expected.0)?;
-    let outcome = node.apply(change);
-    Ok(is_right(expected, &outcome))
-}
-
-// Goes on from what the event gives; whether this is what it must be, planned or not.
-fn takes(alloc: Global, node: &mut Node, expected: &Move) -> Result<bool, StepError> {
-    let (next, outcome) = stepped_again(alloc, node, &expected.0)?;
-    let changes = !next.same(node);
-    let is_planned = goes_on(alloc, node, expected)? && next.same(node);
-    Ok(is_planned && changes == expected.3 && is_right(expected, &outcome))
-}
-
-// Whether each event comes to what it must.
-fn take(alloc: Global, node: &mut Node, moves: &[Move]) -> Result<bool, StepError> {
-    for expected in moves {
-        if !takes(alloc, node, expected)? {
-            return Ok(false);
-        }
-    }
-    Ok(true)
-}
-
-// Whether the node begins, opens file 1 and asks for a token of 100 bytes.
-fn asks(alloc: Global, node: &mut Node) -> Result<bool, StepError> {
-    let asked = request(THIRD, Urgency::Now, HUNDRED, HUNDRED);
-    let moves = [
-        (call(1, Op::Spawn), answered(1, Reply::Done), None, true),
-        (call(1, OPEN), answered(2, Reply::Fd(0)), None, true),
-        (call(1, SET), None, Some(asked), true),
-    ];
-    take(alloc, node, &moves)
-}
-
-// Whether commands with other numbers or for another incarnation do nothing, and a wait is not denied.
-fn takes_its_own(alloc: Global, node: &mut Node) -> Result<bool, StepError> {
-    let later = CallId {
-        incarnation: 2,
-        ..THIRD
-    };
-    let done = answered(3, Reply::Done);
-    let asked = request(FOURTH, Urgency::Waits, ABOVE, ABOVE);
-    let denied = NodeEvent::Deliver(deny(1, FOURTH, 2, FAR));
-    let interrupt = NodeEvent::Interrupt { pid: 1 };
-    let moves = [
-        (granted(2, THIRD), None, None, false),
-        (granted(1, later), None, None, false),
-        (granted(1, THIRD), done, Some(taken(1, THIRD)), true),
-        (granted(1, THIRD), None, Some(taken(1, THIRD)), false),
-        (revoked(3, 1), None, None, false),
-        (revoked(2, 2), None, None, false),
-        (call(1, WAIT), None, Some(asked), true),
-        (denied, None, None, false),
-        (interrupt, answered(4, Reply::Interrupted), None, true),
-    ];
-    take(alloc, node, &moves)
-}
-
-// Whether the node names its lock where another node needs its bytes, and gives them up once the lock is gone.
-fn shuts(alloc: Global, node: &mut Node) -> Result<bool, StepError> {
-    let dup = call(1, Op::Dup { fd: 0 });
-    let fork = call(1, Op::Fork { child: 2 });
-    let close = call(1, Op::Close { fd: 0 });
-    let found = conflict(2, ASKS, LOCK);
-    let gives = released(3, HUNDRED);
-    let moves = [
-        (dup, answered(5, Reply::Fd(1)), None, true),
-        (fork, answered(6, Reply::Done), None, true),
-        (revoked(2, 1), None, Some(found), true),
-        (close, answered(7, Reply::Done), Some(freed(1)), true),
-        (revoked(3, 1), None, Some(gives), true),
-        (call(2, Op::Exit), answered(8, Reply::Done), None, true),
-    ];
-    take(alloc, node, &moves)
-}
-
-// Where one request for memory is refused, `plan` and `step` leave the node as it is, each then gives what it would have
-// given, and `apply` needs none. `scripts/refused-memory` refuses the requests of the tests named so, one after the other.
-#[test]
-fn keeps_what_it_had(rt: HostRuntime) -> Result<(), Fail> {
-    let alloc = rt.alloc();
-    let mut node = begins(alloc)?;
-    assert!(rt;
-        asks(alloc, &mut node)? && takes_its_own(alloc, &mut node)? && shuts(alloc, &mut node)?
-    );
-    Ok(())
-}
-
-// Whether the node refuses each of the events as one of a stranger.
-fn refuses(alloc: Global, node: &Node, events: &[NodeEvent]) -> bool {
-    for event in events {
-        if node.step(alloc, event).err() != Some(StepError::Stranger) {
+// The same of each entry, one after the other.
+fn takes_all(alloc: Global, node: &mut Box<Node>, entries: &[Entry]) -> bool {
+    for place in 0..entries.len() {
+        if takes(alloc, node, &entries[place], stays(place)) != Some(true) {
             return false;
         }
     }
@@ -254,22 +115,52 @@ fn refuses(alloc: Global, node: &Node, events: &[NodeEvent]) -> bool {
 }
 
 #[test]
-fn refuses_events_of_strangers(rt: HostRuntime) -> Result<(), Fail> {
-    let access = Access::ReadOnly;
-    let events = [
-        call(0, Op::Spawn),
-        call(257, Op::Spawn),
-        call(1, Op::Open { file: 0, access }),
-        NodeEvent::Retry { pid: 0 },
-        NodeEvent::Retry { pid: 257 },
-        NodeEvent::Interrupt { pid: 0 },
-        NodeEvent::Interrupt { pid: 257 },
-        NodeEvent::Deliver(taken(1, THIRD)),
-    ];
-    let node = begins(rt.alloc())?;
-    assert!(rt; refuses(rt.alloc(), &node, &events));
+fn takes_its_own(rt: HostRuntime) -> Result<(), Fail> {
+    let (shape, entries) = read(rt.alloc(), TAKEN)?;
+    let mut node = begins(rt.alloc(), shape)?;
+    let is_right = takes_all(rt.alloc(), &mut node, &entries);
+    assert!(rt; is_right);
     Ok(())
 }
+
+// Whether the node refuses the event as one of a stranger.
+fn is_foreign(alloc: Global, node: &Node, event: &NodeEvent) -> bool {
+    node.step(alloc, event).err() == Some(StepError::Stranger)
+}
+
+fn are_foreign(alloc: Global, node: &Node, entries: &[Entry]) -> bool {
+    for entry in entries {
+        match &own(alloc, entry.event()) {
+            Some(event) if is_foreign(alloc, node, event) => {}
+            _ => return false,
+        }
+    }
+    true
+}
+
+// Whether the node has no process of that number.
+fn lacks(alloc: Global, node: &Node, pid: u16) -> bool {
+    let spawn = NodeEvent::Call { pid, op: Op::Spawn };
+    is_foreign(alloc, node, &spawn)
+        && is_foreign(alloc, node, &NodeEvent::Retry { pid })
+        && is_foreign(alloc, node, &NodeEvent::Interrupt { pid })
+}
+
+#[test]
+fn refuses_events_of_strangers(rt: HostRuntime) -> Result<(), Fail> {
+    let (shape, entries) = read(rt.alloc(), FOREIGN)?;
+    let node = begins(rt.alloc(), shape)?;
+    let are_foreign = are_foreign(rt.alloc(), &node, &entries);
+    assert!(rt; are_foreign && lacks(rt.alloc(), &node, 0) && lacks(rt.alloc(), &node, 257));
+    Ok(())
+}
+
+const OWNER: Owner = Owner {
+    node: 1,
+    incarnation: 1,
+    kind: Kind::OfProcess,
+    number: 1,
+};
 
 // Whether the bytes are then locked in the mode, or free, and there are so many regions.
 fn changes(
@@ -287,10 +178,18 @@ fn changes(
     Ok(locks.locks(1)?.len() == regions)
 }
 
+// Whether bytes are locked, and one of them is freed.
+fn locks_and_frees(locks: &mut LockTable) -> Result<bool, LockError> {
+    Ok(
+        changes(locks, Span { lo: 0, hi: 99 }, Some(Mode::Write), 1)?
+            && changes(locks, Span { lo: 4, hi: 5 }, None, 2)?,
+    )
+}
+
 #[test]
 fn locks_and_frees_bytes(rt: HostRuntime) -> Result<(), Fail> {
     let mut locks = Box::new(rt.alloc(), LockTable::new(rt.alloc(), 1024))?;
-    assert!(rt; changes(&mut locks, HUNDRED, Some(Mode::Write), 1)?);
-    assert!(rt; changes(&mut locks, Span { lo: 4, hi: 5 }, None, 2)?);
+    let is_right = locks_and_frees(&mut locks)?;
+    assert!(rt; is_right);
     Ok(())
 }

@@ -1,226 +1,263 @@
-//! The steps of a cluster where a request for memory is refused: of a world, and of a book with its seats, which take the same
-//! events.
-use super::of_node_core::{OPEN, SET};
+//! The steps of a cluster where a request for memory is refused: of a world, and of a book with its seats, which take the entries of
+//! one journal.
+use crate::journals::read;
 use book::book::Book;
 use book::seat::Seat;
-use book::stamp::Stamp;
+use cluster_core::journal::comes_next;
 use cluster_core::world::World;
 use messages::actor::Actor;
 use messages::entry::Entry;
 use messages::event::Event;
 use messages::shape::Shape;
-use model::mode::Mode;
-use model::op::Op;
-use model::owner::Kind;
-use model::policy::Policy;
 use std::alloc::{AllocError, Global};
 use std::test::Fail;
 
-// With how many messages were delivered. (In boxes, since what a test keeps in a box is dropped in fewer steps.)
-#[derive(Drop)]
-struct Cluster {
-    world: Box<World>,
-    book: Box<Book>,
-    seats: Box<Vec<Seat>>,
-    delivered: usize,
+// The run of `tests/restarted-while-awaited.lock`, which ends with entry 37. Then node 2 has every call that is left, and waits for
+// a lock of node 1, which is declared failed.
+const RUN: &str = "journal 2 nodes 2 files 1 policy exact
+entry 1 call 1.1.1 1 spawn
+reply 1.1.1 done
+entry 2 call 1.1.2 1 open 1 rw
+reply 1.1.2 fd 0
+entry 3 call 1.1.3 1 set 0 proc write 0 100
+send request 1 1.1.3 now write 0 99 0 99
+entry 4 deliver request 1 1.1.3 now write 0 99 0 99
+send grant 1 1 1 1.1.3 write 0 99
+entry 5 deliver grant 1 1 1 1.1.3 write 0 99
+reply 1.1.3 done
+send taken 1 1 1 1.1.3
+entry 6 deliver taken 1 1 1 1.1.3
+entry 7 call 2.1.1 1 spawn
+reply 2.1.1 done
+entry 8 call 2.1.2 1 open 1 rw
+reply 2.1.2 fd 0
+entry 9 fail-server 1.1
+entry 10 start-server 1.2
+send hello 1 2 1.1
+send hello 1 2 2.1
+entry 11 call 2.1.3 1 set 0 proc write 50 10
+send request 1 2.1.3 now write 50 59 50 59
+entry 12 deliver hello 1 2 2.1
+send report 1 2 2.1 0
+entry 13 deliver report 1 2 2.1 0
+entry 14 deliver request 1 2.1.3 now write 50 59 50 59
+entry 15 declare 1.1
+entry 16 restart 1.2
+entry 17 deliver hello 1 2 1.1
+entry 18 call 1.2.1 1 spawn
+reply 1.2.1 done
+entry 19 call 1.2.2 1 open 1 rw
+reply 1.2.2 fd 0
+entry 20 call 1.2.3 1 set 0 proc write 55 10
+send request 1 1.2.3 now write 55 64 55 64
+entry 21 deliver request 1 1.2.3 now write 55 64 55 64
+send grant 1 2 1 2.1.3 write 50 59
+entry 22 deliver grant 1 2 1 2.1.3 write 50 59
+reply 2.1.3 done
+send taken 1 2 1 2.1.3
+entry 23 deliver taken 1 2 1 2.1.3
+send revoke 1 2 2 2.1 1.2.3 write 55 64 55 64
+entry 24 deliver revoke 1 2 2 2.1 1.2.3 write 55 64 55 64
+send conflict 1 2 2 2.1 1.2.3 write 50 59 p1@2.1
+entry 25 deliver conflict 1 2 2 2.1 1.2.3 write 50 59 p1@2.1
+send deny 1 1.2.3 2.1 2 2 write 50 59 p1@2.1
+entry 26 deliver deny 1 1.2.3 2.1 2 2 write 50 59 p1@2.1
+reply 1.2.3 again write 50 59 p1@2.1
+entry 27 deliver request 1 1.2.3 now write 55 64 55 64
+send revoke 1 2 3 2.1 1.2.3 write 55 64 55 64
+entry 28 call 2.1.4 1 unlock 0 proc 0 0
+reply 2.1.4 done
+send freed 1 2.1
+entry 29 call 1.2.4 1 set 0 proc write 55 10
+send request 1 1.2.4 now write 55 64 55 64
+entry 30 deliver revoke 1 2 3 2.1 1.2.3 write 55 64 55 64
+send released 1 2 3 2.1 1.2.3 55 64
+entry 31 deliver freed 1 2.1
+entry 32 deliver request 1 1.2.4 now write 55 64 55 64
+entry 33 deliver released 1 2 3 2.1 1.2.3 55 64
+send grant 1 2 1 1.2.3 write 55 64
+entry 34 deliver grant 1 2 1 1.2.3 write 55 64
+send taken 1 2 1 1.2.3
+entry 35 deliver taken 1 2 1 1.2.3
+send grant 1 2 2 1.2.4 write 55 64
+entry 36 deliver grant 1 2 2 1.2.4 write 55 64
+reply 1.2.4 done
+send taken 1 2 2 1.2.4
+entry 37 deliver taken 1 2 2 1.2.4
+entry 38 call 2.1.5 1 dup 0
+reply 2.1.5 fd 1
+entry 39 call 2.1.6 1 fork 2
+reply 2.1.6 done
+entry 40 call 2.1.7 1 query 0 proc write 50 5
+reply 2.1.7 free
+entry 41 call 2.1.8 2 close 1
+reply 2.1.8 done
+entry 42 call 2.1.9 2 wait 0 proc write 55 10
+send request 1 2.1.9 wait write 55 64 55 64
+entry 43 deliver request 1 2.1.9 wait write 55 64 55 64
+send revoke 1 2 3 1.2 2.1.9 write 55 64 55 64
+entry 44 deliver revoke 1 2 3 1.2 2.1.9 write 55 64 55 64
+send conflict 1 2 3 1.2 2.1.9 write 55 64 p1@1.2
+entry 45 deliver conflict 1 2 3 1.2 2.1.9 write 55 64 p1@1.2
+entry 46 retry 2.1 2
+send request 1 2.1.9 wait write 55 64 55 64
+entry 47 interrupt 2.1 2
+reply 2.1.9 interrupted
+entry 48 call 2.1.10 2 exit
+reply 2.1.10 done
+entry 49 resend 1
+send revoke 1 2 4 1.2 2.1.9 write 55 64 55 64
+entry 50 declare 1.2
+entry 51 learn 1 1.2
+send grant 1 2 4 2.1.9 write 55 64
+entry 52 deliver grant 1 2 4 2.1.9 write 55 64
+send taken 1 2 4 2.1.9
+entry 53 deliver taken 1 2 4 2.1.9
+end 53
+";
+
+// The world before any event, in a box. (What a test keeps in a box is dropped in fewer steps.)
+fn begins(alloc: Global, shape: Shape) -> Result<Box<World>, AllocError> {
+    Ok(Box::new(alloc, World::new(alloc, shape)?)?)
 }
 
-fn begun(alloc: Global, shape: Shape) -> Result<Cluster, AllocError> {
-    let (book, seats) = Book::new(alloc, shape)?;
-    Ok(Cluster {
-        world: Box::new(alloc, World::new(alloc, shape)?)?,
-        book: Box::new(alloc, book)?,
-        seats: Box::new(alloc, seats)?,
-        delivered: 0,
-    })
-}
-
-fn begins(alloc: Global) -> Result<Cluster, Fail> {
-    let shape = Shape::new(2, 1, Policy::Exact)?;
-    match begun(alloc, shape) {
-        Ok(cluster) => Ok(cluster),
-        Err(_) => Ok(begun(alloc, shape)?),
+fn begins_again(alloc: Global, shape: Shape) -> Result<Box<World>, AllocError> {
+    match begins(alloc, shape) {
+        Ok(world) => Ok(world),
+        Err(_) => begins(alloc, shape),
     }
 }
 
-fn stepped(alloc: Global, world: &mut World, event: &Event) -> Option<Entry> {
-    let event = event.copy(alloc).ok()?;
-    world.step(alloc, event).ok()
-}
-
-// The entry of the step, which is made again where it is refused, if the world has then sent nothing more.
-fn stepped_again(alloc: Global, world: &mut World, event: &Event) -> Option<Entry> {
-    let before = world.sent().len();
-    if let Some(entry) = stepped(alloc, world, event) {
-        return Some(entry);
+// Whether the entry is the world's next step, which is made again where it is refused.
+fn comes_next_again(alloc: Global, world: &mut World, entry: &Entry) -> Result<bool, AllocError> {
+    match comes_next(world, alloc, entry) {
+        Ok(is_next) => Ok(is_next),
+        Err(_) => comes_next(world, alloc, entry),
     }
-    if world.sent().len() != before {
-        return None;
+}
+
+fn all_come_next(alloc: Global, world: &mut World, entries: &[Entry]) -> Result<bool, AllocError> {
+    for entry in entries {
+        if !comes_next_again(alloc, world, entry)? {
+            return Ok(false);
+        }
     }
-    stepped(alloc, world, event)
+    Ok(true)
 }
 
-// The actor's step, by its seat.
-fn committed(alloc: Global, book: &mut Book, seat: &mut Seat, event: &Event) -> Option<Stamp> {
-    let event = event.copy(alloc).ok()?;
-    let prepared = seat.prepare(alloc, event).ok()?;
-    book.commit(alloc, seat, prepared, None).ok()
-}
-
-// The server begins again, with another seat.
-fn started(alloc: Global, book: &mut Book, seats: &mut Vec<Seat>, file: u16) -> Option<Stamp> {
-    let (seat, stamp) = book.start_server(alloc, file).ok()?;
-    *seats.last_mut()? = seat;
-    Some(stamp)
-}
-
-// Where the seat of the actor stands that takes the event.
-fn place_of(event: &Event) -> usize {
+// The seat of the actor that takes the event. There is one file.
+fn seat_of<'a>(seats: &'a mut Vec<Seat>, event: &Event) -> Option<&'a mut Seat> {
     let actor = match event {
-        Event::Call { node, .. } | Event::Retry { node, .. } => Actor::Node(*node),
+        Event::Call { node, .. } | Event::Retry { node, .. } | Event::Interrupt { node, .. } => {
+            Actor::Node(*node)
+        }
         Event::Deliver(message) => message.addressee(),
         _ => Actor::Server(1),
     };
     match actor {
-        Actor::Node(node) => usize::from(node).saturating_sub(1),
-        Actor::Server(_) => 2,
+        Actor::Node(node) => seats.get_mut(usize::from(node).saturating_sub(1)),
+        Actor::Server(_) => seats.last_mut(),
     }
 }
 
-fn taken(alloc: Global, book: &mut Book, seats: &mut Vec<Seat>, event: &Event) -> Option<Stamp> {
+// The actor's step, by its seat; no answer is a refusal, here and below.
+fn commits(alloc: Global, book: &mut Book, seat: &mut Seat, event: &Event) -> Option<u32> {
+    let event = event.copy(alloc).ok()?;
+    let prepared = seat.prepare(alloc, event).ok()?;
+    let stamp = book.commit(alloc, seat, prepared, None).ok()?;
+    Some(stamp.position())
+}
+
+// The server begins again, with another seat.
+fn starts(alloc: Global, book: &mut Book, seats: &mut Vec<Seat>, file: u16) -> Option<u32> {
+    let (seat, stamp) = book.start_server(alloc, file).ok()?;
+    *seats.last_mut()? = seat;
+    Some(stamp.position())
+}
+
+// The first node begins again, with another seat.
+fn restarts(alloc: Global, book: &mut Book, seats: &mut Vec<Seat>, node: u8) -> Option<u32> {
+    let seat = book.restart(alloc, node).ok()?;
+    *seats.first_mut()? = seat;
+    Some(book.len())
+}
+
+// Where the entry of the event stands, from 1.
+fn taken(alloc: Global, book: &mut Book, seats: &mut Vec<Seat>, event: &Event) -> Option<u32> {
     match event {
-        Event::Declare { node } => book.declare(alloc, *node).ok(),
-        Event::FailServer { file } => book.fail_server(alloc, *file).ok(),
-        Event::StartServer { file } => started(alloc, book, seats, *file),
-        _ => committed(alloc, book, seats.get_mut(place_of(event))?, event),
+        Event::Declare { node } => Some(book.declare(alloc, *node).ok()?.position()),
+        Event::Restart { node } => restarts(alloc, book, seats, *node),
+        Event::FailServer { file } => Some(book.fail_server(alloc, *file).ok()?.position()),
+        Event::StartServer { file } => starts(alloc, book, seats, *file),
+        _ => commits(alloc, book, seat_of(seats, event)?, event),
     }
 }
 
-// The stamp of the step, which is made again where it is refused, if the book has then no entry of it.
+// The same of the step that is made again where it is refused, if the book then has no entry of it.
 fn taken_again(
     alloc: Global,
     book: &mut Book,
     seats: &mut Vec<Seat>,
     event: &Event,
-) -> Option<Stamp> {
+) -> Option<u32> {
     let before = book.len();
-    if let Some(stamp) = taken(alloc, book, seats, event) {
-        return Some(stamp);
+    match taken(alloc, book, seats, event) {
+        Some(position) => Some(position),
+        None if book.len() == before => taken(alloc, book, seats, event),
+        None => None,
     }
-    if book.len() != before {
-        return None;
-    }
-    taken(alloc, book, seats, event)
 }
 
-// Whether both say the same.
-fn is_of(stamp: &Stamp, entry: &Entry) -> bool {
-    let outcome = stamp.outcome();
-    stamp.event().same(entry.event())
-        && outcome.call == entry.call()
-        && outcome.reply == entry.reply()
-        && outcome.sends.as_slice() == entry.sends()
-}
-
-// Whether the world comes to what the stamp says.
-fn follows(alloc: Global, world: &mut World, stamp: &Stamp) -> bool {
-    match &stepped_again(alloc, world, stamp.event()) {
-        Some(entry) => is_of(stamp, entry),
+// Whether the book's last entry stands there, and is that.
+fn ends_with(book: &Book, position: u32, entry: &Entry) -> bool {
+    match book.entries().last() {
+        Some(last) => book.len() == position && last.same(entry),
         None => false,
     }
 }
 
-// Whether book and world come to the same.
-fn takes(alloc: Global, cluster: &mut Cluster, event: &Event) -> bool {
-    match &taken_again(alloc, &mut cluster.book, &mut cluster.seats, event) {
-        Some(stamp) => follows(alloc, &mut cluster.world, stamp),
-        None => false,
-    }
-}
-
-// The delivery of the next message that was sent.
-fn delivery(alloc: Global, cluster: &Cluster) -> Option<Event> {
-    let message = cluster.world.sent().get(cluster.delivered)?;
-    match message.copy(alloc) {
-        Ok(copy) => Some(Event::Deliver(copy)),
-        Err(_) => Some(Event::Deliver(message.copy(alloc).ok()?)),
-    }
-}
-
-// The same for each message until none is left.
-fn delivers(alloc: Global, cluster: &mut Cluster) -> bool {
-    for _ in 0..8 {
-        let Some(event) = delivery(alloc, cluster) else {
-            return true;
-        };
-        cluster.delivered = cluster.delivered.saturating_add(1);
-        if !takes(alloc, cluster, &event) {
-            return false;
-        }
-    }
-    false
-}
-
-fn call(node: u8, op: Op) -> Event {
-    Event::Call { node, pid: 1, op }
-}
-
-const WAIT: Op = Op::Wait {
-    fd: 0,
-    kind: Kind::OfProcess,
-    mode: Mode::Read,
-    start: 50,
-    len: 100,
-};
-
-const UNLOCK: Op = Op::Unlock {
-    fd: 0,
-    kind: Kind::OfProcess,
-    start: 40,
-    len: 60,
-};
-
-// Node 2 waits for a lock of node 1; before that is gone the server fails and begins again, and then node 1 fails.
-fn all_happens(alloc: Global, cluster: &mut Cluster) -> bool {
-    let events = [
-        call(1, Op::Spawn),
-        call(1, OPEN),
-        call(1, SET),
-        call(2, Op::Spawn),
-        call(2, OPEN),
-        call(2, WAIT),
-        Event::FailServer { file: 1 },
-        Event::StartServer { file: 1 },
-        call(1, UNLOCK),
-        Event::Retry { node: 2, pid: 1 },
-        Event::Declare { node: 1 },
-        Event::Learn {
-            file: 1,
-            node: 1,
-            incarnation: 1,
-        },
-    ];
-    for event in &events {
-        if !takes(alloc, cluster, event) || !delivers(alloc, cluster) {
-            return false;
+// Whether the events of the entries come to them.
+fn takes_all(alloc: Global, book: &mut Book, seats: &mut Vec<Seat>, entries: &[Entry]) -> bool {
+    for entry in entries {
+        match taken_again(alloc, book, seats, entry.event()) {
+            Some(position) if ends_with(book, position, entry) => {}
+            _ => return false,
         }
     }
     true
 }
 
-fn count_locks(alloc: Global, world: &World) -> Result<usize, AllocError> {
-    match world.locks(alloc) {
-        Ok(locks) => Ok(locks.len()),
-        Err(_) => Ok(world.locks(alloc)?.len()),
-    }
+// A book with its seats, in boxes.
+fn opens(alloc: Global, shape: Shape) -> Result<(Box<Book>, Box<Vec<Seat>>), AllocError> {
+    let (book, seats) = Book::new(alloc, shape)?;
+    Ok((Box::new(alloc, book)?, Box::new(alloc, seats)?))
 }
 
-// Where one request for memory is refused, world, book and seat stay as they are: the same step then gives what it would have
-// given, and so do those after it. `scripts/refused-memory` refuses the requests of the tests named so, one after the other.
+// Whether a book of that shape takes all of it.
+fn is_taken(alloc: Global, shape: Shape, entries: &[Entry]) -> Result<bool, AllocError> {
+    let (mut book, mut seats) = match opens(alloc, shape) {
+        Ok(opened) => opened,
+        Err(_) => opens(alloc, shape)?,
+    };
+    Ok(takes_all(alloc, &mut book, &mut seats, entries))
+}
+
+// Where one request for memory is refused, the world stays as it is: the same step then gives what it would have given, and so do
+// those after it. `scripts/refused-memory` refuses the requests of the tests named so, one after the other.
 #[test]
-fn keeps_what_it_had(rt: HostRuntime) -> Result<(), Fail> {
-    let mut cluster = begins(rt.alloc())?;
-    assert!(rt; all_happens(rt.alloc(), &mut cluster));
-    assert!(rt; cluster.book.len() == 28 && count_locks(rt.alloc(), &cluster.world)? == 1);
+fn world_keeps_what_it_had(rt: HostRuntime) -> Result<(), Fail> {
+    let (shape, entries) = read(rt.alloc(), RUN)?;
+    let mut world = begins_again(rt.alloc(), shape)?;
+    let come_next = all_come_next(rt.alloc(), &mut world, &entries)?;
+    assert!(rt; come_next);
+    Ok(())
+}
+
+// The same of a book and its seats.
+#[test]
+fn book_keeps_what_it_had(rt: HostRuntime) -> Result<(), Fail> {
+    let (shape, entries) = read(rt.alloc(), RUN)?;
+    let is_taken = is_taken(rt.alloc(), shape, &entries)?;
+    assert!(rt; is_taken && entries.len() == 53);
     Ok(())
 }
