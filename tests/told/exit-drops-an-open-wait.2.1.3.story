@@ -16,4 +16,4 @@ entry 17: message 9 comes to server 1
 entry 18: message 10 comes to node 2
   sends message 11 to server 1: taken 1 1 1 2.1.3
 entry 19: message 11 comes to server 1
-open: no reply
+ended at entry 13
