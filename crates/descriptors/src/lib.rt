@@ -1,6 +1,7 @@
 //! The processes of one node and their descriptors.
 #![tactic(auto)]
 
+pub mod call;
 mod counts;
 pub mod edit;
 pub mod error;

@@ -5,7 +5,9 @@ ghost use Rattle.model.specs.Limits.{IsNumber, most_processes, most_descriptors,
 ghost use Rattle.model.specs.Descriptors.{no_processes, with_process, with_descriptor, lowest_fd, lowest_description, has_open, is_open, after_spawn, after_fork, after_open, after_dup};
 ghost use Rattle.descriptors.specs.Rows.{processes, resolved, Refuses, IsClosed};
 ghost use Rattle.descriptors.specs.Edits.{edited, Fits, HasPlace, IsKnown};
+ghost use Rattle.descriptors.specs.Calls.{after, begins, CanBegin};
 
+use crate::call::ProcessCall;
 use crate::counts::{Counts, release, share};
 use crate::edit::ProcessEdit;
 use crate::error::{FdError, ProcessError};
@@ -14,6 +16,7 @@ use crate::rows::{copy_row, grown, is_idle, is_running, opened_at, refer, reset,
 use model::access::Access;
 use model::limits::MOST_DESCRIPTORS;
 use model::opened::Opened;
+use model::reply::Reply;
 use std::alloc::{AllocError, Global};
 use std::marker::Model;
 
@@ -109,11 +112,8 @@ impl Processes {
         Ok(Some(Processes { rows, counts }))
     }
 
-    /// What `spawn` would change.
-    ///
-    /// # Errors
-    /// Those of `spawn`.
-    pub fn plan_spawn(&self, pid: u16) -> Result<ProcessEdit, ProcessError>
+    // What `spawn` would change.
+    fn plan_spawn(&self, pid: u16) -> Result<ProcessEdit, ProcessError>
         requires { IsNumber most_processes pid }
         ensures ok { IfOk result (λ edit. after_spawn (processes self.now) pid ≡ Ok (edited (processes self.now) edit, Done)) }
         ensures err { IfErr result (λ error. Refuses error (after_spawn (processes self.now) pid)) }
@@ -141,11 +141,8 @@ impl Processes {
         Ok(())
     }
 
-    /// What `fork` would change.
-    ///
-    /// # Errors
-    /// Those of `fork`.
-    pub fn plan_fork(&self, pid: u16, child: u16) -> Result<ProcessEdit, ProcessError>
+    // What `fork` would change.
+    fn plan_fork(&self, pid: u16, child: u16) -> Result<ProcessEdit, ProcessError>
         requires { IsNumber most_processes child }
         ensures ok { IfOk result (λ edit. after_fork (processes self.now) pid child ≡ Ok (edited (processes self.now) edit, Done)) }
         ensures err { IfErr result (λ error. Refuses error (after_fork (processes self.now) pid child)) }
@@ -228,11 +225,8 @@ impl Processes {
         self.counts.lowest_unused()
     }
 
-    /// What `open` would change, and the descriptor that it would answer. Takes no memory.
-    ///
-    /// # Errors
-    /// Those of `open`.
-    pub fn plan_open(
+    // What `open` would change, and the descriptor that it would answer.
+    fn plan_open(
         &self,
         pid: u16,
         file: u16,
@@ -277,11 +271,8 @@ impl Processes {
         Ok(fd)
     }
 
-    /// What `dup` would change, and the descriptor that it would answer. Takes no memory.
-    ///
-    /// # Errors
-    /// Those of `dup`.
-    pub fn plan_dup(&self, pid: u16, fd: u8) -> Result<(ProcessEdit, u8), ProcessError>
+    // What `dup` would change, and the descriptor that it would answer.
+    fn plan_dup(&self, pid: u16, fd: u8) -> Result<(ProcessEdit, u8), ProcessError>
         ensures ok { IfOk result (λ planned. after_dup (processes self.now) pid fd ≡ Ok (edited (processes self.now) planned.0, Fd planned.1)) }
         ensures err { IfErr result (λ error. (error ≢ ProcessError.NoMemory) × Refuses error (after_dup (processes self.now) pid fd)) }
         ensures fits { IfOk result (λ planned. Fits self.now planned.0) }
@@ -313,6 +304,32 @@ impl Processes {
         let (edit, made) = self.plan_dup(pid, fd)?;
         self.apply(edit);
         Ok(made)
+    }
+
+    /// What the call of the process would change, and its reply. Takes memory only where a process
+    /// would begin.
+    ///
+    /// # Errors
+    /// Those of `spawn`, `fork`, `open` or `dup`.
+    pub fn plan(&self, pid: u16, call: ProcessCall) -> Result<(ProcessEdit, Reply), ProcessError>
+        requires { CanBegin pid call }
+        ensures ok { IfOk result (λ planned. after (processes self.now) pid call ≡ Ok (edited (processes self.now) planned.0, planned.1)) }
+        ensures err { IfErr result (λ error. Refuses error (after (processes self.now) pid call)) }
+        ensures memory { begins call ≡ false → IfErr result (λ error. error ≢ ProcessError.NoMemory) }
+        ensures fits { IfOk result (λ planned. Fits self.now planned.0) }
+    {
+        match call {
+            ProcessCall::Spawn => Ok((self.plan_spawn(pid)?, Reply::Done)),
+            ProcessCall::Fork { child } => Ok((self.plan_fork(pid, child)?, Reply::Done)),
+            ProcessCall::Open { file, access } => {
+                let (edit, fd) = self.plan_open(pid, file, access)?;
+                Ok((edit, Reply::Fd(fd)))
+            }
+            ProcessCall::Dup { fd } => {
+                let (edit, made) = self.plan_dup(pid, fd)?;
+                Ok((edit, Reply::Fd(made)))
+            }
+        }
     }
 
     // These are the same processes, if there are any.

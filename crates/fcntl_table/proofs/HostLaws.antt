@@ -1,5 +1,5 @@
 -- The processes of each node, looked up and changed by the node.
-use Rattle.std.proofs.Common.{rules, ◌≡◌, ℕ, Bool, true, false, ◌&&◌, ◌==◌, cond, refl, sym, ◌∙◌, ap, subst, inl, inr, List, [], Option, Some, None, IsSome, is_some, unwrap_or}
+use Rattle.std.proofs.Common.{rules, ◌≡◌, ℕ, Bool, true, false, ◌&&◌, ◌==◌, cond, refl, sym, ◌∙◌, ap, subst, inl, inr, List, [], Option, Some, None, IsSome, is_some, unwrap_or, Err}
 use Rattle.std.specs.Cmp.{nat_eq_equiv}
 use Rattle.std.specs.declared.hash.FoldHasher.{FoldHasher}
 use Rattle.std.specs.declared.hash.BuildHasherDefault.{BuildHasherDefault}
@@ -17,6 +17,10 @@ use Rattle.descriptors.specs.declared.process_entry.ProcessEntry.{ProcessEntry}
 use Rattle.descriptors.specs.declared.edit.ProcessEdit.{ProcessEdit}
 use Rattle.descriptors.specs.Rows.{processes}
 use Rattle.descriptors.specs.Edits.{edited, Fits}
+use Rattle.descriptors.specs.declared.call.ProcessCall.{ProcessCall}
+use Rattle.descriptors.specs.declared.call.ProcessCall.TheVariants.{Spawn, Fork, Open, Dup}
+use Rattle.descriptors.specs.Calls.{after}
+use Rattle.model.specs.declared.reply.Reply.TheVariants.{NoProcess}
 use Rattle.fcntl_table.specs.Hosts.{HostRows, AreHosts, FitsOn, IsKept, processes_of, shown, table_with, with_host}
 
 abbrev at : ℕ → ℕ → Host
@@ -255,3 +259,14 @@ hosts-removed m new host are updates q found some = by (derived.ghosts.eq host q
     by : (b : Bool) → cond b None (kept m.entries q) ≡ Some found → IsHost q.node q.incarnation
     by true e = absurd (cc)
     by false e = are q found (sym (kept-by_test m.entries q) ∙ e)
+
+-- where nothing is kept of the node, no process of it runs: only a process that begins is not refused
+pub none-refused : (hosts : HostRows) (host : Host) (pid : ℕ) (call : ProcessCall) → None ≡ kept hosts host → (call ≡ Spawn → IsKept hosts host) → after no_processes pid call ≡ Err NoProcess
+none-refused hosts host pid Spawn none is_kept = absurd (no_rows (kept hosts host) none (subst (λ (r : Option (List ProcessEntry)). IsSome r) (sym (kept-by_test hosts host)) (is_kept refl)))
+  where
+    no_rows : (r : Option (List ProcessEntry)) → None ≡ r → IsSome r → ⊥
+    no_rows None e some = absurd (cc)
+    no_rows (Some rows) e some = absurd (cc)
+none-refused hosts host pid (Fork child) none is_kept = refl
+none-refused hosts host pid (Open file access) none is_kept = refl
+none-refused hosts host pid (Dup fd) none is_kept = refl

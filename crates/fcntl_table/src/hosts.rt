@@ -1,24 +1,25 @@
 //! The processes of each host: a node in one of its incarnations.
 ghost use Rattle.std.specs.Prelude.{◌≡◌, ◌≢◌, ℕ, true, false, Ok, IfOk, IfErr, IsOk, IsTrue, ◌↔◌, OnOk, MatchOption};
-ghost use Rattle.model.specs.declared.reply.Reply.TheVariants.{Done, Fd};
 ghost use Rattle.model.specs.Limits.{IsHost, IsNumber, most_processes, most_descriptions};
-ghost use Rattle.model.specs.Descriptors.{no_processes, after_spawn, after_fork, after_open, after_dup};
+ghost use Rattle.model.specs.Descriptors.{no_processes};
 ghost use Rattle.model.specs.Table.{descriptor, closed_if, exited};
 ghost use Rattle.descriptors.specs.Rows.{resolved, Refuses};
 ghost use Rattle.descriptors.specs.Edits.{edited};
+ghost use Rattle.descriptors.specs.Calls.{after, begins, CanBegin};
 ghost use Rattle.fcntl_table.specs.Hosts.{FitsOn, IsKept, process_at, processes_of, table_with, with_host};
 
 use crate::shut::{close_at, exit_at};
+use descriptors::call::ProcessCall;
 use descriptors::edit::ProcessEdit;
 use descriptors::error::{FdError, ProcessError};
 use descriptors::processes::Processes;
 use indexmap::IndexMap;
 use intervals::span_map::NoMemory;
 use lock_table::lock_table::LockTable;
-use model::access::Access;
 use model::host::Host;
 use model::limits::MOST_NODES;
 use model::opened::Opened;
+use model::reply::Reply;
 use std::alloc::Global;
 use std::marker::Model;
 
@@ -89,82 +90,26 @@ impl Hosts {
         Ok(())
     }
 
-    /// What a process that begins on the host would change.
+    /// What the call of the host's process would change, and its reply. Takes memory only where a
+    /// process would begin.
     ///
     /// # Errors
-    /// Those of `Processes::spawn`.
-    pub(crate) fn plan_spawn(&self, host: Host, pid: u16) -> Result<ProcessEdit, ProcessError>
-        requires kept { IsKept self.now host }
-        requires number { IsNumber most_processes pid }
-        ensures ok { IfOk result (λ edit. after_spawn (processes_of self.now host.node host.incarnation) pid ≡ Ok (edited (processes_of self.now host.node host.incarnation) edit, Done)) }
-        ensures err { IfErr result (λ error. Refuses error (after_spawn (processes_of self.now host.node host.incarnation) pid)) }
-        ensures fits { IfOk result (FitsOn self.now host) }
-    {
-        let Some(node) = self.by_host.get(&host) else {
-            unreachable!()
-        };
-        node.plan_spawn(pid)
-    }
-
-    /// What a child of the process of the host would change.
-    ///
-    /// # Errors
-    /// Those of `Processes::fork`.
-    pub(crate) fn plan_fork(
+    /// Those of `Processes::plan`.
+    pub(crate) fn plan(
         &self,
         host: Host,
         pid: u16,
-        child: u16,
-    ) -> Result<ProcessEdit, ProcessError>
-        requires { IsNumber most_processes child }
-        ensures ok { IfOk result (λ edit. after_fork (processes_of self.now host.node host.incarnation) pid child ≡ Ok (edited (processes_of self.now host.node host.incarnation) edit, Done)) }
-        ensures err { IfErr result (λ error. Refuses error (after_fork (processes_of self.now host.node host.incarnation) pid child)) }
-        ensures fits { IfOk result (FitsOn self.now host) }
-    {
-        match self.by_host.get(&host) {
-            Some(node) => node.plan_fork(pid, child),
-            None => Err(ProcessError::NoProcess),
-        }
-    }
-
-    /// What one more descriptor of what the process of the host has open there would change, and the
-    /// descriptor. Takes no memory.
-    ///
-    /// # Errors
-    /// Those of `Processes::dup`.
-    pub(crate) fn plan_dup(
-        &self,
-        host: Host,
-        pid: u16,
-        fd: u8,
-    ) -> Result<(ProcessEdit, u8), ProcessError>
-        ensures ok { IfOk result (λ planned. after_dup (processes_of self.now host.node host.incarnation) pid fd ≡ Ok (edited (processes_of self.now host.node host.incarnation) planned.0, Fd planned.1)) }
-        ensures err { IfErr result (λ error. (error ≢ ProcessError.NoMemory) × Refuses error (after_dup (processes_of self.now host.node host.incarnation) pid fd)) }
+        call: ProcessCall,
+    ) -> Result<(ProcessEdit, Reply), ProcessError>
+        requires number { CanBegin pid call }
+        requires kept { call ≡ ProcessCall.Spawn → IsKept self.now host }
+        ensures ok { IfOk result (λ planned. after (processes_of self.now host.node host.incarnation) pid call ≡ Ok (edited (processes_of self.now host.node host.incarnation) planned.0, planned.1)) }
+        ensures err { IfErr result (λ error. Refuses error (after (processes_of self.now host.node host.incarnation) pid call)) }
+        ensures memory { begins call ≡ false → IfErr result (λ error. error ≢ ProcessError.NoMemory) }
         ensures fits { IfOk result (λ planned. FitsOn self.now host planned.0) }
     {
         match self.by_host.get(&host) {
-            Some(node) => node.plan_dup(pid, fd),
-            None => Err(ProcessError::NoProcess),
-        }
-    }
-
-    /// What a process of the host that opens the file would change, and the descriptor.
-    ///
-    /// # Errors
-    /// Those of `Processes::open`.
-    pub(crate) fn plan_open(
-        &self,
-        host: Host,
-        pid: u16,
-        file: u16,
-        access: Access,
-    ) -> Result<(ProcessEdit, u8), ProcessError>
-        ensures ok { IfOk result (λ planned. after_open (processes_of self.now host.node host.incarnation) pid file access ≡ Ok (edited (processes_of self.now host.node host.incarnation) planned.0, Fd planned.1)) }
-        ensures err { IfErr result (λ error. Refuses error (after_open (processes_of self.now host.node host.incarnation) pid file access)) }
-        ensures fits { IfOk result (λ planned. FitsOn self.now host planned.0) }
-    {
-        match self.by_host.get(&host) {
-            Some(node) => node.plan_open(pid, file, access),
+            Some(node) => node.plan(pid, call),
             None => Err(ProcessError::NoProcess),
         }
     }

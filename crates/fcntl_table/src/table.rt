@@ -1,12 +1,12 @@
 //! The table of a single machine.
-ghost use Rattle.std.specs.Prelude.{◌≡◌, ◌≢◌, ◌<◌, None, IfOk, IsOk, IsTrue, ◌↔◌, OnOk, OnErr, MatchOption, MatchResult, Result, Ok, Err};
+ghost use Rattle.std.specs.Prelude.{◌≡◌, ◌≢◌, ◌<◌, None, false, IfOk, IsOk, IsTrue, ◌↔◌, OnOk, OnErr, MatchOption, MatchResult, Result, Ok, Err};
 ghost use Rattle.model.specs.Locks.{IsRegion, IsLowestBlocker};
-ghost use Rattle.model.specs.Descriptors.{Processes, after_spawn, after_fork, after_open, after_dup};
+ghost use Rattle.model.specs.Descriptors.{Processes};
 ghost use Rattle.model.specs.declared.reply.Reply.{Reply};
-ghost use Rattle.model.specs.Limits.{IsNumber, most_processes};
 ghost use Rattle.model.specs.Table.{empty_table, around, beside, target, regions_with, lock_within, after_close, after_exit};
 ghost use Rattle.model.specs.Step.{Is, Unblocked};
 ghost use Rattle.descriptors.specs.Rows.{Refuses};
+ghost use Rattle.descriptors.specs.Calls.{after, begins, CanBegin};
 ghost use Rattle.fcntl_table.specs.declared.edit.TableEdit.TheVariants.{Nothing};
 ghost use Rattle.fcntl_table.specs.Targets.{IsOwn, IsSpan};
 ghost use Rattle.fcntl_table.specs.Tables.{table_of, Keeps};
@@ -16,11 +16,11 @@ use crate::edit::{Planned, TableEdit};
 use crate::hosts::Hosts;
 use crate::locks::lock_reply;
 use crate::target::target_at;
+use descriptors::call::ProcessCall;
 use descriptors::error::ProcessError;
 use intervals::span::Span;
 use intervals::span_map::NoMemory;
 use lock_table::lock_table::LockTable;
-use model::access::Access;
 use model::host::Host;
 use model::lock_info::LockInfo;
 use model::lock_target::LockTarget;
@@ -60,18 +60,6 @@ fn refused(error: ProcessError) -> Result<Planned, NoMemory>
         edit: TableEdit::Nothing,
         reply: error.reply()?,
     })
-}
-
-// The same where it is refused for another reason than memory.
-fn refused_outright(error: ProcessError) -> Planned
-    requires { error ≢ ProcessError.NoMemory }
-    ensures nothing { result.edit ≡ Nothing }
-    ensures reply { (answer : Result (Processes × Reply) Reply) → Refuses error answer → answer ≡ Err result.reply }
-{
-    let Ok(planned) = refused(error) else {
-        unreachable!()
-    };
-    planned
 }
 
 impl FcntlTable {
@@ -141,84 +129,26 @@ impl FcntlTable {
         self.locks.has_region(file, lock)
     }
 
-    /// What `spawn` would change, and its reply: `Done`, or `Exists` where the process runs already.
+    /// What the call of the process would change, and its reply (`call` has them). Takes memory only
+    /// where a process would begin.
     ///
     /// # Errors
     /// `NoMemory`, never in place of a reply that refuses the call.
-    pub fn plan_spawn(&self, process: Process) -> Result<Planned, NoMemory>
-        requires { Keeps self.now (record { node = process.node; incarnation = process.incarnation }) }
-        ensures ok { IfOk result (λ planned. Is (beside (table_of self.now) process (after_spawn (around (table_of self.now) process) process.pid)) planned.reply (edited (table_of self.now) planned.edit)) }
-        ensures refused { (refusal : Reply) → after_spawn (around (table_of self.now) process) process.pid ≡ Err refusal → result ≡ Ok (record { edit = Nothing; reply = refusal }) }
+    pub fn plan_call(&self, process: Process, call: ProcessCall) -> Result<Planned, NoMemory>
+        requires number { CanBegin process.pid call }
+        requires kept { call ≡ ProcessCall.Spawn → Keeps self.now (record { node = process.node; incarnation = process.incarnation }) }
+        ensures ok { IfOk result (λ planned. Is (beside (table_of self.now) process (after (around (table_of self.now) process) process.pid call)) planned.reply (edited (table_of self.now) planned.edit)) }
+        ensures refused { (refusal : Reply) → after (around (table_of self.now) process) process.pid call ≡ Err refusal → result ≡ Ok (record { edit = Nothing; reply = refusal }) }
+        ensures memory { begins call ≡ false → IsOk result }
         ensures fits { IfOk result (λ planned. Fits self.now planned.edit) }
     {
         let host = host_of(process);
-        match self.hosts.plan_spawn(host, process.pid) {
-            Ok(edit) => Ok(Planned {
+        match self.hosts.plan(host, process.pid, call) {
+            Ok((edit, reply)) => Ok(Planned {
                 edit: TableEdit::OfProcess { host, edit },
-                reply: Reply::Done,
+                reply,
             }),
             Err(error) => refused(error),
-        }
-    }
-
-    /// What `open` would change, and its reply: the descriptor, `NoProcess` or `TooManyFiles`.
-    ///
-    /// # Errors
-    /// `NoMemory`, never in place of a reply that refuses the call.
-    pub fn plan_open(
-        &self,
-        process: Process,
-        file: u16,
-        access: Access,
-    ) -> Result<Planned, NoMemory>
-        ensures ok { IfOk result (λ planned. Is (beside (table_of self.now) process (after_open (around (table_of self.now) process) process.pid file access)) planned.reply (edited (table_of self.now) planned.edit)) }
-        ensures refused { (refusal : Reply) → after_open (around (table_of self.now) process) process.pid file access ≡ Err refusal → result ≡ Ok (record { edit = Nothing; reply = refusal }) }
-        ensures fits { IfOk result (λ planned. Fits self.now planned.edit) }
-    {
-        let host = host_of(process);
-        match self.hosts.plan_open(host, process.pid, file, access) {
-            Ok((edit, fd)) => Ok(Planned {
-                edit: TableEdit::OfProcess { host, edit },
-                reply: Reply::Fd(fd),
-            }),
-            Err(error) => refused(error),
-        }
-    }
-
-    /// What `fork` would change, and its reply: `Done`, `NoProcess`, or `Exists` where the child runs
-    /// already.
-    ///
-    /// # Errors
-    /// `NoMemory`, never in place of a reply that refuses the call.
-    pub fn plan_fork(&self, process: Process, child: u16) -> Result<Planned, NoMemory>
-        requires { IsNumber most_processes child }
-        ensures ok { IfOk result (λ planned. Is (beside (table_of self.now) process (after_fork (around (table_of self.now) process) process.pid child)) planned.reply (edited (table_of self.now) planned.edit)) }
-        ensures refused { (refusal : Reply) → after_fork (around (table_of self.now) process) process.pid child ≡ Err refusal → result ≡ Ok (record { edit = Nothing; reply = refusal }) }
-        ensures fits { IfOk result (λ planned. Fits self.now planned.edit) }
-    {
-        let host = host_of(process);
-        match self.hosts.plan_fork(host, process.pid, child) {
-            Ok(edit) => Ok(Planned {
-                edit: TableEdit::OfProcess { host, edit },
-                reply: Reply::Done,
-            }),
-            Err(error) => refused(error),
-        }
-    }
-
-    /// What `dup` would change, and its reply: the descriptor, `NoProcess`, `BadFd` or `TooManyFiles`.
-    /// Takes no memory.
-    pub fn plan_dup(&self, process: Process, fd: u8) -> Planned
-        ensures is { Is (beside (table_of self.now) process (after_dup (around (table_of self.now) process) process.pid fd)) result.reply (edited (table_of self.now) result.edit) }
-        ensures fits { Fits self.now result.edit }
-    {
-        let host = host_of(process);
-        match self.hosts.plan_dup(host, process.pid, fd) {
-            Ok((edit, fd)) => Planned {
-                edit: TableEdit::OfProcess { host, edit },
-                reply: Reply::Fd(fd),
-            },
-            Err(error) => refused_outright(error),
         }
     }
 
@@ -295,60 +225,40 @@ impl FcntlTable {
         }
     }
 
-    /// The process begins, with no descriptors. Answers `Done`, or `Exists` where it runs already.
+    // Processes of the host are kept, where one would begin.
+    fn make_room(&mut self, process: Process, call: ProcessCall) -> Result<(), NoMemory>
+        ensures same { table_of self.new ≡ table_of self.old }
+        ensures kept { OnOk result (call ≡ ProcessCall.Spawn → Keeps self.new (record { node = process.node; incarnation = process.incarnation })) }
+        ensures known { Keeps self.old (record { node = process.node; incarnation = process.incarnation }) → IsOk result }
+        ensures memory { begins call ≡ false → IsOk result }
+        ensures spawn { OnErr result (call ≡ ProcessCall.Spawn) }
+    {
+        match call {
+            ProcessCall::Spawn => self.admit(host_of(process)),
+            _ => Ok(()),
+        }
+    }
+
+    /// The call of a process on processes and descriptors. `Spawn`: it begins, with no descriptors; answers
+    /// `Done`, or `Exists` where it runs already. `Fork` (POSIX.1-2017 `fork()`): the child, whose number is
+    /// from 1 to 256, begins with its descriptors; `Done`, `NoProcess`, or `Exists` where the child runs
+    /// already. `Open` (POSIX.1-2017 `open()`): the descriptor, `NoProcess` or `TooManyFiles`. `Dup`
+    /// (POSIX.1-2017 `dup()`): the descriptor, `NoProcess`, `BadFd` or `TooManyFiles`. Takes memory only where
+    /// a process would begin.
     ///
     /// # Errors
     /// `NoMemory`, never in place of a reply that refuses the call.
-    pub fn spawn(&mut self, process: Process) -> Result<Reply, NoMemory>
-        ensures ok { IfOk result (λ reply. Is (beside (table_of self.old) process (after_spawn (around (table_of self.old) process) process.pid)) reply (table_of self.new)) }
-        ensures refused { (refusal : Reply) → after_spawn (around (table_of self.old) process) process.pid ≡ Err refusal → result ≡ Ok refusal }
+    pub fn call(&mut self, process: Process, call: ProcessCall) -> Result<Reply, NoMemory>
+        requires { CanBegin process.pid call }
+        ensures ok { IfOk result (λ reply. Is (beside (table_of self.old) process (after (around (table_of self.old) process) process.pid call)) reply (table_of self.new)) }
+        ensures refused { (refusal : Reply) → after (around (table_of self.old) process) process.pid call ≡ Err refusal → result ≡ Ok refusal }
+        ensures memory { begins call ≡ false → IsOk result }
         ensures unchanged { OnErr result (table_of self.new ≡ table_of self.old) }
     {
-        self.admit(host_of(process))?;
-        let Planned { edit, reply } = self.plan_spawn(process)?;
+        self.make_room(process, call)?;
+        let Planned { edit, reply } = self.plan_call(process, call)?;
         self.apply(edit);
         Ok(reply)
-    }
-
-    /// The process opens the file (POSIX.1-2017 `open()`). Answers the descriptor, `NoProcess` or
-    /// `TooManyFiles`.
-    ///
-    /// # Errors
-    /// `NoMemory`, never in place of a reply that refuses the call.
-    pub fn open(&mut self, process: Process, file: u16, access: Access) -> Result<Reply, NoMemory>
-        ensures ok { IfOk result (λ reply. Is (beside (table_of self.old) process (after_open (around (table_of self.old) process) process.pid file access)) reply (table_of self.new)) }
-        ensures refused { (refusal : Reply) → after_open (around (table_of self.old) process) process.pid file access ≡ Err refusal → result ≡ Ok refusal }
-        ensures unchanged { OnErr result (table_of self.new ≡ table_of self.old) }
-    {
-        let Planned { edit, reply } = self.plan_open(process, file, access)?;
-        self.apply(edit);
-        Ok(reply)
-    }
-
-    /// The child begins, with the descriptors of the process (POSIX.1-2017 `fork()`). Answers `Done`,
-    /// `NoProcess`, or `Exists` where the child runs already. The child's number is from 1 to 256.
-    ///
-    /// # Errors
-    /// `NoMemory`, never in place of a reply that refuses the call.
-    pub fn fork(&mut self, process: Process, child: u16) -> Result<Reply, NoMemory>
-        requires { IsNumber most_processes child }
-        ensures ok { IfOk result (λ reply. Is (beside (table_of self.old) process (after_fork (around (table_of self.old) process) process.pid child)) reply (table_of self.new)) }
-        ensures refused { (refusal : Reply) → after_fork (around (table_of self.old) process) process.pid child ≡ Err refusal → result ≡ Ok refusal }
-        ensures unchanged { OnErr result (table_of self.new ≡ table_of self.old) }
-    {
-        let Planned { edit, reply } = self.plan_fork(process, child)?;
-        self.apply(edit);
-        Ok(reply)
-    }
-
-    /// One more descriptor of what this one refers to (POSIX.1-2017 `dup()`). Answers the descriptor,
-    /// `NoProcess`, `BadFd` or `TooManyFiles`. Takes no memory.
-    pub fn dup(&mut self, process: Process, fd: u8) -> Reply
-        ensures { Is (beside (table_of self.old) process (after_dup (around (table_of self.old) process) process.pid fd)) result (table_of self.new) }
-    {
-        let Planned { edit, reply } = self.plan_dup(process, fd);
-        self.apply(edit);
-        reply
     }
 
     /// The descriptor goes, and all locks of the process on its file; where it was the last of its

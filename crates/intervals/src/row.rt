@@ -1,5 +1,5 @@
 //! Rows of parts.
-ghost use Rattle.std.specs.Prelude.{◌≡◌, ◌≤◌, ◌<◌, ◌+◌, ◌-◌, ◌++◌, ◌↔◌, [], ◌∷◌, take, drop, length, ℕ, IfOk, IfSome, IsTrue, MatchOption};
+ghost use Rattle.std.specs.Prelude.{◌≡◌, true, ◌≤◌, ◌<◌, ◌+◌, ◌-◌, ◌++◌, ◌↔◌, [], ◌∷◌, take, drop, length, ℕ, IfOk, IfSome, IsTrue, MatchOption};
 ghost use Rattle.std.specs.Vec.{vec_len, vec_capacity};
 ghost use Rattle.intervals.specs.Bytes.{greatest, put, starts_below};
 ghost use Rattle.intervals.specs.Runs.{value_at, AreRuns, EndsBelow};
@@ -89,6 +89,36 @@ fn kept_of<V: Exact>(runs: &[Run<V>], span: Span) -> usize
     }
 }
 
+// Whether these are the same runs, one after another.
+fn are_same<V: Exact>(runs: &[Run<V>], others: &[Run<V>]) -> bool
+    ensures { result ≡ true → runs.now ≡ others.now }
+{
+    if runs.len() != others.len() {
+        return false;
+    }
+    for i in 0..runs.len() {
+        if runs[i] != others[i] {
+            return false;
+        }
+    }
+    true
+}
+
+// Whether the parts have the same runs, one after another.
+fn are_same_parts<V: Exact>(parts: &[Part<V>], others: &[Part<V>]) -> bool
+    ensures { result ≡ true → parts.now ≡ others.now }
+{
+    if parts.len() != others.len() {
+        return false;
+    }
+    for i in 0..parts.len() {
+        if !are_same(parts[i].runs(), others[i].runs()) {
+            return false;
+        }
+    }
+    true
+}
+
 impl<V: Exact> Row<V> {
     // A row of no runs. It takes no memory.
     pub(crate) fn new(alloc: Global) -> Row<V>
@@ -123,8 +153,24 @@ impl<V: Exact> Row<V> {
         })
     }
 
+    // Whether both have the same runs in the same parts, as maps have that were written alike.
+    fn is_alike(&self, other: &Row<V>) -> bool
+        ensures { result ≡ true → row_runs self.now ≡ row_runs other.now }
+    {
+        are_same(self.first.runs(), other.first.runs()) && are_same_parts(&self.rest, &other.rest)
+    }
+
     // Whether both have the same runs.
     pub(crate) fn same(&self, other: &Row<V>) -> bool
+        requires some { AreSome self.now.rest.items }
+        requires other { AreSome other.now.rest.items }
+        ensures { IsTrue result ↔ (row_runs self.now ≡ row_runs other.now) }
+    {
+        self.is_alike(other) || self.has_runs_of(other)
+    }
+
+    // The same, in whichever parts.
+    fn has_runs_of(&self, other: &Row<V>) -> bool
         requires some { AreSome self.now.rest.items }
         requires other { AreSome other.now.rest.items }
         ensures { IsTrue result ↔ (row_runs self.now ≡ row_runs other.now) }

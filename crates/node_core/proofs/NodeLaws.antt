@@ -22,7 +22,6 @@ use Rattle.model.specs.Locks.{no_locks, IsFree, IsLowestBlocker, lowest_blocker,
 use Rattle.model.proofs.BlockerLaws.{is_lowest_blocker}
 use Rattle.model.specs.Descriptors.{Processes, no_processes, with_descriptor, lowest_fd, lowest_description, after_open, after_spawn, with_process, after_fork, after_dup, again_on}
 use Rattle.model.specs.Table.{LockTarget, around, beside, with_processes, target_at}
-use Rattle.model.proofs.Refusals.{ok_is}
 use Rattle.lock_table.specs.Rows.{TableParts, held, IsSameTable}
 use Rattle.messages.specs.Versions.{most_regions}
 use Rattle.token_set.specs.Tokens.{Token, desired, holds_nothing}
@@ -38,9 +37,12 @@ use Rattle.node_core.specs.State.{NodeState, first_file, first_node, process}
 use Rattle.descriptors.specs.Rows.{processes, resolved, fd_reply}
 use Rattle.fcntl_table.proofs.TargetLaws.{target_in, target-err, target-ok, resolved_ok}
 use Rattle.node_core.specs.Files.{file_state}
-use Rattle.node_core.specs.Parts.{NodeParts, node_state, IsOwnCall, IsNode}
+use Rattle.node_core.specs.Parts.{NodeParts, node_state, IsOwnCall, IsNode, NamesFile}
 use Rattle.descriptors.specs.declared.edit.ProcessEdit.{ProcessEdit}
 use Rattle.descriptors.specs.Edits.{edited, Fits as ProcessFits}
+use Rattle.descriptors.specs.declared.call.ProcessCall.{ProcessCall}
+use Rattle.descriptors.specs.declared.call.ProcessCall.TheVariants.{Spawn, Fork, Open, Dup}
+use Rattle.descriptors.specs.Calls.{after}
 use Rattle.node_core.specs.Plans.{table_after, ProcessesFit}
 
 -- the node itself is its own
@@ -97,15 +99,15 @@ lowest_if free ps fd = if free then Ok (ps, Fd fd) else Err reply.TooManyFiles
 first_of : (x y : Processes × Reply) → ◌≡◌ {A = Result (Processes × Reply) Reply} (Ok x) (Ok y) → x.0 ≡ y.0
 first_of x y e = let same : x ≡ y = cc in ap (λ (z : Processes × Reply). z.0) same
 
-open_if : (runs free : Bool) (ps new : Processes) (fd at : ℕ) → (if runs then lowest_if free ps fd else Err reply.NoProcess) ≡ Ok (new, Fd at) → new ≡ ps
-open_if true true ps new fd at e = sym (first_of (ps, Fd fd) (new, Fd at) e)
-open_if true false ps new fd at e = absurd (cc)
-open_if false free ps new fd at e = absurd (cc)
+open_if : (runs free : Bool) (ps new : Processes) (fd : ℕ) (told : Reply) → (if runs then lowest_if free ps fd else Err reply.NoProcess) ≡ Ok (new, told) → new ≡ ps
+open_if true true ps new fd told e = sym (first_of (ps, Fd fd) (new, told) e)
+open_if true false ps new fd told e = absurd (cc)
+open_if false free ps new fd told e = absurd (cc)
 
-pub opened-within : (ps new : Processes) (pid file fd : ℕ) (access : Access) (P : ℕ → Type 0) → after_open ps pid file access ≡ Ok (new, Fd fd) → P file → ((q k : ℕ) (o : Opened) → ps.opened q k ≡ Some o → P o.file) → (q k : ℕ) (o : Opened) → new.opened q k ≡ Some o → P o.file
-opened-within ps new pid file fd access P e here there q k o some =
+opened-within : (ps new : Processes) (pid file : ℕ) (told : Reply) (access : Access) (P : ℕ → Type 0) → after_open ps pid file access ≡ Ok (new, told) → P file → ((q k : ℕ) (o : Opened) → ps.opened q k ≡ Some o → P o.file) → (q k : ℕ) (o : Opened) → new.opened q k ≡ Some o → P o.file
+opened-within ps new pid file told access P e here there q k o some =
     let made : Opened = record { file = file; description = lowest_description ps; access = access } in
-    let is = open_if (ps.runs pid) (nat_lt (lowest_fd ps pid) most_descriptors) (with_descriptor ps pid (lowest_fd ps pid) (Some made)) new (lowest_fd ps pid) fd e in
+    let is = open_if (ps.runs pid) (nat_lt (lowest_fd ps pid) most_descriptors) (with_descriptor ps pid (lowest_fd ps pid) (Some made)) new (lowest_fd ps pid) told e in
     opened_if ((q == pid) && (k == lowest_fd ps pid)) (ps.opened q k) o made P here (there q k o) (sym (ap (λ (x : Processes). x.opened q k) is) ∙ some)
 
 -- a process that begins has nothing open
@@ -115,56 +117,63 @@ begun ps pid = (with_process ps pid true (λ fd. None), Done)
 abbrev spawn_if : Bool → Processes → ℕ → Result (Processes × Reply) Reply
 spawn_if runs ps pid = if runs then Err reply.Exists else Ok (begun ps pid)
 
-spawned-within : (runs : Bool) (ps new : Processes) (pid : ℕ) (P : Opened → Type 0) → spawn_if runs ps pid ≡ Ok (new, Done) → ((q k : ℕ) (o : Opened) → ps.opened q k ≡ Some o → P o) → (q k : ℕ) (o : Opened) → new.opened q k ≡ Some o → P o
-spawned-within true ps new pid P e there q k o some = absurd (cc)
-spawned-within false ps new pid P e there q k o some =
-    by (q == pid) (ap (λ (x : Processes). x.opened q k) (first_of (begun ps pid) (new, Done) e) ∙ some)
+spawned-within : (runs : Bool) (ps new : Processes) (pid : ℕ) (told : Reply) (P : Opened → Type 0) → spawn_if runs ps pid ≡ Ok (new, told) → ((q k : ℕ) (o : Opened) → ps.opened q k ≡ Some o → P o) → (q k : ℕ) (o : Opened) → new.opened q k ≡ Some o → P o
+spawned-within true ps new pid told P e there q k o some = absurd (cc)
+spawned-within false ps new pid told P e there q k o some =
+    by (q == pid) (ap (λ (x : Processes). x.opened q k) (first_of (begun ps pid) (new, told) e) ∙ some)
   where
     by : (b : Bool) → (if b then None else ps.opened q k) ≡ Some o → P o
     by true h = absurd (cc)
     by false h = there q k o h
 
-forked_is : (b c : Bool) (x new : Processes) → ◌≡◌ {A = Result (Processes × Reply) Reply} (if b then (if c then Err reply.Exists else Ok (x, Done)) else Err reply.NoProcess) (Ok (new, Done)) → x ≡ new
-forked_is true true x new h = absurd (cc)
-forked_is true false x new h = ap (λ (a : Processes × Reply). a.0) (ok_is (x, Done) (new, Done) h)
-forked_is false c x new h = absurd (cc)
+forked_is : (b c : Bool) (x new : Processes) (told : Reply) → ◌≡◌ {A = Result (Processes × Reply) Reply} (if b then (if c then Err reply.Exists else Ok (x, Done)) else Err reply.NoProcess) (Ok (new, told)) → x ≡ new
+forked_is true true x new told h = absurd (cc)
+forked_is true false x new told h = first_of (x, Done) (new, told) h
+forked_is false c x new told h = absurd (cc)
 
 either_open : (b : Bool) (x y : Option Opened) (o : Opened) (P : ℕ → Type 0) → (x ≡ Some o → P o.file) → (y ≡ Some o → P o.file) → (if b then x else y) ≡ Some o → P o.file
 either_open true x y o P h k = h
 either_open false x y o P h k = k
 
-pub fork-within : (p : NodeParts) (e : ProcessEdit) (pid child : ℕ) → after_fork (processes p.processes) pid child ≡ Ok (edited (processes p.processes) e, Done) → ProcessFits p.processes e → IsNode p → ProcessesFit p (Some e)
+fork-within : (p : NodeParts) (e : ProcessEdit) (pid child : ℕ) (told : Reply) → after_fork (processes p.processes) pid child ≡ Ok (edited (processes p.processes) e, told) → ProcessFits p.processes e → IsNode p → ProcessesFit p (Some e)
 unfolding node_state
-fork-within p e pid child is fits h =
+fork-within p e pid child told is fits h =
     let ps = processes p.processes in
-    let made = forked_is (ps.runs pid) (ps.runs child) (with_process ps child true (ps.opened pid)) (edited ps e) is in
+    let made = forked_is (ps.runs pid) (ps.runs child) (with_process ps child true (ps.opened pid)) (edited ps e) told is in
     (fits, λ q fd o some. either_open (q == child) (ps.opened pid fd) (ps.opened q fd) o (IsNumber p.shape.files) (h.opened_in pid fd o) (h.opened_in q fd o) (ap (λ (x : Processes). x.opened q fd) made ∙ some))
 
-on_is : (b : Bool) (x new : Processes) (j k : ℕ) → ◌≡◌ {A = Result (Processes × Reply) Reply} (if b then Ok (x, Fd j) else Err reply.TooManyFiles) (Ok (new, Fd k)) → x ≡ new
-on_is true x new j k h = ap (λ (a : Processes × Reply). a.0) (ok_is (x, Fd j) (new, Fd k) h)
-on_is false x new j k h = absurd (cc)
+on_is : (b : Bool) (x new : Processes) (j : ℕ) (told : Reply) → ◌≡◌ {A = Result (Processes × Reply) Reply} (if b then Ok (x, Fd j) else Err reply.TooManyFiles) (Ok (new, told)) → x ≡ new
+on_is true x new j told h = first_of (x, Fd j) (new, told) h
+on_is false x new j told h = absurd (cc)
 
-dup_is : (ps new : Processes) (pid k : ℕ) (b : Bool) (x : Option Opened) → (if b then again_on ps pid x else Err reply.NoProcess) ≡ Ok (new, Fd k) → (o : Opened) × (x ≡ Some o) × (with_descriptor ps pid (lowest_fd ps pid) (Some o) ≡ new)
-dup_is ps new pid k true (Some o) h = (o, refl, on_is (nat_lt (lowest_fd ps pid) most_descriptors) (with_descriptor ps pid (lowest_fd ps pid) (Some o)) new (lowest_fd ps pid) k h)
-dup_is ps new pid k true None h = absurd (cc)
-dup_is ps new pid k false x h = absurd (cc)
+dup_is : (ps new : Processes) (pid : ℕ) (told : Reply) (b : Bool) (x : Option Opened) → (if b then again_on ps pid x else Err reply.NoProcess) ≡ Ok (new, told) → (o : Opened) × (x ≡ Some o) × (with_descriptor ps pid (lowest_fd ps pid) (Some o) ≡ new)
+dup_is ps new pid told true (Some o) h = (o, refl, on_is (nat_lt (lowest_fd ps pid) most_descriptors) (with_descriptor ps pid (lowest_fd ps pid) (Some o)) new (lowest_fd ps pid) told h)
+dup_is ps new pid told true None h = absurd (cc)
+dup_is ps new pid told false x h = absurd (cc)
 
-pub dup-within : (p : NodeParts) (e : ProcessEdit) (pid fd made : ℕ) → after_dup (processes p.processes) pid fd ≡ Ok (edited (processes p.processes) e, Fd made) → ProcessFits p.processes e → IsNode p → ProcessesFit p (Some e)
+dup-within : (p : NodeParts) (e : ProcessEdit) (pid fd : ℕ) (told : Reply) → after_dup (processes p.processes) pid fd ≡ Ok (edited (processes p.processes) e, told) → ProcessFits p.processes e → IsNode p → ProcessesFit p (Some e)
 unfolding node_state
-dup-within p e pid fd made is fits h =
+dup-within p e pid fd told is fits h =
     let ps = processes p.processes in
-    let d = dup_is ps (edited ps e) pid made (ps.runs pid) (ps.opened pid fd) is in
+    let d = dup_is ps (edited ps e) pid told (ps.runs pid) (ps.opened pid fd) is in
     (fits, λ q k o some. either_open ((q == pid) && (k == lowest_fd ps pid)) (Some d.0) (ps.opened q k) o (IsNumber p.shape.files) (λ same. h.opened_in pid fd o (d.1 ∙ same)) (h.opened_in q k o) (ap (λ (x : Processes). x.opened q k) d.2 ∙ some))
 
-pub open-within : (p : NodeParts) (e : ProcessEdit) (pid file fd : ℕ) (access : Access) → after_open (processes p.processes) pid file access ≡ Ok (edited (processes p.processes) e, Fd fd) → IsNumber (node_state p).shape.files file → ProcessFits p.processes e → IsNode p → ProcessesFit p (Some e)
+open-within : (p : NodeParts) (e : ProcessEdit) (pid file : ℕ) (told : Reply) (access : Access) → after_open (processes p.processes) pid file access ≡ Ok (edited (processes p.processes) e, told) → IsNumber (node_state p).shape.files file → ProcessFits p.processes e → IsNode p → ProcessesFit p (Some e)
 unfolding node_state
-open-within p e pid file fd access is within fits h =
-    (fits, opened-within (processes p.processes) (edited (processes p.processes) e) pid file fd access (IsNumber p.shape.files) is within h.opened_in)
+open-within p e pid file told access is within fits h =
+    (fits, opened-within (processes p.processes) (edited (processes p.processes) e) pid file told access (IsNumber p.shape.files) is within h.opened_in)
 
-pub spawn-within : (p : NodeParts) (e : ProcessEdit) (pid : ℕ) → after_spawn (processes p.processes) pid ≡ Ok (edited (processes p.processes) e, Done) → ProcessFits p.processes e → IsNode p → ProcessesFit p (Some e)
+spawn-within : (p : NodeParts) (e : ProcessEdit) (pid : ℕ) (told : Reply) → after_spawn (processes p.processes) pid ≡ Ok (edited (processes p.processes) e, told) → ProcessFits p.processes e → IsNode p → ProcessesFit p (Some e)
 unfolding node_state
-spawn-within p e pid is fits h =
-    (fits, λ q fd o some. spawned-within ((processes p.processes).runs pid) (processes p.processes) (edited (processes p.processes) e) pid (λ o. IsNumber p.shape.files o.file) is h.opened_in q fd o some)
+spawn-within p e pid told is fits h =
+    (fits, λ q fd o some. spawned-within ((processes p.processes).runs pid) (processes p.processes) (edited (processes p.processes) e) pid told (λ o. IsNumber p.shape.files o.file) is h.opened_in q fd o some)
+
+-- what refers to a file of the shape goes on so after each call
+pub call-within : (p : NodeParts) (e : ProcessEdit) (pid : ℕ) (call : ProcessCall) (reply : Reply) → after (processes p.processes) pid call ≡ Ok (edited (processes p.processes) e, reply) → NamesFile (node_state p).shape.files call → ProcessFits p.processes e → IsNode p → ProcessesFit p (Some e)
+call-within p e pid Spawn reply is named fits h = spawn-within p e pid reply is fits h
+call-within p e pid (Fork child) reply is named fits h = fork-within p e pid child reply is fits h
+call-within p e pid (Open file access) reply is named fits h = open-within p e pid file reply access is named fits h
+call-within p e pid (Dup fd) reply is named fits h = dup-within p e pid fd reply is fits h
 
 -- what a node asks for contains what the call needs
 pub desired-ends : (policy : Policy) (t : Token) (s : Range) → s.hi ≤ greatest → s.hi ≤ (desired policy t s).hi

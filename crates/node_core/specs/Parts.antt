@@ -1,11 +1,10 @@
 -- What a node is made of, and the state that it is.
 use Rattle.std.specs.Prelude.{◌≡◌, ℕ, Bool, ◌&&◌, ◌||◌, ◌==◌, nat_le, if◌then◌else◌, List, All, length, Some}
 use Rattle.intervals.specs.Bytes.{Range}
-use Rattle.model.specs.declared.access.Access.{Access}
 use Rattle.model.specs.declared.opened.Opened.{Opened}
 use Rattle.model.specs.declared.reply.Reply.{Reply}
 use Rattle.model.specs.Limits.{IsHost, IsNumber}
-use Rattle.model.specs.Descriptors.{no_processes, after_spawn, after_fork, after_open, after_dup}
+use Rattle.model.specs.Descriptors.{no_processes}
 use Rattle.model.specs.Table.{Table, around, beside}
 use Rattle.lock_table.specs.Rows.{TableParts, held}
 use Rattle.messages.specs.Shapes.{ShapeFields}
@@ -20,6 +19,9 @@ use Rattle.messages.specs.Messages.{addressee, file_of, is_within, greatest_numb
 use Rattle.descriptors.specs.declared.process_entry.ProcessEntry.{ProcessEntry}
 use Rattle.node_core.specs.declared.file_row.FileRow.{FileRow}
 use Rattle.node_core.specs.declared.open_call.OpenCall.{OpenCall}
+use Rattle.descriptors.specs.declared.call.ProcessCall.{ProcessCall}
+use Rattle.descriptors.specs.declared.call.ProcessCall.TheVariants.{Open}
+use Rattle.descriptors.specs.Calls.{after}
 use Rattle.descriptors.specs.Rows.{processes}
 pub use Rattle.fcntl_table.specs.Targets.{IsOwn, IsSpan}
 use Rattle.node_core.specs.Files.{file_state}
@@ -71,18 +73,14 @@ pub record IsNode (p : NodeParts) : Type 0 where
   pub opened_in : (pid fd : ℕ) (o : Opened) → (processes p.processes).opened pid fd ≡ Some o → IsNumber p.shape.files o.file
   pub calls_in : All (IsOwnCall p.shape.files p.node p.incarnation) p.pending
 
--- what `spawn`, `fork`, `open` and `dup` of the process make of the table, and their answers
-abbrev pub spawned : NodeState → ℕ → Table × Reply
-spawned s pid = beside s.table (process s pid) (after_spawn (around s.table (process s pid)) pid)
+-- what a call of the process on processes and descriptors makes of the table, and its answer
+abbrev pub asked : NodeState → ℕ → ProcessCall → Table × Reply
+asked s pid call = beside s.table (process s pid) (after (around s.table (process s pid)) pid call)
 
-abbrev pub forked : NodeState → ℕ → ℕ → Table × Reply
-forked s pid child = beside s.table (process s pid) (after_fork (around s.table (process s pid)) pid child)
-
-abbrev pub dupped : NodeState → ℕ → ℕ → Table × Reply
-dupped s pid fd = beside s.table (process s pid) (after_dup (around s.table (process s pid)) pid fd)
-
-abbrev pub opened : NodeState → ℕ → ℕ → Access → Table × Reply
-opened s pid file access = beside s.table (process s pid) (after_open (around s.table (process s pid)) pid file access)
+-- the file that the call opens, if it opens one, is of the shape
+abbrev pub NamesFile : ℕ → ProcessCall → Type 0
+NamesFile files (Open file access) = IsNumber files file
+NamesFile files _ = Unit {0}
 
 -- the message is for this node, and about a file of the shape
 abbrev pub is_for : NodeState → Message → Bool

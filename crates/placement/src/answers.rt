@@ -7,6 +7,7 @@ ghost use Rattle.model.specs.Replay.{NeverAnswers, NamesNoLock};
 ghost use Rattle.fcntl_table.specs.Tables.{table_of};
 ghost use Rattle.placement.specs.Waits.{GoesOn};
 
+use descriptors::call::ProcessCall;
 use fcntl_table::table::FcntlTable;
 use intervals::span_map::NoMemory;
 use model::limits::MOST_PROCESSES;
@@ -159,10 +160,10 @@ fn step(table: &mut FcntlTable, process: Process, op: Op) -> Result<Reply, NoMem
     ensures goes_on { IfOk result (GoesOn (table_of table.old) process op) }
 {
     match op {
-        Op::Spawn => table.spawn(process),
-        Op::Fork { child } => table.fork(process, child),
-        Op::Open { file, access } => table.open(process, file, access),
-        Op::Dup { fd } => Ok(table.dup(process, fd)),
+        Op::Spawn => table.call(process, ProcessCall::Spawn),
+        Op::Fork { child } => table.call(process, ProcessCall::Fork { child }),
+        Op::Open { file, access } => table.call(process, ProcessCall::Open { file, access }),
+        Op::Dup { fd } => table.call(process, ProcessCall::Dup { fd }),
         Op::Close { fd } => Ok(table.close(process, fd)),
         Op::Exit => Ok(table.exit(process)),
         Op::Set {

@@ -7,7 +7,8 @@ ghost use Rattle.node_core.specs.State.{process, open_call_of};
 ghost use Rattle.node_core.specs.Try.{settled};
 ghost use Rattle.node_core.specs.Calls.{is_in_shape, is_exit, is_set, is_busy, lock_call, unlock_call, called, call_rule};
 ghost use Rattle.node_core.specs.Retries.{retry_rule};
-ghost use Rattle.node_core.specs.Parts.{node_state, spawned, forked, opened, dupped, IsOwn, IsSpan};
+ghost use Rattle.descriptors.specs.Calls.{CanBegin};
+ghost use Rattle.node_core.specs.Parts.{node_state, asked, NamesFile, IsOwn, IsSpan};
 ghost use Rattle.node_core.specs.Plans.{numbered, table_after, planned, effect_of, ProcessesFit, PartsFit};
 
 use super::Node;
@@ -17,11 +18,11 @@ use crate::effect::Effect;
 use crate::numbers::is_pid;
 use crate::open_call::{Intent, OpenCall};
 use crate::open_calls::CallsEdit;
+use descriptors::call::ProcessCall;
 use descriptors::edit::ProcessEdit;
 use fcntl_table::target::target_at;
 use intervals::span::Span;
 use messages::refusal::StepError;
-use model::access::Access;
 use model::lock_target::LockTarget;
 use model::mode::Mode;
 use model::op::Op;
@@ -77,54 +78,19 @@ impl Node {
         self.calls + 1
     }
 
-    // The process begins.
-    fn spawn(&self, pid: u16) -> Result<(Option<ProcessEdit>, Reply), AllocError>
-        requires { IsNumber most_processes pid }
-        ensures value { IfOk result (λ r. spawned (node_state self.now) pid ≡ (table_after (node_state self.now) r.0, r.1)) }
-        ensures fits { IfOk result (λ r. ProcessesFit self.now r.0) }
-    {
-        match self.processes.plan_spawn(pid) {
-            Ok(edit) => Ok((Some(edit), Reply::Done)),
-            Err(error) => Ok((None, error.reply()?)),
-        }
-    }
-
-    // The child begins, with the descriptors of the process.
-    fn fork(&self, pid: u16, child: u16) -> Result<(Option<ProcessEdit>, Reply), AllocError>
-        requires { IsNumber most_processes child }
-        ensures value { IfOk result (λ r. forked (node_state self.now) pid child ≡ (table_after (node_state self.now) r.0, r.1)) }
-        ensures fits { IfOk result (λ r. ProcessesFit self.now r.0) }
-    {
-        match self.processes.plan_fork(pid, child) {
-            Ok(edit) => Ok((Some(edit), Reply::Done)),
-            Err(error) => Ok((None, error.reply()?)),
-        }
-    }
-
-    // One more descriptor of what this one refers to.
-    fn dup(&self, pid: u16, fd: u8) -> Result<(Option<ProcessEdit>, Reply), AllocError>
-        ensures value { IfOk result (λ r. dupped (node_state self.now) pid fd ≡ (table_after (node_state self.now) r.0, r.1)) }
-        ensures fits { IfOk result (λ r. ProcessesFit self.now r.0) }
-    {
-        match self.processes.plan_dup(pid, fd) {
-            Ok((edit, made)) => Ok((Some(edit), Reply::Fd(made))),
-            Err(error) => Ok((None, error.reply()?)),
-        }
-    }
-
-    // The process opens the file.
-    fn open(
+    // What the call makes of the processes, and its reply.
+    fn plan_process(
         &self,
         pid: u16,
-        file: u16,
-        access: Access,
+        call: ProcessCall,
     ) -> Result<(Option<ProcessEdit>, Reply), AllocError>
-        requires { IsNumber (node_state self.now).shape.files file }
-        ensures value { IfOk result (λ r. opened (node_state self.now) pid file access ≡ (table_after (node_state self.now) r.0, r.1)) }
+        requires number { CanBegin pid call }
+        requires file { NamesFile (node_state self.now).shape.files call }
+        ensures value { IfOk result (λ r. asked (node_state self.now) pid call ≡ (table_after (node_state self.now) r.0, r.1)) }
         ensures fits { IfOk result (λ r. ProcessesFit self.now r.0) }
     {
-        match self.processes.plan_open(pid, file, access) {
-            Ok((edit, fd)) => Ok((Some(edit), Reply::Fd(fd))),
+        match self.processes.plan(pid, call) {
+            Ok((edit, reply)) => Ok((Some(edit), reply)),
             Err(error) => Ok((None, error.reply()?)),
         }
     }
@@ -169,53 +135,15 @@ impl Node {
         Effect::answered(alloc, edit, self.id(number), reply)
     }
 
-    // The process begins, and the call is answered.
-    fn call_spawn(&self, alloc: Global, pid: u16) -> Result<Effect, AllocError>
+    // A call that is about processes and descriptors alone is answered.
+    fn call_process(&self, alloc: Global, pid: u16, call: ProcessCall) -> Result<Effect, AllocError>
         requires left { (node_state self.now).calls < greatest_number }
-        requires pid { IsNumber most_processes pid }
-        ensures value { IfOk result (λ effect. called (numbered (node_state self.now)) ((node_state self.now).calls + 1) pid Op.Spawn ≡ effect_of self.now effect) }
+        requires number { CanBegin pid call }
+        requires file { NamesFile (node_state self.now).shape.files call }
+        ensures value { IfOk result (λ effect. settled (numbered (node_state self.now)) ((node_state self.now).calls + 1) (asked (node_state self.now) pid call) ≡ effect_of self.now effect) }
         ensures fits { IfOk result (λ effect. PartsFit self.now effect.edit) }
     {
-        let (processes, reply) = self.spawn(pid)?;
-        Ok(self.answer_with(alloc, processes, reply))
-    }
-
-    // The child begins, and the call is answered.
-    fn call_fork(&self, alloc: Global, pid: u16, child: u16) -> Result<Effect, AllocError>
-        requires left { (node_state self.now).calls < greatest_number }
-        requires child { IsNumber most_processes child }
-        ensures value { IfOk result (λ effect. called (numbered (node_state self.now)) ((node_state self.now).calls + 1) pid (Op.Fork child) ≡ effect_of self.now effect) }
-        ensures fits { IfOk result (λ effect. PartsFit self.now effect.edit) }
-    {
-        let (processes, reply) = self.fork(pid, child)?;
-        Ok(self.answer_with(alloc, processes, reply))
-    }
-
-    // One more descriptor is open, and the call is answered.
-    fn call_dup(&self, alloc: Global, pid: u16, fd: u8) -> Result<Effect, AllocError>
-        requires left { (node_state self.now).calls < greatest_number }
-        ensures value { IfOk result (λ effect. called (numbered (node_state self.now)) ((node_state self.now).calls + 1) pid (Op.Dup fd) ≡ effect_of self.now effect) }
-        ensures fits { IfOk result (λ effect. PartsFit self.now effect.edit) }
-    {
-        let (processes, reply) = self.dup(pid, fd)?;
-        Ok(self.answer_with(alloc, processes, reply))
-    }
-
-    // The process opens the file, and the call is answered.
-    fn call_open(
-        &self,
-        alloc: Global,
-        pid: u16,
-        file: u16,
-        access: Access,
-    ) -> Result<Effect, AllocError>
-        requires left { (node_state self.now).calls < greatest_number }
-        requires pid { IsNumber most_processes pid }
-        requires file { IsNumber (node_state self.now).shape.files file }
-        ensures value { IfOk result (λ effect. called (numbered (node_state self.now)) ((node_state self.now).calls + 1) pid (Op.Open file access) ≡ effect_of self.now effect) }
-        ensures fits { IfOk result (λ effect. PartsFit self.now effect.edit) }
-    {
-        let (processes, reply) = self.open(pid, file, access)?;
+        let (processes, reply) = self.plan_process(pid, call)?;
         Ok(self.answer_with(alloc, processes, reply))
     }
 
@@ -315,10 +243,12 @@ impl Node {
         ensures fits { IfOk result (λ effect. PartsFit self.now effect.edit) }
     {
         match *op {
-            Op::Spawn => self.call_spawn(alloc, pid),
-            Op::Open { file, access } => self.call_open(alloc, pid, file, access),
-            Op::Fork { child } => self.call_fork(alloc, pid, child),
-            Op::Dup { fd } => self.call_dup(alloc, pid, fd),
+            Op::Spawn => self.call_process(alloc, pid, ProcessCall::Spawn),
+            Op::Fork { child } => self.call_process(alloc, pid, ProcessCall::Fork { child }),
+            Op::Open { file, access } => {
+                self.call_process(alloc, pid, ProcessCall::Open { file, access })
+            }
+            Op::Dup { fd } => self.call_process(alloc, pid, ProcessCall::Dup { fd }),
             Op::Close { fd } => self.call_close(alloc, pid, fd),
             Op::Exit => self.call_exit(alloc, pid),
             Op::Set { .. } | Op::Wait { .. } => self.call_set(alloc, pid, op),

@@ -1,0 +1,14 @@
+use Rattle.std.proofs.Common.{◌≡◌, refl, subst}
+use Rattle.std.specs.Prelude.{Err}
+use Rattle.model.specs.Table.{around}
+use Rattle.descriptors.specs.declared.call.ProcessCall.{ProcessCall}
+use Rattle.descriptors.specs.Calls.{after}
+use Rattle.fcntl_table.specs.Tables.{table_of}
+use Rattle.fcntl_table.proofs.TableLaws.{refused-kept}
+use Rattle.fcntl_table.proofs.table.FcntlTable.call.Goals as goal
+
+pub returns-in_err-make_room-clause-refused : goal.returns-in_err-make_room-clause-refused
+returns-in_err-make_room-clause-refused c = λ refusal refused.
+    let P : ProcessCall → Type 0 = λ call. after (around (table_of c.args.self.now) c.args.process) c.args.process.pid call ≡ Err refusal in
+    let known = c.in_err-make_room.ensures.known (refused-kept c.args.self.now c.args.process _ refusal refl (subst P c.in_err-make_room.ensures.spawn refused)) in
+    absurd (cc)

@@ -1,0 +1,17 @@
+use Rattle.std.specs.Prelude.{Result}
+use Rattle.model.specs.declared.reply.Reply.{Reply}
+use Rattle.model.specs.Descriptors.{Processes}
+use Rattle.descriptors.specs.Calls.{after}
+use Rattle.node_core.proofs.NodeLaws.{beside-ok, beside-err, call-within}
+use Rattle.node_core.proofs.node.Node.plan_process.Goals as goal
+
+pub returns-in-Ok-clause-value : goal.returns-in-Ok-clause-value
+returns-in-Ok-clause-value c = rw (← c.self.view_is) (beside-ok _ c.args.pid c.in-Ok.edit _ (λ ps. after ps c.args.pid c.args.call) c.in-Ok.ensures.ok)
+
+pub returns-in-Ok-clause-fits : goal.returns-in-Ok-clause-fits
+returns-in-Ok-clause-fits c = rw (← c.self.view_is) (call-within _ c.in-Ok.edit c.args.pid c.args.call c.in-Ok.reply c.in-Ok.ensures.ok (rw c.self.view_is c.requires.file) c.in-Ok.ensures.fits c.self.invariant)
+
+pub returns-in_ok-reply-in-Err-clause-value : goal.returns-in_ok-reply-in-Err-clause-value
+returns-in_ok-reply-in-Err-clause-value c =
+    let f : Processes → Result (Processes × Reply) Reply = λ ps. after ps c.args.pid c.args.call in
+    rw (← c.self.view_is) (beside-err _ c.args.pid _ f (c.in_ok-reply-in-Err.ensures _ c.in-Err.ensures.err))
