@@ -1,3 +1,4 @@
+pub mod OneField
 pub mod SingleWords
 pub mod Fronts
 pub mod Views
