@@ -3,6 +3,7 @@ pub mod SingleWords
 pub mod Fronts
 pub mod Views
 pub mod NameTexts
+pub mod OffsetParts
 pub mod SpanParts
 pub mod Words
 pub mod Commands
