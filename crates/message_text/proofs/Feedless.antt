@@ -22,7 +22,8 @@ use Rattle.texts.specs.Words.{level_text, mode_text}
 use Rattle.message_text.proofs.Fronts.{Kinds}
 use Rattle.texts.proofs.Pairs.{AllLack}
 use Rattle.texts.proofs.SingleWords.{decimal-lacks, lacks-tested}
-use Rattle.message_text.specs.Parts.{AreCounted, AreNumbered, AreServerParts, AreOffsetsAndOwner, IsOffset, at_sign, counted_text, numbered_text, offset_and_owner_text, offset_and_span_text, offsets_and_owner_text}
+use Rattle.message_text.specs.Parts.{AreCounted, AreNumbered, AreServerParts, at_sign, counted_text, numbered_text}
+use Rattle.message_text.proofs.OffsetParts.{AreOffsetsAndOwner, IsOffset, offset_and_owner_text, offset_and_span_text, offsets_and_owner_text}
 use Rattle.message_text.specs.Served.{AreServedRuns, AreServedWants, IsCommandNumber, IsCounted, IsFile, IsHolder, IsServedLock, IsServedSpan}
 use Rattle.message_text.specs.Texts.{command_text, epoch_text, run_text, runs_text, span_text, urgency_text, wants_text}
 use Rattle.message_text.proofs.Commands.{with_epochs}

@@ -1,7 +1,9 @@
+pub mod OneField
 pub mod SingleWords
 pub mod Fronts
 pub mod Views
 pub mod NameTexts
+pub mod OffsetParts
 pub mod SpanParts
 pub mod Words
 pub mod Commands

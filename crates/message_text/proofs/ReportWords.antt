@@ -13,7 +13,7 @@ use Rattle.model.specs.declared.level.Level.TheVariants.{Shared, Exclusive}
 use Rattle.messages.specs.TokenRuns.{are_longest, may_follow}
 use Rattle.messages.specs.declared.token_run.TokenRun.{TokenRun}
 use Rattle.texts.specs.Layout.{space}
-use Rattle.texts.specs.OneField.{decimal_is_one_field}
+use Rattle.texts.proofs.OneField.{decimal_is_one_field}
 use Rattle.texts.specs.Reads.{IsOneField, Lacks, has_no_space}
 use Rattle.texts.specs.Words.{level_text}
 use Rattle.texts.proofs.FirstWords.{has_no_space-one}

@@ -14,7 +14,7 @@ use Rattle.texts.specs.Words.{mode_text}
 use Rattle.texts.proofs.FieldValues.{apart-mode}
 use Rattle.texts.proofs.Pairs.{AreApart, AreWords, apart-pair}
 use Rattle.texts.proofs.SingleWords.{Lacks-decimal, mode_words}
-use Rattle.message_text.specs.Parts.{AreLockParts, AreOffsets, AreOffsetsAndOwner, AreOffsetsAndSpan, IsOffset, lock_parts_text, offset_and_owner_text, offset_and_span_text, offsets_and_owner_text, offsets_and_span_text, offsets_text}
+use Rattle.message_text.proofs.OffsetParts.{AreLockParts, AreOffsets, AreOffsetsAndOwner, AreOffsetsAndSpan, IsOffset, lock_parts_text, offset_and_owner_text, offset_and_span_text, offsets_and_owner_text, offsets_and_span_text, offsets_text}
 use Rattle.message_text.specs.Served.{AreServedWants, IsServedLock, IsServedSpan}
 use Rattle.message_text.specs.Texts.{span_text, wants_text}
 use Rattle.message_text.proofs.NameTexts.{apart-owner}

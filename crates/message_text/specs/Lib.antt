@@ -4,5 +4,4 @@ pub mod Served
 pub mod Reports
 pub mod Forms
 pub mod Parts
-pub mod OneField
 pub mod OneText

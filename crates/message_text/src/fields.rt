@@ -1,15 +1,11 @@
 //! The fields of messages.
-ghost use Rattle.std.specs.Prelude.{◌≡◌, ◌≢◌, ◌++◌, ◌∷◌, ℕ, List, decimal, string_bytes, MatchOption, OnOk, ⊤, refl};
-ghost use Rattle.std.proofs.Common.{arith};
-ghost use Rattle.messages.specs.declared.message.Urgency.TheVariants.{Now, Waits};
+ghost use Rattle.std.specs.Prelude.{◌≡◌, ◌≢◌, ◌++◌, ◌∷◌, ℕ, List, decimal, string_bytes, MatchOption, OnOk, ⊤};
 ghost use Rattle.model.specs.Limits.{IsCall, IsOwner};
-ghost use Rattle.texts.specs.OneField.{decimal_is_one_field};
 ghost use Rattle.messages.specs.Epochs.{IsRebuilt};
 ghost use Rattle.messages.specs.declared.version.Version.TheVariants.{First, Second};
 ghost use Rattle.texts.specs.Layout.{space};
 ghost use Rattle.texts.specs.Reads.{Both, Reads};
 ghost use Rattle.message_text.specs.Names.{call_text, lock_text, owner_text, holder_text};
-ghost use Rattle.message_text.specs.OneField.{call_is_one_field, epoch_is_one_field, holder_is_one_field};
 ghost use Rattle.message_text.specs.Served.{AreServedWants, IsCommandNumber, IsFile, IsHolder, IsServedLock, IsServedSpan};
 ghost use Rattle.message_text.specs.Texts.{command_text, epoch_text, span_text, urgency_text, wants_text};
 
@@ -57,7 +53,7 @@ impl Text for FileName {
 }
 
 impl Word for FileName {
-    ghost is_one_field = { λ n served. decimal_is_one_field n (Prim.omega (arith, served.1)) };
+    fn is_one_field() {}
 }
 
 /// The epoch of a server that was rebuilt.
@@ -84,7 +80,7 @@ impl Text for EpochName {
 }
 
 impl Word for EpochName {
-    ghost is_one_field = { epoch_is_one_field };
+    fn is_one_field() {}
 }
 
 /// `E K` in a version with epochs, else `K`, and what follows: the number of a command, with the epoch
@@ -150,6 +146,7 @@ fn push_number(out: &mut String, version: Version, number: CommandNumber) -> Res
 pub(crate) fn first_field<A: Word>(text: &str) -> Option<(A::Value, &str)>
     ensures { MatchOption result ((x : A.Value) (rest : List ℕ) → A.is_served x → text.now ≢ A.text_of x ++ space ∷ rest) (λ found. A.is_served found.0 × (text.now ≡ A.text_of found.0 ++ space ∷ found.1.now)) }
 {
+    A::is_one_field();
     let (word, rest) = split_field(text)?;
     let value = A::read(word)?;
     Some((value, rest))
@@ -175,7 +172,7 @@ impl Text for HostName {
 }
 
 impl Word for HostName {
-    ghost is_one_field = { holder_is_one_field };
+    fn is_one_field() {}
 }
 
 /// `N.I.C`.
@@ -198,7 +195,7 @@ impl Text for CallName {
 }
 
 impl Word for CallName {
-    ghost is_one_field = { call_is_one_field };
+    fn is_one_field() {}
 }
 
 /// What a word says of a request: `now` or `wait`.
@@ -228,7 +225,7 @@ impl Text for UrgencyWord {
 }
 
 impl Word for UrgencyWord {
-    ghost is_one_field = { elim [ Now ↦ λ _. refl | Waits ↦ λ _. refl ] };
+    fn is_one_field() {}
 }
 
 /// `LO HI`.

@@ -1,3 +1,4 @@
+pub mod SameRuns
 pub mod RunEquality
 pub mod SameMessages
 pub mod Reports

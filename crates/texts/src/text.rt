@@ -27,8 +27,9 @@ pub trait Text {
 
 /// A way to write values in one field.
 pub trait Word: Text {
-    /// No text of a value has a space.
-    ghost is_one_field: { (value : Self.Value) → Self.is_served value → has_no_space (Self.text_of value) ≡ true };
+    /// No text of a value has a space: a law of the type, said by a function that does nothing.
+    fn is_one_field()
+        ensures { (value : Self.Value) → Self.is_served value → has_no_space (Self.text_of value) ≡ true };
 }
 
 /// The first field of a text, and what stands after the space behind it.
@@ -56,6 +57,7 @@ impl<A: Word, B: Text> Text for (A, B) {
     ghost is_served = { Both A.is_served B.is_served };
 
     fn read(text: &str) -> Option<(A::Value, B::Value)> {
+        A::is_one_field();
         match split_field(text) {
             Some((word, rest)) => A::read(word).zip(B::read(rest)),
             None => None,

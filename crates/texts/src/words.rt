@@ -1,10 +1,5 @@
 //! Words that name one of a few things.
-ghost use Rattle.std.specs.Prelude.{◌≡◌, ⊤, refl};
-ghost use Rattle.model.specs.declared.mode.Mode.TheVariants.{Read, Write};
-ghost use Rattle.model.specs.declared.access.Access.TheVariants.{ReadOnly, WriteOnly, ReadWrite};
-ghost use Rattle.model.specs.declared.owner.Kind.TheVariants.{OfProcess, OfDescription};
-ghost use Rattle.model.specs.declared.policy.Policy.TheVariants.{Wide, Exact};
-ghost use Rattle.model.specs.declared.level.Level.TheVariants.{Shared, Exclusive};
+ghost use Rattle.std.specs.Prelude.{◌≡◌, ⊤};
 ghost use Rattle.texts.specs.Words.{access_text, kind_text, level_text, mode_text, policy_text};
 
 use crate::text::{Text, Word};
@@ -47,7 +42,7 @@ impl Text for Mode {
 }
 
 impl Word for Mode {
-    ghost is_one_field = { elim [ Read ↦ λ _. refl | Write ↦ λ _. refl ] };
+    fn is_one_field() {}
 }
 
 /// The word for an access.
@@ -84,7 +79,7 @@ impl Text for Access {
 }
 
 impl Word for Access {
-    ghost is_one_field = { elim [ ReadOnly ↦ λ _. refl | WriteOnly ↦ λ _. refl | ReadWrite ↦ λ _. refl ] };
+    fn is_one_field() {}
 }
 
 /// The word for a kind of owner.
@@ -119,7 +114,7 @@ impl Text for Kind {
 }
 
 impl Word for Kind {
-    ghost is_one_field = { elim [ OfProcess ↦ λ _. refl | OfDescription ↦ λ _. refl ] };
+    fn is_one_field() {}
 }
 
 /// The word for a policy.
@@ -154,7 +149,7 @@ impl Text for Policy {
 }
 
 impl Word for Policy {
-    ghost is_one_field = { elim [ Wide ↦ λ _. refl | Exact ↦ λ _. refl ] };
+    fn is_one_field() {}
 }
 
 /// The word for a level of a token.
@@ -189,5 +184,5 @@ impl Text for Level {
 }
 
 impl Word for Level {
-    ghost is_one_field = { elim [ Shared ↦ λ _. refl | Exclusive ↦ λ _. refl ] };
+    fn is_one_field() {}
 }

@@ -1,8 +1,7 @@
 -- What a command tells a node, and the message that it is.
-use Rattle.std.specs.Prelude.{◌≡◌, ℕ, refl}
+use Rattle.std.specs.Prelude.{ℕ}
 use Rattle.messages.specs.declared.message.Message.{Message}
 use Rattle.messages.specs.declared.message.Message.TheVariants as message
-use Rattle.messages.specs.Messages.{file_of}
 use Rattle.token_server.specs.declared.command.Order.{Order}
 use Rattle.token_server.specs.declared.command.Order.TheVariants.{Grant, Revoke, Hello}
 
@@ -18,13 +17,3 @@ order_of (message.Grant file number call mode span) = Grant number call mode spa
 order_of (message.Revoke file number holder call mode wanted) = Revoke number holder call mode wanted
 order_of (message.Hello file number holder) = Hello number holder
 order_of _ = Hello 0 (record { node = 0; incarnation = 0 })
-
-pub order_back : (file : ℕ) (order : Order) → order_of (message_of file order) ≡ order
-order_back file (Grant number call mode span) = refl
-order_back file (Revoke number holder call mode wanted) = refl
-order_back file (Hello number holder) = refl
-
-pub file_back : (file : ℕ) (order : Order) → file_of (message_of file order) ≡ file
-file_back file (Grant number call mode span) = refl
-file_back file (Revoke number holder call mode wanted) = refl
-file_back file (Hello number holder) = refl

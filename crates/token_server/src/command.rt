@@ -60,13 +60,14 @@ impl Model for Command {
     ghost Value = { Message };
 
     ghost use Rattle.messages.specs.Messages.{file_of};
-    ghost use Rattle.token_server.specs.Orders.{message_of, order_of, order_back, file_back};
+    ghost use Rattle.token_server.specs.Orders.{message_of, order_of};
+    ghost use Rattle.std.proofs.Common.{rules};
 
     ghost view = { λ c. message_of c.file c.order };
 
     ghost inverse = { λ m. record { file = file_of m; order = order_of m } };
 
-    ghost inverse_ok = { λ a h i. record { file = file_back a.file a.order i; order = order_back a.file a.order i } };
+    ghost inverse_ok = { Prim.search rules };
 }
 
 impl Command {

@@ -1,6 +1,5 @@
 -- When two lists of runs of tokens are one.
 use Rattle.std.specs.Prelude.{true, List, [], ◌∷◌}
-use Rattle.std.specs.Cmp.{IsEquivalence, IsPartialEquivalence, partial_equiv_from_equiv, decided}
 use Rattle.std.proofs.Common.{◌≡◌, Decides, refl, subst, eq-eqb}
 use Rattle.std.proofs.lemmas.Bool.{and_parts, and_from, eqb-true, false≢true}
 use Rattle.intervals.specs.Bytes.{Range}
@@ -54,9 +53,3 @@ runs_refl (x ∷ xs) = and_from _ _ (run_refl x) (runs_refl xs)
 -- so the test is equality
 pub runs_decide : (a b : List TokenRun) → Decides (same_runs a b) (a ≡ b)
 runs_decide a b = (runs_exact a b, λ e. subst (λ (x : List TokenRun). same_runs a x ≡ true) e (runs_refl a))
-
-pub runs_equiv : IsEquivalence same_runs
-runs_equiv = decided same_runs runs_decide
-
-pub runs_partial : IsPartialEquivalence same_runs
-runs_partial = partial_equiv_from_equiv runs_equiv

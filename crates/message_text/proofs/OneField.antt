@@ -4,7 +4,7 @@ use Rattle.model.specs.declared.call.CallId.{CallId}
 use Rattle.model.specs.declared.host.Host.{Host}
 use Rattle.model.specs.Limits.{IsCall}
 use Rattle.messages.specs.Epochs.{IsRebuilt, epoch_of}
-use Rattle.texts.specs.OneField.{append_is_one_field, decimal_is_one_field}
+use Rattle.texts.proofs.OneField.{append_is_one_field, decimal_is_one_field}
 use Rattle.texts.specs.Reads.{has_no_space}
 use Rattle.message_text.specs.Names.{call_text, host_text, holder_text}
 use Rattle.message_text.specs.Served.{IsHolder}
