@@ -16,7 +16,8 @@ use Rattle.lock_table.specs.declared.owner_locks.OwnerLocks.{OwnerLocks}
 use Rattle.lock_table.specs.Regions.{IsFirstRegion}
 use Rattle.lock_table.specs.Rows.{rows_held, row_cmp, AllAfter, AreRows, locks_of}
 use Rattle.lock_table.specs.Blockers.{IsAsked, IsClearBut, IsRegionBut, IsLowestBut}
-use Rattle.lock_table.proofs.Orders.{owner_exact, owner_refl, owners_total, owner_equal, owner_not_greater, not_greater_trans, cases_not_greater, back_greater, place_cmp, places_total, back_less}
+use Rattle.model.proofs.OwnerLaws.{owner_exact, owner_refl}
+use Rattle.lock_table.proofs.Orders.{owners_total, owner_equal, owner_not_greater, not_greater_trans, cases_not_greater, back_greater, place_cmp, places_total, back_less}
 use Rattle.lock_table.proofs.RowLemmas.{is_of, is_of_less}
 use Rattle.lock_table.proofs.FileRows.{rows-take}
 

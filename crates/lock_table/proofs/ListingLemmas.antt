@@ -22,7 +22,8 @@ use Rattle.lock_table.specs.declared.owner_locks.OwnerLocks.{OwnerLocks}
 use Rattle.lock_table.specs.Regions.{rest_from, IsFirstRegion}
 use Rattle.lock_table.specs.Rows.{locks_of, NothingFrom}
 use Rattle.lock_table.specs.Listing.{IsBefore, IsListing, lock_cmp, same_start, ListsRegions}
-use Rattle.lock_table.proofs.Orders.{owner_exact, owner_refl, owners_total, owner_equal, nat_cmp_less, nat_cmp_equal, then_less, then_equal, back_less}
+use Rattle.model.proofs.OwnerLaws.{owner_exact, owner_refl}
+use Rattle.lock_table.proofs.Orders.{owners_total, owner_equal, nat_cmp_less, nat_cmp_equal, then_less, then_equal, back_less}
 use Rattle.lock_table.proofs.BlockerLemmas.{IsJoin, region_left, region_right, region_cases, owners_apart, region_own, own_region, region_one, lock_one}
 
 -- the order of locks

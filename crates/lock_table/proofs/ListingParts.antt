@@ -10,7 +10,8 @@ use Rattle.model.specs.declared.lock_info.LockInfo.{LockInfo}
 use Rattle.model.specs.Owners.{same_owner, owner_cmp}
 use Rattle.model.specs.Locks.{FileLocks}
 use Rattle.lock_table.specs.Listing.{IsBefore, IsListing, same_start, ListsRegions}
-use Rattle.lock_table.proofs.Orders.{owner_exact, owners_total}
+use Rattle.model.proofs.OwnerLaws.{owner_exact}
+use Rattle.lock_table.proofs.Orders.{owners_total}
 
 owners_differ : (a b : Owner) → owner_cmp a b ≡ Less → same_owner a b ≡ false
 owners_differ a b less = elim (cases_Bool (same_owner a b)) [

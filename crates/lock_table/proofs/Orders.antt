@@ -1,6 +1,5 @@
 -- The order of owners, and of owners in files.
-use Rattle.std.proofs.Common.{◌≡◌, ◌≢◌, ◌⊎◌, ℕ, ◌<◌, true, eq-eqb, refl, ap, sym, ◌∙◌, subst, inl, inr}
-use Rattle.std.proofs.lemmas.Bool.{and_parts, and_from, eqb-true, false≢true}
+use Rattle.std.proofs.Common.{◌≡◌, ◌≢◌, ◌⊎◌, ℕ, ◌<◌, refl, ap, sym, ◌∙◌, subst, inl, inr}
 use Rattle.std.proofs.lemmas.Cmp.{ranked, then_total, on_total, nat_cmp_total, tied_itself}
 use Rattle.std.specs.Cmp.{IsTotalOrder}
 use Rattle.std.specs.Ordering.{nat_cmp, ordering_then, ordering_reverse}
@@ -9,32 +8,7 @@ use Rattle.std.specs.declared.cmp.Ordering.TheVariants.{Less, Equal, Greater}
 use Rattle.model.specs.declared.owner.Kind.{Kind}
 use Rattle.model.specs.declared.owner.Kind.TheVariants.{OfProcess, OfDescription}
 use Rattle.model.specs.declared.owner.Owner.{Owner}
-use Rattle.model.specs.Owners.{same_kind, same_owner, kind_cmp, owner_cmp}
-
-kind_exact : (a b : Kind) → same_kind a b ≡ true → a ≡ b
-kind_exact OfProcess OfProcess h = refl
-kind_exact OfProcess OfDescription h = absurd (false≢true h)
-kind_exact OfDescription OfProcess h = absurd (false≢true h)
-kind_exact OfDescription OfDescription h = refl
-
-kind_refl : (a : Kind) → same_kind a a ≡ true
-kind_refl OfProcess = refl
-kind_refl OfDescription = refl
-
--- owners that test alike are one
-pub owner_exact : (a b : Owner) → same_owner a b ≡ true → a ≡ b
-owner_exact a b h =
-    let first = and_parts _ _ h in
-    let second = and_parts _ _ first.1 in
-    let third = and_parts _ _ second.1 in
-    let nodes = eqb-true _ _ first.0 in
-    let incarnations = eqb-true _ _ second.0 in
-    let kinds = kind_exact _ _ third.0 in
-    let numbers = eqb-true _ _ third.1 in
-    λ i. record { node = nodes i; incarnation = incarnations i; kind = kinds i; number = numbers i }
-
-pub owner_refl : (a : Owner) → same_owner a a ≡ true
-owner_refl a = and_from _ _ (eq-eqb a.node a.node refl) (and_from _ _ (eq-eqb a.incarnation a.incarnation refl) (and_from _ _ (kind_refl a.kind) (eq-eqb a.number a.number refl)))
+use Rattle.model.specs.Owners.{kind_cmp, owner_cmp}
 
 kind_rank : Kind → ℕ
 kind_rank OfProcess = 0

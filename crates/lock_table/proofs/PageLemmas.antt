@@ -14,7 +14,8 @@ use Rattle.lock_table.specs.declared.owner_locks.OwnerLocks.{OwnerLocks}
 use Rattle.lock_table.specs.declared.page_index.PageIndex.{PageIndex}
 use Rattle.lock_table.specs.Rows.{rows_held, AreRows}
 use Rattle.lock_table.proofs.RowLemmas.{is_of, row_place, row_at_from, held-at}
-use Rattle.lock_table.proofs.Orders.{owner_exact, place_itself}
+use Rattle.model.proofs.OwnerLaws.{owner_exact}
+use Rattle.lock_table.proofs.Orders.{place_itself}
 use Rattle.lock_table.proofs.SameRows.{drop_read}
 use Rattle.lock_table.specs.declared.owner_set.OwnerSet.{OwnerSet}
 use Rattle.lock_table.specs.Pages.{Has, MayHold, Covers, slot_of}

@@ -13,7 +13,8 @@ use Rattle.model.specs.Locks.{replace, without_owner_anywhere}
 use Rattle.model.specs.Owners.{same_owner}
 use Rattle.lock_table.specs.declared.owner_locks.OwnerLocks.{OwnerLocks}
 use Rattle.lock_table.specs.Rows.{rows_held, row_cmp, HoldsSome, AllAfter, AreRows, IsRowAt, IsGap}
-use Rattle.lock_table.proofs.Orders.{place_cmp, places_total, place_equal, place_itself, owner_exact, owner_refl, back_less, back_greater, greater_trans}
+use Rattle.model.proofs.OwnerLaws.{owner_exact, owner_refl}
+use Rattle.lock_table.proofs.Orders.{place_cmp, places_total, place_equal, place_itself, back_less, back_greater, greater_trans}
 
 -- the row is of this owner in this file
 abbrev pub is_of : OwnerLocks → ℕ → Owner → Bool

@@ -11,7 +11,8 @@ use Rattle.model.specs.declared.owner.Owner.{Owner}
 use Rattle.model.specs.Owners.{same_owner}
 use Rattle.lock_table.specs.declared.owner_locks.OwnerLocks.{OwnerLocks}
 use Rattle.lock_table.specs.Rows.{rows_held, TableParts, row_cmp, AllAfter, AreRows, IsSameRow}
-use Rattle.lock_table.proofs.Orders.{place_cmp, places_total, place_equal, owner_refl, back_greater}
+use Rattle.model.proofs.OwnerLaws.{owner_refl}
+use Rattle.lock_table.proofs.Orders.{place_cmp, places_total, place_equal, back_greater}
 use Rattle.lock_table.proofs.RowLemmas.{is_of, row_place, all_after_trans, held-none}
 
 -- what is read at i is the first of the rest
