@@ -16,7 +16,8 @@ use Rattle.texts.proofs.SingleWords.{lacks-tested}
 use Rattle.message_text.proofs.Feedless.{HasNone, files, modes, number, numbers, pair}
 use Rattle.message_text.proofs.Words.{lacks-append}
 use Rattle.lockscript.specs.Scripts.{counts_text}
-use Rattle.lockscript.specs.Served.{AreOffsets, IsAskedLock, IsDescriptor}
+use Rattle.lockscript.specs.Served.{IsDescriptor}
+use Rattle.lockscript.proofs.AskedFields.{AreOffsets, IsAskedLock}
 use Rattle.lockscript.specs.Texts.{asked_lock_text, segment_text}
 use Rattle.lockscript.proofs.Clusters.{IsCounts, counts-fit, counts-parts, counts_of, parts_text}
 use Rattle.journal_text.specs.Journals.{head_front, head_text}

@@ -8,7 +8,8 @@ use Rattle.texts.specs.LineFeeds.{line_feed}
 use Rattle.texts.specs.Reads.{Both, pair_text}
 use Rattle.texts.specs.Words.{access_text, kind_text}
 use Rattle.texts.proofs.SingleWords.{lacks-tested}
-use Rattle.lockscript.specs.Served.{AreOffsets, IsAskedLock, IsDescriptor, IsServedOp}
+use Rattle.lockscript.specs.Served.{IsDescriptor, IsServedOp}
+use Rattle.lockscript.proofs.AskedFields.{AreOffsets, IsAskedLock}
 use Rattle.lockscript.specs.Texts.{asked_lock_text, op_text, segment_text}
 use Rattle.message_text.proofs.Feedless.{HasNone, files, pair}
 use Rattle.journal_text.proofs.Feedless.{accesses, after, asked_locks, fds, kinds_of_owners, pids, segments}

@@ -9,7 +9,8 @@ use Rattle.texts.specs.Words.{access_text, kind_text, mode_text}
 use Rattle.texts.proofs.FieldValues.{apart-access, apart-byte, apart-kind, apart-mode, apart-number, apart-offset}
 use Rattle.texts.proofs.Pairs.{AreApart, apart-pair}
 use Rattle.texts.proofs.SingleWords.{byte_words, kind_words, mode_words, offset_words}
-use Rattle.lockscript.specs.Served.{AreOffsets, IsAskedLock, IsDescriptor}
+use Rattle.lockscript.specs.Served.{IsDescriptor}
+use Rattle.lockscript.proofs.AskedFields.{AreOffsets, IsAskedLock}
 use Rattle.lockscript.specs.Texts.{asked_lock_text, segment_text}
 use Rattle.message_text.proofs.SingleWords.{file_words}
 

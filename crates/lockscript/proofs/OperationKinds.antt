@@ -13,7 +13,8 @@ use Rattle.texts.proofs.FieldValues.{apart-byte, apart-number}
 use Rattle.texts.proofs.FirstWords.{BeginsWithWord}
 use Rattle.texts.proofs.OfKinds.{IsKind, apart-kind}
 use Rattle.texts.proofs.Pairs.{AreApart}
-use Rattle.lockscript.specs.Served.{AreOffsets, IsAskedLock, IsDescriptor, IsServedOp}
+use Rattle.lockscript.specs.Served.{IsDescriptor, IsServedOp}
+use Rattle.lockscript.proofs.AskedFields.{AreOffsets, IsAskedLock}
 use Rattle.lockscript.specs.Texts.{asked_lock_text, op_text, segment_text}
 use Rattle.lockscript.proofs.FieldValues.{apart-asked_lock, apart-open, apart-unlock}
 

@@ -1,25 +1,14 @@
 -- What scripts may ask for.
-use Rattle.std.specs.Prelude.{ℕ, ℤ, ◌≤◌, FitsSigned, ⊤}
+use Rattle.std.specs.Prelude.{ℕ, ◌≤◌, FitsSigned, ⊤}
 use Rattle.std.specs.Int.{w64}
-use Rattle.model.specs.declared.owner.Kind.{Kind}
-use Rattle.model.specs.declared.mode.Mode.{Mode}
 use Rattle.model.specs.declared.op.Op.{Op}
 use Rattle.model.specs.declared.op.Op.TheVariants.{Spawn, Fork, Open, Dup, Close, Exit, Set, Wait, Unlock, Query}
 use Rattle.model.specs.Limits.{IsNumber, most_processes}
 use Rattle.messages.specs.Shapes.{most_files}
-use Rattle.texts.specs.Reads.{Both}
 
 -- a descriptor that a script may name, open or not
 abbrev pub IsDescriptor : ℕ → Type 0
 IsDescriptor fd = fd ≤ 255
-
--- the start and the length of a segment
-abbrev pub AreOffsets : ℤ × ℤ → Type 0
-AreOffsets = Both (FitsSigned w64) (FitsSigned w64)
-
--- the lock that a call asks for or about: a descriptor, any kind of owner, any mode, a segment
-abbrev pub IsAskedLock : ℕ × (Kind × (Mode × (ℤ × ℤ))) → Type 0
-IsAskedLock = Both IsDescriptor (Both (λ _. ⊤) (Both (λ _. ⊤) AreOffsets))
 
 -- an operation that a script may ask for: its numbers are within their limits and types
 abbrev pub IsServedOp : Op → Type 0
