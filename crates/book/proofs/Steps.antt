@@ -12,9 +12,9 @@ use Rattle.token_server.specs.Parts.{server_state}
 use Rattle.token_server.specs.Edits.{planned}
 use Rattle.cluster_core.specs.World.{WorldState}
 use Rattle.cluster_core.specs.Next.{entry, named_incarnation, is_known, next}
-use Rattle.cluster_core.specs.Actors.{node_step, server_step, NodeSteps, ServerSteps, made_by_node, made_by_server}
+use Rattle.cluster_core.specs.Actors.{node_step, server_step, made_by_node, made_by_server}
 use Rattle.cluster_core.proofs.common.Choices.{at_number}
-use Rattle.cluster_core.proofs.steps.Actors.{node_next, server_next}
+use Rattle.cluster_core.proofs.steps.Actors.{NodeSteps, ServerSteps, node_next, server_next}
 use Rattle.book.specs.declared.edit.Edit.{Edit}
 use Rattle.book.specs.declared.edit.Edit.TheVariants.{Node as OnNode, Server as OnServer}
 use Rattle.book.specs.declared.state.State.{State}

@@ -1,5 +1,4 @@
 -- The one history of a run: what stands at each entry, and that it is legal.
-pub mod Placement
 pub mod Entries
 pub mod Fitting
 pub mod Prefixes

@@ -64,19 +64,7 @@ pub record HasServer (w : WorldState) (f : ℕ) (s : ServerState) : Type 0 where
   pub working : w.working f ≡ true
   pub state : w.servers f ≡ s
 
--- the node, which is alive, makes this state and outcome of the event
-pub record NodeSteps (w : WorldState) (event : Event) (n : ℕ) (s : NodeState) (o : Outcome) : Type 0 where
-  pub number : has_node w n ≡ true
-  pub alive : w.alive n ≡ true
-  pub done : node_step n (w.nodes n) event ≡ Ok (s, o)
-
--- the server, which works, makes this state and outcome of the event
-pub record ServerSteps (w : WorldState) (event : Event) (f : ℕ) (s : ServerState) (o : Outcome) : Type 0 where
-  pub number : has_file w f ≡ true
-  pub working : w.working f ≡ true
-  pub done : server_step f (w.servers f) event ≡ Ok (s, o)
-
--- the world and the entry that come of that
+-- the world and the entry that come of an actor's new state and its outcome
 abbrev pub made_by_node : WorldState → Event → ℕ → NodeState → Outcome → WorldState × Entry
 made_by_node w event n s o = recorded (with_node w n s) event (named_incarnation (w.nodes n) event) o
 

@@ -8,6 +8,7 @@ pub mod Journals
 pub mod Union
 pub mod Histories
 pub mod Calls
+pub mod Placement
 pub mod Plain
 pub mod Evidence
 pub mod Listings

@@ -13,7 +13,7 @@ use Rattle.messages.specs.declared.entry.Entry.{Entry}
 use Rattle.messages.specs.Messages.{same_call}
 use Rattle.messages.proofs.SameMessages.{call_exact}
 use Rattle.token_queue.proofs.CallLaws.{eq-same_call, same_call-symm}
-use Rattle.cluster_core.proofs.history.Placement.{is_named, called_by, find_call}
+use Rattle.cluster_core.specs.Placement.{is_named, called_by, find_call}
 use Rattle.placement.specs.Indexes.{Calls, Indexes, call_at}
 use Rattle.placement.specs.Standing.{made_by}
 

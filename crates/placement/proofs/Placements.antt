@@ -5,7 +5,7 @@ use Rattle.messages.specs.declared.entry.Entry.{Entry}
 use Rattle.cluster_core.specs.declared.item.Item.{Item}
 use Rattle.cluster_core.specs.Runs.{IsRun}
 use Rattle.cluster_core.specs.Histories.{HasHistory, EachAtItsPlace}
-use Rattle.cluster_core.proofs.history.Placement.{history_of}
+use Rattle.cluster_core.specs.Placement.{history_of}
 use Rattle.cluster_core.proofs.runs.Runs.{has_history}
 
 -- where a run's items were placed

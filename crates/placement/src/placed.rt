@@ -6,7 +6,7 @@ ghost use Rattle.messages.specs.declared.entry.Entry.{Entry};
 ghost use Rattle.cluster_core.specs.World.{journal_limit};
 ghost use Rattle.cluster_core.specs.Safe.{LeadsToSafe};
 ghost use Rattle.cluster_core.specs.Histories.{HasHistory, EachAtItsPlace};
-ghost use Rattle.cluster_core.proofs.history.Placement.{find_call, item_of, slots_after, slots_of, items_in, history_of};
+ghost use Rattle.cluster_core.specs.Placement.{find_call, item_of, slots_after, slots_of, items_in, history_of};
 ghost use Rattle.placement.specs.Indexes.{Indexes, Locates, Notes, AreBefore, slot_of};
 ghost use Rattle.placement.specs.Standing.{stands, standing};
 

@@ -1,7 +1,7 @@
 //! What stands at an entry of a run.
 ghost use Rattle.std.specs.Prelude.{◌≡◌};
 ghost use Rattle.cluster_core.specs.Calls.{called_by};
-ghost use Rattle.cluster_core.proofs.history.Placement.{gone_at};
+ghost use Rattle.cluster_core.specs.Placement.{gone_at};
 ghost use Rattle.placement.specs.Standing.{answered_so, stands};
 
 use cluster_core::item::Item;

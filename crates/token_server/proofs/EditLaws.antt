@@ -12,8 +12,14 @@ use Rattle.token_server.specs.declared.sketch.Changed.{Changed}
 use Rattle.token_server.specs.Parts.{row_state, row_seen, row_of, dead_of, client_at, rows_of, deaths_of}
 use Rattle.token_server.specs.Sketches.{row_after, dead_after, rows_after, deaths_after}
 use Rattle.token_server.specs.declared.change.Given.{Given}
-use Rattle.token_server.specs.Edits.{seen, seen_row, IsReadAs, Changes, client_after, with_client, overlaid, given_to_row, given_to_client, with_given_row}
+use Rattle.token_server.specs.Edits.{seen, seen_row, row_kept, IsReadAs, client_after, with_client, overlaid, given_to_row, given_to_client, with_given_row}
 use Rattle.token_server.proofs.ClientLaws.{client_at-read, client_at-place, client_at-set_same, slice_get-set_other, changed_at}
+
+-- the edit is of the node that changes so, which is this client before
+pub record Changes (client : Client) (c : Changed) (e : RowEdit) : Type 0 where
+  pub place_is : e.place ≡ c.node - 1
+  pub row_is : row_seen (row_kept e.row client.row) ≡ row_after c.change (row_seen client.row)
+  pub dead_is : e.dead ≡ dead_after c.change client.dead
 
 with_client-length : (clients : List Client) (e : RowEdit) (o : Option Client) → length (with_client clients e o) ≡ length clients
 with_client-length clients e None = refl

@@ -26,9 +26,8 @@ use Rattle.token_server.specs.declared.sketch.Moved.TheVariants.{Nothing, New, A
 use Rattle.token_server.specs.State.{Commands, Row, ServerState, awaits}
 use Rattle.token_server.specs.Admitting.{all_but, IsAdmitted}
 use Rattle.token_server.specs.declared.sketch.Sketch.{Sketch}
-use Rattle.token_server.specs.declared.sketch.Changed.{Changed}
 use Rattle.token_server.specs.Obstacles.{obstacle}
-use Rattle.token_server.specs.Sketches.{row_after, dead_after, without, still_active, queue_moved, waiting_moved, sketched}
+use Rattle.token_server.specs.Sketches.{without, still_active, queue_moved, waiting_moved, sketched}
 use Rattle.token_server.specs.Parts.{ServerParts, row_in, row_seen, rows_of, deaths_of, client_at}
 use Rattle.token_server.specs.Ready.{IsReady}
 
@@ -67,12 +66,6 @@ overlaid clients (Some e) = with_client clients e (slice_get clients e.place)
 -- the client is there, with that row
 abbrev pub IsReadAs : Option Client → Option TokenHolder → Type 0
 IsReadAs there row = (dead : ℕ) × (there ≡ Some (record { dead = dead; row = row }))
-
--- the edit is of the node that changes so, which is this client before
-pub record Changes (client : Client) (c : Changed) (e : RowEdit) : Type 0 where
-  pub place_is : e.place ≡ c.node - 1
-  pub row_is : row_seen (row_kept e.row client.row) ≡ row_after c.change (row_seen client.row)
-  pub dead_is : e.dead ≡ dead_after c.change client.dead
 
 -- those that are served, once the call's request is served no longer
 abbrev pub held_still : Option CallId → List Held → List Held

@@ -2,7 +2,7 @@
 use Rattle.std.specs.Prelude.{◌≡◌, ℕ, zero, suc, ◌+◌, ◌<◌, ◌==◌, nat_lt, if◌then◌else◌, List, length, slice_get, is_some, Option, Some, None, Result, Ok, Err}
 use Rattle.intervals.specs.Bytes.{Range}
 use Rattle.model.specs.declared.mode.Mode.{Mode}
-use Rattle.token_set.specs.Tokens.{Token, raised}
+use Rattle.token_set.specs.Tokens.{Token}
 use Rattle.token_set.specs.Releases.{lowered}
 use Rattle.token_set.specs.Sets.{token_of}
 use Rattle.messages.specs.declared.refusal.StepError.{StepError}
@@ -86,14 +86,6 @@ relieved span mode row = record row { token = lowered row.token span mode; outst
 -- the row once its node has told its token, which has those runs
 abbrev pub reporting : List TokenRun → Row → Row
 reporting runs row = record row { token = reported runs; outstanding = None }
-
--- the row once a command was sent that leaves its token
-abbrev pub told : Message → Row → Row
-told command row = record row { number = row.number + 1; outstanding = Some command }
-
--- the row once a command has given its node the span
-abbrev pub given : Range → Mode → Message → Row → Row
-given span mode command row = record row { token = raised row.token span mode; number = row.number + 1; outstanding = Some command }
 
 -- rows, but f changes that of the node
 abbrev pub with_change : ℕ → (Option Row → Option Row) → (ℕ → Option Row) → ℕ → Option Row

@@ -1,10 +1,9 @@
 -- What an event changes of a server before it serves.
-use Rattle.std.specs.Prelude.{ℕ, ◌-◌, Bool, true, false, not, ◌==◌, ◌||◌, max, is_some, if◌then◌else◌, List, [], ◌∷◌, ◌++◌, filter, Option, Some, None, Result, Ok, Err}
+use Rattle.std.specs.Prelude.{ℕ, ◌-◌, Bool, true, false, not, ◌==◌, ◌||◌, max, is_some, if◌then◌else◌, List, [], ◌∷◌, ◌++◌, filter, Option, Some, None}
 use Rattle.std.specs.Option.{option_map}
 use Rattle.model.specs.declared.call.CallId.{CallId}
 use Rattle.messages.specs.declared.message.Message.{Message}
 use Rattle.messages.specs.declared.message.Message.TheVariants.{Taken, Released, Conflict}
-use Rattle.messages.specs.declared.refusal.StepError.{StepError}
 use Rattle.token_queue.specs.declared.token_request.TokenRequest.{TokenRequest}
 use Rattle.token_queue.specs.Actives.{requests_of}
 use Rattle.token_server.specs.declared.node_change.NodeChange.{NodeChange}
@@ -116,8 +115,3 @@ is_answer (Taken file number call) = true
 is_answer (Released file number holder call span) = true
 is_answer (Conflict file number holder call lock) = true
 is_answer _ = false
-
--- the refusal, if it is one
-abbrev pub refusal_of : {A : Type 0} → Result A StepError → Option StepError
-refusal_of (Ok a) = None
-refusal_of (Err e) = Some e

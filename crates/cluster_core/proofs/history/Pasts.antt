@@ -48,7 +48,7 @@ use Rattle.cluster_core.specs.Safe.{IsSafe}
 use Rattle.cluster_core.proofs.tokens.Heard.{IsHeard}
 use Rattle.cluster_core.specs.Histories.{EntryAt, IsCalledAt, names_conflict, HasHistory, EachAtItsPlace}
 use Rattle.cluster_core.specs.Evidence.{IsTold, HasEvidence, is_wait}
-use Rattle.cluster_core.proofs.history.Placement.{slots_of, items_in, history_of}
+use Rattle.cluster_core.specs.Placement.{slots_of, items_in, history_of}
 use Rattle.cluster_core.specs.Plain.{IsPlainHistory}
 use Rattle.cluster_core.proofs.common.Choices.{at_number}
 use Rattle.cluster_core.proofs.history.Entries.{none_named, none_called, none_replied}

@@ -17,7 +17,7 @@ use Rattle.cluster_core.specs.World.{WorldState, first_world}
 use Rattle.cluster_core.specs.Runs.{Leads}
 use Rattle.cluster_core.specs.Union.{union}
 use Rattle.cluster_core.specs.Histories.{caller, IsPlaced, IsRepliedAt, Legal, OneReply}
-use Rattle.cluster_core.proofs.history.Placement.{Slots, items_in}
+use Rattle.cluster_core.specs.Placement.{Slots, items_in}
 use Rattle.cluster_core.specs.Plain.{IsPlainAnswer, IsPlain}
 use Rattle.cluster_core.proofs.history.Prefixes.{table_at}
 use Rattle.cluster_core.proofs.history.Quiet.{again_stays, blocked_stays}

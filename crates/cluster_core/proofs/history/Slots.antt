@@ -25,7 +25,7 @@ use Rattle.cluster_core.specs.Histories.{position_of, call_id, ItemStep, Legal, 
 use Rattle.cluster_core.specs.World.{WorldState, first_world}
 use Rattle.cluster_core.specs.Runs.{Leads}
 use Rattle.cluster_core.specs.Union.{union}
-use Rattle.cluster_core.proofs.history.Placement.{Slots, slots_after, slots_from, slots_of, items_in}
+use Rattle.cluster_core.specs.Placement.{Slots, slots_after, slots_from, slots_of, items_in}
 use Rattle.cluster_core.proofs.common.Places.{slice_get-keeps, slice_get-last, slice_get-push}
 use Rattle.cluster_core.proofs.history.Entries.{entry_at-keeps, entry_at-push, entry_at-within, called_at-keeps, replied_at-keeps, replied_at-push, none_replied}
 use Rattle.cluster_core.proofs.history.Unions.{union_first}

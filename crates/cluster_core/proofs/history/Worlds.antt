@@ -28,7 +28,7 @@ use Rattle.cluster_core.specs.Union.{union}
 use Rattle.cluster_core.specs.Histories.{caller, EntryAt, IsRepliedAt, OneCall, OneReply}
 use Rattle.cluster_core.specs.Evidence.{IsAbout, IsAsked}
 use Rattle.cluster_core.proofs.tokens.Epochs.{EndsOf}
-use Rattle.cluster_core.proofs.history.Placement.{slots_of}
+use Rattle.cluster_core.specs.Placement.{slots_of}
 use Rattle.cluster_core.proofs.common.Choices.{at_number}
 use Rattle.cluster_core.proofs.runs.JournalRuns.{leads_push}
 use Rattle.cluster_core.proofs.history.Entries.{not_there, same_answer, IsNamed, Unanswered, entry_at-push, called_at-push, named-push, named_called, one_call-push, one_reply-push}

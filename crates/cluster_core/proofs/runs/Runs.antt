@@ -11,7 +11,7 @@ use Rattle.cluster_core.specs.Runs.{Leads}
 use Rattle.cluster_core.specs.Safe.{IsSafe}
 use Rattle.cluster_core.specs.Histories.{HasHistory, EachAtItsPlace, EveryRunHasAHistory}
 use Rattle.cluster_core.specs.Evidence.{EveryDenialHasEvidence, NoWaitIsDenied}
-use Rattle.cluster_core.proofs.history.Placement.{slots_of, items_in, history_of}
+use Rattle.cluster_core.specs.Placement.{slots_of, items_in, history_of}
 use Rattle.cluster_core.specs.Plain.{EveryRunHasAPlainHistory}
 use Rattle.cluster_core.proofs.tokens.Covering.{Covered, first_covered}
 use Rattle.cluster_core.proofs.tokens.Served.{all_covered, next_covered}

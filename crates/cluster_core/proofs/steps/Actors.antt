@@ -21,11 +21,11 @@ use Rattle.token_server.specs.declared.event.ServerEvent.{ServerEvent}
 use Rattle.token_server.specs.declared.event.ServerEvent.TheVariants as server
 use Rattle.token_server.specs.State.{ServerState}
 use Rattle.token_server.specs.Server.{server_rule, is_server}
-use Rattle.cluster_core.specs.World.{WorldState}
+use Rattle.cluster_core.specs.World.{WorldState, has_node, has_file}
 use Rattle.cluster_core.specs.Next.{is_known, is_stopped, is_fenced, after_node, after_server, delivered, taken, next, next_server, kept_next}
 use Rattle.cluster_core.specs.Parts.{IsStepOf, IsServerStepOf}
 use Rattle.cluster_core.proofs.steps.Steps.{next_taken, kept_taken, restart_step, start_step}
-use Rattle.cluster_core.specs.Actors.{node_event, server_event, node_at, server_at, NodeSteps, ServerSteps, made_by_node, made_by_server}
+use Rattle.cluster_core.specs.Actors.{node_event, server_event, node_at, server_at, node_step, server_step, made_by_node, made_by_server}
 
 -- one event, or none
 one_event : {A : Type 0} (b : Bool) (x y : A) → ◌≡◌ {A = Option A} (if b then Some x else None) (Some y) → (b ≡ true) × (y ≡ x)
@@ -109,6 +109,18 @@ node_done_by s (Some step) done e = (step, refl, e)
 pub server_done_by : (s : ServerState) (event : Option ServerEvent) (done : ServerState × Outcome) → server_at s event ≡ Ok done → (step : ServerEvent) × (event ≡ Some step) × (server_rule s step ≡ Ok done)
 server_done_by s None done e = absurd (cc)
 server_done_by s (Some step) done e = (step, refl, e)
+
+-- the node, which is alive, makes this state and outcome of the event
+pub record NodeSteps (w : WorldState) (event : Event) (n : ℕ) (s : NodeState) (o : Outcome) : Type 0 where
+  pub number : has_node w n ≡ true
+  pub alive : w.alive n ≡ true
+  pub done : node_step n (w.nodes n) event ≡ Ok (s, o)
+
+-- the server, which works, makes this state and outcome of the event
+pub record ServerSteps (w : WorldState) (event : Event) (f : ℕ) (s : ServerState) (o : Outcome) : Type 0 where
+  pub number : has_file w f ≡ true
+  pub working : w.working f ≡ true
+  pub done : server_step f (w.servers f) event ≡ Ok (s, o)
 
 -- what is taken from an actor that may step is the next of the world
 goes : (w : WorldState) (event : Event) (r : Result (WorldState × Entry) Refused) → is_known w event ≡ true → is_fenced w event ≡ false → taken w event ≡ r → next w event ≡ r

@@ -5,8 +5,7 @@ use Rattle.token_server.specs.declared.row_edit.RowEdit.{RowEdit}
 use Rattle.token_server.specs.declared.sketch.Changed.{Changed}
 use Rattle.token_server.specs.Parts.{rows_of, deaths_of}
 use Rattle.token_server.specs.Sketches.{row_after, dead_after, rows_after, deaths_after}
-use Rattle.token_server.specs.Edits.{Changes}
-use Rattle.token_server.proofs.EditLaws.{rows_of-edit, deaths_of-edit, rows_of-there, deaths_of-there, stays-at}
+use Rattle.token_server.proofs.EditLaws.{Changes, rows_of-edit, deaths_of-edit, rows_of-there, deaths_of-there, stays-at}
 use Rattle.token_server.proofs.clients.Clients.edit.Goals as goal
 
 pub returns-then-stays-clause-rows : goal.returns-then-stays-clause-rows
