@@ -53,24 +53,20 @@ fn can_have(nodes: u8) -> bool
 }
 
 // The script that the events make, for so many nodes; the paths in them are by their places in `paths`. The errors
-// are those of `script_of`.
+// are the last two of `script_of`.
 fn script_from(
     alloc: Global,
     paths: &[&str],
     events: &[Recorded],
     nodes: u8,
 ) -> Result<Recording, RecordingError>
+    requires { IsNumber most_nodes nodes }
     ensures script { IfOk result (λ made. string_bytes made.script ≡ script_made paths.now nodes events.now) }
     ensures good { IfOk result (λ made. HasScript (string_bytes made.script)) }
     ensures notes { IfOk result (λ made. string_bytes made.notes ≡ notes_made nodes events.now) }
-    ensures served { IfOk result (λ made. IsNumber most_nodes nodes) }
-    ensures nodes { IfErr result (λ error. error ≡ Nodes → ¬ (IsNumber most_nodes nodes)) }
-    ensures refused { ¬ (IsNumber most_nodes nodes) → result ≡ Err Nodes }
+    ensures nodes { IfErr result (λ error. error ≢ Nodes) }
     ensures long { IfErr result (λ error. error ≡ TooLong → HasBadLine (script_made paths.now nodes events.now)) }
 {
-    if !can_have(nodes) {
-        return Err(RecordingError::Nodes);
-    }
     let known = known_at_end(alloc, nodes, events)?;
     let mut script = String::new(alloc);
     push_script(&mut script, paths, nodes, &known)?;
