@@ -217,12 +217,16 @@ row_clear r out s mode clear other byte asked lo hi = elim (cases_Bool (same_own
 pub lowest_out : (r : OwnerLocks) (out : Option Owner) (s : Range) (mode : Mode) → out ≡ Some r.owner → IsLowestBut (locks_of r) out s mode None
 lowest_out r out s mode is = record { answer = row_clear r out s mode (λ b asked lo hi. absurd (not_asked out r.owner is asked)); ordered = λ some. absurd cc }
 
+-- a row that holds no byte of the span in a mode that excludes this one has no lock in the way
+pub row_passed : (r : OwnerLocks) (out : Option Owner) (s : Range) (mode : Mode) → ((b : ℕ) (m : Mode) → s.lo ≤ b → b ≤ s.hi → value_at r.spans b ≡ Some m → IsBarred (value_at r.spans) (bar_of mode) b → ⊥) → IsClearBut (locks_of r) out s mode
+row_passed r out s mode none = row_clear r out s mode (λ b asked lo hi. bars_none mode (value_at r.spans b) (λ m is. elim (cases_Bool (excludes m mode)) [
+  | inl ex ↦ absurd (none b m lo hi is (barred_from (value_at r.spans) b mode m is ex))
+  | inr other ↦ other
+]))
+
 module _ (r : OwnerLocks) (out : Option Owner) (s : Range) (mode : Mode) (asked : IsAsked out r.owner) where
   row_free : NoneIn (IsBarred (value_at r.spans) (bar_of mode)) s → IsClearBut (locks_of r) out s mode
-  row_free none = row_clear r out s mode (λ b is_asked lo hi. bars_none mode (value_at r.spans b) (λ m is. elim (cases_Bool (excludes m mode)) [
-    | inl ex ↦ absurd (none b lo hi (barred_from (value_at r.spans) b mode m is ex))
-    | inr other ↦ other
-  ]))
+  row_free none = row_passed r out s mode (λ b m lo hi is barred. none b lo hi barred)
 
   -- no region in the way begins before the one that has the first barred byte
   none_lower : (x y : LockInfo) → IsFirstRegion r s (bar_of mode) x → IsRegion (locks_of r) y → IsInWay s mode y → x.span.lo ≤ y.span.lo
@@ -323,10 +327,6 @@ rows_step l i r f rows files lt is =
     let order : AreRows (take i l ++ r ∷ []) = subst AreRows next (rows-take l (i + 1) rows) in
     let file : r.file ≡ f = rw (← is) at (files i r lt) in
     subst (λ (m : List OwnerLocks). IsJoin (rows_held (take i l) f) (locks_of r) (rows_held m f)) (sym next) (rows_join (take i l) r f order file)
-
--- a row that holds no byte of the span has no lock in the way
-pub row_away : (r : OwnerLocks) (out : Option Owner) (s : Range) (mode : Mode) → ((b : ℕ) (m : Mode) → s.lo ≤ b → b ≤ s.hi → value_at r.spans b ≡ Some m → ⊥) → IsClearBut (locks_of r) out s mode
-row_away r out s mode none = row_clear r out s mode (λ b asked lo hi. bars_none mode (value_at r.spans b) (λ m is. absurd (none b m lo hi is)))
 
 not_after-itself : (a : Option LockInfo) → IfSome a (λ x. IsSomeAnd a (λ z. IsNotAfter z x))
 not_after-itself None = tt

@@ -452,9 +452,10 @@ impl LockTable {
         ensures { IsLowestBut (held self.now file) out.now span mode result }
     {
         let near = self.index.near(file, span);
+        let bar = mode.bar();
         let mut lowest = None;
         for row in rows_of(&self.rows, file) {
-            if near.has(row.owner) {
+            if row.may_bar(&near, bar) {
                 lowest = lowest_of(lowest, row.lowest_but(out, span, mode));
             }
         }

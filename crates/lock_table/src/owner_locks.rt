@@ -1,12 +1,14 @@
 //! Rows of a lock table.
-ghost use Rattle.std.specs.Prelude.{◌≡◌, ℕ, ◌++◌, List, None, Some, IsTrue, ◌↔◌, IfOk, OnOk, MatchOption};
+ghost use Rattle.std.specs.Prelude.{◌≡◌, ℕ, ◌++◌, List, None, Some, false, IsTrue, ◌↔◌, IfOk, OnOk, MatchOption};
 ghost use Rattle.intervals.specs.Bytes.{IsBarred, IsRun, NoneIn};
 ghost use Rattle.intervals.specs.Runs.{value_at};
 ghost use Rattle.lock_table.specs.Rows.{row_cmp, IsSameRow, locks_of, IsBounded, NothingFrom};
 ghost use Rattle.lock_table.specs.Regions.{rest_from, IsFirstRegion};
 ghost use Rattle.lock_table.specs.Blockers.{IsLowestBut};
+ghost use Rattle.lock_table.specs.Pages.{Has};
 ghost use Rattle.lock_table.specs.Listing.{ListsRegions};
 
+use crate::owner_set::OwnerSet;
 use crate::owner_spans::OwnerSpans;
 use intervals::span::{GREATEST, Span};
 use intervals::span_map::NoMemory;
@@ -100,6 +102,14 @@ impl OwnerLocks {
             hi: GREATEST,
         };
         self.first_region(rest, None)
+    }
+
+    /// Whether the row may have a byte with the mode `bar`, or with any mode where that is `None`, where just
+    /// these owners may have one: as far as is known without a look at its bytes.
+    pub(crate) fn may_bar(&self, owners: &OwnerSet, bar: Option<Mode>) -> bool
+        ensures { result ≡ false → Has owners.now self.now.owner → (b : ℕ) → IsBarred (value_at self.now.spans) bar b → ⊥ }
+    {
+        !self.spans.is_free_of(bar) && owners.has(self.owner)
     }
 
     /// The lowest region of the row that is in the way of the mode in the span; none is where the row's owner

@@ -99,8 +99,8 @@ impl OwnerSpans {
         self.spans.starts_with(span, mode)
     }
 
-    // Whether it is known, without a look, that no byte has the mode `bar`, or any mode where that is `None`.
-    fn is_free_of(&self, bar: Option<Mode>) -> bool
+    /// Whether it is known, without a look, that no byte has the mode `bar`, or any mode where that is `None`.
+    pub(crate) fn is_free_of(&self, bar: Option<Mode>) -> bool
         ensures { IsTrue result → (b : ℕ) → IsBarred (value_at self.now) bar b → ⊥ }
     {
         self.is_shared && bar == Some(Mode::Write)
