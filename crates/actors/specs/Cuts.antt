@@ -1,12 +1,13 @@
 -- Runs that were ended as stuck: which calls are open, and which lines were left.
 use Rattle.std.specs.Prelude.{◌≡◌, ◌≢◌, ◌⊎◌, ℕ, ◌-◌, ◌<◌, ◌≤◌, Bool, true, false, List, All, Option, Some, None, slice_get}
+use Rattle.lockscript.specs.declared.script_line.Command.{Command}
 use Rattle.model.specs.declared.call.CallId.{CallId}
 use Rattle.model.specs.declared.reply.Reply.{Reply}
 use Rattle.messages.specs.declared.entry.Entry.{Entry}
 use Rattle.actors.specs.declared.line_outcome.LineOutcome.{LineOutcome}
 use Rattle.actors.specs.declared.line_outcome.LineOutcome.TheVariants.{Open, Left}
 use Rattle.actors.specs.declared.played_line.PlayedLine.{PlayedLine}
-use Rattle.actors.specs.Lines.{asker, is_call}
+use Rattle.actors.specs.Lines.{asker}
 
 -- the line is an open call
 abbrev pub is_open : LineOutcome → Bool
@@ -36,14 +37,15 @@ open_by entries _ = None
 abbrev pub IsUnanswered : List Entry → CallId → Type 0
 IsUnanswered entries call = All (λ e. (reply : Reply) → e.reply ≢ Some (call, reply)) entries
 
--- a line that is no call stands behind the one and not behind the other
-abbrev pub IsParted : List PlayedLine → ℕ → ℕ → Type 0
-IsParted lines i j = (k : ℕ) × (n : PlayedLine) × (i < k) × (k ≤ j) × (slice_get lines k ≡ Some n) × (is_call n.line.command ≡ false)
+-- a line that parts phases stands behind the one and not behind the other
+abbrev pub IsParted : (Command → Bool) → List PlayedLine → ℕ → ℕ → Type 0
+IsParted is_between lines i j = (k : ℕ) × (n : PlayedLine) × (i < k) × (k ≤ j) × (slice_get lines k ≡ Some n) × (is_between n.line.command ≡ true)
 
--- a call of an earlier line is open: of the same process, or before a line that is no call
-abbrev pub IsBarred : List PlayedLine → ℕ → PlayedLine → Type 0
-IsBarred lines j m = (i : ℕ) × (l : PlayedLine) × (i < j) × (slice_get lines i ≡ Some l) × (is_open l.outcome ≡ true) × ((asker l.line.command ≡ asker m.line.command) ⊎ IsParted lines i j)
+-- a call of an earlier line is open: of the same process, or before a line that parts phases
+abbrev pub IsBarred : (Command → Bool) → List PlayedLine → ℕ → PlayedLine → Type 0
+IsBarred is_between lines j m =
+    (i : ℕ) × (l : PlayedLine) × (i < j) × (slice_get lines i ≡ Some l) × (is_open l.outcome ≡ true) × ((asker l.line.command ≡ asker m.line.command) ⊎ IsParted is_between lines i j)
 
 -- each line that was left is barred so
-abbrev pub AreBarred : List PlayedLine → Type 0
-AreBarred lines = (j : ℕ) (m : PlayedLine) → slice_get lines j ≡ Some m → m.outcome ≡ Left → IsBarred lines j m
+abbrev pub AreBarred : (Command → Bool) → List PlayedLine → Type 0
+AreBarred is_between lines = (j : ℕ) (m : PlayedLine) → slice_get lines j ≡ Some m → m.outcome ≡ Left → IsBarred is_between lines j m

@@ -29,7 +29,7 @@ pub record IsOfScript (script : ScriptFields) (no_join may_stop : Bool) (run : T
   pub refused : run.refused ≡ filter_map refused_in run.lines
   pub open_calls : run.open_calls ≡ filter_map (λ l. open_by run.journal.entries l.outcome) run.lines
   pub unanswered : All (IsUnanswered run.journal.entries) run.open_calls
-  pub barred : AreBarred run.lines
+  pub barred : AreBarred (parts no_join) run.lines
   pub whole : may_stop ≡ false → All (λ l. is_cut l.outcome ≡ false) run.lines
 
 -- the journal of a run of the script's cluster, with one history, which has no room for another entry: what it was asked for is of lines of the script, of each who asks in their order

@@ -1,10 +1,10 @@
 //! Runs that were ended as stuck.
-ghost use Rattle.std.specs.Prelude.{◌≡◌, ◌≢◌, ◌⊎◌, ◌↔◌, ◌++◌, ◌∷◌, [], true, false, All, IfOk, IsTrue, Some};
+ghost use Rattle.std.specs.Prelude.{◌≡◌, ◌≢◌, ◌⊎◌, ◌↔◌, ◌++◌, ◌∷◌, [], true, All, IfOk, IsTrue, Some, if◌then◌else◌};
 ghost use Rattle.std.specs.List.{Contains};
 ghost use Rattle.model.specs.declared.reply.Reply.{Reply};
 ghost use Rattle.actors.specs.declared.line_outcome.LineOutcome.TheVariants.{Left};
 ghost use Rattle.actors.specs.Cuts.{AreBarred, IsUnanswered, is_open, name_at};
-ghost use Rattle.actors.specs.Lines.{asker, is_call};
+ghost use Rattle.actors.specs.Lines.{asker, parts};
 
 use crate::played_line::PlayedLine;
 use messages::entry::Entry;
@@ -49,8 +49,8 @@ fn same_call(one: &CallId, other: &CallId) -> bool
     one == other
 }
 
-// What of the lines so far bars others: who has an open call, and whether one was open before a line that is
-// no call.
+// What of the lines so far bars others: who has an open call, and whether one was open before a line that
+// parts phases.
 #[derive(Drop)]
 struct Bars {
     askers: Vec<(u8, u16)>,
@@ -59,13 +59,13 @@ struct Bars {
 
 impl Bars {
     // Passes the next line. False where it was left, and nothing bars it.
-    fn pass(&mut self, line: &PlayedLine) -> Result<bool, AllocError>
-        ensures over { IfOk result (λ may. may ≡ true → self.new.is_over ≡ true → (self.old.is_over ≡ true) ⊎ ((is_call line.now.line.command ≡ false) × (self.old.askers.items ≢ []))) }
-        ensures left { IfOk result (λ may. may ≡ true → line.now.outcome ≡ Left → (self.new.is_over ≡ true) ⊎ Contains self.old.askers.items (asker line.now.line.command)) }
-        ensures opened { IfOk result (λ may. may ≡ true → (self.new.askers.items ≡ self.old.askers.items) ⊎ ((is_open line.now.outcome ≡ true) × (self.new.askers.items ≡ self.old.askers.items ++ asker line.now.line.command ∷ []))) }
+    fn pass(&mut self, no_join: bool, line: &PlayedLine) -> Result<bool, AllocError>
+        ensures over { IfOk result (λ may. self.new.is_over ≡ true ↔ ((self.old.is_over ≡ true) ⊎ ((parts no_join line.now.line.command ≡ true) × (self.old.askers.items ≢ [])))) }
+        ensures left { IfOk result (λ may. may ≡ true ↔ (line.now.outcome ≡ Left → (self.new.is_over ≡ true) ⊎ Contains self.old.askers.items (asker line.now.line.command))) }
+        ensures opened { IfOk result (λ may. may ≡ true → self.new.askers.items ≡ (if is_open line.now.outcome then self.old.askers.items ++ asker line.now.line.command ∷ [] else self.old.askers.items)) }
     {
         let has_open = !self.askers.is_empty();
-        self.is_over = self.is_over || (!line.is_call() && has_open);
+        self.is_over = self.is_over || (line.parts(no_join) && has_open);
         if line.is_left() && !self.is_over && !has(self.askers.as_slice(), line.asker()) {
             return Ok(false);
         }
@@ -78,21 +78,25 @@ impl Bars {
 
 // Whether the one is among those.
 fn has(askers: &[(u8, u16)], asker: (u8, u16)) -> bool
-    ensures { IsTrue result → Contains askers.now asker }
+    ensures { IsTrue result ↔ Contains askers.now asker }
 {
     askers.contains(&asker)
 }
 
-/// Whether each line that was left stands behind an open call, of its process or before a line that is no call.
-pub(crate) fn are_barred(alloc: Global, lines: &[PlayedLine]) -> Result<bool, AllocError>
-    ensures { IfOk result (λ are. are ≡ true → AreBarred lines.now) }
+/// Whether each line that was left stands behind an open call, of its process or before a line that parts phases.
+pub(crate) fn are_barred(
+    alloc: Global,
+    no_join: bool,
+    lines: &[PlayedLine],
+) -> Result<bool, AllocError>
+    ensures { IfOk result (λ are. are ≡ true → AreBarred (parts no_join) lines.now) }
 {
     let mut bars = Bars {
         askers: Vec::new(alloc),
         is_over: false,
     };
     for line in lines {
-        if !bars.pass(line)? {
+        if !bars.pass(no_join, line)? {
             return Ok(false);
         }
     }

@@ -73,13 +73,6 @@ impl PlayedLine {
         matches!(self.outcome, LineOutcome::Left)
     }
 
-    /// Whether the line asks for a call.
-    pub(crate) fn is_call(&self) -> bool
-        ensures { result ≡ is_call self.now.line.command }
-    {
-        is_call(&self.line.command())
-    }
-
     /// Whether the line parts phases.
     pub(crate) fn parts(&self, no_join: bool) -> bool
         ensures { result ≡ parts no_join self.now.line.command }

@@ -124,32 +124,32 @@ fn are_of_script(
     ensures fit { IfOk result (λ are. are ≡ true → All (λ l. Fits l.line.command l.outcome) lines.now) }
     ensures phases { IfOk result (λ are. are ≡ true → ArePhases (parts manner.no_join) lines.now) }
     ensures unanswered { IfOk result (λ are. are ≡ true → All (IsUnanswered entries.now) open_calls.now) }
-    ensures barred { IfOk result (λ are. are ≡ true → AreBarred lines.now) }
+    ensures barred { IfOk result (λ are. are ≡ true → AreBarred (parts manner.no_join) lines.now) }
     ensures whole { IfOk result (λ are. are ≡ true → manner.may_stop ≡ false → All (λ l. is_cut l.outcome ≡ false) lines.now) }
 {
     let are_lines = are_lines_of(alloc, script, entries, lines)?;
     if !are_lines || !all_fit(lines) || !are_phases(manner.no_join, lines) {
         return Ok(false);
     }
-    are_cut_so(alloc, manner.may_stop, entries, lines, open_calls)
+    are_cut_so(alloc, manner, entries, lines, open_calls)
 }
 
 // Whether the run of these lines may have been ended with these open calls.
 fn are_cut_so(
     alloc: Global,
-    may_stop: bool,
+    manner: Manner,
     entries: &[Entry],
     lines: &[PlayedLine],
     open_calls: &[CallId],
 ) -> Result<bool, AllocError>
     ensures unanswered { IfOk result (λ are. are ≡ true → All (IsUnanswered entries.now) open_calls.now) }
-    ensures barred { IfOk result (λ are. are ≡ true → AreBarred lines.now) }
-    ensures whole { IfOk result (λ are. are ≡ true → may_stop ≡ false → All (λ l. is_cut l.outcome ≡ false) lines.now) }
+    ensures barred { IfOk result (λ are. are ≡ true → AreBarred (parts manner.no_join) lines.now) }
+    ensures whole { IfOk result (λ are. are ≡ true → manner.may_stop ≡ false → All (λ l. is_cut l.outcome ≡ false) lines.now) }
 {
-    if !are_unanswered(entries, open_calls) || !are_barred(alloc, lines)? {
+    if !are_unanswered(entries, open_calls) || !are_barred(alloc, manner.no_join, lines)? {
         return Ok(false);
     }
-    Ok(may_stop || are_whole(lines))
+    Ok(manner.may_stop || are_whole(lines))
 }
 
 // Whether no line is that of a run which was ended as stuck.

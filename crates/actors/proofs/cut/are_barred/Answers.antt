@@ -1,5 +1,6 @@
 use Rattle.std.proofs.Common.{arith, refl}
 use Rattle.std.proofs.lemmas.Option.{slice_get_read, slice_get_within}
+use Rattle.actors.specs.Lines.{parts}
 use Rattle.actors.proofs.InCuts.{passed}
 use Rattle.actors.proofs.cut.are_barred.Goals as goal
 
@@ -8,8 +9,8 @@ loop-line-preserved c =
     let e = c.in_ok-pass.ensures in
     let fine = c.if-not-branch.false in
     let at = slice_get_read c.args.lines.now _ c.loop-line.line-index c.line-item.result refl c.loop-line-test.true c.line-item.is in
-    passed c.args.lines.now c.loop-line.line-index c.loop-line.bars.askers.items c.pass.new.self.askers.items c.loop-line.bars.is_over c.pass.new.self.is_over c.line-item.result at c.loop-line.invariant
-    (record { over_by = e.over fine; left_by = e.left fine; open_by = e.opened fine })
+    passed (parts c.args.no_join) c.args.lines.now c.loop-line.line-index c.loop-line.bars.askers.items c.pass.new.self.askers.items c.loop-line.bars.is_over c.pass.new.self.is_over c.line-item.result at c.loop-line.invariant
+    (record { over_by = e.over.0; left_by = e.left.0 fine; open_by = e.opened fine })
 
 pub returns : goal.returns
 returns c = λ t j m at left.
