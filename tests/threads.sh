@@ -508,6 +508,37 @@ came=$?
 echo 'open 2.1.3' >wanted.err
 judge 'a failure that waits for the call that waits for it' 1 "$came" none none wanted.err came.err
 
+# On a terminal a run tells in one line, once a second, how many calls are open and how many entries the journal has. The line goes before
+# the run is told. A lock goes from node to node and back, so often that it takes more than two seconds.
+to_and_fro() {
+    printf 'cluster nodes 2 files 1 policy exact\n'
+    for node in 1 2; do printf 'call %s 1 spawn\ncall %s 1 open 1 rw\n' $node $node; done
+    for _ in $(seq "$1"); do
+        for node in 1 2; do printf 'call %s 1 set 0 proc write 0 10\ncall %s 1 unlock 0 proc 0 10\nsettle\n' $node $node; done
+    done
+}
+# What a terminal was shown, as a line for each text. One that is no such line, or goes on from fewer entries or beyond the last, is marked.
+told_on_terminal() {
+    tr '\r' '\n' <"$1" | sed '1d;$d' | awk -v last="$2" '
+    /^[0-9]+ calls open, [0-9]+ entries\033\[K$/ && $1 <= 2 && $4 + 0 >= before && $4 + 0 <= last { before = $4 + 0; told++; next }
+    { print "another line: " $0 }
+    END { print (told > 0 ? "told" : "nothing") }'
+    tail -c 4 "$1"
+}
+rounds=100
+for _ in {1..8}; do
+    rounds=$((2 * rounds))
+    to_and_fro "$rounds" >to-and-fro.lock
+    took=$("$tests/on-terminal" shown threads.out "$program" threads to-and-fro.lock --journal threads.journal)
+    came=$?
+    ((came != 0 || took >= 2)) && break
+done
+told_on_terminal shown "$(sed -n '$s/^end //p' threads.journal)" >told
+tail -n 2 threads.out >came.out
+printf 'receipts %s\naudit yes\n' $((4 * rounds + 4)) >wanted
+printf 'told\n\r\033[K' >wanted.told
+judge 'how far a run on threads is, on a terminal' 0 "$came" wanted came.out wanted.told told
+
 # The first line that is no line of a script, or that threads do not take, is told.
 try_bad_line threads 4 "${shape}settle\n# 3\nresend 1\n"
 try_bad_line threads 2 "${shape}lose 1\nsettled\n"

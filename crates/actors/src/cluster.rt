@@ -77,6 +77,11 @@ impl<'a> Cluster<'a> {
         is_stuck(self.alloc, self.book.lock(rt).entries(), processes, failed)
     }
 
+    /// How many entries the journal has so far.
+    pub(crate) fn len<R: Wait>(&self, rt: &R) -> u32 {
+        self.book.lock(rt).len()
+    }
+
     // The mailbox of the token server of the file.
     fn server_mailbox(&self, file: u16) -> Option<&'a Mailbox> {
         self.mailboxes

@@ -26,6 +26,7 @@ pub mod played_line;
 mod rebuilt;
 mod resends;
 pub mod run_error;
+pub mod run_watcher;
 pub mod seeded;
 mod shared;
 mod stage;

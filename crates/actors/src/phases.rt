@@ -7,6 +7,7 @@ use crate::line_outcome::LineOutcome;
 use crate::manner::Manner;
 use crate::part::Part;
 use crate::played_line::PlayedLine;
+use crate::run_watcher::RunWatcher;
 use crate::stage::Stage;
 use crate::stop::Stop;
 use book::receipt::Receipt;
@@ -59,20 +60,21 @@ impl<'a, 'b> Phases<'a, 'b> {
     }
 
     /// Takes a line: one that parts phases ends the phase and is done, and another goes into it. Once they are
-    /// over, each line is left.
+    /// over, each line is left. The watcher is told meanwhile how far the run is.
     ///
     /// # Errors
     /// `NoMemory` where a request for memory or for a thread was refused; `JournalFull` where the run needs more entries
     /// than a journal may have.
-    pub(crate) fn take<R: Threads + Wait + Clock + Sync>(
+    pub(crate) fn take<R: Threads + Wait + Clock + Sync, V: RunWatcher>(
         &mut self,
         rt: &R,
         line: &ScriptLine,
+        watcher: &mut V,
     ) -> Result<(), Stop> {
         let played = PlayedLine::new(*line);
         let parts = played.parts(self.manner.no_join);
         if parts {
-            self.join(rt)?;
+            self.join(rt, watcher)?;
         }
         let index = self.lines.len();
         self.lines.push(played)?;
@@ -193,12 +195,16 @@ impl<'a, 'b> Phases<'a, 'b> {
     ///
     /// # Errors
     /// As `take` has it.
-    pub(crate) fn join<R: Threads + Wait + Clock + Sync>(&mut self, rt: &R) -> Result<(), Stop> {
+    pub(crate) fn join<R: Threads + Wait + Clock + Sync, V: RunWatcher>(
+        &mut self,
+        rt: &R,
+        watcher: &mut V,
+    ) -> Result<(), Stop> {
         if self.is_over {
             return Ok(());
         }
         let parts = mem::replace(&mut self.parts, Vec::new(self.alloc));
-        let played = self.play_all(rt, parts.as_slice());
+        let played = self.play_all(rt, parts.as_slice(), watcher);
         self.places.clear();
         for part in parts {
             self.end(part)?;
@@ -211,10 +217,11 @@ impl<'a, 'b> Phases<'a, 'b> {
     }
 
     // Plays the parts of the phase, on threads that have ended when it comes back.
-    fn play_all<R: Threads + Wait + Clock + Sync>(
+    fn play_all<R: Threads + Wait + Clock + Sync, V: RunWatcher>(
         &mut self,
         rt: &R,
         parts: &[Part<'a>],
+        watcher: &mut V,
     ) -> Result<(), Stop> {
         let cluster = self.cluster;
         let playing = AtomicU64::new(0);
@@ -226,7 +233,7 @@ impl<'a, 'b> Phases<'a, 'b> {
                 parts,
                 playing,
             };
-            let played = self.play_on(scope, &stage);
+            let played = self.play_on(scope, &stage, watcher);
             if played.is_err() {
                 cluster.stop();
             }
@@ -235,11 +242,13 @@ impl<'a, 'b> Phases<'a, 'b> {
     }
 
     // Makes the lines of the phase in their order, each that is no call when no call before it can be answered
-    // without it. Waits for no call at the end, but for their being stuck where that ends the run.
-    fn play_on<'s, E, R: Threads + Wait + Clock + Sync>(
+    // without it. Waits for no call at the end, but for their being stuck where that ends the run, and for all where
+    // somebody is told how far the run is.
+    fn play_on<'s, E, R: Threads + Wait + Clock + Sync, V: RunWatcher>(
         &mut self,
         scope: &Scope<'s, E>,
         stage: &Stage<'s, 'a, R>,
+        watcher: &mut V,
     ) -> Result<(), Stop> {
         for index in self.first..self.lines.len() {
             let Some(played) = self.lines.get(index) else {
@@ -251,11 +260,13 @@ impl<'a, 'b> Phases<'a, 'b> {
                 continue;
             }
             stage.start(scope)?;
-            stage.wait_until_stuck(self.failed.as_slice());
+            stage.wait(true, self.failed.as_slice(), watcher);
             self.make(stage.rt, index, command, stage.parts)?;
         }
         stage.start(scope)?;
-        if self.manner.may_stop && stage.wait_until_stuck(self.failed.as_slice()) {
+        let may_stop = self.manner.may_stop;
+        let waits = may_stop || watcher.is_watched();
+        if waits && stage.wait(may_stop, self.failed.as_slice(), watcher) {
             self.cluster.stop();
         }
         Ok(())

@@ -1,6 +1,7 @@
 //! Where a phase is played.
 use crate::cluster::Cluster;
 use crate::part::Part;
+use crate::run_watcher::RunWatcher;
 use crate::stop::Stop;
 use std::sync::Wait;
 use std::sync::atomic::{AtomicU64, Ordering};
@@ -37,24 +38,37 @@ impl<'s, 'a: 's, R: Threads + Wait + Clock + Sync> Stage<'s, 'a, R> {
         Ok(())
     }
 
-    /// Waits until each call is answered, or until those that are open can't be answered any more, the token
-    /// servers of these files being declared failed: it looks again and again, at growing distances. Whether
-    /// calls are open then.
-    pub(crate) fn wait_until_stuck(&self, failed: &[u16]) -> bool {
+    /// Waits until each call is answered, or, if it may stop, until those that are open can't be answered any
+    /// more, the token servers of these files being declared failed: it looks again and again, at growing
+    /// distances, and tells the watcher. Whether calls are open then.
+    pub(crate) fn wait<V: RunWatcher>(
+        &self,
+        may_stop: bool,
+        failed: &[u16],
+        watcher: &mut V,
+    ) -> bool {
         let mut looks: u64 = 0;
         for _ in self.rt.forever() {
-            let processes = self.playing.load(Ordering::SeqCst) as usize;
+            let processes = self.playing.load(Ordering::SeqCst);
             if processes == 0 {
                 break;
             }
-            if self.cluster.is_stuck(self.rt, processes, failed) {
+            if may_stop && self.cluster.is_stuck(self.rt, processes as usize, failed) {
                 return true;
             }
+            self.tell(processes, watcher);
             let pause = (looks / 16).min(LONGEST_PAUSE);
             thread::sleep(self.rt, Duration::from_millis(pause));
             looks = looks.saturating_add(1);
         }
         false
+    }
+
+    // Tells the watcher, if anybody looks, how far the run is, in which so many processes have a call open.
+    fn tell<V: RunWatcher>(&self, processes: u64, watcher: &mut V) {
+        if watcher.is_watched() {
+            watcher.tell(processes, u64::from(self.cluster.len(self.rt)));
+        }
     }
 }
 

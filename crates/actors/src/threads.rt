@@ -13,6 +13,7 @@ use crate::manner::Manner;
 use crate::phases::Phases;
 use crate::played_line::PlayedLine;
 use crate::run_error::RunError;
+use crate::run_watcher::RunWatcher;
 use crate::seeded::Seeded;
 use crate::stop::Stop;
 use crate::thread_run::ThreadRun;
@@ -41,17 +42,20 @@ use std::time::Clock;
 /// each waits for a lock that somebody holds, or for a server that is declared failed, and no process is left
 /// to make a call. They stay open, and the lines behind them, of their processes and of later phases, are left.
 ///
+/// The watcher is told now and then how many calls are open, and how many entries the journal has.
+///
 /// # Errors
 /// `BadLine` with the number of the first line that is another, before anything runs; `NoMemory` where
 /// a request for memory or for a thread was refused; `JournalFull` with the journal where the run needs
 /// more entries than the 1,048,576 that a journal may have.
-pub fn run_threads<G: Gate + Sync, R: Threads + Wait + Clock + Sync>(
+pub fn run_threads<G: Gate + Sync, R: Threads + Wait + Clock + Sync, V: RunWatcher>(
     rt: &R,
     alloc: Global,
     script: &Script,
     gate: &G,
     seed: u32,
     manner: Manner,
+    watcher: &mut V,
 ) -> Result<ThreadRun, RunError>
     // The run is of the script: each line has just one outcome, which is of what it asks, and the calls,
     // failures and starts in the journal are those of its lines.
@@ -68,7 +72,7 @@ pub fn run_threads<G: Gate + Sync, R: Threads + Wait + Clock + Sync>(
     if let Some(number) = script.bad_line_on_threads() {
         return Err(RunError::BadLine(number));
     }
-    let Ok((lines, journal)) = run_script(rt, alloc, script, gate, seed, manner) else {
+    let Ok((lines, journal)) = run_script(rt, alloc, script, gate, seed, manner, watcher) else {
         return Err(RunError::NoMemory);
     };
     match lines {
@@ -81,13 +85,14 @@ pub fn run_threads<G: Gate + Sync, R: Threads + Wait + Clock + Sync>(
 }
 
 // The lines of a script that has none of another kind, with what they came to, and the journal.
-fn run_script<G: Gate + Sync, R: Threads + Wait + Clock + Sync>(
+fn run_script<G: Gate + Sync, R: Threads + Wait + Clock + Sync, V: RunWatcher>(
     rt: &R,
     alloc: Global,
     script: &Script,
     gate: &G,
     seed: u32,
     manner: Manner,
+    watcher: &mut V,
 ) -> Result<(Result<Vec<PlayedLine>, Stop>, Journal), AllocError>
     ensures shape { IfOk result (λ run. run.1.shape ≡ script.now.shape) }
     ensures one_table { IfOk result (λ run. HasOneHistory run.1.shape run.1.entries) }
@@ -96,7 +101,7 @@ fn run_script<G: Gate + Sync, R: Threads + Wait + Clock + Sync>(
     let actors = u32::from(shape.nodes()) + u32::from(shape.files());
     let weathers = weathers_of(alloc, seed, actors)?;
     let run = with_cluster(rt, alloc, shape, gate, weathers, |cluster| {
-        run_lines(rt, alloc, cluster, script.lines(), manner)
+        run_lines(rt, alloc, cluster, script.lines(), manner, watcher)
     });
     match run {
         // A lock says nothing of the book that it gives back, so the shape is looked at.
@@ -124,17 +129,18 @@ fn weathers_of(alloc: Global, seed: u32, count: u32) -> Result<Vec<Seeded>, Allo
 }
 
 // Runs the lines in order on a cluster that runs.
-fn run_lines<R: Threads + Wait + Clock + Sync>(
+fn run_lines<R: Threads + Wait + Clock + Sync, V: RunWatcher>(
     rt: &R,
     alloc: Global,
     cluster: &Cluster<'_>,
     lines: &[ScriptLine],
     manner: Manner,
+    watcher: &mut V,
 ) -> Result<Vec<PlayedLine>, Stop> {
     let mut phases = Phases::new(alloc, cluster, manner);
     for line in lines {
-        phases.take(rt, line)?;
+        phases.take(rt, line, watcher)?;
     }
-    phases.join(rt)?;
+    phases.join(rt, watcher)?;
     Ok(phases.into_lines())
 }

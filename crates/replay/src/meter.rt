@@ -1,4 +1,5 @@
 //! How far long work is, on a terminal.
+use actors::run_watcher::RunWatcher;
 use player::watcher::Watcher;
 use std::io::Write;
 use std::time::{Clock, Duration, Instant};
@@ -67,20 +68,27 @@ impl<'a, C: Clock, W: Write> Meter<'a, C, W> {
         };
     }
 
-    // Shows a line where it is time. What can't be written is lost.
-    fn look(&mut self) {
+    // Whether it is time for a line.
+    fn is_due(&mut self) -> bool {
         let Some(last) = self.last else {
-            return;
+            return false;
         };
         let Some(now) = self.now() else {
-            return;
+            return false;
         };
         self.pace(now);
         if now.saturating_duration_since(last) < Duration::from_secs(SECONDS_BETWEEN_LINES) {
-            return;
+            return false;
         }
         self.last = Some(now);
-        self.show();
+        true
+    }
+
+    // Shows a line where it is time. What can't be written is lost.
+    fn look(&mut self) {
+        if self.is_due() {
+            self.show();
+        }
     }
 
     fn show(&mut self) {
@@ -123,6 +131,25 @@ impl<C: Clock, W: Write> Watcher for Meter<'_, C, W> {
         self.is_shown = false;
         if let Some(terminal) = self.terminal.as_mut() {
             let _ = write!(terminal, "\r\x1b[K");
+        }
+    }
+}
+
+impl<C: Clock, W: Write> RunWatcher for Meter<'_, C, W> {
+    fn is_watched(&self) -> bool {
+        self.terminal.is_some()
+    }
+
+    fn tell(&mut self, open: u64, entries: u64) {
+        if self.last.is_none() {
+            self.last = self.now();
+        }
+        if !self.is_due() {
+            return;
+        }
+        if let Some(terminal) = self.terminal.as_mut() {
+            let _ = write!(terminal, "\r{open} calls open, {entries} entries\x1b[K");
+            self.is_shown = true;
         }
     }
 }

@@ -8,6 +8,7 @@ use crate::threaded::Threaded;
 use actors::gate::OpenGate;
 use actors::manner::Manner;
 use actors::run_error::RunError;
+use actors::run_watcher::RunWatcher;
 use actors::threads::run_threads;
 use lockscript::script::Script;
 use player::play::PlayError;
@@ -17,19 +18,20 @@ use std::thread::Threads;
 use std::time::Clock;
 
 // Runs the script, all of whose lines threads take, on threads that the runtime starts. Messages meet the
-// weather of the seed.
-pub(crate) fn run_on_threads<R: Threads + Wait + Clock + Sync>(
+// weather of the seed. The watcher is told how far the run is.
+pub(crate) fn run_on_threads<R: Threads + Wait + Clock + Sync, V: RunWatcher>(
     rt: &R,
     alloc: Global,
     script: &Script,
     seed: u32,
     manner: Manner,
+    watcher: &mut V,
 ) -> Result<Threaded, PlayError>
     requires { bad_line script.now.lines ≡ None }
     ensures told { IfOk result (IsToldOf script.now manner.no_join manner.may_stop) }
     ensures full { IfErr result (λ error. error ≡ JournalFull → HasFullJournal script.now) }
 {
-    match run_threads(rt, alloc, script, &OpenGate, seed, manner) {
+    match run_threads(rt, alloc, script, &OpenGate, seed, manner, watcher) {
         Ok(run) => Ok(Threaded::new(alloc, &run)?),
         Err(RunError::NoMemory) => Err(PlayError::NoMemory),
         Err(RunError::JournalFull(_)) => Err(PlayError::JournalFull),

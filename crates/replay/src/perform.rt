@@ -25,6 +25,7 @@ use crate::store::Store;
 use crate::threads::play_on_threads;
 use crate::wanted::Wanted;
 use actors::manner::Manner;
+use actors::run_watcher::RunWatcher;
 use command_line::line::Line;
 use player::watcher::Watcher;
 use std::alloc::Global;
@@ -47,8 +48,14 @@ use std::time::Clock;
 /// order: the file is read, its bytes are UTF-8, its lines are good, the run or the audit has room, the journal is
 /// written, what is shown is written. No file is changed but that of the journal that a run is asked for, once it
 /// comes to that. Of the lines of a script that is run, the entries of a journal that is audited and the seeds that are
-/// explored the watcher is told each that is done.
-pub fn perform<R: Threads + Wait + Clock + Sync, S: Store, O: Output, E: Output, V: Watcher>(
+/// explored the watcher is told each that is done, and of a run on threads now and then how far it is.
+pub fn perform<
+    R: Threads + Wait + Clock + Sync,
+    S: Store,
+    O: Output,
+    E: Output,
+    V: Watcher + RunWatcher,
+>(
     rt: &R,
     alloc: Global,
     line: &Line<'_>,
@@ -93,7 +100,7 @@ pub(crate) fn report<E: Output>(fault: &Fault<'_>, err: &mut E) -> u8
 }
 
 // Does what the line asks for: what is shown of it.
-fn done<'a, R: Threads + Wait + Clock + Sync, S: Store, O: Output, V: Watcher>(
+fn done<'a, R: Threads + Wait + Clock + Sync, S: Store, O: Output, V: Watcher + RunWatcher>(
     rt: &R,
     alloc: Global,
     line: &Line<'a>,
@@ -179,7 +186,7 @@ fn run_behind_shown<'a, S: Store, V: Watcher>(
 }
 
 // What is shown of the line, once all else that it asks for is done.
-fn shown_of<'a, R: Threads + Wait + Clock + Sync, S: Store, V: Watcher>(
+fn shown_of<'a, R: Threads + Wait + Clock + Sync, S: Store, V: Watcher + RunWatcher>(
     rt: &R,
     alloc: Global,
     line: &Line<'a>,
@@ -217,7 +224,7 @@ fn shown_of<'a, R: Threads + Wait + Clock + Sync, S: Store, V: Watcher>(
                 no_join,
                 may_stop: stop_when_stuck,
             };
-            play_on_threads(rt, alloc, store, script, seed, manner, journal)
+            play_on_threads(rt, alloc, store, script, seed, manner, journal, watcher)
         }
         Line::Audit { journal } => audit(alloc, store, journal, watcher),
         Line::History { journal } => history(alloc, store, journal),

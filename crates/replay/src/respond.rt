@@ -16,6 +16,7 @@ use crate::fault::Fault;
 use crate::output::{Output, put_all, put_line};
 use crate::perform::{perform, report};
 use crate::store::Store;
+use actors::run_watcher::RunWatcher;
 use command_line::line::Line;
 use command_line::refusal::Refusal;
 use player::watcher::Watcher;
@@ -35,7 +36,7 @@ pub fn respond<
     S: Store,
     O: Output,
     E: Output,
-    V: Watcher,
+    V: Watcher + RunWatcher,
 >(
     rt: &R,
     alloc: Global,

@@ -15,6 +15,7 @@ use crate::shown::Shown;
 use crate::store::Store;
 use crate::threaded::Threaded;
 use actors::manner::Manner;
+use actors::run_watcher::RunWatcher;
 use lockscript::script::Script;
 use std::alloc::Global;
 use std::sync::Wait;
@@ -22,7 +23,7 @@ use std::thread::Threads;
 use std::time::Clock;
 
 // What is shown of a run of the script of a file, whose journal is written to another, if one is named.
-pub(crate) fn play_on_threads<'a, R: Threads + Wait + Clock + Sync, S: Store>(
+pub(crate) fn play_on_threads<'a, R: Threads + Wait + Clock + Sync, S: Store, V: RunWatcher>(
     rt: &R,
     alloc: Global,
     store: &mut S,
@@ -30,37 +31,39 @@ pub(crate) fn play_on_threads<'a, R: Threads + Wait + Clock + Sync, S: Store>(
     seed: u32,
     manner: Manner,
     journal: Option<&'a str>,
+    watcher: &mut V,
 ) -> Result<Shown, Fault<'a>>
     ensures done { IfOk result (Does (S.holds store.old) (threads path.now seed manner.may_stop manner.no_join (option_map (λ file. file.now) journal.entry)) (S.holds store.new)) }
     ensures fault { IfErr result (λ fault. (fault ≢ CannotWriteOutput)
         × IsFault (S.holds store.old) (S.ran_short store.new) (S.refuses store.new) (threads path.now seed manner.may_stop manner.no_join (option_map (λ file. file.now) journal.entry)) (S.holds store.new) fault) }
 {
     match journal {
-        None => run_threads(rt, alloc, store, path, seed, manner),
-        Some(file) => run_threads_with_journal(rt, alloc, store, path, seed, manner, file),
+        None => run_threads(rt, alloc, store, path, seed, manner, watcher),
+        Some(file) => run_threads_with_journal(rt, alloc, store, path, seed, manner, file, watcher),
     }
 }
 
 // What is shown of a run of the script of a file.
-fn run_threads<'a, R: Threads + Wait + Clock + Sync, S: Store>(
+fn run_threads<'a, R: Threads + Wait + Clock + Sync, S: Store, V: RunWatcher>(
     rt: &R,
     alloc: Global,
     store: &mut S,
     path: &'a str,
     seed: u32,
     manner: Manner,
+    watcher: &mut V,
 ) -> Result<Shown, Fault<'a>>
     ensures done { IfOk result (Does (S.holds store.old) (threads path.now seed manner.may_stop manner.no_join None) (S.holds store.new)) }
     ensures fault { IfErr result (λ fault. (fault ≢ CannotWriteOutput)
         × IsFault (S.holds store.old) (S.ran_short store.new) (S.refuses store.new) (threads path.now seed manner.may_stop manner.no_join None) (S.holds store.new) fault) }
 {
-    let threaded = threaded_of(rt, alloc, store, path, seed, manner)?;
+    let threaded = threaded_of(rt, alloc, store, path, seed, manner, watcher)?;
     let (shown, _) = threaded.into_texts()?;
     Ok(shown)
 }
 
 // The same, with the journal of the run written to a file. All that needs memory is done before.
-fn run_threads_with_journal<'a, R: Threads + Wait + Clock + Sync, S: Store>(
+fn run_threads_with_journal<'a, R: Threads + Wait + Clock + Sync, S: Store, V: RunWatcher>(
     rt: &R,
     alloc: Global,
     store: &mut S,
@@ -68,12 +71,13 @@ fn run_threads_with_journal<'a, R: Threads + Wait + Clock + Sync, S: Store>(
     seed: u32,
     manner: Manner,
     file: &'a str,
+    watcher: &mut V,
 ) -> Result<Shown, Fault<'a>>
     ensures done { IfOk result (Does (S.holds store.old) (threads path.now seed manner.may_stop manner.no_join (Some file.now)) (S.holds store.new)) }
     ensures fault { IfErr result (λ fault. (fault ≢ CannotWriteOutput)
         × IsFault (S.holds store.old) (S.ran_short store.new) (S.refuses store.new) (threads path.now seed manner.may_stop manner.no_join (Some file.now)) (S.holds store.new) fault) }
 {
-    let threaded = threaded_of(rt, alloc, store, path, seed, manner)?;
+    let threaded = threaded_of(rt, alloc, store, path, seed, manner, watcher)?;
     let (shown, journal) = threaded.into_texts()?;
     match store.write(file, journal.as_bytes()) {
         Ok(()) => Ok(shown),
@@ -82,13 +86,14 @@ fn run_threads_with_journal<'a, R: Threads + Wait + Clock + Sync, S: Store>(
 }
 
 // A run of the script of a file.
-fn threaded_of<'a, R: Threads + Wait + Clock + Sync, S: Store>(
+fn threaded_of<'a, R: Threads + Wait + Clock + Sync, S: Store, V: RunWatcher>(
     rt: &R,
     alloc: Global,
     store: &mut S,
     path: &'a str,
     seed: u32,
     manner: Manner,
+    watcher: &mut V,
 ) -> Result<Threaded, Fault<'a>>
     ensures told { IfOk result (IsTold (S.holds store.old path.now) manner.no_join manner.may_stop) }
     ensures taken { IfOk result (λ threaded. IsTaken (S.holds store.old path.now)) }
@@ -96,7 +101,7 @@ fn threaded_of<'a, R: Threads + Wait + Clock + Sync, S: Store>(
     ensures files { SameFiles (S.holds store.old) (S.holds store.new) }
 {
     let script = script_of(alloc, store, path)?;
-    Ok(run_on_threads(rt, alloc, &script, seed, manner)?)
+    Ok(run_on_threads(rt, alloc, &script, seed, manner, watcher)?)
 }
 
 // The script that a file writes, all of whose lines threads take.
