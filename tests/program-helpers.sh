@@ -85,16 +85,6 @@ try_any() {
     judge "$name" 0 "$came" none none none came.err
 }
 
-# Runs the program on words to which it writes something, and a note on standard error: the name of the case, and the file that holds the note.
-try_noted() {
-    local name=$1 note=$2 came
-    shift 2
-    timeout 120 "$program" "$@" >came.out 2>came.err </dev/null
-    came=$?
-    [ -s came.out ] || came="$came, with nothing on standard output"
-    judge "$name" 0 "$came" none none "$note" came.err
-}
-
 # Runs the program on a script whose first bad line it tells: the command, the number of that line, and the text. In the text are escapes, as of a
 # blank at the end of a line.
 try_bad_line() {

@@ -428,20 +428,6 @@ for format in svg mermaid trace; do
     cmp -s part.$format whole.$format
     judge "that it is a part, as $format" 1 $? none none none none
 done
-echo 'no entry is in the window' >no-entry
-{ echo 'cluster nodes 1 files 1 policy wide'; for _ in $(seq 405); do echo 'call 1 1 spawn'; done; } >spawns.lock
-try 'a journal of 405 entries' 0 none none run spawns.lock --journal spawns.journal --quiet
-for format in svg mermaid trace; do
-    try_noted "none of it as $format" no-entry picture written.journal --format $format --from 8
-    echo 'entries 401 to 405 are left out: a picture shows 400 at most' >left-out
-    try_noted "the first 400 entries as $format" left-out picture spawns.journal --format $format
-    try_noted "entries around the last call as $format" none picture spawns.journal --format $format --around 1.1.405
-    echo 'entries 402 to 404 are left out: a picture shows 400 at most' >left-out
-    try_noted "400 entries from the second on as $format" left-out picture spawns.journal --format $format --from 2 --to 404
-    try_noted "the last 400 entries as $format" none picture spawns.journal --format $format --from 6
-    try_noted "an entry behind the last one as $format" no-entry picture spawns.journal --format $format --from 5 --to 4
-done
-rm spawns.lock spawns.journal
 sed 's/^reply 1.1.1 done$/reply 1.1.1 exists/' first.journal >wrong.journal
 echo 'audit no 1' >no-first
 try 'a story by a journal that is none of a run' 1 no-first none explain wrong.journal 1.1.1

@@ -5,7 +5,7 @@ use Rattle.command_line.specs.Tasks.{Task, run, threads, audit, history, explain
 use Rattle.replay.specs.declared.fault.Fault.{Fault}
 use Rattle.replay.specs.declared.fault.Fault.TheVariants.{BadLine, CannotRead, CannotWrite, CannotWriteOutput, NoMemory, JournalFull, OldJournal, Faulty}
 use Rattle.replay.specs.declared.shown.Shown.{Shown}
-use Rattle.replay.specs.declared.shown.Shown.TheVariants.{Text, Wanting, Partial, Noted, Yes, No}
+use Rattle.replay.specs.declared.shown.Shown.TheVariants.{Text, Wanting, Partial, Yes, No}
 use Rattle.replay.specs.Commands.{Does, GoesOn, HasJournalFor, IsFault, KeepsJournal, SameButJournal}
 use Rattle.replay.specs.Stores.{Files, SameFiles, SameOthers}
 
@@ -34,7 +34,6 @@ gone-on : (old new : Files) (script after : List ℕ) (to : Option (List ℕ)) (
 gone-on old new script after to with_open quiet j (Text text) is = kept-run old new script (Some after) to with_open quiet _ is.1.3
 gone-on old new script after to with_open quiet j (Wanting text) is = absurd is.1.2
 gone-on old new script after to with_open quiet j (Partial text told) is = absurd is.1.2
-gone-on old new script after to with_open quiet j (Noted text note) is = absurd is.1.2
 gone-on old new script after to with_open quiet j Yes is = absurd is.1.2
 gone-on old new script after to with_open quiet j (No position) is = same-but old new (run script (Some after) to with_open quiet) is.1
 

@@ -9,7 +9,7 @@ use Rattle.journal_text.specs.Readings.{WritesJournal}
 use Rattle.replay.specs.declared.fault.Fault.{Fault}
 use Rattle.replay.specs.declared.fault.Fault.TheVariants.{CannotWrite, CannotWriteOutput}
 use Rattle.replay.specs.declared.shown.Shown.{Shown}
-use Rattle.replay.specs.declared.shown.Shown.TheVariants.{Text, Wanting, Partial, Noted, Yes, No}
+use Rattle.replay.specs.declared.shown.Shown.TheVariants.{Text, Wanting, Partial, Yes, No}
 use Rattle.replay.specs.Audits.{HasJournal, HasNewJournal, IsAudit, IsHistory}
 use Rattle.replay.specs.Faults.{IsBehindFault, IsCheckFault, IsJournalFault, IsOldFault, IsScriptFault, IsThreadsFault}
 use Rattle.replay.specs.Explorations.{IsExploreFault, IsExplored, IsScheduled}
@@ -46,7 +46,6 @@ IsRunText played with_open quiet text = (listing : List ℕ) × IsListingUnless 
 abbrev pub ShowsRun : PlayedState → Bool → Bool → Shown → Type 0
 ShowsRun played with_open quiet (Wanting text) = ⊥
 ShowsRun played with_open quiet (Partial text told) = ⊥
-ShowsRun played with_open quiet (Noted text note) = ⊥
 ShowsRun played with_open quiet Yes = ⊥
 ShowsRun played with_open quiet (No position) = ⊥
 ShowsRun played with_open quiet (Text text) = IsRunText played with_open quiet (string_bytes text)

@@ -5,14 +5,13 @@ use Rattle.recordings.specs.Texts.{IsOfEvents}
 use Rattle.replay.specs.declared.fault.Fault.{Fault}
 use Rattle.replay.specs.declared.fault.Fault.TheVariants.{CannotRead, NoMemory}
 use Rattle.replay.specs.declared.shown.Shown.{Shown}
-use Rattle.replay.specs.declared.shown.Shown.TheVariants.{Text, Wanting, Partial, Noted, Yes, No}
+use Rattle.replay.specs.declared.shown.Shown.TheVariants.{Text, Wanting, Partial, Yes, No}
 use Rattle.replay.specs.Stores.{HasText, HasNoText}
 
 -- what is shown of a recording: a script, which some events make on so many nodes, and what is noted of them, if anything is; that they are the events of the file is not said
 abbrev pub IsRecorded : ℕ → Shown → Type 0
 IsRecorded nodes (Text text) = HasScript (string_bytes text) × IsOfEvents nodes (string_bytes text) []
 IsRecorded nodes (Partial text told) = HasScript (string_bytes text) × IsOfEvents nodes (string_bytes text) (string_bytes told) × (string_bytes told ≢ [])
-IsRecorded nodes (Noted text note) = ⊥
 IsRecorded nodes (Wanting text) = ⊥
 IsRecorded nodes Yes = ⊥
 IsRecorded nodes (No position) = ⊥

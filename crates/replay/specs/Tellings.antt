@@ -1,5 +1,5 @@
 -- What is told of a journal's calls, and of a script.
-use Rattle.std.specs.Prelude.{◌≡◌, ℕ, ◌+◌, ◌-◌, ◌⊎◌, Bool, true, false, All, map, max, min, nat_lt, if◌then◌else◌, length, List, [], ◌++◌, codes, decimal, string_bytes, Option, Some, None}
+use Rattle.std.specs.Prelude.{◌≡◌, ℕ, ◌+◌, ◌-◌, ◌⊎◌, Bool, true, false, All, map, max, min, List, [], ◌++◌, codes, string_bytes, Option, Some, None}
 use Rattle.command_line.specs.declared.format.Format.{Format}
 use Rattle.command_line.specs.declared.format.Format.TheVariants.{Svg, Mermaid, Trace}
 use Rattle.diagrams.specs.Sequences.{sequence_text}
@@ -21,7 +21,7 @@ use Rattle.pictures.specs.Pictures.{picture_text}
 use Rattle.stories.specs.OpenCalls.{open_text}
 use Rattle.stories.specs.Stories.{is_made, story_text}
 use Rattle.replay.specs.declared.shown.Shown.{Shown}
-use Rattle.replay.specs.declared.shown.Shown.TheVariants.{Text, Wanting, Partial, Noted, Yes, No}
+use Rattle.replay.specs.declared.shown.Shown.TheVariants.{Text, Wanting, Partial, Yes, No}
 
 -- the text is the story of the call of this name, which an entry makes, with its place in the one history of the run
 abbrev pub IsStoryOf : JournalFields → List ℕ → List ℕ → Type 0
@@ -44,7 +44,6 @@ IsExplained j name (Text text) = IsRun j.shape j.entries × IsStoryOf j name (st
 IsExplained j name (Wanting text) = IsRun j.shape j.entries × HasNoCall j name × (string_bytes text ≡ no_call_text (Some name))
 IsExplained j name (No position) = IsFirstWrong j.shape j.entries position
 IsExplained j name (Partial text told) = ⊥
-IsExplained j name (Noted text note) = ⊥
 IsExplained j name Yes = ⊥
 
 -- what is shown of the calls without a reply: they, where the entries are a run, or the first wrong entry
@@ -53,7 +52,6 @@ IsOpenTold j (Text text) = IsRun j.shape j.entries × (string_bytes text ≡ ope
 IsOpenTold j (No position) = IsFirstWrong j.shape j.entries position
 IsOpenTold j (Wanting text) = ⊥
 IsOpenTold j (Partial text told) = ⊥
-IsOpenTold j (Noted text note) = ⊥
 IsOpenTold j Yes = ⊥
 
 -- what is shown of a script: that it is one, and whether threads take it
@@ -61,7 +59,6 @@ abbrev pub IsScriptTold : ScriptFields → Shown → Type 0
 IsScriptTold script (Text text) = string_bytes text ≡ verdict_text script.lines
 IsScriptTold script (Wanting text) = ⊥
 IsScriptTold script (Partial text told) = ⊥
-IsScriptTold script (Noted text note) = ⊥
 IsScriptTold script Yes = ⊥
 IsScriptTold script (No position) = ⊥
 
@@ -70,7 +67,6 @@ abbrev pub IsJournalTold : Shown → Type 0
 IsJournalTold (Text text) = string_bytes text ≡ codes "journal yes\n"
 IsJournalTold (Wanting text) = ⊥
 IsJournalTold (Partial text told) = ⊥
-IsJournalTold (Noted text note) = ⊥
 IsJournalTold Yes = ⊥
 IsJournalTold (No position) = ⊥
 
@@ -100,17 +96,11 @@ narrowed window = record { from = window.from; to = min window.to (window.from +
 abbrev pub between : ℕ → ℕ → Window → Window
 between from to window = record { from = max window.from from; to = min window.to to }
 
--- the window that is asked for: from one position to another, and around the call of a name, if one is given
-abbrev pub IsAsked : JournalFields → Option (List ℕ) → ℕ → ℕ → Window → Type 0
-IsAsked j None from to window = window ≡ record { from = from; to = to }
-IsAsked j (Some name) from to window =
-    (call : CallId) × (name ≡ call_text call) × ((wide : Window) × (around margin call j.entries ≡ Some wide) × (window ≡ between from to wide))
-
--- what is told beside the picture of a window, where this is the last entry of those that were asked for
-abbrev pub note_text : Window → ℕ → List ℕ
-note_text window last =
-    if nat_lt window.to last then codes "entries " ++ decimal (window.to + 1) ++ codes " to " ++ decimal last ++ codes " are left out: a picture shows 400 at most\n"
-    else (if nat_lt last window.from then codes "no entry is in the window\n" else [])
+-- the window of a picture from one position to another, and around the call of a name, if one is given
+abbrev pub IsWindow : JournalFields → Option (List ℕ) → ℕ → ℕ → Window → Type 0
+IsWindow j None from to window = window ≡ narrowed (record { from = from; to = to })
+IsWindow j (Some name) from to window =
+    (call : CallId) × (name ≡ call_text call) × ((wide : Window) × (around margin call j.entries ≡ Some wide) × (window ≡ narrowed (between from to wide)))
 
 -- no entry belongs to a call of this name
 abbrev pub HasNothingOf : JournalFields → List ℕ → Type 0
@@ -136,12 +126,9 @@ Draws j history window Trace text = text ≡ trace_text j.shape j.entries histor
 abbrev pub IsPictureOf : JournalFields → Window → Format → List ℕ → Type 0
 IsPictureOf j window format text = (history : List Item) × HasHistory j.shape j.entries history × EachAtItsPlace j.entries history × Draws j history window format text
 
--- what is shown of a picture: it, where the entries are a run, with a note on what is left out of it, or that there is no call of the name that was given, or the first wrong entry
+-- what is shown of a picture: it, where the entries are a run, or that there is no call of the name that was given, or the first wrong entry
 abbrev pub IsDrawn : JournalFields → Option (List ℕ) → ℕ → ℕ → Format → Shown → Type 0
-IsDrawn j name from to format (Noted text note) =
-    IsRun j.shape j.entries
-    × ((asked : Window) × IsAsked j name from to asked × IsPictureOf j (narrowed asked) format (string_bytes text) × (string_bytes note ≡ note_text (narrowed asked) (min asked.to (length j.entries))))
-IsDrawn j name from to format (Text text) = ⊥
+IsDrawn j name from to format (Text text) = IsRun j.shape j.entries × ((window : Window) × IsWindow j name from to window × IsPictureOf j window format (string_bytes text))
 IsDrawn j name from to format (Wanting text) = IsRun j.shape j.entries × HasNoWindow j name × (string_bytes text ≡ no_call_text name)
 IsDrawn j name from to format (No position) = IsFirstWrong j.shape j.entries position
 IsDrawn j name from to format (Partial text told) = ⊥

@@ -4,7 +4,7 @@ ghost use Rattle.command_line.specs.Tasks.{picture};
 ghost use Rattle.replay.specs.declared.fault.Fault.TheVariants.{CannotWriteOutput};
 ghost use Rattle.replay.specs.Commands.{Does, IsFault};
 ghost use Rattle.command_line.specs.declared.format.Format.TheVariants.{Svg};
-ghost use Rattle.replay.specs.Tellings.{Draws, HasNoWindow, HasNothingOf, IsAsked, IsDrawn, IsPictureOf, between, narrowed, no_call_text, note_text};
+ghost use Rattle.replay.specs.Tellings.{Draws, HasNoWindow, HasNothingOf, IsDrawn, IsPictureOf, IsWindow, between, narrowed, no_call_text};
 
 use crate::audit::{Audited, checked};
 use crate::explain::no_call;
@@ -75,16 +75,10 @@ fn drawn(
     ensures { IfOk result (IsDrawn journal.now (option_map (λ call. call.now) name.entry) asked.now.from asked.now.to format) }
 {
     let _ = journal.entries(); // tells the proof that they are a run
-    let Some(wide) = window_of(journal, name, asked) else {
-        return Ok(Shown::Wanting(no_call_of(alloc, name)?));
-    };
-    let window = narrowed(&wide);
-    let text = picture_in(alloc, journal, &window, format)?;
-    let last = wide.to.min(journal.entries().len() as u64);
-    Ok(Shown::Noted {
-        text,
-        note: note_of(alloc, &window, last)?,
-    })
+    match window_of(journal, name, asked) {
+        Some(window) => Ok(Shown::Text(picture_in(alloc, journal, &window, format)?)),
+        None => Ok(Shown::Wanting(no_call_of(alloc, name)?)),
+    }
 }
 
 // That there is no call of the name, if one was given.
@@ -97,40 +91,24 @@ fn no_call_of(alloc: Global, name: Option<&str>) -> Result<String, AllocError>
     }
 }
 
-// What is told beside the picture of a window, where `last` is the last entry of those that were asked for.
-fn note_of(alloc: Global, window: &Window, last: u64) -> Result<String, AllocError>
-    ensures { IfOk result (λ note. string_bytes note ≡ note_text window.now last) }
-{
-    if window.to < last {
-        let first = window.to + 1;
-        return format!(in alloc;
-            "entries {first} to {last} are left out: a picture shows 400 at most\n"
-        );
-    }
-    if last < window.from {
-        return String::from_str(alloc, "no entry is in the window\n");
-    }
-    Ok(String::new(alloc))
-}
-
-// The entries that were asked for; none where there is no call of the name.
+// The entries that are drawn; none where there is no call of the name.
 fn window_of(journal: &Journal, name: Option<&str>, asked: &Window) -> Option<Window>
     ensures { MatchOption result (HasNoWindow journal.now (option_map (λ call. call.now) name.entry))
-        (IsAsked journal.now (option_map (λ call. call.now) name.entry) asked.now.from asked.now.to) }
+        (IsWindow journal.now (option_map (λ call. call.now) name.entry) asked.now.from asked.now.to) }
 {
     match name {
         Some(name) => window_around(journal, name, asked),
-        None => Some(*asked),
+        None => Some(narrowed(asked)),
     }
 }
 
 // Those around the call of this name.
 fn window_around(journal: &Journal, name: &str, asked: &Window) -> Option<Window>
-    ensures { MatchOption result (HasNothingOf journal.now name.now) (IsAsked journal.now (Some name.now) asked.now.from asked.now.to) }
+    ensures { MatchOption result (HasNothingOf journal.now name.now) (IsWindow journal.now (Some name.now) asked.now.from asked.now.to) }
 {
     let call = call_of(name)?;
     let wide = around(journal.entries(), &call, MARGIN)?;
-    Some(between(asked, &wide))
+    Some(narrowed(&between(asked, &wide)))
 }
 
 // The part of a window that another has too.

@@ -18,8 +18,6 @@ pub enum Shown {
     /// A text of a part of what was asked for, and what is told of the rest: of a run on threads that was
     /// ended as stuck, a line for each call that is open then; of recorded locks, one for each that is not served.
     Partial { text: String, told: String },
-    /// A text, and what is told beside it: of a picture, which entries it leaves out.
-    Noted { text: String, note: String },
     /// `audit yes`: the entries of the journal are a run.
     Yes,
     /// `audit no K`: the entry at this position, from 1, is the first that is not the next step.
@@ -32,7 +30,7 @@ impl Shown {
         ensures { result ≡ shown_status self.now }
     {
         match self {
-            Shown::Text(_) | Shown::Noted { .. } | Shown::Yes => 0,
+            Shown::Text(_) | Shown::Yes => 0,
             Shown::Wanting(_) | Shown::Partial { .. } | Shown::No(_) => 1,
         }
     }
@@ -50,18 +48,12 @@ impl Shown {
         out.finish()
     }
 
-    /// Tells of what is left out, if anything is, or noted. What can't be written is lost.
+    /// Tells of what is left out, if anything is. What can't be written is lost.
     pub(crate) fn tell<E: Output>(&self, err: &mut E)
         ensures { TellsBeside E.taken E.has_failed err.old err.new self.now }
     {
-        match self {
-            Shown::Partial { told, .. } => {
-                let _ = err.put(told.as_bytes());
-            }
-            Shown::Noted { note, .. } => {
-                let _ = err.put(note.as_bytes());
-            }
-            _ => {}
+        if let Shown::Partial { told, .. } = self {
+            let _ = err.put(told.as_bytes());
         }
     }
 
@@ -70,7 +62,7 @@ impl Shown {
     {
         match self {
             Shown::Text(text) | Shown::Wanting(text) => out.put(text.as_bytes()),
-            Shown::Partial { text, .. } | Shown::Noted { text, .. } => out.put(text.as_bytes()),
+            Shown::Partial { text, .. } => out.put(text.as_bytes()),
             Shown::Yes => put_line(out, "audit yes", ""),
             Shown::No(position) => put_line(out, "audit no ", Buffer::new().format(*position)),
         }
