@@ -1,5 +1,5 @@
 -- What is told of a journal's calls, and of a script.
-use Rattle.std.specs.Prelude.{◌≡◌, ℕ, ◌+◌, ◌-◌, ◌⊎◌, Bool, true, false, All, map, max, min, List, [], ◌++◌, codes, string_bytes, Option, Some, None}
+use Rattle.std.specs.Prelude.{◌≡◌, ℕ, ◌+◌, ◌-◌, ◌⊎◌, Bool, true, false, All, map, ◌≤◌, ◌<◌, max, min, length, List, [], ◌++◌, codes, decimal, string_bytes, Option, Some, None}
 use Rattle.command_line.specs.declared.format.Format.{Format}
 use Rattle.command_line.specs.declared.format.Format.TheVariants.{Svg, Mermaid, Trace}
 use Rattle.diagrams.specs.Sequences.{sequence_text}
@@ -96,11 +96,19 @@ narrowed window = record { from = window.from; to = min window.to (window.from +
 abbrev pub between : ℕ → ℕ → Window → Window
 between from to window = record { from = max window.from from; to = min window.to to }
 
--- the window of a picture from one position to another, and around the call of a name, if one is given
-abbrev pub IsWindow : JournalFields → Option (List ℕ) → ℕ → ℕ → Window → Type 0
-IsWindow j None from to window = window ≡ narrowed (record { from = from; to = to })
-IsWindow j (Some name) from to window =
-    (call : CallId) × (name ≡ call_text call) × ((wide : Window) × (around margin call j.entries ≡ Some wide) × (window ≡ narrowed (between from to wide)))
+-- the window that is asked for: from one position to another, and around the call of a name, if one is given
+abbrev pub IsAsked : JournalFields → Option (List ℕ) → ℕ → ℕ → Window → Type 0
+IsAsked j None from to window = window ≡ record { from = from; to = to }
+IsAsked j (Some name) from to window =
+    (call : CallId) × (name ≡ call_text call) × ((wide : Window) × (around margin call j.entries ≡ Some wide) × (window ≡ between from to wide))
+
+-- the last entry of a window that is asked for
+abbrev pub last_of : JournalFields → Window → ℕ
+last_of j asked = min asked.to (length j.entries)
+
+-- which entries up to this one a picture of the window leaves out
+abbrev pub left_out_text : Window → ℕ → List ℕ
+left_out_text window last = codes "entries " ++ decimal (window.to + 1) ++ codes " to " ++ decimal last ++ codes " are left out: a picture shows 400 at most\n"
 
 -- no entry belongs to a call of this name
 abbrev pub HasNothingOf : JournalFields → List ℕ → Type 0
@@ -126,10 +134,14 @@ Draws j history window Trace text = text ≡ trace_text j.shape j.entries histor
 abbrev pub IsPictureOf : JournalFields → Window → Format → List ℕ → Type 0
 IsPictureOf j window format text = (history : List Item) × HasHistory j.shape j.entries history × EachAtItsPlace j.entries history × Draws j history window format text
 
--- what is shown of a picture: it, where the entries are a run, or that there is no call of the name that was given, or the first wrong entry
+-- what is shown of a picture: it, where the entries are a run, with what it leaves out, if anything, or that there is no call of the name that was given, or the first wrong entry
 abbrev pub IsDrawn : JournalFields → Option (List ℕ) → ℕ → ℕ → Format → Shown → Type 0
-IsDrawn j name from to format (Text text) = IsRun j.shape j.entries × ((window : Window) × IsWindow j name from to window × IsPictureOf j window format (string_bytes text))
+IsDrawn j name from to format (Text text) =
+    IsRun j.shape j.entries × ((asked : Window) × IsAsked j name from to asked × IsPictureOf j (narrowed asked) format (string_bytes text) × (last_of j asked ≤ (narrowed asked).to))
+IsDrawn j name from to format (Partial text told) =
+    IsRun j.shape j.entries
+    × ((asked : Window) × IsAsked j name from to asked × IsPictureOf j (narrowed asked) format (string_bytes text)
+    × ((narrowed asked).to < last_of j asked) × (string_bytes told ≡ left_out_text (narrowed asked) (last_of j asked)))
 IsDrawn j name from to format (Wanting text) = IsRun j.shape j.entries × HasNoWindow j name × (string_bytes text ≡ no_call_text name)
 IsDrawn j name from to format (No position) = IsFirstWrong j.shape j.entries position
-IsDrawn j name from to format (Partial text told) = ⊥
 IsDrawn j name from to format Yes = ⊥

@@ -1,10 +1,10 @@
 //! The picture of a journal.
-ghost use Rattle.std.specs.Prelude.{◌≡◌, ◌≢◌, IfErr, IfOk, MatchOption, Some, option_map, string_bytes};
+ghost use Rattle.std.specs.Prelude.{◌≡◌, ◌≢◌, ◌++◌, codes, decimal, IfErr, IfOk, MatchOption, Some, option_map, string_bytes};
 ghost use Rattle.command_line.specs.Tasks.{picture};
 ghost use Rattle.replay.specs.declared.fault.Fault.TheVariants.{CannotWriteOutput};
 ghost use Rattle.replay.specs.Commands.{Does, IsFault};
 ghost use Rattle.command_line.specs.declared.format.Format.TheVariants.{Svg};
-ghost use Rattle.replay.specs.Tellings.{Draws, HasNoWindow, HasNothingOf, IsDrawn, IsPictureOf, IsWindow, between, narrowed, no_call_text};
+ghost use Rattle.replay.specs.Tellings.{Draws, HasNoWindow, HasNothingOf, IsAsked, IsDrawn, IsPictureOf, between, narrowed, no_call_text};
 
 use crate::audit::{Audited, checked};
 use crate::explain::no_call;
@@ -75,10 +75,19 @@ fn drawn(
     ensures { IfOk result (IsDrawn journal.now (option_map (λ call. call.now) name.entry) asked.now.from asked.now.to format) }
 {
     let _ = journal.entries(); // tells the proof that they are a run
-    match window_of(journal, name, asked) {
-        Some(window) => Ok(Shown::Text(picture_in(alloc, journal, &window, format)?)),
-        None => Ok(Shown::Wanting(no_call_of(alloc, name)?)),
+    let Some(wide) = window_of(journal, name, asked) else {
+        return Ok(Shown::Wanting(no_call_of(alloc, name)?));
+    };
+    let window = narrowed(&wide);
+    let text = picture_in(alloc, journal, &window, format)?;
+    let last = wide.to.min(journal.entries().len() as u64);
+    if window.to < last {
+        return Ok(Shown::Partial {
+            text,
+            told: left_out(alloc, window.to + 1, last)?,
+        });
     }
+    Ok(Shown::Text(text))
 }
 
 // That there is no call of the name, if one was given.
@@ -91,24 +100,31 @@ fn no_call_of(alloc: Global, name: Option<&str>) -> Result<String, AllocError>
     }
 }
 
-// The entries that are drawn; none where there is no call of the name.
+// Which entries a picture leaves out, from the first to the last.
+fn left_out(alloc: Global, first: u64, last: u64) -> Result<String, AllocError>
+    ensures { IfOk result (λ told. string_bytes told ≡ codes "entries " ++ decimal first ++ codes " to " ++ decimal last ++ codes " are left out: a picture shows 400 at most\n") }
+{
+    format!(in alloc; "entries {first} to {last} are left out: a picture shows 400 at most\n")
+}
+
+// The entries that were asked for; none where there is no call of the name.
 fn window_of(journal: &Journal, name: Option<&str>, asked: &Window) -> Option<Window>
     ensures { MatchOption result (HasNoWindow journal.now (option_map (λ call. call.now) name.entry))
-        (IsWindow journal.now (option_map (λ call. call.now) name.entry) asked.now.from asked.now.to) }
+        (IsAsked journal.now (option_map (λ call. call.now) name.entry) asked.now.from asked.now.to) }
 {
     match name {
         Some(name) => window_around(journal, name, asked),
-        None => Some(narrowed(asked)),
+        None => Some(*asked),
     }
 }
 
 // Those around the call of this name.
 fn window_around(journal: &Journal, name: &str, asked: &Window) -> Option<Window>
-    ensures { MatchOption result (HasNothingOf journal.now name.now) (IsWindow journal.now (Some name.now) asked.now.from asked.now.to) }
+    ensures { MatchOption result (HasNothingOf journal.now name.now) (IsAsked journal.now (Some name.now) asked.now.from asked.now.to) }
 {
     let call = call_of(name)?;
     let wide = around(journal.entries(), &call, MARGIN)?;
-    Some(narrowed(&between(asked, &wide)))
+    Some(between(asked, &wide))
 }
 
 // The part of a window that another has too.

@@ -5,7 +5,7 @@ use std::io::Write;
 use std::time::{Clock, Duration, Instant};
 
 // How many parts pass at the most between two looks at the clock.
-const MOST_BETWEEN_LOOKS: u64 = 1024;
+const MOST_BETWEEN_LOOKS: u64 = 64;
 
 // Where two looks are less apart than so many milliseconds, twice as many parts pass until the next one, else half as many.
 const MILLISECONDS_BETWEEN_LOOKS: u64 = 50;
@@ -148,7 +148,7 @@ impl<C: Clock, W: Write> RunWatcher for Meter<'_, C, W> {
             return;
         }
         if let Some(terminal) = self.terminal.as_mut() {
-            let _ = write!(terminal, "\r{open} calls open, {entries} entries\x1b[K");
+            let _ = write!(terminal, "\ropen calls {open}, entries {entries}\x1b[K");
             self.is_shown = true;
         }
     }
