@@ -85,6 +85,18 @@ try_any() {
     judge "$name" 0 "$came" none none none came.err
 }
 
+# Runs the program on words to which it writes something: the name of the case, the status, a word that it has to write and one that it must
+# not, and the file that holds what it tells beside it.
+try_part() {
+    local name=$1 status=$2 word=$3 other=$4 told=$5 came
+    shift 5
+    timeout 120 "$program" "$@" >came.out 2>came.err </dev/null
+    came=$?
+    grep -q -F -- "$word" came.out || came="$came, without $word"
+    if grep -q -F -- "$other" came.out; then came="$came, with $other"; fi
+    judge "$name" "$status" "$came" none none "$told" came.err
+}
+
 # Runs the program on a script whose first bad line it tells: the command, the number of that line, and the text. In the text are escapes, as of a
 # blank at the end of a line.
 try_bad_line() {

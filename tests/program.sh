@@ -428,6 +428,20 @@ for format in svg mermaid trace; do
     cmp -s part.$format whole.$format
     judge "that it is a part, as $format" 1 $? none none none none
 done
+{ echo 'cluster nodes 1 files 1 policy wide'; for _ in $(seq 405); do echo 'call 1 1 spawn'; done; } >spawns.lock
+try 'a journal of 405 entries' 0 none none run spawns.lock --journal spawns.journal --quiet
+for format in svg mermaid trace; do
+    echo 'entries 401 to 405 are left out: a picture shows 400 at most' >left-out
+    try_part "the first 400 of its entries as $format" 1 1.1.400 1.1.401 left-out picture spawns.journal --format $format
+    echo 'entries 402 to 404 are left out: a picture shows 400 at most' >left-out
+    try_part "400 of them from the second on as $format" 1 1.1.401 1.1.402 left-out picture spawns.journal --format $format --from 2 --to 404
+    try_part "the 400 that were asked for as $format" 0 1.1.400 1.1.401 none picture spawns.journal --format $format --to 400
+    case $format in svg) fifth='1.1.5 ' ;; mermaid) fifth='1.1.5)' ;; trace) fifth='1.1.5"' ;; esac
+    try_part "the fifth one as $format" 0 "$fifth" 1.1.6 none picture spawns.journal --format $format --from 5 --to 5
+    try_part "the last 400 as $format" 0 1.1.405 "$fifth" none picture spawns.journal --format $format --from 6
+    try_part "those around the last call as $format" 0 1.1.405 1.1.394 none picture spawns.journal --format $format --around 1.1.405
+done
+rm spawns.lock spawns.journal
 sed 's/^reply 1.1.1 done$/reply 1.1.1 exists/' first.journal >wrong.journal
 echo 'audit no 1' >no-first
 try 'a story by a journal that is none of a run' 1 no-first none explain wrong.journal 1.1.1

@@ -517,13 +517,15 @@ to_and_fro() {
         for node in 1 2; do printf 'call %s 1 set 0 proc write 0 10\ncall %s 1 unlock 0 proc 0 10\nsettle\n' $node $node; done
     done
 }
-# What a terminal was shown, as a line for each text. One that is no such line, or goes on from fewer entries or beyond the last, is marked.
+# What a terminal was shown, in so many seconds, of a run with so many entries. A text that is no such line, that comes sooner than a second after
+# the one before, that has as many entries as that or more than the last, or that comes behind the end is told.
 told_on_terminal() {
-    tr '\r' '\n' <"$1" | sed '1d;$d' | awk -v last="$2" '
-    /^[0-9]+ calls open, [0-9]+ entries\033\[K$/ && $1 <= 2 && $4 + 0 >= before && $4 + 0 <= last { before = $4 + 0; told++; next }
+    tr '\r' '\n' <"$1" | awk -v took="$2" -v last="$3" '
+    NR == 1 && $0 == "" { next }
+    /^open calls [12], entries [0-9]+\033\[K$/ && !over && told < took && $5 + 0 > before && $5 + 0 <= last { before = $5 + 0; told++; next }
+    $0 == "\033[K" && !over { over = 1; next }
     { print "another line: " $0 }
-    END { print (told > 0 ? "told" : "nothing") }'
-    tail -c 4 "$1"
+    END { print (told > 0 && over ? "told" : "nothing") }'
 }
 rounds=100
 for _ in {1..8}; do
@@ -533,10 +535,10 @@ for _ in {1..8}; do
     came=$?
     ((came != 0 || took >= 2)) && break
 done
-told_on_terminal shown "$(sed -n '$s/^end //p' threads.journal)" >told
+told_on_terminal shown "$took" "$(sed -n '$s/^end //p' threads.journal)" >told
 tail -n 2 threads.out >came.out
 printf 'receipts %s\naudit yes\n' $((4 * rounds + 4)) >wanted
-printf 'told\n\r\033[K' >wanted.told
+echo told >wanted.told
 judge 'how far a run on threads is, on a terminal' 0 "$came" wanted came.out wanted.told told
 
 # The first line that is no line of a script, or that threads do not take, is told.

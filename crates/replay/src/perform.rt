@@ -38,8 +38,8 @@ use std::time::Clock;
 ///
 /// It is 1 where the journal that the line names is none of a run, or has no call of the name. So it is where a run on
 /// threads lacks a receipt in its journal or was ended as stuck, where an outcome breaks what is expected, and where a
-/// part of a recording is left out. The second writer is told the open calls of a run that was ended as stuck, and the
-/// notes of a recording.
+/// part of a recording, or of the picture that is asked for, is left out. The second writer is told the open calls of a
+/// run that was ended as stuck, the notes of a recording, and which entries a picture leaves out.
 ///
 /// At 3 and 4 one line on the second writer says why (of a script that is checked, a line for each of the first hundred
 /// bad ones, and how many more there are), and the
@@ -67,8 +67,8 @@ pub fn perform<
     ensures status { IsStatus result }
 
     // Done: what the file comes to is written and has gone on, the journal that a run is asked for is in
-    // its file, and the second writer got nothing, but of a run that was ended as stuck its open calls, and of a
-    // recording its notes.
+    // its file, and the second writer got nothing, but of a run that was ended as stuck its open calls, of a
+    // recording its notes, and of a picture which entries it leaves out.
     ensures done { result ≤ 1 → Shows (Does (S.holds store.old) (task_of line.now) (S.holds store.new)) (O.taken out.old) (O.taken out.new)
         (TellsBeside E.taken E.has_failed err.old err.new) result }
     ensures flushed { result ≤ 1 → O.is_flushed out.new }
