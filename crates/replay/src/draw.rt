@@ -24,6 +24,7 @@ use pictures::picture::picture;
 use pictures::window::Window;
 use placement::placed::placed;
 use std::alloc::{AllocError, Global};
+use std::fmt::Write;
 
 // How many entries a picture shows at most.
 const MOST_DRAWN: u64 = 400;
@@ -104,7 +105,10 @@ fn no_call_of(alloc: Global, name: Option<&str>) -> Result<String, AllocError>
 fn left_out(alloc: Global, first: u64, last: u64) -> Result<String, AllocError>
     ensures { IfOk result (λ told. string_bytes told ≡ codes "entries " ++ decimal first ++ codes " to " ++ decimal last ++ codes " are left out: a picture shows 400 at most\n") }
 {
-    format!(in alloc; "entries {first} to {last} are left out: a picture shows 400 at most\n")
+    let mut told = String::new(alloc);
+    write!(told, "entries {first} to ")?;
+    write!(told, "{last} are left out: a picture shows 400 at most\n")?;
+    Ok(told)
 }
 
 // The entries that were asked for; none where there is no call of the name.
