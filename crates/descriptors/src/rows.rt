@@ -19,20 +19,28 @@ fn row_at(rows: &[ProcessEntry], pid: usize) -> ProcessEntry
 }
 
 /// Whether the process runs.
+#[tactic(auto, unfolding(crate::specs::Rows::processes))]
 pub fn is_running(rows: &[ProcessEntry], pid: usize) -> bool
     ensures { result ≡ (processes rows.now).runs pid }
 {
-    row_at(rows, pid).runs
+    match rows.get(pid) {
+        Some(row) => row.runs,
+        None => false,
+    }
 }
 
 /// What the descriptor of the process refers to.
+#[tactic(auto, unfolding(crate::specs::Rows::processes))]
 pub fn opened_at(rows: &[ProcessEntry], pid: usize, fd: u8) -> Option<Opened>
     requires { AreRows rows.now }
     ensures value { result ≡ (processes rows.now).opened pid fd }
     ensures number { IfSome result (λ opened. IsNumber most_descriptions opened.description) }
     ensures within { IfSome result (λ _. fd < most_descriptors) }
 {
-    row_at(rows, pid).opened(fd)
+    match rows.get(pid) {
+        Some(row) => row.opened(fd),
+        None => None,
+    }
 }
 
 // Makes a place for the process with that number.

@@ -260,7 +260,7 @@ hosts-removed m new host are updates q found some = by (derived.ghosts.eq host q
     by true e = absurd (cc)
     by false e = are q found (sym (kept-by_test m.entries q) ∙ e)
 
--- where nothing is kept of the node, no process of it runs: only a process that begins is not refused
+-- where nothing is kept of the node, no process of it runs, so each call but `Spawn` is refused; where one begins, the node is kept
 pub none-refused : (hosts : HostRows) (host : Host) (pid : ℕ) (call : ProcessCall) → None ≡ kept hosts host → (call ≡ Spawn → IsKept hosts host) → after no_processes pid call ≡ Err NoProcess
 none-refused hosts host pid Spawn none is_kept = absurd (no_rows (kept hosts host) none (subst (λ (r : Option (List ProcessEntry)). IsSome r) (sym (kept-by_test hosts host)) (is_kept refl)))
   where

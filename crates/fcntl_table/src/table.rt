@@ -1,5 +1,5 @@
 //! The table of a single machine.
-ghost use Rattle.std.specs.Prelude.{◌≡◌, ◌≢◌, ◌<◌, None, false, IfOk, IsOk, IsTrue, ◌↔◌, OnOk, OnErr, MatchOption, MatchResult, Result, Ok, Err};
+ghost use Rattle.std.specs.Prelude.{◌≡◌, ◌<◌, None, false, IfOk, IsOk, IsTrue, ◌↔◌, OnOk, OnErr, MatchOption, MatchResult, Result, Ok, Err};
 ghost use Rattle.model.specs.Locks.{IsRegion, IsLowestBlocker};
 ghost use Rattle.model.specs.Descriptors.{Processes};
 ghost use Rattle.model.specs.declared.reply.Reply.{Reply};
@@ -225,7 +225,7 @@ impl FcntlTable {
         }
     }
 
-    // Processes of the host are kept, where one would begin.
+    // Processes of the host are kept, where the call is `Spawn`.
     fn make_room(&mut self, process: Process, call: ProcessCall) -> Result<(), NoMemory>
         ensures same { table_of self.new ≡ table_of self.old }
         ensures kept { OnOk result (call ≡ ProcessCall.Spawn → Keeps self.new (record { node = process.node; incarnation = process.incarnation })) }

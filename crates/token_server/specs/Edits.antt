@@ -28,7 +28,7 @@ use Rattle.token_server.specs.Admitting.{all_but, IsAdmitted}
 use Rattle.token_server.specs.declared.sketch.Sketch.{Sketch}
 use Rattle.token_server.specs.Obstacles.{obstacle}
 use Rattle.token_server.specs.Sketches.{without, still_active, queue_moved, waiting_moved, sketched}
-use Rattle.token_server.specs.Parts.{ServerParts, row_in, row_seen, rows_of, deaths_of, client_at}
+use Rattle.token_server.specs.Parts.{ServerParts, row_in, rows_of, deaths_of, client_at}
 use Rattle.token_server.specs.Ready.{IsReady}
 
 -- a row that is read, as a value
