@@ -1,0 +1,25 @@
+use Rattle.std.proofs.Common.{◌≡◌, ap, sym, ◌∙◌, Some, slice_get, [], ◌∷◌, ◌++◌}
+use Rattle.trail.proofs.Adding.{adds_moves, added}
+use Rattle.trail.proofs.Beginnings.{last_get}
+use Rattle.trail.proofs.trail.Trail.push.Goals as goal
+
+pub compare_exchange-found-requires : goal.compare_exchange-found-requires
+compare_exchange-found-requires g c =
+    let h = c.self.invariant.2 in
+    let offer = c.plain-offer.ensures in
+    let pen = c.no_pen-pen.ensures in (
+      ap (λ w. w.tracked) h,
+      c.self.invariant.1 ∙ sym (ap (λ w. w.book) h),
+      pen.0 ∙ (c.self.invariant.1 ∙ sym (ap (λ w. w.book) h)),
+      offer.0,
+      rw (ap (λ w. w.key) h, pen.1, offer.1, offer.3) (adds_moves c.self.inside.seen.log c.args.item.now c.self.inside.len (sym c.self.invariant.0)),
+    )
+
+pub returns : goal.returns
+returns g c =
+    let v = c.self.inside.seen.log in
+    let w = c.compare_exchange-found.new.seen.log in
+    let item = c.args.item.now in
+    let put : w ≡ v ++ item ∷ [] = added c.plain-offer.result.ask v w c.self.inside.len c.compare_exchange-found.result c.if-found-place.false c.compare_exchange-found.ensures.7 ∙ ap (λ e. v ++ e ∷ []) c.plain-offer.ensures.1 in
+    let stands : slice_get w c.self.inside.len ≡ Some item = rw (put, c.self.invariant.0) (last_get v item) in
+    rw (c.new.ensures, c.again.ensures) stands

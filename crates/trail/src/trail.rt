@@ -1,0 +1,73 @@
+//! Trails.
+ghost use Rattle.std.specs.Prelude.{◌≡◌, [], Some, IfSome};
+ghost use Rattle.trail.specs.Rules.{head_of};
+
+use crate::name::Name;
+use crate::rule::{Add, Law, Nothing};
+use crate::spot::Spot;
+use logbook::{Offer, Seen, Word};
+use std::marker::{Model, PhantomData};
+
+// No place is as high, so that numbers of places don't overflow.
+const MOST: u64 = 1 << 62;
+
+/// The right to see a trail grow: what was seen of it, and its length.
+#[derive(Drop)]
+pub struct Trail<J: Name, E> {
+    head: Word<E, u64, Law>,
+    seen: Seen<E, u64, Law>,
+    len: u64,
+    of: PhantomData<J>,
+}
+
+impl<J: Name, E> Model for Trail<J, E> {
+    ghost use Rattle.std.specs.Prelude.{◌≡◌, length, List};
+    ghost use Rattle.trail.specs.Rules.{head_of};
+
+    ghost Value = { List E };
+
+    ghost view = { λ t. t.seen.log };
+
+    ghost invariant = { λ t. (t.len ≡ length t.seen.log) × (t.seen.book ≡ J.trail) × (t.head ≡ head_of J.trail) };
+}
+
+impl<J: Name, E> Trail<J, E> {
+    pub(crate) fn new(head: Word<E, u64, Law>, seen: Seen<E, u64, Law>) -> Trail<J, E>
+        requires book { seen.book ≡ J.trail }
+        requires empty { seen.log ≡ [] }
+        requires head { head ≡ head_of J.trail }
+    {
+        Trail {
+            head,
+            seen,
+            len: 0,
+            of: PhantomData,
+        }
+    }
+
+    /// Puts an item last, of which nothing is kept but that it stands there: its spot. None where the trail is at its
+    /// greatest length, 2^62, or another has made it longer since.
+    pub fn push(&mut self, item: &E) -> Option<Spot<J, E>>
+        ensures { IfSome result (λ spot. spot.item ≡ Some item.now) }
+    {
+        let place = self.len;
+        if place >= MOST {
+            return None;
+        }
+        let mut offer: Offer<E, u64, Law, Nothing> = self.seen.plain::<Nothing, E, Add>(item);
+        let mut pen = self.seen.no_pen();
+        let found = self.head.compare_exchange::<Add, Nothing>(
+            place,
+            place + 1,
+            &mut self.seen,
+            &mut offer,
+            &mut pen,
+        );
+        if found != place {
+            self.len = found;
+            return None;
+        }
+        self.len = place + 1;
+        Some(Spot::new(place, self.seen.again()))
+    }
+}
