@@ -1,5 +1,5 @@
 //! A cluster on threads.
-ghost use Rattle.std.specs.Prelude.{◌≡◌, ◌+◌, ◌≤◌, ◌↔◌, IfOk, IsErrOf, length};
+ghost use Rattle.std.specs.Prelude.{◌≡◌, ◌+◌, ◌≤◌, ◌↔◌, IfOk, IfSome, IsErrOf, length};
 ghost use Rattle.actors.specs.declared.call_error.CallError.TheVariants.{Stranger};
 ghost use Rattle.model.specs.Limits.{IsNumber, most_nodes, most_processes};
 ghost use Rattle.messages.specs.declared.event.Event.TheVariants.{Declare, FailServer};
@@ -18,6 +18,7 @@ use crate::stuck::is_stuck;
 use crate::weather::Weather;
 use crate::worker::Worker;
 use book::book::Book;
+use book::new_trail::NewTrail;
 use book::seat::Seat;
 use book::stamp::Stamp;
 use cluster_core::journal::Journal;
@@ -33,30 +34,31 @@ use std::sync::{Mutex, Wait};
 use std::thread;
 use std::thread::{Scope, Threads};
 use std::time::Clock;
+use trail::name::Name;
 
 /// A cluster that runs on threads.
 #[derive(Drop)]
-pub struct Cluster<'a> {
+pub struct Cluster<'a, J: Name> {
     alloc: Global,
     nodes: u8,
-    book: &'a Mutex<Book>,
+    book: &'a Mutex<Book<J>>,
     mailboxes: &'a [Mailbox],
-    places: &'a [Mutex<Place>],
-    rebuilt: &'a [Mutex<Option<Rebuilt>>],
+    places: &'a [Mutex<Place<J>>],
+    rebuilt: &'a [Mutex<Option<Rebuilt<J>>>],
     halt: &'a Halt,
     ghost within: { IsNumber most_nodes nodes },
     ghost has_mailboxes: { nodes ≤ length mailboxes.now },
     ghost has_places: { length places.now ≡ nodes },
 }
 
-impl<'a> Cluster<'a> {
+impl<'a, J: Name> Cluster<'a, J> {
     // The place of the node.
-    fn place(&self, node: u8) -> Option<&'a Mutex<Place>> {
+    fn place(&self, node: u8) -> Option<&'a Mutex<Place<J>>> {
         self.places.get(usize::from(node).checked_sub(1)?)
     }
 
     // Where the token server of the file stands as it begins again.
-    fn server_place(&self, file: u16) -> Option<&'a Mutex<Option<Rebuilt>>> {
+    fn server_place(&self, file: u16) -> Option<&'a Mutex<Option<Rebuilt<J>>>> {
         self.rebuilt.get(usize::from(file).checked_sub(1)?)
     }
 
@@ -149,7 +151,7 @@ impl<'a> Cluster<'a> {
     }
 
     // The node's new seat, and the position of the entry.
-    fn restart_in_book<R: Wait>(&self, rt: &R, node: u8) -> Result<(Seat, u32), Refused> {
+    fn restart_in_book<R: Wait>(&self, rt: &R, node: u8) -> Result<(Seat<J>, u32), Refused> {
         let mut book = self.book.lock(rt);
         let seat = book.restart(self.alloc, node)?;
         Ok((seat, book.len()))
@@ -195,7 +197,8 @@ impl<'a> Cluster<'a> {
 }
 
 /// Runs a cluster of the shape on threads for as long as the body does, which is lent it. Each actor
-/// has a thread, a mailbox and a weather, nodes first. The body's result comes with the journal.
+/// has a thread, a mailbox and a weather, nodes first. The body's result comes with the journal. Without a trail
+/// each step is compared with the book's copy of its actor's state.
 ///
 /// Where a hundred requests for memory are refused one after the other, with no step between them, the
 /// threads of the actors end: calls that are open then are answered `Unanswered`, and later ones `Closed`.
@@ -203,26 +206,29 @@ impl<'a> Cluster<'a> {
 /// # Errors
 /// `AllocError` where a request for memory or for a thread was refused.
 pub fn with_cluster<
+    J: Name + Send + Sync,
     G: Gate + Sync,
     W: Weather + Send,
     R: Threads + Wait + Clock + Sync,
     T,
-    F: FnOnce(&Cluster<'_>) -> T,
+    F: FnOnce(&Cluster<'_, J>) -> T,
 >(
     rt: &R,
     alloc: Global,
     shape: Shape,
+    trail: Option<NewTrail>,
     gate: &G,
     weathers: Vec<W>,
     body: F,
 ) -> Result<(T, Journal), AllocError>
+    requires trail { IfSome trail (λ trail. trail ≡ J.trail) }
     requires each { length weathers.items ≡ shape.nodes + shape.files }
     requires body { F.IsAlwaysCallable body }
 
     // One table explains every reply, and ends as what the nodes hold.
     ensures one_table { IfOk result (λ made. HasOneHistory made.1.shape made.1.entries) }
 {
-    let (book, seats) = Book::new(alloc, shape)?;
+    let (book, seats) = Book::new(alloc, shape, trail)?;
     let begun = begin(alloc, shape, seats, weathers)?;
     let book = Mutex::new(book);
     match run_begun(rt, gate, shape, &book, begun, body) {
@@ -234,21 +240,21 @@ pub fn with_cluster<
 // What a cluster begins with beside its book: a mailbox and a worker for each actor, nodes
 // first, a place for each node, and one for each server as it begins again.
 #[derive(Drop)]
-struct Begun<W: Weather> {
+struct Begun<J: Name, W: Weather> {
     alloc: Global,
     mailboxes: Vec<Mailbox>,
-    workers: Vec<Worker<W>>,
-    places: Vec<Mutex<Place>>,
-    rebuilt: Vec<Mutex<Option<Rebuilt>>>,
+    workers: Vec<Worker<J, W>>,
+    places: Vec<Mutex<Place<J>>>,
+    rebuilt: Vec<Mutex<Option<Rebuilt<J>>>>,
 }
 
 // What a cluster of the shape begins with on these seats.
-fn begin<W: Weather>(
+fn begin<J: Name, W: Weather>(
     alloc: Global,
     shape: Shape,
-    seats: Vec<Seat>,
+    seats: Vec<Seat<J>>,
     weathers: Vec<W>,
-) -> Result<Begun<W>, AllocError>
+) -> Result<Begun<J, W>, AllocError>
     ensures mailboxes { IfOk result (λ begun. length begun.mailboxes.items ≡ length seats.items) }
     ensures places { IfOk result (λ begun. length begun.places.items ≡ shape.nodes) }
 {
@@ -263,11 +269,11 @@ fn begin<W: Weather>(
 }
 
 // A mailbox and a worker for each seat, which meets that weather.
-fn posts_of<W: Weather>(
+fn posts_of<J: Name, W: Weather>(
     alloc: Global,
-    seats: Vec<Seat>,
+    seats: Vec<Seat<J>>,
     weathers: Vec<W>,
-) -> Result<(Vec<Mailbox>, Vec<Worker<W>>), AllocError>
+) -> Result<(Vec<Mailbox>, Vec<Worker<J, W>>), AllocError>
     ensures { IfOk result (λ made. length made.0.items ≡ length seats.items) }
 {
     let (mailboxes, inboxes) = mailboxes_of(alloc, seats.len())?;
@@ -277,12 +283,13 @@ fn posts_of<W: Weather>(
 
 // Runs a cluster of the shape on the book for as long as the body does.
 fn run_begun<
+    J: Name + Send + Sync,
     G: Gate + Sync,
     W: Weather + Send,
     R: Threads + Wait + Clock + Sync,
     T,
-    F: FnOnce(&Cluster<'_>) -> T,
->(rt: &R, gate: &G, shape: Shape, book: &Mutex<Book>, begun: Begun<W>, body: F) -> Option<T>
+    F: FnOnce(&Cluster<'_, J>) -> T,
+>(rt: &R, gate: &G, shape: Shape, book: &Mutex<Book<J>>, begun: Begun<J, W>, body: F) -> Option<T>
     requires mailboxes { shape.nodes ≤ length begun.mailboxes.items }
     requires places { length begun.places.items ≡ shape.nodes }
     requires body { F.IsAlwaysCallable body }
@@ -321,16 +328,17 @@ fn run_begun<
 
 // Starts the threads, calls the body and stops the threads.
 fn run_scope<
+    J: Name + Send + Sync,
     G: Gate + Sync,
     W: Weather + Send,
     R: Threads + Wait + Clock + Sync,
     T,
-    F: FnOnce(&Cluster<'_>) -> T,
+    F: FnOnce(&Cluster<'_, J>) -> T,
 >(
     rt: &R,
-    shared: &Shared<'_, G>,
-    workers: Vec<Worker<W>>,
-    cluster: &Cluster<'_>,
+    shared: &Shared<'_, J, G>,
+    workers: Vec<Worker<J, W>>,
+    cluster: &Cluster<'_, J>,
     body: F,
 ) -> Option<T>
     requires { F.IsAlwaysCallable body }
@@ -348,10 +356,11 @@ fn start_all<
     's,
     'b: 's,
     E,
+    J: Name + Send + Sync,
     G: Gate + Sync,
     W: Weather + Send + 's,
     R: Threads + Wait + Clock + Sync,
->(scope: &Scope<'s, E>, rt: &'s R, shared: &'s Shared<'b, G>, workers: Vec<Worker<W>>) -> bool {
+>(scope: &Scope<'s, E>, rt: &'s R, shared: &'s Shared<'b, J, G>, workers: Vec<Worker<J, W>>) -> bool {
     if scope.spawn(move || pace(rt, shared)).is_err() {
         return false;
     }
@@ -365,11 +374,19 @@ fn start_all<
 }
 
 // Starts a worker. False where its thread can't be made.
-fn start<'s, 'b: 's, E, G: Gate + Sync, W: Weather + Send + 's, R: Threads + Wait + Clock + Sync>(
+fn start<
+    's,
+    'b: 's,
+    E,
+    J: Name + Send + Sync,
+    G: Gate + Sync,
+    W: Weather + Send + 's,
+    R: Threads + Wait + Clock + Sync,
+>(
     scope: &Scope<'s, E>,
     rt: &'s R,
-    shared: &'s Shared<'b, G>,
-    worker: Worker<W>,
+    shared: &'s Shared<'b, J, G>,
+    worker: Worker<J, W>,
 ) -> bool {
     shared.working.fetch_add(1, Ordering::SeqCst);
     let started = scope.spawn(move || worker.work(rt, shared)).is_ok();
@@ -397,12 +414,12 @@ fn mailboxes_of(
 }
 
 // A worker for each seat, with its weather and its inbox.
-fn workers_of<W: Weather>(
+fn workers_of<J: Name, W: Weather>(
     alloc: Global,
-    seats: Vec<Seat>,
+    seats: Vec<Seat<J>>,
     weathers: Vec<W>,
     inboxes: Vec<Receiver<Letter>>,
-) -> Result<Vec<Worker<W>>, AllocError> {
+) -> Result<Vec<Worker<J, W>>, AllocError> {
     let mut workers = Vec::new(alloc);
     for ((seat, weather), inbox) in seats.into_iter().zip(weathers).zip(inboxes) {
         workers.push(Worker::new(alloc, seat, weather, inbox))?;
@@ -411,7 +428,7 @@ fn workers_of<W: Weather>(
 }
 
 // The places of so many nodes that begin.
-fn places_of(alloc: Global, nodes: u8) -> Result<Vec<Mutex<Place>>, AllocError>
+fn places_of<J: Name>(alloc: Global, nodes: u8) -> Result<Vec<Mutex<Place<J>>>, AllocError>
     ensures { IfOk result (λ places. length places.items ≡ nodes) }
 {
     let mut places = Vec::new(alloc);
@@ -422,7 +439,7 @@ fn places_of(alloc: Global, nodes: u8) -> Result<Vec<Mutex<Place>>, AllocError>
 }
 
 // For each of so many token servers a place for it as it begins again.
-fn server_places_of(alloc: Global, files: u16) -> Result<Vec<Mutex<Option<Rebuilt>>>, AllocError> {
+fn server_places_of<J: Name>(alloc: Global, files: u16) -> Result<Vec<Mutex<Option<Rebuilt<J>>>>, AllocError> {
     let mut places = Vec::new(alloc);
     for _ in 0..files {
         places.push(Mutex::new(None))?;

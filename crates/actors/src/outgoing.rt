@@ -6,6 +6,7 @@ use book::stamp::Stamp;
 use messages::message::Message;
 use std::alloc::Global;
 use std::sync::Wait;
+use trail::name::Name;
 
 /// The messages of an actor on their way: the weather that they meet, and those that are held back.
 #[derive(Drop)]
@@ -29,14 +30,14 @@ impl<W: Weather> Outgoing<W> {
     }
 
     /// Sends the messages of a step, each as the weather has it.
-    pub(crate) fn send_all<G, R: Wait>(&mut self, rt: &R, shared: &Shared<'_, G>, stamp: &Stamp) {
+    pub(crate) fn send_all<J: Name, G, R: Wait>(&mut self, rt: &R, shared: &Shared<'_, J, G>, stamp: &Stamp) {
         for message in stamp.outcome().sends.as_slice() {
             self.send(rt, shared, message);
         }
     }
 
     // Sends a message as the weather has it. One for which there is no memory is lost.
-    fn send<G, R: Wait>(&mut self, rt: &R, shared: &Shared<'_, G>, message: &Message) {
+    fn send<J: Name, G, R: Wait>(&mut self, rt: &R, shared: &Shared<'_, J, G>, message: &Message) {
         match self.weather.fate(message) {
             Fate::Pass | Fate::Hold(0) => shared.send(rt, message),
             Fate::Drop => {}
@@ -51,7 +52,7 @@ impl<W: Weather> Outgoing<W> {
     }
 
     /// A tick has passed: the messages whose ticks are over go.
-    pub(crate) fn pass_tick<G, R: Wait>(&mut self, rt: &R, shared: &Shared<'_, G>) {
+    pub(crate) fn pass_tick<J: Name, G, R: Wait>(&mut self, rt: &R, shared: &Shared<'_, J, G>) {
         self.held.pass_tick();
         for _ in 0..self.held.len() {
             if let Some(message) = self.held.take_due() {

@@ -4,10 +4,11 @@ use std::sync::Wait;
 use std::sync::atomic::Ordering;
 use std::thread;
 use std::time::{Clock, Duration};
+use trail::name::Name;
 
 /// Sends each mailbox whose worker waits for it a tick a millisecond at most, the next only when the
 /// last one came back. As the workers are to end, it sends each one that they wake at, until none works.
-pub(crate) fn pace<G, R: Wait + Clock>(rt: &R, shared: &Shared<'_, G>) {
+pub(crate) fn pace<J: Name, G, R: Wait + Clock>(rt: &R, shared: &Shared<'_, J, G>) {
     for _ in rt.forever() {
         thread::sleep(rt, Duration::from_millis(1));
         if shared.halt.is_set() && shared.working.load(Ordering::SeqCst) == 0 {

@@ -21,15 +21,16 @@ use std::sync::atomic::AtomicU64;
 use std::thread::{Scope, Threads};
 use std::time::Clock;
 use std::{mem, thread};
+use trail::name::Name;
 
 /// The phases of a script on a cluster: how it is run, and whether the run was ended where it was stuck; the lines
 /// so far with what they came to, and the index of the first of the phase; the parts of the phase, with where that
 /// of each process stands, the clients that make no call in it, each by its process, the last receipt of the
 /// earlier phases, and the files whose token servers are declared failed.
 #[derive(Drop)]
-pub(crate) struct Phases<'a, 'b> {
+pub(crate) struct Phases<'a, 'b, J: Name> {
     alloc: Global,
-    cluster: &'b Cluster<'a>,
+    cluster: &'b Cluster<'a, J>,
     manner: Manner,
     is_over: bool,
     lines: Vec<PlayedLine>,
@@ -41,9 +42,13 @@ pub(crate) struct Phases<'a, 'b> {
     failed: Vec<u16>,
 }
 
-impl<'a, 'b> Phases<'a, 'b> {
+impl<'a, 'b, J: Name + Send + Sync> Phases<'a, 'b, J> {
     /// No line was taken.
-    pub(crate) fn new(alloc: Global, cluster: &'b Cluster<'a>, manner: Manner) -> Phases<'a, 'b> {
+    pub(crate) fn new(
+        alloc: Global,
+        cluster: &'b Cluster<'a, J>,
+        manner: Manner,
+    ) -> Phases<'a, 'b, J> {
         Phases {
             alloc,
             cluster,
@@ -247,7 +252,7 @@ impl<'a, 'b> Phases<'a, 'b> {
     fn play_on<'s, E, R: Threads + Wait + Clock + Sync, V: RunWatcher>(
         &mut self,
         scope: &Scope<'s, E>,
-        stage: &Stage<'s, 'a, R>,
+        stage: &Stage<'s, 'a, J, R>,
         watcher: &mut V,
     ) -> Result<(), Stop> {
         for index in self.first..self.lines.len() {
@@ -276,7 +281,7 @@ impl<'a, 'b> Phases<'a, 'b> {
     // client.
     fn queue<R: Wait>(
         &mut self,
-        stage: &Stage<'_, 'a, R>,
+        stage: &Stage<'_, 'a, J, R>,
         index: usize,
         node: u8,
         pid: u16,

@@ -6,21 +6,22 @@ ghost use Rattle.actors.specs.declared.call_error.CallError.TheVariants.{Fenced,
 use crate::call_error::CallError;
 use book::seat::Seat;
 use std::alloc::Global;
+use trail::name::Name;
 
 /// What a cluster that runs knows of a node: its last incarnation and whether that one is alive, the
 /// processes of it that have a client, and the seat of an incarnation that the worker has not taken.
 #[derive(Drop)]
-pub(crate) struct Place {
+pub(crate) struct Place<J: Name> {
     incarnation: u16,
     alive: bool,
     clients: Vec<u16>,
-    seat: Option<Seat>,
+    seat: Option<Seat<J>>,
     ghost from_one: { 1 ≤ incarnation },
 }
 
-impl Place {
+impl<J: Name> Place<J> {
     /// The place of a node in its first incarnation, whose worker has its seat.
-    pub(crate) fn new(alloc: Global) -> Place {
+    pub(crate) fn new(alloc: Global) -> Place<J> {
         Place {
             incarnation: 1,
             alive: true,
@@ -63,7 +64,7 @@ impl Place {
     }
 
     /// The node begins again, on this seat, and no process has a client.
-    pub(crate) fn begin(&mut self, seat: Seat)
+    pub(crate) fn begin(&mut self, seat: Seat<J>)
         ensures { (self.new.incarnation ≡ incarnation_of seat.state) × (self.new.alive ≡ true) × (self.new.clients.items ≡ []) × (self.new.seat ≡ Some seat) }
     {
         self.incarnation = seat.incarnation();
@@ -73,7 +74,7 @@ impl Place {
     }
 
     /// The seat that waits for the worker.
-    pub(crate) fn take_seat(&mut self) -> Option<Seat>
+    pub(crate) fn take_seat(&mut self) -> Option<Seat<J>>
         ensures taken { result ≡ self.old.seat }
         ensures none { self.new.seat ≡ None }
     {

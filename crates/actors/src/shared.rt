@@ -12,6 +12,7 @@ use std::alloc::Global;
 use std::sync::atomic::{AtomicU64, Ordering};
 use std::sync::{Mutex, Wait};
 use std::thread;
+use trail::name::Name;
 
 /// The mailbox of an actor, and whether it takes a tick: 0 where its worker waits for one, and 1 where
 /// one is on its way or the worker needs none.
@@ -68,19 +69,19 @@ impl Mailbox {
 /// first, its mailbox; for each node its place; for each file its server that begins again, until its
 /// worker takes that; whether the workers are to end; and how many work.
 #[derive(Drop)]
-pub(crate) struct Shared<'a, G> {
+pub(crate) struct Shared<'a, J: Name, G> {
     pub(crate) alloc: Global,
-    pub(crate) book: &'a Mutex<Book>,
+    pub(crate) book: &'a Mutex<Book<J>>,
     pub(crate) gate: &'a G,
     pub(crate) nodes: u8,
     pub(crate) mailboxes: &'a [Mailbox],
-    pub(crate) places: &'a [Mutex<Place>],
-    pub(crate) rebuilt: &'a [Mutex<Option<Rebuilt>>],
+    pub(crate) places: &'a [Mutex<Place<J>>],
+    pub(crate) rebuilt: &'a [Mutex<Option<Rebuilt<J>>>],
     pub(crate) halt: &'a Halt,
     pub(crate) working: &'a AtomicU64,
 }
 
-impl<G> Shared<'_, G> {
+impl<J: Name, G> Shared<'_, J, G> {
     /// The mailbox of the actor.
     pub(crate) fn mailbox(&self, actor: Actor) -> Option<&Mailbox> {
         self.mailboxes.get(index_of(self.nodes, actor)?)
@@ -105,13 +106,13 @@ impl<G> Shared<'_, G> {
     }
 
     /// The seat of a new incarnation of the node, which no worker has taken.
-    pub(crate) fn new_seat<R: Wait>(&self, rt: &R, node: u8) -> Option<Seat> {
+    pub(crate) fn new_seat<R: Wait>(&self, rt: &R, node: u8) -> Option<Seat<J>> {
         let index = usize::from(node).checked_sub(1)?;
         self.places.get(index)?.lock(rt).take_seat()
     }
 
     /// The token server of the file as it begins again, which no worker has taken.
-    pub(crate) fn new_server<R: Wait>(&self, rt: &R, file: u16) -> Option<Rebuilt> {
+    pub(crate) fn new_server<R: Wait>(&self, rt: &R, file: u16) -> Option<Rebuilt<J>> {
         let index = usize::from(file).checked_sub(1)?;
         self.rebuilt.get(index)?.lock(rt).take()
     }

@@ -8,20 +8,21 @@ use std::sync::atomic::{AtomicU64, Ordering};
 use std::thread;
 use std::thread::{Scope, Threads};
 use std::time::{Clock, Duration};
+use trail::name::Name;
 
 // The longest pause between two looks, in milliseconds.
 const LONGEST_PAUSE: u64 = 64;
 
 /// The parts of a phase, the cluster on which threads play them, and how many threads do.
 #[derive(Drop)]
-pub(crate) struct Stage<'s, 'a, R> {
+pub(crate) struct Stage<'s, 'a, J: Name, R> {
     pub(crate) rt: &'s R,
-    pub(crate) cluster: &'s Cluster<'a>,
+    pub(crate) cluster: &'s Cluster<'a, J>,
     pub(crate) parts: &'s [Part<'a>],
     pub(crate) playing: &'s AtomicU64,
 }
 
-impl<'s, 'a: 's, R: Threads + Wait + Clock + Sync> Stage<'s, 'a, R> {
+impl<'s, 'a: 's, J: Name + Send + Sync, R: Threads + Wait + Clock + Sync> Stage<'s, 'a, J, R> {
     /// Starts a thread for each part that has calls to make, and no thread.
     pub(crate) fn start<E>(&self, scope: &Scope<'s, E>) -> Result<(), Stop> {
         let (rt, cluster, playing) = (self.rt, self.cluster, self.playing);
@@ -73,7 +74,12 @@ impl<'s, 'a: 's, R: Threads + Wait + Clock + Sync> Stage<'s, 'a, R> {
 }
 
 // Plays a part. Where it stops before its end, the cluster ends.
-fn play<R: Wait>(rt: &R, cluster: &Cluster<'_>, part: &Part<'_>, playing: &AtomicU64) {
+fn play<J: Name, R: Wait>(
+    rt: &R,
+    cluster: &Cluster<'_, J>,
+    part: &Part<'_>,
+    playing: &AtomicU64,
+) {
     if !part.play(rt) {
         cluster.stop();
     }

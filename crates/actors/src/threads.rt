@@ -17,14 +17,17 @@ use crate::run_watcher::RunWatcher;
 use crate::seeded::Seeded;
 use crate::stop::Stop;
 use crate::thread_run::ThreadRun;
+use book::new_trail::NewTrail;
 use cluster_core::journal::Journal;
 use lockscript::script::Script;
 use lockscript::script_line::ScriptLine;
 use messages::shape::Shape;
 use std::alloc::{AllocError, Global};
+use std::marker::Brand;
 use std::sync::Wait;
 use std::thread::Threads;
 use std::time::Clock;
+use trail::name::Name;
 
 /// Runs a script on threads. Its lines are `call`, `settle`, `declare`, `restart`, `fail-server` and
 /// `start-server`; the calls between two of the other lines form a phase. In a phase each process has a
@@ -72,7 +75,9 @@ pub fn run_threads<G: Gate + Sync, R: Threads + Wait + Clock + Sync, V: RunWatch
     if let Some(number) = script.bad_line_on_threads() {
         return Err(RunError::BadLine(number));
     }
-    let Ok((lines, journal)) = run_script(rt, alloc, script, gate, seed, manner, watcher) else {
+    let trail = NewTrail::new();
+    let run = run_script::<Brand, _, _, _>(rt, alloc, trail, script, gate, seed, manner, watcher);
+    let Ok((lines, journal)) = run else {
         return Err(RunError::NoMemory);
     };
     match lines {
@@ -85,24 +90,37 @@ pub fn run_threads<G: Gate + Sync, R: Threads + Wait + Clock + Sync, V: RunWatch
 }
 
 // The lines of a script that has none of another kind, with what they came to, and the journal.
-fn run_script<G: Gate + Sync, R: Threads + Wait + Clock + Sync, V: RunWatcher>(
+fn run_script<
+    J: Name + Send + Sync,
+    G: Gate + Sync,
+    R: Threads + Wait + Clock + Sync,
+    V: RunWatcher,
+>(
     rt: &R,
     alloc: Global,
+    trail: NewTrail,
     script: &Script,
     gate: &G,
     seed: u32,
     manner: Manner,
     watcher: &mut V,
 ) -> Result<(Result<Vec<PlayedLine>, Stop>, Journal), AllocError>
+    requires { trail ≡ J.trail }
     ensures shape { IfOk result (λ run. run.1.shape ≡ script.now.shape) }
     ensures one_table { IfOk result (λ run. HasOneHistory run.1.shape run.1.entries) }
 {
     let shape = script.shape();
     let actors = u32::from(shape.nodes()) + u32::from(shape.files());
     let weathers = weathers_of(alloc, seed, actors)?;
-    let run = with_cluster(rt, alloc, shape, gate, weathers, |cluster| {
-        run_lines(rt, alloc, cluster, script.lines(), manner, watcher)
-    });
+    let run = with_cluster(
+        rt,
+        alloc,
+        shape,
+        Some(trail),
+        gate,
+        weathers,
+        |cluster: &Cluster<'_, J>| run_lines(rt, alloc, cluster, script.lines(), manner, watcher),
+    );
     match run {
         // A lock says nothing of the book that it gives back, so the shape is looked at.
         Ok((lines, journal)) if same_shape(&journal.shape(), &shape) => Ok((lines, journal)),
@@ -129,10 +147,10 @@ fn weathers_of(alloc: Global, seed: u32, count: u32) -> Result<Vec<Seeded>, Allo
 }
 
 // Runs the lines in order on a cluster that runs.
-fn run_lines<R: Threads + Wait + Clock + Sync, V: RunWatcher>(
+fn run_lines<J: Name + Send + Sync, R: Threads + Wait + Clock + Sync, V: RunWatcher>(
     rt: &R,
     alloc: Global,
-    cluster: &Cluster<'_>,
+    cluster: &Cluster<'_, J>,
     lines: &[ScriptLine],
     manner: Manner,
     watcher: &mut V,

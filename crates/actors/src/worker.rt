@@ -28,6 +28,7 @@ use std::alloc::Global;
 use std::sync::Wait;
 use std::sync::atomic::Ordering;
 use std::time::{Clock, Duration};
+use trail::name::Name;
 
 // The longest sleep of a worker, in milliseconds. A letter wakes it, but where memory is refused there may be
 // none that tells it to end.
@@ -37,8 +38,8 @@ const LONGEST_SLEEP: u64 = 250;
 /// their way; its mailbox, and whether the last tick has not been given back; of a node the open calls of
 /// its clients; and of a server when it sends again.
 #[derive(Drop)]
-pub(crate) struct Worker<W: Weather> {
-    seat: Seat,
+pub(crate) struct Worker<J: Name, W: Weather> {
+    seat: Seat<J>,
     over: Option<CallError>,
     outgoing: Outgoing<W>,
     inbox: Receiver<Letter>,
@@ -56,9 +57,14 @@ enum Cause {
     Release,
 }
 
-impl<W: Weather> Worker<W> {
+impl<J: Name, W: Weather> Worker<J, W> {
     /// A worker that has done nothing.
-    pub(crate) fn new(alloc: Global, seat: Seat, weather: W, inbox: Receiver<Letter>) -> Worker<W> {
+    pub(crate) fn new(
+        alloc: Global,
+        seat: Seat<J>,
+        weather: W,
+        inbox: Receiver<Letter>,
+    ) -> Worker<J, W> {
         Worker {
             seat,
             over: None,
@@ -71,7 +77,7 @@ impl<W: Weather> Worker<W> {
     }
 
     /// Takes letters until the workers are to end.
-    pub(crate) fn work<G: Gate, R: Wait + Clock>(self, rt: &R, shared: &Shared<'_, G>) {
+    pub(crate) fn work<G: Gate, R: Wait + Clock>(self, rt: &R, shared: &Shared<'_, J, G>) {
         let mut worker = self;
         for _ in rt.forever() {
             let Some(letter) = worker.next_letter(rt, shared) else {
@@ -89,7 +95,7 @@ impl<W: Weather> Worker<W> {
     fn next_letter<G: Gate, R: Wait + Clock>(
         &self,
         rt: &R,
-        shared: &Shared<'_, G>,
+        shared: &Shared<'_, J, G>,
     ) -> Option<Letter> {
         let longest = Duration::from_millis(LONGEST_SLEEP);
         for _ in rt.forever() {
@@ -107,7 +113,7 @@ impl<W: Weather> Worker<W> {
     }
 
     // Takes the seat of a new incarnation or epoch, if there is one.
-    fn change_seats<G: Gate, R: Wait>(&mut self, rt: &R, shared: &Shared<'_, G>) {
+    fn change_seats<G: Gate, R: Wait>(&mut self, rt: &R, shared: &Shared<'_, J, G>) {
         match self.seat.actor() {
             Actor::Node(node) => {
                 if let Some(seat) = shared.new_seat(rt, node) {
@@ -125,7 +131,7 @@ impl<W: Weather> Worker<W> {
     }
 
     // The server begins again, and asks the nodes for their tokens.
-    fn begin_again<G, R: Wait>(&mut self, rt: &R, shared: &Shared<'_, G>, rebuilt: Rebuilt) {
+    fn begin_again<G, R: Wait>(&mut self, rt: &R, shared: &Shared<'_, J, G>, rebuilt: Rebuilt<J>) {
         let Rebuilt { seat, stamp } = rebuilt;
         self.seat = seat;
         self.resends = Resends::new();
@@ -134,7 +140,7 @@ impl<W: Weather> Worker<W> {
     }
 
     // Does what the letter asks for.
-    fn take<G: Gate, R: Wait>(&mut self, rt: &R, shared: &Shared<'_, G>, letter: Letter) {
+    fn take<G: Gate, R: Wait>(&mut self, rt: &R, shared: &Shared<'_, J, G>, letter: Letter) {
         match letter {
             Letter::Ask(question) => self.take_question(rt, shared, question),
             Letter::Deliver(message) => {
@@ -147,7 +153,7 @@ impl<W: Weather> Worker<W> {
     }
 
     // Gives the last tick back if there is something to do at the next.
-    fn ask_for_tick<G>(&mut self, shared: &Shared<'_, G>) {
+    fn ask_for_tick<G>(&mut self, shared: &Shared<'_, J, G>) {
         let waits = !self.waiting.is_empty() || self.resends.are_needed();
         if !self.has_tick || (!waits && self.outgoing.is_empty()) {
             return;
@@ -178,7 +184,7 @@ impl<W: Weather> Worker<W> {
     fn take_question<G: Gate, R: Wait>(
         &mut self,
         rt: &R,
-        shared: &Shared<'_, G>,
+        shared: &Shared<'_, J, G>,
         question: Question,
     ) {
         let Question {
@@ -202,7 +208,7 @@ impl<W: Weather> Worker<W> {
     fn begin<G: Gate, R: Wait>(
         &mut self,
         rt: &R,
-        shared: &Shared<'_, G>,
+        shared: &Shared<'_, J, G>,
         process: Process,
         op: Op,
         seen: Option<&Mark>,
@@ -238,7 +244,7 @@ impl<W: Weather> Worker<W> {
     fn learn<G: Gate, R: Wait>(
         &mut self,
         rt: &R,
-        shared: &Shared<'_, G>,
+        shared: &Shared<'_, J, G>,
         node: u8,
         incarnation: u16,
     ) {
@@ -260,7 +266,7 @@ impl<W: Weather> Worker<W> {
 
     // A turn has passed: messages that were held back go, a node tries open calls again, and a server
     // sends again what has no answer, as far as it is time.
-    fn take_tick<G: Gate, R: Wait>(&mut self, rt: &R, shared: &Shared<'_, G>) {
+    fn take_tick<G: Gate, R: Wait>(&mut self, rt: &R, shared: &Shared<'_, J, G>) {
         self.has_tick = true;
         self.outgoing.pass_tick(rt, shared);
         match self.seat.actor() {
@@ -273,7 +279,7 @@ impl<W: Weather> Worker<W> {
     fn retry_all<G: Gate, R: Wait>(
         &mut self,
         rt: &R,
-        shared: &Shared<'_, G>,
+        shared: &Shared<'_, J, G>,
         node: u8,
         cause: Cause,
     ) {
@@ -296,7 +302,7 @@ impl<W: Weather> Worker<W> {
     }
 
     // The node tries an open call again. Where no step of this incarnation is taken any more, all end.
-    fn retry<G: Gate, R: Wait>(&mut self, rt: &R, shared: &Shared<'_, G>, node: u8, pid: u16) {
+    fn retry<G: Gate, R: Wait>(&mut self, rt: &R, shared: &Shared<'_, J, G>, node: u8, pid: u16) {
         match self.step(rt, shared, Event::Retry { node, pid }) {
             Ok(()) => {}
             Err(CallError::NoMemory) => self.waiting.wait_anew(pid),
@@ -305,7 +311,7 @@ impl<W: Weather> Worker<W> {
     }
 
     // The server sends again what has no answer, if there is any and it is time.
-    fn resend<G: Gate, R: Wait>(&mut self, rt: &R, shared: &Shared<'_, G>, file: u16) {
+    fn resend<G: Gate, R: Wait>(&mut self, rt: &R, shared: &Shared<'_, J, G>, file: u16) {
         if !self.resends.pass_tick() {
             return;
         }
@@ -317,7 +323,7 @@ impl<W: Weather> Worker<W> {
     }
 
     // The server sends what it prepared, if that is anything.
-    fn send_again<G: Gate, R: Wait>(&mut self, rt: &R, shared: &Shared<'_, G>, prepared: Prepared)
+    fn send_again<G: Gate, R: Wait>(&mut self, rt: &R, shared: &Shared<'_, J, G>, prepared: Prepared)
         requires { Names prepared self.old.seat → IsStepFrom self.old.seat prepared }
     {
         if prepared.outcome().sends.is_empty() {
@@ -333,7 +339,7 @@ impl<W: Weather> Worker<W> {
     }
 
     // The server was refused memory as it would have sent again.
-    fn lack_memory<G>(&mut self, shared: &Shared<'_, G>) {
+    fn lack_memory<G>(&mut self, shared: &Shared<'_, J, G>) {
         shared.halt.note_refused();
         self.resends.wait_anew();
     }
@@ -342,7 +348,7 @@ impl<W: Weather> Worker<W> {
     fn step<G: Gate, R: Wait>(
         &mut self,
         rt: &R,
-        shared: &Shared<'_, G>,
+        shared: &Shared<'_, J, G>,
         event: Event,
     ) -> Result<(), CallError> {
         let stamp = commit_step(rt, shared, &mut self.seat, event, None)?;
@@ -409,10 +415,10 @@ fn answer<R: Wait>(rt: &R, back: &Sender<Answer>, answer: Answer) {
 }
 
 // Prepares a step of the seat with no lock, and commits it. That memory is refused for it is noted.
-fn commit_step<G: Gate, R: Wait>(
+fn commit_step<J: Name, G: Gate, R: Wait>(
     rt: &R,
-    shared: &Shared<'_, G>,
-    seat: &mut Seat,
+    shared: &Shared<'_, J, G>,
+    seat: &mut Seat<J>,
     event: Event,
     seen: Option<&Mark>,
 ) -> Result<Stamp, CallError> {
@@ -424,10 +430,10 @@ fn commit_step<G: Gate, R: Wait>(
 }
 
 // Prepares a step of the seat with no lock, and commits it.
-fn try_step<G: Gate, R: Wait>(
+fn try_step<J: Name, G: Gate, R: Wait>(
     rt: &R,
-    shared: &Shared<'_, G>,
-    seat: &mut Seat,
+    shared: &Shared<'_, J, G>,
+    seat: &mut Seat<J>,
     event: Event,
     seen: Option<&Mark>,
 ) -> Result<Stamp, CallError> {
@@ -436,10 +442,10 @@ fn try_step<G: Gate, R: Wait>(
 }
 
 // Commits a step that the seat prepared, under the lock of the book.
-fn commit<G: Gate, R: Wait>(
+fn commit<J: Name, G: Gate, R: Wait>(
     rt: &R,
-    shared: &Shared<'_, G>,
-    seat: &mut Seat,
+    shared: &Shared<'_, J, G>,
+    seat: &mut Seat<J>,
     prepared: Prepared,
     seen: Option<&Mark>,
 ) -> Result<Stamp, CallError>

@@ -1,5 +1,5 @@
 //! The book.
-ghost use Rattle.std.specs.Prelude.{◌≡◌, ◌≢◌, ◌+◌, ◌-◌, ◌<◌, ◌≤◌, ◌++◌, ◌∷◌, [], ℕ, Ok, Err, Some, true, length, slice_get, IfOk, IfErr, OnOk, OnErr, MatchResult, MatchBool, option_copied};
+ghost use Rattle.std.specs.Prelude.{◌≡◌, ◌≢◌, ◌+◌, ◌-◌, ◌<◌, ◌≤◌, ◌++◌, ◌∷◌, [], ℕ, Ok, Err, Some, true, length, slice_get, IfOk, IfErr, IfSome, OnOk, OnErr, MatchResult, MatchBool, option_copied};
 ghost use Rattle.messages.specs.declared.event.Event.TheVariants.{Declare, Restart, FailServer, StartServer};
 ghost use Rattle.messages.specs.declared.refusal.Refused.{Refused};
 ghost use Rattle.messages.specs.declared.entry.Entry.{Entry};
@@ -22,6 +22,8 @@ ghost use Rattle.messages.specs.declared.actor.Actor.TheVariants.{Node as ANode,
 use crate::commit_error::CommitError;
 use crate::holds::holds;
 use crate::mark::Mark;
+use crate::marks::Marks;
+use crate::new_trail::NewTrail;
 use crate::prepared::Prepared;
 use crate::receipt::Receipt;
 use crate::seat::Seat;
@@ -31,6 +33,7 @@ use crate::tests_of::{accepts, seen_of};
 use cluster_core::journal::Journal;
 use cluster_core::run::Run;
 use intervals::span_map::NoMemory;
+use messages::actor::Actor;
 use messages::entry::Entry;
 use messages::event::Event;
 use messages::items::Items;
@@ -41,20 +44,26 @@ use node_core::node::Node;
 use std::alloc::{AllocError, Global};
 use std::marker::Model;
 use token_server::server::Server;
+use trail::name::Name;
 
 /// The journal that the actors of a cluster share, and a copy of each actor's state after it: always a
-/// run.
+/// run. Its name tells the proofs, which know nothing of a value under a lock but its type, which seats are its own.
 #[derive(Drop)]
-pub struct Book {
+pub struct Book<J: Name> {
     run: Run,
+    marks: Marks<J>,
 }
 
-impl Model for Book {
+impl<J: Name> Model for Book<J> {
     ghost use Rattle.cluster_core.specs.Journals.{RunFields};
+    ghost use Rattle.cluster_core.specs.Parts.{world_state};
+    ghost use Rattle.book.specs.Marks.{AreReached};
 
     ghost Value = { RunFields };
 
     ghost view = { λ b. b.run };
+
+    ghost invariant = { λ b. AreReached (world_state b.run.world) b.marks };
 }
 
 // The run goes on by an event that is known to lead on: only memory can be refused.
@@ -95,7 +104,7 @@ fn first_server_state(alloc: Global, shape: Shape, file: u16) -> Result<State, N
 }
 
 // The seats of the nodes.
-fn node_seats(alloc: Global, shape: Shape) -> Result<Vec<Seat>, NoMemory>
+fn node_seats<J: Name>(alloc: Global, shape: Shape) -> Result<Vec<Seat<J>>, NoMemory>
     ensures seats { IfOk result (λ seats. AreFirst shape seats.items) }
     ensures count { IfOk result (λ seats. length seats.items ≡ shape.nodes) }
 {
@@ -108,7 +117,11 @@ fn node_seats(alloc: Global, shape: Shape) -> Result<Vec<Seat>, NoMemory>
 }
 
 // Puts the seats of the servers after those of the nodes.
-fn push_servers(alloc: Global, shape: Shape, seats: &mut Vec<Seat>) -> Result<(), NoMemory>
+fn push_servers<J: Name>(
+    alloc: Global,
+    shape: Shape,
+    seats: &mut Vec<Seat<J>>,
+) -> Result<(), NoMemory>
     requires first { AreFirst shape seats.old.items }
     requires nodes { length seats.old.items ≡ shape.nodes }
     ensures seats { OnOk result (AreFirst shape seats.new.items) }
@@ -121,13 +134,19 @@ fn push_servers(alloc: Global, shape: Shape, seats: &mut Vec<Seat>) -> Result<()
     Ok(())
 }
 
-impl Book {
+impl<J: Name> Book<J> {
     /// A book with an empty journal, and the seats of its nodes and then of its servers, each by number
-    /// from 1.
+    /// from 1. Without a trail each commit compares the seat's state with the book's copy; with one, what a
+    /// commit costs doesn't grow with the state.
     ///
     /// # Errors
     /// `NoMemory` where a request for memory was refused.
-    pub fn new(alloc: Global, shape: Shape) -> Result<(Book, Vec<Seat>), NoMemory>
+    pub fn new(
+        alloc: Global,
+        shape: Shape,
+        trail: Option<NewTrail>,
+    ) -> Result<(Book<J>, Vec<Seat<J>>), NoMemory>
+        requires trail { IfSome trail (λ trail. trail ≡ J.trail) }
         ensures world { IfOk result (λ r. world_state r.0.world ≡ first_world shape) }
         ensures entries { IfOk result (λ r. r.0.entries ≡ []) }
         ensures count { IfOk result (λ r. length r.1.items ≡ shape.nodes + shape.files) }
@@ -136,7 +155,12 @@ impl Book {
         let run = Run::new(alloc, shape)?;
         let mut seats = node_seats(alloc, shape)?;
         push_servers(alloc, shape, &mut seats)?;
-        Ok((Book { run }, seats))
+        let trail = match trail {
+            Some(trail) => Some(trail.named()),
+            None => None,
+        };
+        let marks = Marks::new(alloc, trail, shape.files())?;
+        Ok((Book { run, marks }, seats))
     }
 
     /// How many entries the journal has, which are a run that leads to the book's copies.
@@ -170,7 +194,7 @@ impl Book {
     pub fn commit(
         &mut self,
         alloc: Global,
-        seat: &mut Seat,
+        seat: &mut Seat<J>,
         prepared: Prepared,
         seen: Option<&Mark>,
     ) -> Result<Stamp, CommitError>
@@ -179,10 +203,12 @@ impl Book {
         ensures unchanged { OnErr result ((self.new ≡ self.old) × (seat.new ≡ seat.old)) }
     {
         let seen = seen_of(seen);
-        accepts(&self.run, seat, &prepared, seen)?;
+        accepts(&self.run, &self.marks, seat, &prepared, seen)?;
         let parts = prepared.into_parts();
         take_next(&mut self.run, alloc, parts.event)?;
         let outcome = seat.advance(parts.edit, parts.outcome);
+        let spot = self.marks.note(seat.state());
+        seat.stand_at(spot);
         Ok(Stamp::new(self.run.len(), parts.told, outcome, seen))
     }
 
@@ -198,6 +224,7 @@ impl Book {
         ensures unchanged { OnErr result (self.new ≡ self.old) }
     {
         self.run.take(alloc, Event::Declare { node })?;
+        self.marks.forget(Actor::Node(node));
         let outcome = Outcome::sending(Items::new(alloc));
         let position = self.run.len();
         Ok(Stamp::new(position, Event::Declare { node }, outcome, 0))
@@ -209,13 +236,14 @@ impl Book {
     /// # Errors
     /// In this order: `JournalFull`; `Stranger` where there is no such node; `NotDead` where it is alive;
     /// `TooManyRestarts` where it had 65,535 incarnations; `NoMemory`. The book is then as it was.
-    pub fn restart(&mut self, alloc: Global, node: u8) -> Result<Seat, Refused>
+    pub fn restart(&mut self, alloc: Global, node: u8) -> Result<Seat<J>, Refused>
         ensures ok { IfOk result (λ s. Restarted self.old node self.new s) }
         ensures err { IfErr result (λ e. e ≢ Refused.NoMemory → kept_next (world_state self.old.world) (Restart node) ≡ Err e) }
         ensures refused { (e : Refused) → kept_next (world_state self.old.world) (Restart node) ≡ Err e → result ≡ Err e }
         ensures unchanged { OnErr result (self.new ≡ self.old) }
     {
         let begun = self.run.restart(alloc, node)?;
+        self.marks.forget(Actor::Node(node));
         Ok(Seat::new(State::OfNode {
             number: node,
             node: begun,
@@ -234,6 +262,7 @@ impl Book {
         ensures unchanged { OnErr result (self.new ≡ self.old) }
     {
         self.run.take(alloc, Event::FailServer { file })?;
+        self.marks.forget(Actor::Server(file));
         let outcome = Outcome::sending(Items::new(alloc));
         let position = self.run.len();
         Ok(Stamp::new(position, Event::FailServer { file }, outcome, 0))
@@ -245,13 +274,14 @@ impl Book {
     /// # Errors
     /// In this order: `JournalFull`; `Stranger` as at `fail_server`; `NotDead` where it works;
     /// `TooManyRestarts` where it had 65,535 epochs; `NoMemory`. The book is then as it was.
-    pub fn start_server(&mut self, alloc: Global, file: u16) -> Result<(Seat, Stamp), Refused>
+    pub fn start_server(&mut self, alloc: Global, file: u16) -> Result<(Seat<J>, Stamp), Refused>
         ensures ok { IfOk result (λ r. Started self.old file self.new r.0 r.1) }
         ensures err { IfErr result (λ e. e ≢ Refused.NoMemory → kept_next (world_state self.old.world) (StartServer file) ≡ Err e) }
         ensures refused { (e : Refused) → kept_next (world_state self.old.world) (StartServer file) ≡ Err e → result ≡ Err e }
         ensures unchanged { OnErr result (self.new ≡ self.old) }
     {
         let (begun, asks) = self.run.start(alloc, file)?;
+        self.marks.forget(Actor::Server(file));
         let position = self.run.len();
         let stamp = Stamp::new(position, Event::StartServer { file }, asks, 0);
         let state = State::OfServer {

@@ -7,6 +7,8 @@ pub mod confirms;
 mod edit;
 mod holds;
 pub mod mark;
+mod marks;
+pub mod new_trail;
 pub mod prepared;
 pub mod receipt;
 pub mod seat;

@@ -9,6 +9,7 @@ use messages::actor::Actor;
 use messages::event::Event;
 use messages::outcome::Outcome;
 use std::marker::Model;
+use trail::name::Name;
 
 /// A step of an actor that was planned from its seat's state, and may be committed from that seat: what it
 /// changes of that state, and what it gives. It has the event twice, for the entry and for the stamp, so that
@@ -53,7 +54,12 @@ impl Prepared {
     }
 
     /// The step of a seat that had made fewer than the most commits.
-    pub(crate) fn new(seat: &Seat, events: (Event, Event), edit: Edit, outcome: Outcome) -> Prepared
+    pub(crate) fn new<J: Name>(
+        seat: &Seat<J>,
+        events: (Event, Event),
+        edit: Edit,
+        outcome: Outcome,
+    ) -> Prepared
         requires unspent { seat.now.commits < 18446744073709551615 }
         requires same_event { events.1 ≡ events.0 }
         ensures { result ≡ record { actor = actor_of seat.now.state; incarnation = incarnation_of seat.now.state; commits = seat.now.commits; event = events.0; edit = edit; outcome = outcome } }
@@ -78,7 +84,7 @@ impl Prepared {
     }
 
     /// Whether the step names the seat's actor, its incarnation and its number of commits.
-    pub(crate) fn names(&self, seat: &Seat) -> bool
+    pub(crate) fn names<J: Name>(&self, seat: &Seat<J>) -> bool
         ensures names { IsTrue result ↔ Names self.now seat.now }
         ensures unspent { self.now.commits < 18446744073709551615 }
     {

@@ -1,5 +1,5 @@
 //! Seats.
-ghost use Rattle.std.specs.Prelude.{◌≡◌, ◌≢◌, ◌<◌, ◌≤◌, ◌+◌, IfOk, IfErr, Err};
+ghost use Rattle.std.specs.Prelude.{◌≡◌, ◌≢◌, ◌<◌, ◌≤◌, ◌+◌, IfOk, IfErr, IfSome, Err, Some};
 ghost use Rattle.book.specs.Commits.{Names, IsStepFrom};
 ghost use Rattle.book.specs.States.{actor_of, incarnation_of, Fits, Becomes, Rejects};
 
@@ -12,28 +12,39 @@ use messages::outcome::Outcome;
 use messages::refusal::StepError;
 use std::alloc::Global;
 use std::marker::Model;
+use trail::name::Name;
+use trail::spot::Spot;
 
-/// The right to commit the steps of one actor, with its state, and how many it committed.
+/// The right to commit the steps of one actor, with its state, how many it committed, and where the last state that it
+/// committed stands in its book's trail, if that is known. It is of the book with that name.
 #[derive(Drop)]
-pub struct Seat {
+pub struct Seat<J: Name> {
     state: State,
     commits: u64,
+    spot: Option<Spot<J, State>>,
 }
 
-impl Model for Seat {
+impl<J: Name> Model for Seat<J> {
+    ghost use Rattle.std.specs.Prelude.{◌≡◌, IfSome, Some};
     ghost use Rattle.book.specs.Fields.{SeatFields};
 
     ghost Value = { SeatFields };
 
     ghost view = { λ s. record { state = s.state; commits = s.commits } };
+
+    ghost invariant = { λ s. IfSome s.spot (λ spot. spot.item ≡ Some s.state) };
 }
 
-impl Seat {
+impl<J: Name> Seat<J> {
     /// The seat of an actor that committed nothing yet.
-    pub(crate) fn new(state: State) -> Seat
+    pub(crate) fn new(state: State) -> Seat<J>
         ensures { result ≡ record { state = state; commits = 0 } }
     {
-        Seat { state, commits: 0 }
+        Seat {
+            state,
+            commits: 0,
+            spot: None,
+        }
     }
 
     /// The actor.
@@ -63,6 +74,21 @@ impl Seat {
         ensures { result.now ≡ self.now.state }
     {
         &self.state
+    }
+
+    /// Where the state stands in the book's trail, if that is known.
+    pub(crate) fn spot(&self) -> Option<&Spot<J, State>>
+        ensures { IfSome result (λ spot. spot.now.item ≡ Some self.now.state) }
+    {
+        self.spot.as_ref()
+    }
+
+    /// The state stands there, if that is known.
+    pub(crate) fn stand_at(&mut self, spot: Option<Spot<J, State>>)
+        requires { IfSome spot (λ spot. spot.item ≡ Some self.old.state) }
+        ensures { self.new ≡ self.old }
+    {
+        self.spot = spot;
     }
 
     /// The step of the seat's state at an event, planned. It takes no lock, costs what the step changes, and
@@ -99,6 +125,7 @@ impl Seat {
         ensures outcome { result ≡ outcome }
     {
         self.commits += 1;
+        self.spot = None;
         self.state.apply(edit, outcome)
     }
 }

@@ -1,13 +1,18 @@
 //! The tests that a commit makes.
-ghost use Rattle.std.specs.Prelude.{◌≡◌, ◌<◌, ◌≤◌, ◌≢◌, Err, MatchResult, option_copied};
+ghost use Rattle.std.specs.Prelude.{◌≡◌, ◌<◌, ◌≤◌, ◌≢◌, ◌↔◌, Err, IsTrue, MatchResult, option_copied};
+ghost use Rattle.cluster_core.specs.Parts.{world_state};
 ghost use Rattle.book.specs.Commits.{Accepts, Refuses, seen_at};
+ghost use Rattle.book.specs.Marks.{AreReached};
+ghost use Rattle.book.specs.States.{HasState};
 
 use crate::commit_error::CommitError;
 use crate::mark::Mark;
+use crate::marks::Marks;
 use crate::prepared::Prepared;
 use crate::seat::Seat;
 use cluster_core::run::Run;
-use cluster_core::world::JOURNAL_LIMIT;
+use cluster_core::world::{JOURNAL_LIMIT, World};
+use trail::name::Name;
 
 /// The position of a mark, 0 for none.
 pub(crate) fn seen_of(seen: Option<&Mark>) -> u32
@@ -19,17 +24,32 @@ pub(crate) fn seen_of(seen: Option<&Mark>) -> u32
     }
 }
 
+// Whether the seat's actor is in its state there, and alive: known by where the state stands, or found by comparing.
+fn stands<J: Name>(marks: &Marks<J>, seat: &Seat<J>, world: &World) -> bool
+    requires { AreReached (world_state world.now) marks.now }
+    ensures { IsTrue result ↔ HasState (world_state world.now) seat.now.state }
+{
+    if let (Some(mark), Some(spot)) = (marks.at(seat.actor()), seat.spot()) {
+        if mark.is_at(spot) {
+            return true;
+        }
+    }
+    seat.state().stands_in(world)
+}
+
 /// Whether the run may go on by the step of the seat, whose actor has seen the journal up to that
 /// position.
 ///
 /// # Errors
 /// Those of `Book::commit` but `NoMemory`, in their order.
-pub(crate) fn accepts(
+pub(crate) fn accepts<J: Name>(
     run: &Run,
-    seat: &Seat,
+    marks: &Marks<J>,
+    seat: &Seat<J>,
     prepared: &Prepared,
     seen: u32,
 ) -> Result<(), CommitError>
+    requires { AreReached (world_state run.now.world) marks.now }
     ensures tests { MatchResult result (λ _. Accepts run.now seat.now prepared.now seen) (λ e. Refuses run.now seat.now prepared.now seen e) }
     ensures definite { result ≢ Err CommitError.NoMemory }
 {
@@ -46,7 +66,7 @@ pub(crate) fn accepts(
     if seat.state().is_declared_in(world) {
         return Err(CommitError::Fenced);
     }
-    if !seat.state().stands_in(world) || run.len() < seen {
+    if !stands(marks, seat, world) || run.len() < seen {
         return Err(CommitError::Stale);
     }
     Ok(())

@@ -1,8 +1,11 @@
 //! Commits, and why they are refused.
+ghost use Rattle.std.specs.Prelude.{◌≡◌, IfSome};
+
 use book::book::Book;
 use book::commit_error::CommitError;
 use book::confirms::Confirms;
 use book::mark::Mark;
+use book::new_trail::NewTrail;
 use book::receipt::Receipt;
 use book::seat::Seat;
 use book::stamp::Stamp;
@@ -12,28 +15,39 @@ use messages::shape::Shape;
 use model::op::Op;
 use model::policy::Policy;
 use std::alloc::Global;
+use std::marker::Brand;
 use std::test::Fail;
+use trail::name::Name;
 
 // A cluster of two nodes and one file, with its seats. (In boxes, since what a test keeps in a box is dropped in fewer steps.)
-fn begins(alloc: Global) -> Result<(Box<Book>, Box<Vec<Seat>>), Fail> {
+fn begins<J: Name>(
+    alloc: Global,
+    trail: Option<NewTrail>,
+) -> Result<(Box<Book<J>>, Box<Vec<Seat<J>>>), Fail>
+    requires { IfSome trail (λ trail. trail ≡ J.trail) }
+{
     let shape = Shape::new(2, 1, Policy::Exact)?;
-    let (book, seats) = Book::new(alloc, shape)?;
+    let (book, seats) = Book::new(alloc, shape, trail)?;
     Ok((Box::new(alloc, book)?, Box::new(alloc, seats)?))
 }
 
 fn spawn(node: u8) -> Event {
+    spawn_of(node, 1)
+}
+
+fn spawn_of(node: u8, pid: u16) -> Event {
     Event::Call {
         node,
-        pid: 1,
+        pid,
         op: Op::Spawn,
     }
 }
 
 // Prepares the event's step and commits it at once. (A stamp in a box is dropped in fewer steps.)
-fn commit(
-    book: &mut Book,
+fn commit<J: Name>(
+    book: &mut Book<J>,
     alloc: Global,
-    seat: &mut Seat,
+    seat: &mut Seat<J>,
     event: Event,
     seen: Option<&Mark>,
 ) -> Option<Box<Stamp>> {
@@ -43,13 +57,18 @@ fn commit(
 }
 
 // Why the event's step is not taken, if it was prepared and is not.
-fn refusal(book: &mut Book, alloc: Global, seat: &mut Seat, event: Event) -> Option<CommitError> {
+fn refusal<J: Name>(
+    book: &mut Book<J>,
+    alloc: Global,
+    seat: &mut Seat<J>,
+    event: Event,
+) -> Option<CommitError> {
     let prepared = seat.prepare(alloc, event).ok()?;
     book.commit(alloc, seat, prepared, None).err()
 }
 
 // Whether the second of these steps has a receipt, which the first does not answer, and which the book confirms.
-fn is_confirmed(book: &Book, first: &Stamp, second: &Stamp) -> bool {
+fn is_confirmed<J: Name>(book: &Book<J>, first: &Stamp, second: &Stamp) -> bool {
     if second.seen() != 1 || Receipt::of(first, second).is_some() {
         return false;
     }
@@ -60,7 +79,11 @@ fn is_confirmed(book: &Book, first: &Stamp, second: &Stamp) -> bool {
 }
 
 // Whether a process of each node begins, the second once the first did, and there is a receipt of the second.
-fn begin_both(book: &mut Book, alloc: Global, seats: &mut Vec<Seat>) -> Option<bool> {
+fn begin_both<J: Name>(
+    book: &mut Book<J>,
+    alloc: Global,
+    seats: &mut Vec<Seat<J>>,
+) -> Option<bool> {
     let first = commit(book, alloc, seats.first_mut()?, spawn(1), None)?;
     let seen = first.mark();
     let second = commit(book, alloc, seats.get_mut(1)?, spawn(2), Some(&seen))?;
@@ -68,7 +91,11 @@ fn begin_both(book: &mut Book, alloc: Global, seats: &mut Vec<Seat>) -> Option<b
 }
 
 // Whether an actor prepares no event of another, and a book takes no step that names an incarnation that was not declared.
-fn keeps_strangers_out(book: &mut Book, alloc: Global, seats: &mut Vec<Seat>) -> Option<bool> {
+fn keeps_strangers_out<J: Name>(
+    book: &mut Book<J>,
+    alloc: Global,
+    seats: &mut Vec<Seat<J>>,
+) -> Option<bool> {
     let foreign = seats.first()?.prepare(alloc, spawn(2)).err();
     let learn = Event::Learn {
         file: 1,
@@ -81,7 +108,7 @@ fn keeps_strangers_out(book: &mut Book, alloc: Global, seats: &mut Vec<Seat>) ->
 
 #[test]
 fn a_step_is_of_an_actor(rt: HostRuntime) -> Result<(), Fail> {
-    let (mut book, mut seats) = begins(rt.alloc())?;
+    let (mut book, mut seats) = begins::<Brand>(rt.alloc(), None)?;
     let both = begin_both(&mut book, rt.alloc(), &mut seats);
     let neither = keeps_strangers_out(&mut book, rt.alloc(), &mut seats);
     assert!(rt; both == Some(true) && neither == Some(true));
@@ -89,15 +116,20 @@ fn a_step_is_of_an_actor(rt: HostRuntime) -> Result<(), Fail> {
 }
 
 // Whether a step of a seat of another book, which is where node 1 begins, is not taken where it began.
-fn is_stale(book: &mut Book, alloc: Global, own: &mut Seat, other: &mut Seat) -> bool {
+fn is_stale<J: Name>(
+    book: &mut Book<J>,
+    alloc: Global,
+    own: &mut Seat<J>,
+    other: &mut Seat<J>,
+) -> bool {
     commit(book, alloc, own, spawn(1), None).is_some()
         && refusal(book, alloc, other, spawn(1)) == Some(CommitError::Stale)
 }
 
 #[test]
 fn a_step_is_of_a_book(rt: HostRuntime) -> Result<(), Fail> {
-    let (mut book, mut seats) = begins(rt.alloc())?;
-    let (_, mut others) = begins(rt.alloc())?;
+    let (mut book, mut seats) = begins::<Brand>(rt.alloc(), None)?;
+    let (_, mut others) = begins::<Brand>(rt.alloc(), None)?;
     let is_stale = match (seats.first_mut(), others.first_mut()) {
         (Some(own), Some(other)) => is_stale(&mut book, rt.alloc(), own, other),
         _ => false,
@@ -106,8 +138,41 @@ fn a_step_is_of_a_book(rt: HostRuntime) -> Result<(), Fail> {
     Ok(())
 }
 
+// Whether a book knows its own seat by the trail, before and after the node's failure, and not one that made as many steps of
+// another book, and whose state is another.
+fn knows_its_own<J: Name>(alloc: Global, trail: NewTrail) -> Result<bool, Fail>
+    requires { trail ≡ J.trail }
+{
+    let (mut book, mut seats) = begins::<J>(alloc, Some(trail))?;
+    let (mut second, mut others) = begins::<J>(alloc, None)?;
+    let (Some(own), Some(other)) = (seats.first_mut(), others.first_mut()) else {
+        return Ok(false);
+    };
+    let began = commit(&mut book, alloc, own, spawn(1), None).is_some()
+        && commit(&mut second, alloc, other, spawn_of(1, 2), None).is_some();
+    let stale = refusal(&mut book, alloc, other, spawn_of(1, 3)) == Some(CommitError::Stale);
+    let went_on = commit(&mut book, alloc, own, spawn_of(1, 3), None).is_some();
+    book.declare(alloc, 1)?;
+    let fenced = refusal(&mut book, alloc, own, spawn_of(1, 4)) == Some(CommitError::Fenced);
+    let mut again = book.restart(alloc, 1)?;
+    let begun = commit(&mut book, alloc, &mut again, spawn(1), None).is_some()
+        && commit(&mut book, alloc, &mut again, spawn_of(1, 2), None).is_some();
+    Ok(began && stale && went_on && fenced && begun)
+}
+
+#[test]
+fn a_book_knows_its_seats_by_its_trail(rt: HostRuntime) -> Result<(), Fail> {
+    let known = knows_its_own::<Brand>(rt.alloc(), NewTrail::new())?;
+    assert!(rt; known);
+    Ok(())
+}
+
 // Whether the server, once it was declared failed, is not again, and takes no step that was prepared before.
-fn fails(book: &mut Book, alloc: Global, seat: &mut Seat) -> Result<bool, Fail> {
+fn fails<J: Name>(
+    book: &mut Book<J>,
+    alloc: Global,
+    seat: &mut Seat<J>,
+) -> Result<bool, Fail> {
     let prepared = seat.prepare(alloc, Event::Resend { file: 1 })?;
     let position = book.fail_server(alloc, 1)?.position();
     let again = book.fail_server(alloc, 1).err();
@@ -118,7 +183,7 @@ fn fails(book: &mut Book, alloc: Global, seat: &mut Seat) -> Result<bool, Fail> 
 // (That of a node is, too, is looked at on threads.)
 #[test]
 fn a_failed_server_is_fenced(rt: HostRuntime) -> Result<(), Fail> {
-    let (mut book, mut seats) = begins(rt.alloc())?;
+    let (mut book, mut seats) = begins::<Brand>(rt.alloc(), None)?;
     let is_fenced = match seats.last_mut() {
         Some(seat) => fails(&mut book, rt.alloc(), seat)?,
         None => false,

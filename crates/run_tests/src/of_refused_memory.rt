@@ -1,7 +1,10 @@
 //! The steps of a cluster where a request for memory is refused: of a world, and of a book with its seats, which take the entries of
 //! one journal.
+ghost use Rattle.std.specs.Prelude.{◌≡◌, IfSome};
+
 use crate::journals::read;
 use book::book::Book;
+use book::new_trail::NewTrail;
 use book::seat::Seat;
 use cluster_core::journal::comes_next;
 use cluster_core::world::World;
@@ -10,7 +13,9 @@ use messages::entry::Entry;
 use messages::event::Event;
 use messages::shape::Shape;
 use std::alloc::{AllocError, Global};
+use std::marker::Brand;
 use std::test::Fail;
+use trail::name::Name;
 
 // The run of `tests/restarted-while-awaited.lock`, which ends with entry 37. Then node 2 has every call that is left, and waits for
 // a lock of node 1, which is declared failed.
@@ -146,7 +151,7 @@ fn all_come_next(alloc: Global, world: &mut World, entries: &[Entry]) -> Result<
 }
 
 // The seat of the actor that takes the event. There is one file.
-fn seat_of<'a>(seats: &'a mut Vec<Seat>, event: &Event) -> Option<&'a mut Seat> {
+fn seat_of<'a, J: Name>(seats: &'a mut Vec<Seat<J>>, event: &Event) -> Option<&'a mut Seat<J>> {
     let actor = match event {
         Event::Call { node, .. } | Event::Retry { node, .. } | Event::Interrupt { node, .. } => {
             Actor::Node(*node)
@@ -161,7 +166,7 @@ fn seat_of<'a>(seats: &'a mut Vec<Seat>, event: &Event) -> Option<&'a mut Seat> 
 }
 
 // The actor's step, by its seat; no answer is a refusal, here and below.
-fn commits(alloc: Global, book: &mut Book, seat: &mut Seat, event: &Event) -> Option<u32> {
+fn commits<J: Name>(alloc: Global, book: &mut Book<J>, seat: &mut Seat<J>, event: &Event) -> Option<u32> {
     let event = event.copy(alloc).ok()?;
     let prepared = seat.prepare(alloc, event).ok()?;
     let stamp = book.commit(alloc, seat, prepared, None).ok()?;
@@ -169,21 +174,21 @@ fn commits(alloc: Global, book: &mut Book, seat: &mut Seat, event: &Event) -> Op
 }
 
 // The server begins again, with another seat.
-fn starts(alloc: Global, book: &mut Book, seats: &mut Vec<Seat>, file: u16) -> Option<u32> {
+fn starts<J: Name>(alloc: Global, book: &mut Book<J>, seats: &mut Vec<Seat<J>>, file: u16) -> Option<u32> {
     let (seat, stamp) = book.start_server(alloc, file).ok()?;
     *seats.last_mut()? = seat;
     Some(stamp.position())
 }
 
 // The first node begins again, with another seat.
-fn restarts(alloc: Global, book: &mut Book, seats: &mut Vec<Seat>, node: u8) -> Option<u32> {
+fn restarts<J: Name>(alloc: Global, book: &mut Book<J>, seats: &mut Vec<Seat<J>>, node: u8) -> Option<u32> {
     let seat = book.restart(alloc, node).ok()?;
     *seats.first_mut()? = seat;
     Some(book.len())
 }
 
 // Where the entry of the event stands, from 1.
-fn taken(alloc: Global, book: &mut Book, seats: &mut Vec<Seat>, event: &Event) -> Option<u32> {
+fn taken<J: Name>(alloc: Global, book: &mut Book<J>, seats: &mut Vec<Seat<J>>, event: &Event) -> Option<u32> {
     match event {
         Event::Declare { node } => Some(book.declare(alloc, *node).ok()?.position()),
         Event::Restart { node } => restarts(alloc, book, seats, *node),
@@ -194,10 +199,10 @@ fn taken(alloc: Global, book: &mut Book, seats: &mut Vec<Seat>, event: &Event) -
 }
 
 // The same of the step that is made again where it is refused, if the book then has no entry of it.
-fn taken_again(
+fn taken_again<J: Name>(
     alloc: Global,
-    book: &mut Book,
-    seats: &mut Vec<Seat>,
+    book: &mut Book<J>,
+    seats: &mut Vec<Seat<J>>,
     event: &Event,
 ) -> Option<u32> {
     let before = book.len();
@@ -209,7 +214,7 @@ fn taken_again(
 }
 
 // Whether the book's last entry stands there, and is that.
-fn ends_with(book: &Book, position: u32, entry: &Entry) -> bool {
+fn ends_with<J: Name>(book: &Book<J>, position: u32, entry: &Entry) -> bool {
     match book.entries().last() {
         Some(last) => book.len() == position && last.same(entry),
         None => false,
@@ -217,7 +222,7 @@ fn ends_with(book: &Book, position: u32, entry: &Entry) -> bool {
 }
 
 // Whether the events of the entries come to them.
-fn takes_all(alloc: Global, book: &mut Book, seats: &mut Vec<Seat>, entries: &[Entry]) -> bool {
+fn takes_all<J: Name>(alloc: Global, book: &mut Book<J>, seats: &mut Vec<Seat<J>>, entries: &[Entry]) -> bool {
     for entry in entries {
         match taken_again(alloc, book, seats, entry.event()) {
             Some(position) if ends_with(book, position, entry) => {}
@@ -228,16 +233,29 @@ fn takes_all(alloc: Global, book: &mut Book, seats: &mut Vec<Seat>, entries: &[E
 }
 
 // A book with its seats, in boxes.
-fn opens(alloc: Global, shape: Shape) -> Result<(Box<Book>, Box<Vec<Seat>>), AllocError> {
-    let (book, seats) = Book::new(alloc, shape)?;
+fn opens<J: Name>(
+    alloc: Global,
+    shape: Shape,
+    trail: Option<NewTrail>,
+) -> Result<(Box<Book<J>>, Box<Vec<Seat<J>>>), AllocError>
+    requires { IfSome trail (λ trail. trail ≡ J.trail) }
+{
+    let (book, seats) = Book::new(alloc, shape, trail)?;
     Ok((Box::new(alloc, book)?, Box::new(alloc, seats)?))
 }
 
-// Whether a book of that shape takes all of it.
-fn is_taken(alloc: Global, shape: Shape, entries: &[Entry]) -> Result<bool, AllocError> {
-    let (mut book, mut seats) = match opens(alloc, shape) {
+// Whether a book of that shape takes all of it. (One that is made again has no trail.)
+fn is_taken<J: Name>(
+    alloc: Global,
+    shape: Shape,
+    trail: NewTrail,
+    entries: &[Entry],
+) -> Result<bool, AllocError>
+    requires { trail ≡ J.trail }
+{
+    let (mut book, mut seats) = match opens::<J>(alloc, shape, Some(trail)) {
         Ok(opened) => opened,
-        Err(_) => opens(alloc, shape)?,
+        Err(_) => opens::<J>(alloc, shape, None)?,
     };
     Ok(takes_all(alloc, &mut book, &mut seats, entries))
 }
@@ -257,7 +275,7 @@ fn world_keeps_what_it_had(rt: HostRuntime) -> Result<(), Fail> {
 #[test]
 fn book_keeps_what_it_had(rt: HostRuntime) -> Result<(), Fail> {
     let (shape, entries) = read(rt.alloc(), RUN)?;
-    let is_taken = is_taken(rt.alloc(), shape, &entries)?;
+    let is_taken = is_taken::<Brand>(rt.alloc(), shape, NewTrail::new(), &entries)?;
     assert!(rt; is_taken && entries.len() == 53);
     Ok(())
 }

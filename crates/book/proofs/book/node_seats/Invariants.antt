@@ -3,7 +3,7 @@ use Rattle.book.specs.Seats.{AreFirst}
 use Rattle.book.proofs.book.node_seats.Given as goal
 
 abbrev pub invariant-loop-index : goal.invariant-loop-index
-invariant-loop-index l = record {
+invariant-loop-index g l = record {
   count : length l.seats.items ≡ l.index;
   first : AreFirst l.shape l.seats.items;
 }

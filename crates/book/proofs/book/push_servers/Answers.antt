@@ -2,7 +2,7 @@ use Rattle.book.proofs.Seats.{server_more}
 use Rattle.book.proofs.book.push_servers.Goals as goal
 
 pub loop-index-preserved : goal.loop-index-preserved
-loop-index-preserved c =
+loop-index-preserved g c =
     let l = c.loop-index in
     let more = server_more c.args.shape l.seats.items c.push.new.self.items c.new.result c.in_ok-state.state l.index l.invariant.first l.invariant.count c.in_ok-push.ensures.items c.new.ensures c.in_ok-state.ensures.0 c.in_ok-state.ensures.1 in
     record { count = more.0; first = more.1 }

@@ -15,7 +15,7 @@ use Rattle.book.proofs.Steps.{leads_on}
 use Rattle.book.proofs.book.Book.commit.Goals as goal
 
 pub take_next-requires-clause-leads_on : goal.take_next-requires-clause-leads_on
-take_next-requires-clause-leads_on c =
+take_next-requires-clause-leads_on g c =
     let b = c.self.inside.run in
     let s = c.args.seat.now in
     let p = c.args.prepared in
@@ -25,12 +25,12 @@ take_next-requires-clause-leads_on c =
     subst F (sym c.into_parts-parts.ensures.event) (leads_on (world_state b.world) s.state p.event p.edit p.outcome accepted.0.known accepted.1 step.1)
 
 pub advance-outcome-requires-clause-fits : goal.advance-outcome-requires-clause-fits
-advance-outcome-requires-clause-fits c =
+advance-outcome-requires-clause-fits g c =
     let step : IsStepFrom c.args.seat.now c.args.prepared = c.requires c.in_ok-accepts.ensures.tests.0.named in
     subst (λ (e : Edit). Fits c.args.seat.now.state e) (sym c.into_parts-parts.ensures.edit) step.0
 
 pub returns-clause-outcome : goal.returns-clause-outcome
-returns-clause-outcome c =
+returns-clause-outcome g c =
     let b = c.self.inside.run in
     let d = c.take_next.new.run in
     let s = c.args.seat.now in
@@ -52,7 +52,7 @@ returns-clause-outcome c =
     subst (λ (x : RunFields). Commits x s p (seen_at (option_copied c.args.seen)) d r t) c.self.view_is seen
 
 pub returns-in_err-accepts-clause-outcome : goal.returns-in_err-accepts-clause-outcome
-returns-in_err-accepts-clause-outcome c =
+returns-in_err-accepts-clause-outcome g c =
     let s = c.args.seat.now in
     let p = c.args.prepared in
     let e = c.in_err-accepts.field-0.0 in

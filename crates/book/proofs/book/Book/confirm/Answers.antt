@@ -6,7 +6,7 @@ use Rattle.book.proofs.Held.{held_by_stamps, says_yes}
 use Rattle.book.proofs.book.Book.confirm.Goals as goal
 
 pub returns-clause-made : goal.returns-clause-made
-returns-clause-made c = λ call reply a b is.
+returns-clause-made g c = λ call reply a b is.
     let these : c.entries.result.now ≡ c.args.self.now.entries = c.entries.ensures ∙ ap (λ (r : RunFields). r.entries) c.self.view_is in
     let first = subst (λ (es : List Entry). IsStampOf es call) (sym these) a in
     let last = subst (λ (es : List Entry). IsStampOf es reply) (sym these) b in

@@ -13,7 +13,7 @@ use Rattle.book.proofs.Committed.{declared}
 use Rattle.book.proofs.book.Book.declare.Goals as goal
 
 pub returns-clause-ok : goal.returns-clause-ok
-returns-clause-ok c =
+returns-clause-ok g c =
     let b = c.self.inside.run in
     let d = c.take.new.self in
     let n = c.args.node in
@@ -25,7 +25,7 @@ returns-clause-ok c =
     subst (λ (x : RunFields). Declared x n d t) c.self.view_is made
 
 pub returns-in_err-take-clause-refused : goal.returns-in_err-take-clause-refused
-returns-in_err-take-clause-refused c = λ e refused.
+returns-in_err-take-clause-refused g c = λ e refused.
     let before : kept_next (world_state c.self.inside.run.world) (Declare c.args.node) ≡ Err e = subst (λ (r : RunFields). kept_next (world_state r.world) (Declare c.args.node) ≡ Err e) (sym c.self.view_is) refused in
     let told = err_from_is_err_and c.from_residual.result c.from_residual.ensures.1 in
     let same = c.in_err-take.ensures.refused e (declare-unspent (world_state c.self.inside.run.world) c.args.node e before) before in

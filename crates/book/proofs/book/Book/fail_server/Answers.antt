@@ -13,7 +13,7 @@ use Rattle.book.proofs.Committed.{failed}
 use Rattle.book.proofs.book.Book.fail_server.Goals as goal
 
 pub returns-clause-ok : goal.returns-clause-ok
-returns-clause-ok c =
+returns-clause-ok g c =
     let b = c.self.inside.run in
     let d = c.take.new.self in
     let f = c.args.file in
@@ -25,7 +25,7 @@ returns-clause-ok c =
     subst (λ (x : RunFields). Failed x f d t) c.self.view_is made
 
 pub returns-in_err-take-clause-refused : goal.returns-in_err-take-clause-refused
-returns-in_err-take-clause-refused c = λ e refused.
+returns-in_err-take-clause-refused g c = λ e refused.
     let before : kept_next (world_state c.self.inside.run.world) (FailServer c.args.file) ≡ Err e = subst (λ (r : RunFields). kept_next (world_state r.world) (FailServer c.args.file) ≡ Err e) (sym c.self.view_is) refused in
     let told = err_from_is_err_and c.from_residual.result c.from_residual.ensures.1 in
     let same = c.in_err-take.ensures.refused e (fail-unspent (world_state c.self.inside.run.world) c.args.file e before) before in

@@ -4,6 +4,6 @@ use Rattle.book.specs.States.{HasState}
 use Rattle.book.proofs.book.Book.new.Goals as goal
 
 pub returns-clause-seats : goal.returns-clause-seats
-returns-clause-seats c = λ k s e.
+returns-clause-seats g c = λ k s e.
     let first = c.in_ok-push_servers.ensures.seats k s e in
     (first.0, subst (λ (w : WorldState). HasState w s.state) (sym c.in_ok-run.ensures.world) first.1)

@@ -14,7 +14,7 @@ use Rattle.book.proofs.Committed.{restarted}
 use Rattle.book.proofs.book.Book.restart.Goals as goal
 
 pub returns-clause-ok : goal.returns-clause-ok
-returns-clause-ok c =
+returns-clause-ok g c =
     let b = c.self.inside.run in
     let d = c.restart.new.self in
     let n = c.args.node in

@@ -14,7 +14,7 @@ use Rattle.book.proofs.Committed.{started}
 use Rattle.book.proofs.book.Book.start_server.Goals as goal
 
 pub returns-clause-ok : goal.returns-clause-ok
-returns-clause-ok c =
+returns-clause-ok g c =
     let b = c.self.inside.run in
     let d = c.start.new.self in
     let f = c.args.file in

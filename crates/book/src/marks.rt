@@ -1,0 +1,92 @@
+//! The last states of actors.
+ghost use Rattle.std.specs.Prelude.{◌≡◌, ◌+◌, [], IfOk, IfSome, Some};
+ghost use Rattle.book.specs.Marks.{IsMark, Marked, Forgotten, place_of, AreReached};
+ghost use Rattle.book.specs.States.{actor_of};
+
+use crate::state::State;
+use messages::actor::Actor;
+use model::limits::MOST_NODES;
+use std::alloc::{AllocError, Global};
+use std::marker::Model;
+use trail::name::Name;
+use trail::spot::Spot;
+use trail::trail::Trail;
+
+/// The trail of all states that were committed to a book, and for each actor where in it its last state stands, if that is
+/// known. So a seat whose state stands at that place has the state of the book's copy, and need not be compared with it.
+#[derive(Drop)]
+pub(crate) struct Marks<J: Name> {
+    trail: Option<Trail<J, State>>,
+    last: Vec<Option<Spot<J, State>>>,
+}
+
+impl<J: Name> Model for Marks<J> {
+    ghost use Rattle.book.specs.Marks.{Marks};
+
+    ghost Value = { Marks };
+
+    ghost view = { λ m. m.last.items };
+}
+
+// The place of the actor among the marks.
+fn place_of(actor: Actor) -> usize
+    ensures { result ≡ place_of actor }
+{
+    match actor {
+        Actor::Node(node) => usize::from(node),
+        Actor::Server(file) => usize::from(MOST_NODES) + usize::from(file),
+    }
+}
+
+impl<J: Name> Marks<J> {
+    /// No actor's state is known. With a trail those of all nodes, and of so many files, can come to be.
+    ///
+    /// # Errors
+    /// `AllocError` where a request for memory was refused.
+    pub(crate) fn new(
+        alloc: Global,
+        trail: Option<Trail<J, State>>,
+        files: u16,
+    ) -> Result<Marks<J>, AllocError>
+        ensures { (w : _) → IfOk result (λ marks. AreReached w marks) }
+    {
+        let mut last = Vec::new(alloc);
+        if trail.is_some() {
+            for _ in 0..place_of(Actor::Server(files)) + 1 {
+                last.push(None)?;
+            }
+        }
+        Ok(Marks { trail, last })
+    }
+
+    /// Where the actor's state stands, if that is known.
+    pub(crate) fn at(&self, actor: Actor) -> Option<&Spot<J, State>>
+        ensures { IfSome result (λ spot. IsMark self.now (place_of actor) spot.now) }
+    {
+        self.last.get(place_of(actor))?.as_ref()
+    }
+
+    /// The state is its actor's from here on: where it stands, if that can be known.
+    pub(crate) fn note(&mut self, state: &State) -> Option<Spot<J, State>>
+        ensures spot { IfSome result (λ spot. spot.item ≡ Some state.now) }
+        ensures marked { Marked self.old state.now self.new }
+    {
+        let spot = match &mut self.trail {
+            Some(trail) => trail.push(state),
+            None => None,
+        };
+        if let Some(mark) = self.last.get_mut(place_of(state.actor())) {
+            *mark = spot.as_ref().map(|spot| spot.again());
+        }
+        spot
+    }
+
+    /// The actor's state is no longer known.
+    pub(crate) fn forget(&mut self, actor: Actor)
+        ensures { Forgotten self.old actor self.new }
+    {
+        if let Some(mark) = self.last.get_mut(place_of(actor)) {
+            *mark = None;
+        }
+    }
+}
