@@ -9,10 +9,15 @@ use crossbeam_channel::{SendError, Sender};
 use messages::actor::Actor;
 use messages::message::Message;
 use std::alloc::Global;
+use std::hint;
 use std::sync::atomic::{AtomicU64, Ordering};
-use std::sync::{Mutex, Wait};
+use std::sync::{Mutex, MutexGuard, Wait};
 use std::thread;
 use trail::name::Name;
+
+// How often a thread looks whether it can have the book before it sleeps, and how long it pauses between two looks.
+const LOOKS: u32 = 200;
+const PAUSES: u32 = 20;
 
 /// The mailbox of an actor, and whether it takes a tick: 0 where its worker waits for one, and 1 where
 /// one is on its way or the worker needs none.
@@ -82,6 +87,20 @@ pub(crate) struct Shared<'a, J: Name, G> {
 }
 
 impl<J: Name, G> Shared<'_, J, G> {
+    /// The book under its lock. A commit holds it for a microsecond or two, which is less than it takes to sleep and be
+    /// woken, so a thread looks for a while first.
+    pub(crate) fn lock_book<R: Wait>(&self, rt: &R) -> MutexGuard<'_, Book<J>> {
+        for _ in 0..LOOKS {
+            if let Some(book) = self.book.try_lock() {
+                return book;
+            }
+            for _ in 0..PAUSES {
+                hint::spin_loop();
+            }
+        }
+        self.book.lock(rt)
+    }
+
     /// The mailbox of the actor.
     pub(crate) fn mailbox(&self, actor: Actor) -> Option<&Mailbox> {
         self.mailboxes.get(index_of(self.nodes, actor)?)

@@ -454,8 +454,7 @@ fn commit<J: Name, G: Gate, R: Wait>(
     let actor = seat.actor();
     shared.gate.at(Point::Prepared(actor));
     let committed = shared
-        .book
-        .lock(rt)
+        .lock_book(rt)
         .commit(shared.alloc, seat, prepared, seen);
     let stamp = committed?;
     shared.halt.note_step();
