@@ -18,7 +18,9 @@ use Rattle.book.specs.States.{actor_of, Becomes, StepsTo, is_declared, made_by}
 use Rattle.book.specs.Fields.{SeatFields, PreparedFields, StampFields}
 use Rattle.book.specs.Commits.{IsStepFrom, IsSeatOf, Accepts, Commits}
 use Rattle.book.specs.Turns.{Declared, Restarted, Failed, Started}
+use Rattle.book.specs.Marks.{Marks, AreReached, Marked, Forgotten}
 use Rattle.book.proofs.Fences.{stays_declared}
+use Rattle.book.proofs.Reached.{reached_marked, reached_forgotten}
 use Rattle.book.proofs.Stamps.{stays, new_stamp}
 use Rattle.book.proofs.Steps.{actor_kept, leads, comes_next, made_entry, may_step, mine, others}
 use Rattle.book.proofs.Turns.{declared_entry, declared_others, declared_fences, restarted_others, failed_entry, failed_others, failed_fences, started_entry, started_others}
@@ -134,3 +136,39 @@ started b d f s t went actor commits stands position said gave seen_is =
       stamps = λ x h. stays b.entries d.entries went.0 x went.2 h;
       others = λ x ne has. started_others w f q x.state step ne has;
     }
+
+-- a commit leaves the marks of a book's actors right, where its own actor's is the new state's
+pub committed_reached : (b d : RunFields) (s r : SeatFields) (p : PreparedFields) (seen : ℕ) (t : StampFields) (old new : Marks) → Commits b s p seen d r t → AreReached (world_state b.world) old → Marked old r.state new → AreReached (world_state d.world) new
+committed_reached b d s r p seen t old new made reached marked =
+    let kept = actor_kept s.state p.event r.state p.outcome made.step in
+    reached_marked (world_state b.world) (world_state d.world) old new r.state reached marked made.mine
+    (λ y ne has. made.others (record { state = y; commits = 0 }) (λ e. ne (e ∙ sym kept)) has)
+
+-- and so do failures and starts, where their own actor's is forgotten
+pub declared_reached : (b d : RunFields) (n : ℕ) (old new : Marks) → GoesOn b (Declare n) d → AreReached (world_state b.world) old → Forgotten old (ANode n) new → AreReached (world_state d.world) new
+declared_reached b d n old new went reached forgotten =
+    let w = world_state b.world in
+    let q : WorldState × Entry = (world_state d.world, went.0) in
+    let step = (kept_taken w (Declare n) q went.1).1 in
+    reached_forgotten w (world_state d.world) old new (ANode n) reached forgotten (λ y ne has. declared_others w n q y step ne has)
+
+pub restarted_reached : (b d : RunFields) (n : ℕ) (old new : Marks) → GoesOn b (Restart n) d → AreReached (world_state b.world) old → Forgotten old (ANode n) new → AreReached (world_state d.world) new
+restarted_reached b d n old new went reached forgotten =
+    let w = world_state b.world in
+    let q : WorldState × Entry = (world_state d.world, went.0) in
+    let step = (kept_taken w (Restart n) q went.1).1 in
+    reached_forgotten w (world_state d.world) old new (ANode n) reached forgotten (λ y ne has. restarted_others w n q y step ne has)
+
+pub failed_reached : (b d : RunFields) (f : ℕ) (old new : Marks) → GoesOn b (FailServer f) d → AreReached (world_state b.world) old → Forgotten old (AServer f) new → AreReached (world_state d.world) new
+failed_reached b d f old new went reached forgotten =
+    let w = world_state b.world in
+    let q : WorldState × Entry = (world_state d.world, went.0) in
+    let step = (kept_taken w (FailServer f) q went.1).1 in
+    reached_forgotten w (world_state d.world) old new (AServer f) reached forgotten (λ y ne has. failed_others w f q y step ne has)
+
+pub started_reached : (b d : RunFields) (f : ℕ) (old new : Marks) → GoesOn b (StartServer f) d → AreReached (world_state b.world) old → Forgotten old (AServer f) new → AreReached (world_state d.world) new
+started_reached b d f old new went reached forgotten =
+    let w = world_state b.world in
+    let q : WorldState × Entry = (world_state d.world, went.0) in
+    let step = (kept_taken w (StartServer f) q went.1).1 in
+    reached_forgotten w (world_state d.world) old new (AServer f) reached forgotten (λ y ne has. started_others w f q y step ne has)

@@ -1,5 +1,5 @@
 -- What commits and failures leave of the marks.
-use Rattle.std.proofs.Common.{◌≡◌, ◌≢◌, ◌⊎◌, inl, inr, ℕ, zero, suc, None, Some, List, [], ◌∷◌, ◌++◌, ap, sym, ◌∙◌}
+use Rattle.std.proofs.Common.{◌≡◌, ◌≢◌, ◌⊎◌, inl, inr, ℕ, zero, suc, None, Some, [], ◌∷◌, ◌++◌, ap, sym, ◌∙◌}
 use Rattle.messages.specs.declared.actor.Actor.{Actor}
 use Rattle.cluster_core.specs.World.{WorldState}
 use Rattle.trail.specs.Spots.{SpotFields}

@@ -56,13 +56,15 @@ impl<J: Name, E> Trail<J, E> {
         }
         let mut offer: Offer<E, u64, Law, Nothing> = self.seen.plain::<Nothing, E, Add>(item);
         let mut pen = self.seen.no_pen();
-        let found = self.head.compare_exchange::<Add, Nothing>(
-            place,
-            place + 1,
-            &mut self.seen,
-            &mut offer,
-            &mut pen,
-        );
+        let found = self
+            .head
+            .compare_exchange::<Add, Nothing>(
+                place,
+                place + 1,
+                &mut self.seen,
+                &mut offer,
+                &mut pen,
+            );
         if found != place {
             self.len = found;
             return None;

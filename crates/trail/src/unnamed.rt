@@ -9,6 +9,7 @@ use logbook::{Seen, Start, Word};
 use std::marker::Model;
 
 /// An empty trail that has no name yet. Contracts see which one it is.
+#[derive(Drop)]
 pub struct Unnamed<E> {
     head: Word<E, u64, Law>,
     seen: Seen<E, u64, Law>,

@@ -7,11 +7,14 @@ use Rattle.cluster_core.specs.Next.{next}
 use Rattle.cluster_core.specs.Parts.{world_state}
 use Rattle.cluster_core.specs.Journals.{RunFields, GoesOn}
 use Rattle.book.specs.declared.edit.Edit.{Edit}
-use Rattle.book.specs.Fields.{StampFields}
+use Rattle.book.specs.Fields.{SeatFields, StampFields}
 use Rattle.book.specs.States.{Fits, Becomes}
 use Rattle.book.specs.Commits.{IsStepFrom, Refuses, Commits, seen_at}
-use Rattle.book.proofs.Committed.{committed}
+use Rattle.book.proofs.Committed.{committed, committed_reached}
 use Rattle.book.proofs.Steps.{leads_on}
+use Rattle.book.specs.declared.state.State.{State}
+use Rattle.book.specs.Marks.{AreReached, Marked}
+use Rattle.book.proofs.book.Book.commit.Given.{Over}
 use Rattle.book.proofs.book.Book.commit.Goals as goal
 
 pub take_next-requires-clause-leads_on : goal.take_next-requires-clause-leads_on
@@ -29,8 +32,9 @@ advance-outcome-requires-clause-fits g c =
     let step : IsStepFrom c.args.seat.now c.args.prepared = c.requires c.in_ok-accepts.ensures.tests.0.named in
     subst (λ (e : Edit). Fits c.args.seat.now.state e) (sym c.into_parts-parts.ensures.edit) step.0
 
-pub returns-clause-outcome : goal.returns-clause-outcome
-returns-clause-outcome g c =
+-- what was committed
+made : (g : Over) (c : goal.After-new g) → Commits c.self.inside.run c.args.seat.now c.args.prepared (seen_at (option_copied c.args.seen)) c.take_next.new.run c.stand_at.new.self c.new.result
+made g c =
     let b = c.self.inside.run in
     let d = c.take_next.new.run in
     let s = c.args.seat.now in
@@ -47,9 +51,12 @@ returns-clause-outcome g c =
     let seen_is = ap (λ (x : StampFields). x.seen) is in
     let went = subst (λ (e : Event). GoesOn b e d) parts.ensures.event c.in_ok-take_next.ensures.ok in
     let becomes = subst (λ (e : Edit). Becomes s.state e r.state) parts.ensures.edit c.advance-outcome.ensures.state in
-    let made : Commits b s p c.seen_of-seen.result d r t = committed b d s r p c.seen_of-seen.result t accepted step went becomes c.advance-outcome.ensures.commits position said gave seen_is in
-    let seen : Commits b s p (seen_at (option_copied c.args.seen)) d r t = subst (λ (n : ℕ). Commits b s p n d r t) c.seen_of-seen.ensures made in
-    subst (λ (x : RunFields). Commits x s p (seen_at (option_copied c.args.seen)) d r t) c.self.view_is seen
+    let at_mark : Commits b s p c.seen_of-seen.result d r t = committed b d s r p c.seen_of-seen.result t accepted step went becomes c.advance-outcome.ensures.commits position said gave seen_is in
+    let seen : Commits b s p (seen_at (option_copied c.args.seen)) d r t = subst (λ (n : ℕ). Commits b s p n d r t) c.seen_of-seen.ensures at_mark in
+    subst (λ (x : SeatFields). Commits b s p (seen_at (option_copied c.args.seen)) d x t) (sym c.stand_at.ensures) seen
+
+pub returns-clause-outcome : goal.returns-clause-outcome
+returns-clause-outcome g c = subst (λ (x : RunFields). Commits x c.args.seat.now c.args.prepared (seen_at (option_copied c.args.seen)) c.take_next.new.run c.stand_at.new.self c.new.result) c.self.view_is (made g c)
 
 pub returns-in_err-accepts-clause-outcome : goal.returns-in_err-accepts-clause-outcome
 returns-in_err-accepts-clause-outcome g c =
@@ -59,3 +66,15 @@ returns-in_err-accepts-clause-outcome g c =
     let told = err_from_is_err_and c.from_residual.result c.from_residual.ensures.1 in
     let here : Refuses c.self.inside.run s p (seen_at (option_copied c.args.seen)) e = subst (λ (n : ℕ). Refuses c.self.inside.run s p n e) c.seen_of-seen.ensures c.in_err-accepts.ensures.tests in
     rw (told.1, told.2) (subst (λ (x : RunFields). Refuses x s p (seen_at (option_copied c.args.seen)) e) c.self.view_is here)
+
+pub invariant_of-self : goal.invariant_of-self
+invariant_of-self g c = subst (λ (r : RunFields). AreReached (world_state r.world) c.self.inside.marks) (sym c.in_err-take_next.ensures.unchanged) c.self.invariant
+
+pub invariant_of-self-2 : goal.invariant_of-self-2
+invariant_of-self-2 g c =
+    let r = c.stand_at.new.self in
+    let old = c.self.inside.marks in
+    let new = c.note-spot.new.self in
+    let state = c.state.ensures ∙ sym (ap (λ (x : SeatFields). x.state) c.stand_at.ensures) in
+    let marked : Marked old r.state new = subst (λ (x : State). Marked old x new) state c.note-spot.ensures.marked in
+    committed_reached c.self.inside.run c.take_next.new.run c.args.seat.now r c.args.prepared (seen_at (option_copied c.args.seen)) c.new.result old new (made g c) c.self.invariant marked

@@ -9,7 +9,7 @@ use Rattle.messages.specs.Messages.{sending}
 use Rattle.cluster_core.specs.Journals.{RunFields}
 use Rattle.book.specs.Fields.{StampFields}
 use Rattle.book.specs.Turns.{Failed}
-use Rattle.book.proofs.Committed.{failed}
+use Rattle.book.proofs.Committed.{failed, failed_reached}
 use Rattle.book.proofs.book.Book.fail_server.Goals as goal
 
 pub returns-clause-ok : goal.returns-clause-ok
@@ -30,3 +30,6 @@ returns-in_err-take-clause-refused g c = λ e refused.
     let told = err_from_is_err_and c.from_residual.result c.from_residual.ensures.1 in
     let same = c.in_err-take.ensures.refused e (fail-unspent (world_state c.self.inside.run.world) c.args.file e before) before in
     told.1 ∙ ap (λ (r : Refused). Err r) (told.2 ∙ err_is _ _ same)
+
+pub invariant_of-self-2 : goal.invariant_of-self-2
+invariant_of-self-2 g c = failed_reached c.self.inside.run c.take.new.self c.args.file c.self.inside.marks c.forget.new.self c.in_ok-take.ensures.ok c.self.invariant c.forget.ensures

@@ -10,7 +10,7 @@ use Rattle.book.specs.declared.state.State.TheVariants.{OfNode}
 use Rattle.book.specs.Fields.{SeatFields}
 use Rattle.book.specs.Turns.{Restarted}
 use Rattle.book.proofs.Turns.{restarted_mine}
-use Rattle.book.proofs.Committed.{restarted}
+use Rattle.book.proofs.Committed.{restarted, restarted_reached}
 use Rattle.book.proofs.book.Book.restart.Goals as goal
 
 pub returns-clause-ok : goal.returns-clause-ok
@@ -25,3 +25,6 @@ returns-clause-ok g c =
     let made : Restarted b n d seat = restarted b d n seat went refl refl stands in
     let same : Restarted b n d c.new.result = subst (λ (x : SeatFields). Restarted b n d x) (sym c.new.ensures) made in
     subst (λ (x : RunFields). Restarted x n d c.new.result) c.self.view_is same
+
+pub invariant_of-self-2 : goal.invariant_of-self-2
+invariant_of-self-2 g c = restarted_reached c.self.inside.run c.restart.new.self c.args.node c.self.inside.marks c.forget.new.self c.in_ok-begun.ensures.ok c.self.invariant c.forget.ensures

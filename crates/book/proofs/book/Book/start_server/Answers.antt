@@ -10,7 +10,7 @@ use Rattle.book.specs.declared.state.State.TheVariants.{OfServer}
 use Rattle.book.specs.Fields.{SeatFields, StampFields}
 use Rattle.book.specs.Turns.{Started}
 use Rattle.book.proofs.Turns.{started_mine}
-use Rattle.book.proofs.Committed.{started}
+use Rattle.book.proofs.Committed.{started, started_reached}
 use Rattle.book.proofs.book.Book.start_server.Goals as goal
 
 pub returns-clause-ok : goal.returns-clause-ok
@@ -29,3 +29,6 @@ returns-clause-ok g c =
     let made : Started b f d seat t = started b d f seat t went refl refl stands position (ap (λ (x : StampFields). x.event) is) gave (ap (λ (x : StampFields). x.seen) is) in
     let same : Started b f d c.new.result t = subst (λ (x : SeatFields). Started b f d x t) (sym c.new.ensures) made in
     subst (λ (x : RunFields). Started x f d c.new.result t) c.self.view_is same
+
+pub invariant_of-self-2 : goal.invariant_of-self-2
+invariant_of-self-2 g c = started_reached c.self.inside.run c.start.new.self c.args.file c.self.inside.marks c.forget.new.self c.in_ok-begun.ensures.ok c.self.invariant c.forget.ensures
