@@ -1,5 +1,5 @@
 //! A cluster on threads.
-ghost use Rattle.std.specs.Prelude.{◌≡◌, ◌+◌, ◌≤◌, ◌↔◌, IfOk, IfSome, IsErrOf, length};
+ghost use Rattle.std.specs.Prelude.{◌≡◌, ◌+◌, ◌≤◌, ◌↔◌, IfOk, IsErrOf, length};
 ghost use Rattle.actors.specs.declared.call_error.CallError.TheVariants.{Stranger};
 ghost use Rattle.model.specs.Limits.{IsNumber, most_nodes, most_processes};
 ghost use Rattle.messages.specs.declared.event.Event.TheVariants.{Declare, FailServer};
@@ -18,7 +18,6 @@ use crate::stuck::is_stuck;
 use crate::weather::Weather;
 use crate::worker::Worker;
 use book::book::Book;
-use book::new_trail::NewTrail;
 use book::seat::Seat;
 use book::stamp::Stamp;
 use cluster_core::journal::Journal;
@@ -29,6 +28,7 @@ use messages::shape::Shape;
 use model::limits::MOST_PROCESSES;
 use model::process::Process;
 use std::alloc::{AllocError, Global};
+use std::marker::Brand;
 use std::sync::atomic::{AtomicU64, Ordering};
 use std::sync::{Mutex, Wait};
 use std::thread;
@@ -60,6 +60,11 @@ impl<'a, J: Name> Cluster<'a, J> {
     // Where the token server of the file stands as it begins again.
     fn server_place(&self, file: u16) -> Option<&'a Mutex<Option<Rebuilt<J>>>> {
         self.rebuilt.get(usize::from(file).checked_sub(1)?)
+    }
+
+    /// Where memory is taken.
+    pub(crate) fn alloc(&self) -> Global {
+        self.alloc
     }
 
     /// The workers end, before they take another letter. Calls that are open then are answered `Unanswered`,
@@ -197,8 +202,8 @@ impl<'a, J: Name> Cluster<'a, J> {
 }
 
 /// Runs a cluster of the shape on threads for as long as the body does, which is lent it. Each actor
-/// has a thread, a mailbox and a weather, nodes first. The body's result comes with the journal. Without a trail
-/// each step is compared with the book's copy of its actor's state.
+/// has a thread, a mailbox and a weather, nodes first. The body's result comes with the journal. Its book has no trail, so
+/// each step is compared with the book's copy of its actor's state (`run_threads` has one).
 ///
 /// Where a hundred requests for memory are refused one after the other, with no step between them, the
 /// threads of the actors end: calls that are open then are answered `Unanswered`, and later ones `Closed`.
@@ -206,66 +211,107 @@ impl<'a, J: Name> Cluster<'a, J> {
 /// # Errors
 /// `AllocError` where a request for memory or for a thread was refused.
 pub fn with_cluster<
-    J: Name + Send + Sync,
     G: Gate + Sync,
     W: Weather + Send,
     R: Threads + Wait + Clock + Sync,
     T,
-    F: FnOnce(&Cluster<'_, J>) -> T,
+    F: FnOnce(&Cluster<'_, Brand>) -> T,
 >(
     rt: &R,
     alloc: Global,
     shape: Shape,
-    trail: Option<NewTrail>,
     gate: &G,
     weathers: Vec<W>,
     body: F,
 ) -> Result<(T, Journal), AllocError>
-    requires trail { IfSome trail (λ trail. trail ≡ J.trail) }
     requires each { length weathers.items ≡ shape.nodes + shape.files }
     requires body { F.IsAlwaysCallable body }
 
     // One table explains every reply, and ends as what the nodes hold.
     ensures one_table { IfOk result (λ made. HasOneHistory made.1.shape made.1.entries) }
 {
-    let (book, seats) = Book::new(alloc, shape, trail)?;
-    let begun = begin(alloc, shape, seats, weathers)?;
+    let (book, seats) = Book::new(alloc, shape, None)?;
+    let (begun, workers) = begin(alloc, shape, seats, weathers)?;
     let book = Mutex::new(book);
-    match run_begun(rt, gate, shape, &book, begun, body) {
+    match run_body(rt, gate, &book, &begun, workers, body) {
         Some(made) => Ok((made, book.into_inner().into_journal())),
         None => Err(AllocError),
     }
 }
 
-// What a cluster begins with beside its book: a mailbox and a worker for each actor, nodes
-// first, a place for each node, and one for each server as it begins again.
+/// What a cluster begins with beside its book and its workers: a mailbox for each actor, nodes first, a place for
+/// each node, and one for each server as it begins again.
 #[derive(Drop)]
-struct Begun<J: Name, W: Weather> {
+pub(crate) struct Begun<J: Name> {
     alloc: Global,
+    nodes: u8,
     mailboxes: Vec<Mailbox>,
-    workers: Vec<Worker<J, W>>,
     places: Vec<Mutex<Place<J>>>,
     rebuilt: Vec<Mutex<Option<Rebuilt<J>>>>,
+    halt: Halt,
+    working: AtomicU64,
+    ghost within: { IsNumber most_nodes nodes },
+    ghost has_mailboxes: { nodes ≤ length mailboxes.items },
+    ghost has_places: { length places.items ≡ nodes },
 }
 
-// What a cluster of the shape begins with on these seats.
-fn begin<J: Name, W: Weather>(
+impl<J: Name> Begun<J> {
+    /// What the threads share.
+    pub(crate) fn shared<'a, G>(
+        &'a self,
+        book: &'a Mutex<Book<J>>,
+        gate: &'a G,
+    ) -> Shared<'a, J, G> {
+        Shared {
+            alloc: self.alloc,
+            book,
+            gate,
+            nodes: self.nodes,
+            mailboxes: self.mailboxes.as_slice(),
+            places: self.places.as_slice(),
+            rebuilt: self.rebuilt.as_slice(),
+            halt: &self.halt,
+            working: &self.working,
+        }
+    }
+
+    /// What is lent to whoever calls the nodes.
+    pub(crate) fn cluster<'a>(&'a self, book: &'a Mutex<Book<J>>) -> Cluster<'a, J> {
+        Cluster {
+            alloc: self.alloc,
+            nodes: self.nodes,
+            book,
+            mailboxes: self.mailboxes.as_slice(),
+            places: self.places.as_slice(),
+            rebuilt: self.rebuilt.as_slice(),
+            halt: &self.halt,
+        }
+    }
+}
+
+/// What a cluster of the shape begins with on these seats, and a worker for each.
+///
+/// # Errors
+/// `AllocError` where a request for memory was refused.
+pub(crate) fn begin<J: Name, W: Weather>(
     alloc: Global,
     shape: Shape,
     seats: Vec<Seat<J>>,
     weathers: Vec<W>,
-) -> Result<Begun<J, W>, AllocError>
-    ensures mailboxes { IfOk result (λ begun. length begun.mailboxes.items ≡ length seats.items) }
-    ensures places { IfOk result (λ begun. length begun.places.items ≡ shape.nodes) }
+) -> Result<(Begun<J>, Vec<Worker<J, W>>), AllocError>
+    requires { length seats.items ≡ shape.nodes + shape.files }
 {
     let (mailboxes, workers) = posts_of(alloc, seats, weathers)?;
-    Ok(Begun {
+    let begun = Begun {
         alloc,
+        nodes: shape.nodes(),
         mailboxes,
-        workers,
         places: places_of(alloc, shape.nodes())?,
         rebuilt: server_places_of(alloc, shape.files())?,
-    })
+        halt: Halt::new(),
+        working: AtomicU64::new(0),
+    };
+    Ok((begun, workers))
 }
 
 // A mailbox and a worker for each seat, which meets that weather.
@@ -281,78 +327,35 @@ fn posts_of<J: Name, W: Weather>(
     Ok((mailboxes, workers))
 }
 
-// Runs a cluster of the shape on the book for as long as the body does.
-fn run_begun<
-    J: Name + Send + Sync,
-    G: Gate + Sync,
-    W: Weather + Send,
-    R: Threads + Wait + Clock + Sync,
-    T,
-    F: FnOnce(&Cluster<'_, J>) -> T,
->(rt: &R, gate: &G, shape: Shape, book: &Mutex<Book<J>>, begun: Begun<J, W>, body: F) -> Option<T>
-    requires mailboxes { shape.nodes ≤ length begun.mailboxes.items }
-    requires places { length begun.places.items ≡ shape.nodes }
-    requires body { F.IsAlwaysCallable body }
-{
-    let Begun {
-        alloc,
-        mailboxes,
-        workers,
-        places,
-        rebuilt,
-    } = begun;
-    let halt = Halt::new();
-    let working = AtomicU64::new(0);
-    let shared = Shared {
-        alloc,
-        book,
-        gate,
-        nodes: shape.nodes(),
-        mailboxes: mailboxes.as_slice(),
-        places: places.as_slice(),
-        rebuilt: rebuilt.as_slice(),
-        halt: &halt,
-        working: &working,
-    };
-    let cluster = Cluster {
-        alloc,
-        nodes: shape.nodes(),
-        book,
-        mailboxes: mailboxes.as_slice(),
-        places: places.as_slice(),
-        rebuilt: rebuilt.as_slice(),
-        halt: &halt,
-    };
-    run_scope(rt, &shared, workers, &cluster, body)
-}
-
 // Starts the threads, calls the body and stops the threads.
-fn run_scope<
-    J: Name + Send + Sync,
+fn run_body<
     G: Gate + Sync,
     W: Weather + Send,
     R: Threads + Wait + Clock + Sync,
     T,
-    F: FnOnce(&Cluster<'_, J>) -> T,
+    F: FnOnce(&Cluster<'_, Brand>) -> T,
 >(
     rt: &R,
-    shared: &Shared<'_, J, G>,
-    workers: Vec<Worker<J, W>>,
-    cluster: &Cluster<'_, J>,
+    gate: &G,
+    book: &Mutex<Book<Brand>>,
+    begun: &Begun<Brand>,
+    workers: Vec<Worker<Brand, W>>,
     body: F,
 ) -> Option<T>
     requires { F.IsAlwaysCallable body }
 {
+    let shared = begun.shared(book, gate);
+    let cluster = begun.cluster(book);
     thread::scope(thread::scope_env(), rt, |scope| {
-        let all = start_all(scope, rt, shared, workers);
-        let made = if all { Some(body(cluster)) } else { None };
+        let all = start_all(scope, rt, &shared, workers);
+        let made = if all { Some(body(&cluster)) } else { None };
         cluster.stop();
         made
     })
 }
 
-// Starts the pacer and the workers. False where a thread can't be made.
-fn start_all<
+/// Starts the pacer and the workers. False where a thread can't be made.
+pub(crate) fn start_all<
     's,
     'b: 's,
     E,
@@ -360,7 +363,12 @@ fn start_all<
     G: Gate + Sync,
     W: Weather + Send + 's,
     R: Threads + Wait + Clock + Sync,
->(scope: &Scope<'s, E>, rt: &'s R, shared: &'s Shared<'b, J, G>, workers: Vec<Worker<J, W>>) -> bool {
+>(
+    scope: &Scope<'s, E>,
+    rt: &'s R,
+    shared: &'s Shared<'b, J, G>,
+    workers: Vec<Worker<J, W>>,
+) -> bool {
     if scope.spawn(move || pace(rt, shared)).is_err() {
         return false;
     }
@@ -382,12 +390,7 @@ fn start<
     G: Gate + Sync,
     W: Weather + Send + 's,
     R: Threads + Wait + Clock + Sync,
->(
-    scope: &Scope<'s, E>,
-    rt: &'s R,
-    shared: &'s Shared<'b, J, G>,
-    worker: Worker<J, W>,
-) -> bool {
+>(scope: &Scope<'s, E>, rt: &'s R, shared: &'s Shared<'b, J, G>, worker: Worker<J, W>) -> bool {
     shared.working.fetch_add(1, Ordering::SeqCst);
     let started = scope.spawn(move || worker.work(rt, shared)).is_ok();
     if !started {
@@ -439,7 +442,10 @@ fn places_of<J: Name>(alloc: Global, nodes: u8) -> Result<Vec<Mutex<Place<J>>>, 
 }
 
 // For each of so many token servers a place for it as it begins again.
-fn server_places_of<J: Name>(alloc: Global, files: u16) -> Result<Vec<Mutex<Option<Rebuilt<J>>>>, AllocError> {
+fn server_places_of<J: Name>(
+    alloc: Global,
+    files: u16,
+) -> Result<Vec<Mutex<Option<Rebuilt<J>>>>, AllocError> {
     let mut places = Vec::new(alloc);
     for _ in 0..files {
         places.push(Mutex::new(None))?;

@@ -30,7 +30,12 @@ impl<W: Weather> Outgoing<W> {
     }
 
     /// Sends the messages of a step, each as the weather has it.
-    pub(crate) fn send_all<J: Name, G, R: Wait>(&mut self, rt: &R, shared: &Shared<'_, J, G>, stamp: &Stamp) {
+    pub(crate) fn send_all<J: Name, G, R: Wait>(
+        &mut self,
+        rt: &R,
+        shared: &Shared<'_, J, G>,
+        stamp: &Stamp,
+    ) {
         for message in stamp.outcome().sends.as_slice() {
             self.send(rt, shared, message);
         }

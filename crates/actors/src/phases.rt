@@ -44,11 +44,8 @@ pub(crate) struct Phases<'a, 'b, J: Name> {
 
 impl<'a, 'b, J: Name + Send + Sync> Phases<'a, 'b, J> {
     /// No line was taken.
-    pub(crate) fn new(
-        alloc: Global,
-        cluster: &'b Cluster<'a, J>,
-        manner: Manner,
-    ) -> Phases<'a, 'b, J> {
+    pub(crate) fn new(cluster: &'b Cluster<'a, J>, manner: Manner) -> Phases<'a, 'b, J> {
+        let alloc = cluster.alloc();
         Phases {
             alloc,
             cluster,

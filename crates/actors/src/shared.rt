@@ -9,14 +9,14 @@ use crossbeam_channel::{SendError, Sender};
 use messages::actor::Actor;
 use messages::message::Message;
 use std::alloc::Global;
-use std::hint;
 use std::sync::atomic::{AtomicU64, Ordering};
 use std::sync::{Mutex, MutexGuard, Wait};
-use std::thread;
+use std::{hint, thread};
 use trail::name::Name;
 
 // How often a thread looks whether it can have the book before it sleeps, and how long it pauses between two looks.
 const LOOKS: u32 = 200;
+
 const PAUSES: u32 = 20;
 
 /// The mailbox of an actor, and whether it takes a tick: 0 where its worker waits for one, and 1 where

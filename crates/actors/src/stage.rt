@@ -74,12 +74,7 @@ impl<'s, 'a: 's, J: Name + Send + Sync, R: Threads + Wait + Clock + Sync> Stage<
 }
 
 // Plays a part. Where it stops before its end, the cluster ends.
-fn play<J: Name, R: Wait>(
-    rt: &R,
-    cluster: &Cluster<'_, J>,
-    part: &Part<'_>,
-    playing: &AtomicU64,
-) {
+fn play<J: Name, R: Wait>(rt: &R, cluster: &Cluster<'_, J>, part: &Part<'_>, playing: &AtomicU64) {
     if !part.play(rt) {
         cluster.stop();
     }

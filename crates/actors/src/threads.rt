@@ -6,7 +6,7 @@ ghost use Rattle.cluster_core.specs.Histories.{HasOneHistory};
 ghost use Rattle.cluster_core.specs.Journals.{JournalFields};
 ghost use Rattle.lockscript.specs.ThreadLines.{bad_line};
 
-use crate::cluster::{Cluster, with_cluster};
+use crate::cluster::{Begun, Cluster, begin, start_all};
 use crate::full::is_full;
 use crate::gate::Gate;
 use crate::manner::Manner;
@@ -17,6 +17,8 @@ use crate::run_watcher::RunWatcher;
 use crate::seeded::Seeded;
 use crate::stop::Stop;
 use crate::thread_run::ThreadRun;
+use crate::worker::Worker;
+use book::book::Book;
 use book::new_trail::NewTrail;
 use cluster_core::journal::Journal;
 use lockscript::script::Script;
@@ -24,7 +26,8 @@ use lockscript::script_line::ScriptLine;
 use messages::shape::Shape;
 use std::alloc::{AllocError, Global};
 use std::marker::Brand;
-use std::sync::Wait;
+use std::sync::{Mutex, Wait};
+use std::thread;
 use std::thread::Threads;
 use std::time::Clock;
 use trail::name::Name;
@@ -112,20 +115,52 @@ fn run_script<
     let shape = script.shape();
     let actors = u32::from(shape.nodes()) + u32::from(shape.files());
     let weathers = weathers_of(alloc, seed, actors)?;
-    let run = with_cluster(
-        rt,
-        alloc,
-        shape,
-        Some(trail),
-        gate,
-        weathers,
-        |cluster: &Cluster<'_, J>| run_lines(rt, alloc, cluster, script.lines(), manner, watcher),
-    );
-    match run {
-        // A lock says nothing of the book that it gives back, so the shape is looked at.
-        Ok((lines, journal)) if same_shape(&journal.shape(), &shape) => Ok((lines, journal)),
-        _ => Err(AllocError),
+    let (book, seats) = Book::new(alloc, shape, Some(trail))?;
+    let (begun, workers) = begin(alloc, shape, seats, weathers)?;
+    let book = Mutex::new(book);
+    let lines = script.lines();
+    let Some(played) = run_begun::<J, _, _, _>(
+        rt, gate, &book, &begun, workers, lines, manner, watcher,
+    ) else {
+        return Err(AllocError);
+    };
+    let journal = book.into_inner().into_journal();
+
+    // A lock says nothing of the book that it gives back, so the shape is looked at.
+    if !same_shape(&journal.shape(), &shape) {
+        return Err(AllocError);
     }
+    Ok((played, journal))
+}
+
+// Starts the threads, runs the lines and stops the threads. None where a thread can't be made.
+fn run_begun<
+    J: Name + Send + Sync,
+    G: Gate + Sync,
+    R: Threads + Wait + Clock + Sync,
+    V: RunWatcher,
+>(
+    rt: &R,
+    gate: &G,
+    book: &Mutex<Book<J>>,
+    begun: &Begun<J>,
+    workers: Vec<Worker<J, Seeded>>,
+    lines: &[ScriptLine],
+    manner: Manner,
+    watcher: &mut V,
+) -> Option<Result<Vec<PlayedLine>, Stop>> {
+    let shared = begun.shared(book, gate);
+    let cluster = begun.cluster(book);
+    thread::scope(thread::scope_env(), rt, |scope| {
+        let all = start_all(scope, rt, &shared, workers);
+        let played = if all {
+            Some(run_lines(rt, &cluster, lines, manner, watcher))
+        } else {
+            None
+        };
+        cluster.stop();
+        played
+    })
 }
 
 // Whether both are the same shape.
@@ -149,13 +184,12 @@ fn weathers_of(alloc: Global, seed: u32, count: u32) -> Result<Vec<Seeded>, Allo
 // Runs the lines in order on a cluster that runs.
 fn run_lines<J: Name + Send + Sync, R: Threads + Wait + Clock + Sync, V: RunWatcher>(
     rt: &R,
-    alloc: Global,
     cluster: &Cluster<'_, J>,
     lines: &[ScriptLine],
     manner: Manner,
     watcher: &mut V,
 ) -> Result<Vec<PlayedLine>, Stop> {
-    let mut phases = Phases::new(alloc, cluster, manner);
+    let mut phases = Phases::new(cluster, manner);
     for line in lines {
         phases.take(rt, line, watcher)?;
     }

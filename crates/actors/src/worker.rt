@@ -323,7 +323,12 @@ impl<J: Name, W: Weather> Worker<J, W> {
     }
 
     // The server sends what it prepared, if that is anything.
-    fn send_again<G: Gate, R: Wait>(&mut self, rt: &R, shared: &Shared<'_, J, G>, prepared: Prepared)
+    fn send_again<G: Gate, R: Wait>(
+        &mut self,
+        rt: &R,
+        shared: &Shared<'_, J, G>,
+        prepared: Prepared,
+    )
         requires { Names prepared self.old.seat → IsStepFrom self.old.seat prepared }
     {
         if prepared.outcome().sends.is_empty() {

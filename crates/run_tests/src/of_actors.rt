@@ -20,7 +20,6 @@ use model::op::Op;
 use model::owner::Kind;
 use model::policy::Policy;
 use model::reply::Reply;
-use std::marker::Brand;
 use std::sync::Wait;
 use std::sync::atomic::Ordering;
 use std::test::Fail;
@@ -73,7 +72,7 @@ fn a_node_commits_while_another_is_held(rt: HostRuntime) -> Result<(), Fail> {
     let gate = Holder::new(&rt);
     let shape = Shape::new(2, 1, Policy::Exact)?;
     let weathers = vec![in alloc; Fair, Fair, Fair]?;
-    let (made, journal) = with_cluster::<Brand, _, _, _, _, _>(&rt, alloc, shape, None, &gate, weathers, |cluster| {
+    let (made, journal) = with_cluster(&rt, alloc, shape, &gate, weathers, |cluster| {
         let mut one = cluster.client(&rt, 1, 1).ok()?;
         let mut two = cluster.client(&rt, 2, 1).ok()?;
         let first = begin(&rt, &mut one, set(0, 10))?;
@@ -106,7 +105,7 @@ fn a_step_of_a_declared_node_is_not_taken(rt: HostRuntime) -> Result<(), Fail> {
     gate.armed.store(1, Ordering::SeqCst);
     let shape = Shape::new(1, 1, Policy::Wide)?;
     let weathers = vec![in alloc; Fair, Fair]?;
-    let (made, journal) = with_cluster::<Brand, _, _, _, _, _>(&rt, alloc, shape, None, &gate, weathers, |cluster| {
+    let (made, journal) = with_cluster(&rt, alloc, shape, &gate, weathers, |cluster| {
         let mut client = cluster.client(&rt, 1, 1).ok()?;
         let (called, declared) = thread::join(
             &rt,
@@ -132,7 +131,7 @@ fn a_call_waits_for_its_server_to_be_rebuilt(rt: HostRuntime) -> Result<(), Fail
     let alloc = rt.alloc();
     let shape = Shape::new(2, 1, Policy::Exact)?;
     let weathers = vec![in alloc; Fair, Fair, Fair]?;
-    let (made, journal) = with_cluster::<Brand, _, _, _, _, _>(&rt, alloc, shape, None, &OpenGate, weathers, |cluster| {
+    let (made, journal) = with_cluster(&rt, alloc, shape, &OpenGate, weathers, |cluster| {
         let mut one = cluster.client(&rt, 1, 1).ok()?;
         let mut two = cluster.client(&rt, 2, 1).ok()?;
         let held = begin(&rt, &mut one, set(0, 10))?;
@@ -177,7 +176,7 @@ fn a_wait_ends_as_its_node_is_declared(rt: HostRuntime) -> Result<(), Fail> {
     let alloc = rt.alloc();
     let shape = Shape::new(2, 1, Policy::Wide)?;
     let weathers = vec![in alloc; Fair, Fair, Fair]?;
-    let (made, journal) = with_cluster::<Brand, _, _, _, _, _>(&rt, alloc, shape, None, &OpenGate, weathers, |cluster| {
+    let (made, journal) = with_cluster(&rt, alloc, shape, &OpenGate, weathers, |cluster| {
         let mut one = cluster.client(&rt, 1, 1).ok()?;
         let mut two = cluster.client(&rt, 2, 1).ok()?;
         let held = begin(&rt, &mut one, set(0, 10))?;

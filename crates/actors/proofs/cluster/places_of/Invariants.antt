@@ -3,4 +3,4 @@ use Rattle.std.proofs.Common.{◌≡◌, length}
 use Rattle.actors.proofs.cluster.places_of.Given as goal
 
 abbrev pub invariant-loop : goal.invariant-loop
-invariant-loop l = length l.places.items ≡ l.counter
+invariant-loop g l = length l.places.items ≡ l.counter
