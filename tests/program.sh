@@ -442,6 +442,21 @@ for format in svg mermaid trace; do
     try_part "those around the last call as $format" 0 1.1.405 1.1.394 none picture spawns.journal --format $format --around 1.1.405
 done
 rm spawns.lock spawns.journal
+for format in svg mermaid trace; do
+    case $format in svg) begin='<svg ' ;; mermaid) begin=sequenceDiagram ;; trace) begin=traceEvents ;; esac
+    echo 'no entry lies from 8 to 4294967295: the last one is 7' >missed
+    try_part "entries behind the last one as $format" 1 "$begin" 1.1.1 missed picture written.journal --format $format --from 8
+    echo 'no entry lies from 5 to 4: the last one is 7' >missed
+    try_part "a first entry behind the last one as $format" 1 "$begin" 1.1.1 missed picture written.journal --format $format --from 5 --to 4
+    echo 'no entry lies from 8 to 11: the last one is 7' >missed
+    try_part "entries behind those around a call as $format" 1 "$begin" 1.1.1 missed \
+        picture written.journal --format $format --from 8 --around 1.1.1
+    try_part "the last entry as $format" 0 "$begin" 1.1.1 none picture written.journal --format $format --from 7
+done
+try 'a run of nothing' 0 empty.listing none run empty.lock --journal nothing.journal
+try_any 'a picture of nothing' nothing.svg picture nothing.journal
+try 'a part of it' 0 nothing.svg none picture nothing.journal --to 2
+rm nothing.journal
 sed 's/^reply 1.1.1 done$/reply 1.1.1 exists/' first.journal >wrong.journal
 echo 'audit no 1' >no-first
 try 'a story by a journal that is none of a run' 1 no-first none explain wrong.journal 1.1.1

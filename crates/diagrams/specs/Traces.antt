@@ -1,6 +1,5 @@
 -- Traces, in the trace event format. An entry takes a millisecond: that at position 3 begins at 3000 microseconds.
-use Rattle.std.specs.Prelude.{ℕ, ◌+◌, ◌-◌, ◌*◌, List, [], ◌∷◌, ◌++◌, codes, decimal, flat_map, if◌then◌else◌, length, slice_get, Option, Some, None}
-use Rattle.std.specs.Option.{option_map_or}
+use Rattle.std.specs.Prelude.{ℕ, ◌+◌, ◌-◌, ◌*◌, List, [], ◌∷◌, ◌++◌, codes, decimal, flat_map, if◌then◌else◌, length, slice_get, unwrap_or, Option, Some, None}
 use Rattle.model.specs.declared.call.CallId.{CallId}
 use Rattle.messages.specs.declared.event.Event.{Event}
 use Rattle.messages.specs.declared.event.Event.TheVariants.{Call, Deliver, Interrupt, Retry, Resend, Declare, Restart, Learn, FailServer, StartServer}
@@ -13,11 +12,11 @@ use Rattle.cluster_core.specs.declared.item.Item.TheVariants.{Answered, Gone}
 use Rattle.message_text.specs.Names.{call_text}
 use Rattle.lockscript.specs.Texts.{op_text}
 use Rattle.stories.specs.Stories.{plain_text}
-use Rattle.pictures.specs.declared.answer.Answer.{Answer}
 use Rattle.pictures.specs.declared.bar.Bar.{Bar}
 use Rattle.pictures.specs.declared.window.Window.{Window}
 use Rattle.pictures.specs.Actors.{message_word}
 use Rattle.pictures.specs.Bars.{bars}
+use Rattle.pictures.specs.Outcomes.{over_at}
 use Rattle.pictures.specs.Pictures.{is_rule, outcome_text}
 use Rattle.pictures.specs.Stretches.{PlacedFields, cut, has, stretch}
 use Rattle.pictures.specs.Svg.{together}
@@ -56,27 +55,27 @@ unfoldable pub head_text : List ℕ → List ℕ → Track → ℕ → List ℕ
 head_text phase kind track time =
     together (codes ",\n{\"ph\":\"" ∷ phase ∷ codes "\",\"cat\":\"" ∷ kind ∷ codes "\"" ∷ place_text track ∷ codes ",\"ts\":" ∷ decimal time ∷ [])
 
--- the last entry of a call: that of its answer, or the window's last one
-abbrev pub last_of : Window → Option Answer → ℕ
-last_of w answer = option_map_or (λ a. a.position) answer w.to
+-- the last entry of a call: where it is over, or the window's last one
+abbrev pub last_of : Window → Bar → ℕ
+last_of w b = unwrap_or (over_at b.answer b.end) w.to
 
--- how long it is from the begin of the entry at this position to the end of the last one
-abbrev pub duration_of : Window → ℕ → Option Answer → ℕ
-duration_of w position answer = 1000 * (last_of w answer + 1 - position)
+-- how long it is from the begin of its first entry to the end of the last one
+abbrev pub duration_of : Window → Bar → ℕ
+duration_of w b = 1000 * (last_of w b + 1 - b.made.position)
 
 -- when a call is made and how long it takes
 unfoldable pub call_head : Window → Bar → List ℕ
 call_head w b =
     together
     (head_text (codes "X") (codes "call") (track_of_bar b) (begin_of b.made.position) ∷ codes ",\"dur\":" ∷
-    decimal (duration_of w b.made.position b.answer) ∷ [])
+    decimal (duration_of w b) ∷ [])
 
 -- the event of a call
 unfoldable pub call_event : Window → Bar → List ℕ
 call_event w b =
     together
     (call_head w b ∷ codes ",\"name\":\"" ∷ op_text b.made.op ∷ codes "\",\"args\":{\"call\":\"" ∷ call_text b.made.call ∷ codes "\",\"reply\":\"" ∷
-    outcome_text b.answer ∷ codes "\",\"entry\":" ∷ decimal b.made.position ∷ codes "}}" ∷ [])
+    outcome_text b.answer b.end ∷ codes "\",\"entry\":" ∷ decimal b.made.position ∷ codes "}}" ∷ [])
 
 -- the word for an event
 unfoldable pub event_word : Event → List ℕ

@@ -14,7 +14,6 @@ use messages::message::Message;
 use messages::version::Version;
 use model::call::CallId;
 use pictures::actors::message_word;
-use pictures::answer::Answer;
 use pictures::bar::Bar;
 use pictures::bars::push_outcome;
 use pictures::frames::is_rule;
@@ -55,23 +54,19 @@ fn push_head(
     write!(out, ",\"ts\":{time}")
 }
 
-// The last entry of a call: that of its answer, or the window's last one.
-fn last_of(window: &Window, answer: &Option<Answer>) -> u64
-    ensures { result ≡ last_of window.now answer.now }
+// The last entry of a call: where it is over, or the window's last one.
+fn last_of(window: &Window, bar: &Bar) -> u64
+    ensures { result ≡ last_of window.now bar.now }
 {
-    match answer {
-        Some(answer) => answer.position,
-        None => window.to,
-    }
+    bar.over_at().unwrap_or(window.to)
 }
 
-// How long it is, in microseconds, from the begin of the entry at this position to the end of that of
-// the answer, or of the window.
-fn duration_of(window: &Window, position: u64, answer: &Option<Answer>) -> u128
-    ensures { result ≡ duration_of window.now position answer.now }
+// How long it is, in microseconds, from the begin of the entry of a call to the end of its last one.
+fn duration_of(window: &Window, bar: &Bar) -> u128
+    ensures { result ≡ duration_of window.now bar.now }
 {
-    let last = last_of(window, answer);
-    1000 * (u128::from(last) + 1).saturating_sub(u128::from(position))
+    let last = last_of(window, bar);
+    1000 * (u128::from(last) + 1).saturating_sub(u128::from(bar.made.position))
 }
 
 // Writes when a call is made and how long it takes.
@@ -80,7 +75,7 @@ fn push_call_head(out: &mut String, window: &Window, bar: &Bar) -> Result<(), Al
     ensures { OnOk result (string_bytes out.new ≡ string_bytes out.old ++ call_head window.now bar.now) }
 {
     let position = bar.made.position;
-    let duration = duration_of(window, position, &bar.answer);
+    let duration = duration_of(window, bar);
     push_head(out, "X", "call", &Track::of_bar(bar), begin_of(position))?;
     write!(out, ",\"dur\":{duration}")
 }
@@ -104,7 +99,7 @@ pub(crate) fn push_call_event(
     out.push_str("\",\"args\":{\"call\":\"")?;
     push_call(out, &bar.made.call)?;
     out.push_str("\",\"reply\":\"")?;
-    push_outcome(out, &bar.answer)?;
+    push_outcome(out, bar)?;
     write!(out, "\",\"entry\":{position}}}}}")
 }
 

@@ -21,9 +21,9 @@ use std::alloc::{AllocError, Global};
 /// each node in one incarnation is a process, by the number F or 100,000 N + I; the processes of a node
 /// are its threads, by their numbers, and thread 1,000 has what comes to a node or a server itself. There
 /// is a complete event for each call of the window, from the begin of its entry to the end of that of its
-/// reply, or of the window; one for each other entry; a flow from the last entry that sends it to each
-/// message that comes, where both are in the window; an instant event on the row of a call where the
-/// history has it; and a global one for each failure and start.
+/// reply, of the one that ended it, or of the window; one for each other entry; a flow from the last entry
+/// that sends it to each message that comes, where both are in the window; an instant event on the row of a
+/// call where the history has it; and a global one for each failure and start.
 ///
 /// # Errors
 /// `AllocError` where a request for memory was refused.

@@ -3,3 +3,4 @@ pub mod RowLaws
 pub mod LastToPass
 pub mod Grows
 pub mod Glue
+pub mod LastBars

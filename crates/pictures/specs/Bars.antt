@@ -1,56 +1,45 @@
 -- Calls that are drawn.
-use Rattle.std.specs.Prelude.{ℕ, ◌+◌, Bool, false, ◌&&◌, ◌||◌, nat_le, if◌then◌else◌, List, codes, filter_map, Option, option_and_then, Some, None}
+use Rattle.std.specs.Prelude.{ℕ, ◌+◌, Bool, false, ◌&&◌, ◌||◌, nat_le, if◌then◌else◌, List, codes, filter_map, Option, option_and_then, unwrap_or, Some, None}
 use Rattle.std.specs.List.{enumerate_from}
 use Rattle.std.specs.Option.{option_map_or}
 use Rattle.model.specs.declared.op.Op.{Op}
 use Rattle.model.specs.declared.op.Op.TheVariants.{Spawn, Fork, Open, Dup, Close, Exit, Set, Wait, Unlock, Query}
-use Rattle.model.specs.declared.reply.Reply.{Reply}
-use Rattle.model.specs.declared.reply.Reply.TheVariants.{Done, Fd, Again, Free, Blocked, Interrupted}
 use Rattle.messages.specs.Entries.{EntryFields}
 use Rattle.stories.specs.declared.made_call.MadeCall.{MadeCall}
 use Rattle.stories.specs.OpenCalls.{made_by}
 use Rattle.pictures.specs.declared.answer.Answer.{Answer}
 use Rattle.pictures.specs.declared.bar.Bar.{Bar}
 use Rattle.pictures.specs.declared.window.Window.{Window}
+use Rattle.pictures.specs.Outcomes.{end_at, over_at}
 use Rattle.pictures.specs.Places.{answer_to}
 
--- the call is answered at the window's begin or later
-abbrev pub is_answered_from : Window → Option Answer → Bool
-is_answered_from w answer = option_map_or (λ a. nat_le w.from a.position) answer false
+-- a call is over at the window's begin or later, which is over there, if it is
+abbrev pub is_over_from : Window → Option ℕ → Bool
+is_over_from w over = option_map_or (λ position. nat_le w.from position) over false
 
--- a call that is made at this position is drawn: it is made in the window, or before and answered at the window's begin or later
-abbrev pub is_drawn : Window → ℕ → Option Answer → Bool
-is_drawn w position answer = nat_le position w.to && (nat_le w.from position || is_answered_from w answer)
+-- a call that is made at this position is drawn: it is made in the window, or before and over at the window's begin or later
+abbrev pub is_drawn : Window → ℕ → Option ℕ → Bool
+is_drawn w position over = nat_le position w.to && (nat_le w.from position || is_over_from w over)
 
--- a call with its answer, where it is drawn
-abbrev pub bar_of : Window → MadeCall → Option Answer → Option Bar
-bar_of w made answer = if is_drawn w made.position answer then Some (record { made = made; answer = answer }) else None
+-- a call with its answer and its end, where it is drawn
+abbrev pub bar_of : Window → MadeCall → Option Answer → Option ℕ → Option Bar
+bar_of w made answer end = if is_drawn w made.position (over_at answer end) then Some (record { made = made; answer = answer; end = end }) else None
+
+-- a call that one of these entries makes, where it is drawn
+abbrev pub bar_among : Window → List EntryFields → MadeCall → Option Bar
+bar_among w entries made = bar_of w made (answer_to made.call entries) (end_at made entries)
 
 -- the call that an entry at this position makes, where it is drawn
 abbrev pub bar_at : Window → List EntryFields → ℕ → EntryFields → Option Bar
-bar_at w entries position e = option_and_then (λ made. bar_of w made (answer_to made.call entries)) (made_by position e.event e.call)
+bar_at w entries position e = option_and_then (bar_among w entries) (made_by position e.event e.call)
 
 -- the calls that are drawn
 abbrev pub bars : Window → List EntryFields → List Bar
 bars w entries = filter_map (λ p. bar_at w entries p.0 p.1) (enumerate_from 1 entries)
 
--- where a bar ends: at its answer, or else behind the window
-abbrev pub end_of : Window → Option Answer → ℕ
-end_of w answer = option_map_or (λ a. a.position) answer (w.to + 1)
-
--- what became of a call with this reply
-abbrev pub reply_class : Reply → List ℕ
-reply_class Done = codes "done"
-reply_class (Fd fd) = codes "done"
-reply_class Free = codes "done"
-reply_class (Again lock) = codes "denied"
-reply_class (Blocked lock) = codes "denied"
-reply_class Interrupted = codes "denied"
-reply_class _ = codes "refused"
-
-abbrev pub answer_class : Option Answer → List ℕ
-answer_class None = codes "open"
-answer_class (Some a) = reply_class a.reply
+-- where a bar ends: where the call is over, or else behind the window
+abbrev pub right_end : Window → Bar → ℕ
+right_end w b = unwrap_or (over_at b.answer b.end) (w.to + 1)
 
 -- the word for an operation
 abbrev pub op_word : Op → List ℕ

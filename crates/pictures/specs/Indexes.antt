@@ -1,5 +1,5 @@
 -- What indexes know of entries.
-use Rattle.std.specs.Prelude.{◌≡◌, ℕ, Bool, true, nat_le, List, Option, Some, None}
+use Rattle.std.specs.Prelude.{◌≡◌, ℕ, Bool, true, nat_le, List, Option, option_and_then, option_map, Some, None}
 use Rattle.std.specs.Borrow.{Bor}
 use Rattle.std.specs.HashMap.{HashMap, get}
 use Rattle.std.specs.declared.hash.FoldHasher.{FoldHasher}
@@ -10,8 +10,13 @@ use Rattle.messages.specs.declared.message.Message.{Message}
 use Rattle.messages.specs.contracts.message.MessagePartialEq.TheImpl as derived
 use Rattle.messages.specs.Entries.{EntryFields}
 use Rattle.messages.specs.Messages.{same_message}
+use Rattle.stories.specs.declared.made_call.MadeCall.{MadeCall}
 use Rattle.stories.specs.About.{delivers}
+use Rattle.stories.specs.OpenIndexes.{EndsByEnding, first_end}
 use Rattle.pictures.specs.declared.answer.Answer.{Answer}
+use Rattle.pictures.specs.declared.bar.Bar.{Bar}
+use Rattle.pictures.specs.declared.window.Window.{Window}
+use Rattle.pictures.specs.Bars.{bar_of}
 use Rattle.pictures.specs.Places.{answer_to, last_sent, last_some, position_if}
 
 -- the last entry at which the message comes
@@ -44,3 +49,7 @@ AnswersByCall = HashMap CallId Answer (BuildHasherDefault FoldHasher)
 -- the index has the answer to each call
 abbrev pub KnowsAnswers : AnswersByCall → List EntryFields → Type 0
 KnowsAnswers answers entries = (call : CallId) → get derived_of_calls.ghosts.eq answers call ≡ answer_to call entries
+
+-- the call that an entry makes, where it is drawn, with the end that the index has of it
+abbrev pub bar_with : Window → List EntryFields → EndsByEnding → Option MadeCall → Option Bar
+bar_with w entries ends made = option_and_then (λ m. bar_of w m (answer_to m.call entries) (option_map (λ p. p.0) (first_end ends m))) made

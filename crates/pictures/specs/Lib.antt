@@ -1,9 +1,10 @@
 pub mod Points
 pub mod Places
-pub mod Indexes
 pub mod Actors
 pub mod Stretches
+pub mod Outcomes
 pub mod Bars
+pub mod Indexes
 pub mod Rows
 pub mod Pieces
 pub mod Shares

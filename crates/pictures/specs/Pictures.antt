@@ -27,7 +27,8 @@ use Rattle.pictures.specs.declared.row.Row.{Row}
 use Rattle.pictures.specs.declared.row.Row.TheVariants.{Lane, Process}
 use Rattle.pictures.specs.declared.window.Window.{Window}
 use Rattle.pictures.specs.Actors.{actor_of, message_word, same_actor, sender_of}
-use Rattle.pictures.specs.Bars.{answer_class, bars, end_of, op_word}
+use Rattle.pictures.specs.Bars.{bars, op_word, right_end}
+use Rattle.pictures.specs.Outcomes.{answer_class}
 use Rattle.pictures.specs.Pieces.{pieces}
 use Rattle.pictures.specs.Places.{is_lost}
 use Rattle.pictures.specs.Rows.{row_of}
@@ -74,9 +75,10 @@ unfoldable pub rows_text : SheetFields → List ℕ
 rows_text s = flat_map (λ r. row_text (right_edge s) (top_of r.0) r.1) (enumerate_from 0 s.rows)
 
 -- what became of a call
-unfoldable pub outcome_text : Option Answer → List ℕ
-outcome_text None = codes "open"
-outcome_text (Some answer) = reply_text answer.reply
+unfoldable pub outcome_text : Option Answer → Option ℕ → List ℕ
+outcome_text (Some answer) end = reply_text answer.reply
+outcome_text None (Some position) = codes "ended at entry " ++ decimal position
+outcome_text None None = codes "open"
 
 -- the name of a bar of this width: the operation, or its word where there is no room
 unfoldable pub op_name : ℕ → Op → List ℕ
@@ -84,11 +86,11 @@ op_name width op = if nat_le (5 * length (op_text op)) width then op_text op els
 
 -- the call that the bar is of, and what became of it
 unfoldable pub bar_title : Bar → List ℕ
-bar_title b = together (call_text b.made.call ∷ codes " " ∷ op_text b.made.op ∷ codes ": " ∷ outcome_text b.answer ∷ [])
+bar_title b = together (call_text b.made.call ∷ codes " " ∷ op_text b.made.op ∷ codes ": " ∷ outcome_text b.answer b.end ∷ [])
 
 -- how far a bar goes
 unfoldable pub width_of : SheetFields → Bar → ℕ
-width_of s b = x_of s (end_of s.window b.answer) - x_of s b.made.position
+width_of s b = x_of s (right_end s.window b) - x_of s b.made.position
 
 -- the box of a call, and its name
 unfoldable pub boxed : SheetFields → Bar → List ℕ

@@ -1,6 +1,6 @@
 //! Answers to calls.
 ghost use Rattle.std.specs.Prelude.{◌≡◌};
-ghost use Rattle.pictures.specs.Bars.{answer_class, reply_class};
+ghost use Rattle.pictures.specs.Outcomes.{answer_class, reply_class};
 
 use model::reply::Reply;
 
@@ -11,7 +11,7 @@ pub struct Answer {
     pub reply: Reply,
 }
 
-/// What became of a call with this answer, or of an open one.
+/// What became of a call with this answer, or of one without.
 pub(crate) fn answer_class(answer: &Option<Answer>) -> &'static str
     ensures { result.now ≡ answer_class answer.now }
 {

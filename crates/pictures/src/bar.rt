@@ -1,51 +1,77 @@
 //! Bars of calls.
 ghost use Rattle.std.specs.Prelude.{◌≡◌};
-ghost use Rattle.pictures.specs.Bars.{bar_of, end_of, is_answered_from, is_drawn};
+ghost use Rattle.pictures.specs.Bars.{bar_of, is_drawn, is_over_from, right_end};
+ghost use Rattle.pictures.specs.Outcomes.{over_at};
 
 use crate::answer::Answer;
 use crate::window::Window;
 use stories::made_call::MadeCall;
 
-/// A call with its answer.
+/// A call with its answer, and the position, from 1, of the first entry behind it at which its process exits
+/// or its node is declared failed. A call without an answer is over there.
 #[derive(Clone, Copy, Debug, PartialEq, Eq)]
 pub struct Bar {
     pub made: MadeCall,
     pub answer: Option<Answer>,
+    pub end: Option<u64>,
 }
 
 impl Bar {
-    /// The call with its answer, where it is drawn: it is made in the window, or before and answered at
-    /// the window's begin or later.
-    pub(crate) fn of(window: &Window, made: MadeCall, answer: Option<Answer>) -> Option<Bar>
-        ensures { result ≡ bar_of window.now made answer }
+    /// The call with its answer and its end, where it is drawn: it is made in the window, or before and over
+    /// at the window's begin or later.
+    pub(crate) fn of(
+        window: &Window,
+        made: MadeCall,
+        answer: Option<Answer>,
+        end: Option<u64>,
+    ) -> Option<Bar>
+        ensures { result ≡ bar_of window.now made answer end }
     {
-        is_drawn(window, made.position, &answer).then_some(Bar { made, answer })
+        let over = over_at(&answer, end);
+        is_drawn(window, made.position, over).then_some(Bar { made, answer, end })
     }
 
-    /// Where the bar ends: at the answer, or else behind the window.
-    pub(crate) fn end(&self, window: &Window) -> u128
-        ensures { result ≡ end_of window.now self.now.answer }
+    /// The position, from 1, of the entry at which the call is over: that of its answer, or else its end.
+    pub fn over_at(&self) -> Option<u64>
+        ensures { result ≡ over_at self.now.answer self.now.end }
     {
-        match self.answer {
-            Some(answer) => u128::from(answer.position),
+        over_at(&self.answer, self.end)
+    }
+
+    /// Where the bar ends: where the call is over, or else behind the window.
+    pub(crate) fn right_end(&self, window: &Window) -> u128
+        ensures { result ≡ right_end window.now self.now }
+    {
+        match self.over_at() {
+            Some(position) => u128::from(position),
             None => u128::from(window.to) + 1,
         }
     }
 }
 
-// Whether a call that is made at this position is drawn.
-fn is_drawn(window: &Window, position: u64, answer: &Option<Answer>) -> bool
-    ensures { result ≡ is_drawn window.now position answer.now }
-{
-    position <= window.to && (window.from <= position || is_answered_from(window, answer))
-}
-
-// Whether the call is answered at the window's begin or later.
-fn is_answered_from(window: &Window, answer: &Option<Answer>) -> bool
-    ensures { result ≡ is_answered_from window.now answer.now }
+// Where a call with this answer, or else with this end, is over.
+fn over_at(answer: &Option<Answer>, end: Option<u64>) -> Option<u64>
+    ensures { result ≡ over_at answer.now end }
 {
     match answer {
-        Some(answer) => window.from <= answer.position,
+        Some(answer) => Some(answer.position),
+        None => end,
+    }
+}
+
+// Whether a call that is made at this position, and is over at that one, is drawn.
+fn is_drawn(window: &Window, position: u64, over: Option<u64>) -> bool
+    ensures { result ≡ is_drawn window.now position over }
+{
+    position <= window.to && (window.from <= position || is_over_from(window, over))
+}
+
+// Whether a call that is over at this position is so at the window's begin or later.
+fn is_over_from(window: &Window, over: Option<u64>) -> bool
+    ensures { result ≡ is_over_from window.now over }
+{
+    match over {
+        Some(position) => window.from <= position,
         None => false,
     }
 }

@@ -1,9 +1,10 @@
 //! The calls that are drawn.
-ghost use Rattle.std.specs.Prelude.{◌≡◌, ◌<◌, ◌^◌, ◌++◌, flat_map, string_bytes, IfOk, OnOk};
-ghost use Rattle.pictures.specs.Bars.{bar_at, bars, op_word};
+ghost use Rattle.std.specs.Prelude.{◌≡◌, ◌<◌, ◌^◌, ◌++◌, flat_map, option_map, string_bytes, IfOk, OnOk};
+ghost use Rattle.pictures.specs.Bars.{bars, op_word};
+ghost use Rattle.pictures.specs.Indexes.{bar_with};
 ghost use Rattle.pictures.specs.Pictures.{bar_text, bar_title, boxed, op_name, outcome_text, width_of};
 
-use crate::answer::{Answer, answer_class};
+use crate::answer::answer_class;
 use crate::answers::Answers;
 use crate::bar::Bar;
 use crate::elements::{push_box, push_label};
@@ -16,11 +17,15 @@ use message_text::names::push_call;
 use messages::entry::Entry;
 use model::op::Op;
 use std::alloc::{AllocError, Global};
+use std::collections::HashMap;
+use std::fmt::Write;
+use stories::end::End;
+use stories::ends::{Ends, first_end, note_end};
 use stories::made_call::MadeCall;
 use texts::text::Text;
 
-/// The calls of the entries that are drawn in this window: those that are made in it, or before it and answered at its begin
-/// or later, in the order of their entries.
+/// The calls of the entries that are drawn in this window: those that are made in it, or before it and over at
+/// its begin or later, in the order of their entries.
 ///
 /// # Errors
 /// `AllocError` where a request for memory was refused.
@@ -29,23 +34,43 @@ pub fn bars(alloc: Global, window: &Window, entries: &[Entry]) -> Result<Vec<Bar
 {
     let answers = Answers::of(alloc, entries)?;
     let mut bars = Vec::new(alloc);
-    let mut position = 0u64;
-    for entry in entries {
-        position += 1;
-        if let Some(bar) = bar_at(window, &answers, position, entry) {
+    let mut ends = HashMap::new(alloc);
+    for index in (0..entries.len()).rev() {
+        let entry = &entries[index];
+        let position = index as u64 + 1;
+        let made = MadeCall::of(position, entry);
+        if let Some(bar) = bar_with(window, &answers, &ends, made) {
             bars.push(bar)?;
         }
+        note_end(&mut ends, position, entry)?;
     }
+    bars.reverse();
     Ok(bars)
 }
 
-// The call that the entry at this position makes, where it is drawn.
-fn bar_at(window: &Window, answers: &Answers<'_>, position: u64, entry: &Entry) -> Option<Bar>
-    ensures { result ≡ bar_at window.now answers.now position entry.now }
+// The call that an entry makes, where it is drawn, with the first entry of the index that ends it.
+fn bar_with(
+    window: &Window,
+    answers: &Answers<'_>,
+    ends: &Ends<'_>,
+    made: Option<MadeCall>,
+) -> Option<Bar>
+    ensures { result ≡ bar_with window.now answers.now ends.now made }
 {
-    let made = MadeCall::of(position, entry)?;
+    let made = made?;
     let answer = answers.to_call(&made.call);
-    Bar::of(window, made, answer)
+    let end = position_of(&first_end(ends, &made));
+    Bar::of(window, made, answer, end)
+}
+
+// The position of the entry, if there is one.
+fn position_of(end: &Option<End<'_>>) -> Option<u64>
+    ensures { result ≡ option_map (λ p. p.0) end.now }
+{
+    match end {
+        Some(end) => Some(end.position()),
+        None => None,
+    }
 }
 
 /// Draws the calls.
@@ -87,20 +112,21 @@ fn push_title(out: &mut String, bar: &Bar) -> Result<(), AllocError>
     out.push_str(" ")?;
     Operation::write(&bar.made.op, out)?;
     out.push_str(": ")?;
-    push_outcome(out, &bar.answer)
+    push_outcome(out, bar)
 }
 
-/// Writes what became of a call: its reply, or `open`.
+/// Writes what became of a call: its reply, or `ended at entry K`, or `open`.
 ///
 /// # Errors
 /// `AllocError` where a request for memory was refused.
 #[tactic(auto, unfolding(crate::specs::Pictures::outcome_text))]
-pub fn push_outcome(out: &mut String, answer: &Option<Answer>) -> Result<(), AllocError>
-    ensures { OnOk result (string_bytes out.new ≡ string_bytes out.old ++ outcome_text answer.now) }
+pub fn push_outcome(out: &mut String, bar: &Bar) -> Result<(), AllocError>
+    ensures { OnOk result (string_bytes out.new ≡ string_bytes out.old ++ outcome_text bar.now.answer bar.now.end) }
 {
-    match answer {
-        Some(answer) => push_reply(out, &answer.reply),
-        None => out.push_str("open"),
+    match (&bar.answer, bar.end) {
+        (Some(answer), _) => push_reply(out, &answer.reply),
+        (None, Some(position)) => write!(out, "ended at entry {position}"),
+        (None, None) => out.push_str("open"),
     }
 }
 
@@ -111,7 +137,7 @@ fn width_of(sheet: &Sheet, bar: &Bar) -> u128
     ensures within { result < 2 ^ 72 }
 {
     let start = sheet.x(u128::from(bar.made.position));
-    sheet.x(bar.end(sheet.window())).saturating_sub(start)
+    sheet.x(bar.right_end(sheet.window())).saturating_sub(start)
 }
 
 // Draws the box of a call, and its name.

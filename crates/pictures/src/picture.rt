@@ -33,10 +33,10 @@ use std::alloc::{AllocError, Global};
 ///
 /// Time is entries, from left to right. There is a row for each node and each server that takes part in
 /// an entry of the window, and for each process whose calls are drawn; a bar for each call from its entry
-/// to its answer or to the right edge; an arrow for each message that comes, from the last entry before
-/// that sends it; a stub for each message that is sent and comes at no later entry; a line to the right
-/// edge for each that is sent and comes only behind the window; a diamond where the history has a call;
-/// and a line across where a node or a server fails or starts.
+/// to that of its answer, to the one that ended it, or to the right edge; an arrow for each message that
+/// comes, from the last entry before that sends it; a stub for each message that is sent and comes at no
+/// later entry; a line to the right edge for each that is sent and comes only behind the window; a diamond
+/// where the history has a call; and a line across where a node or a server fails or starts.
 ///
 /// Below, for each file of which something is held: the stretches between the first bytes and the last
 /// ones of all that is held, and for each stretch the nodes that hold it, with a box for each token of the

@@ -11,7 +11,7 @@ shown_text (Partial text told) = string_bytes text
 shown_text Yes = codes "audit yes\n"
 shown_text (No position) = codes "audit no " ++ decimal position ++ codes "\n"
 
--- the exit status: 1 where a journal is none of a run, or lacks a receipt or what was asked for, a run was ended as stuck, an outcome breaks what is expected, or a part of a recording or of a picture is left out
+-- the exit status: 1 where a journal is none of a run, or lacks a receipt or what was asked for, a run was ended as stuck, an outcome breaks what is expected, a part of a recording is left out, or a picture lacks entries that were asked for
 abbrev pub shown_status : Shown → ℕ
 shown_status (Text text) = 0
 shown_status (Wanting text) = 1
@@ -19,7 +19,7 @@ shown_status (Partial text told) = 1
 shown_status Yes = 0
 shown_status (No position) = 1
 
--- what a second writer gets beside it, unless it fails: of a run that was ended as stuck the lines of its open calls, of a recording its notes, of a picture which entries it leaves out; else nothing
+-- what a second writer gets beside it, unless it fails: of a run that was ended as stuck the lines of its open calls, of a recording its notes, of a picture what it lacks; else nothing
 abbrev pub TellsBeside : {E : Type 0} → (E → Option (List ℕ)) → (E → Type 0) → E → E → Shown → Type 0
 TellsBeside taken has_failed old new (Partial text told) = WritesOrFails (taken old) (taken new) (has_failed new) (string_bytes told)
 TellsBeside taken has_failed old new shown = new ≡ old

@@ -1,5 +1,5 @@
 -- What is told of a journal's calls, and of a script.
-use Rattle.std.specs.Prelude.{◌≡◌, ℕ, ◌+◌, ◌-◌, ◌⊎◌, Bool, true, false, All, map, ◌≤◌, ◌<◌, max, min, length, List, [], ◌++◌, codes, decimal, string_bytes, Option, Some, None}
+use Rattle.std.specs.Prelude.{◌≡◌, ℕ, ◌+◌, ◌-◌, ◌⊎◌, Bool, true, false, ◌&&◌, nat_lt, if◌then◌else◌, All, map, max, min, length, List, [], ◌++◌, codes, decimal, string_bytes, Option, Some, None}
 use Rattle.command_line.specs.declared.format.Format.{Format}
 use Rattle.command_line.specs.declared.format.Format.TheVariants.{Svg, Mermaid, Trace}
 use Rattle.diagrams.specs.Sequences.{sequence_text}
@@ -102,13 +102,28 @@ IsAsked j None from to window = window ≡ record { from = from; to = to }
 IsAsked j (Some name) from to window =
     (call : CallId) × (name ≡ call_text call) × ((wide : Window) × (around margin call j.entries ≡ Some wide) × (window ≡ between from to wide))
 
--- the last entry of a window that is asked for
-abbrev pub last_of : JournalFields → Window → ℕ
-last_of j asked = min asked.to (length j.entries)
+-- which entries up to the last one a picture of the window leaves out
+unfoldable pub left_out_text : Window → ℕ → List ℕ
+left_out_text window last =
+    codes "entries " ++ decimal (window.to + 1) ++ codes " to " ++ decimal last ++ codes " are left out: a picture shows " ++ decimal most_drawn ++ codes " at most\n"
 
--- which entries up to this one a picture of the window leaves out
-abbrev pub left_out_text : Window → ℕ → List ℕ
-left_out_text window last = codes "entries " ++ decimal (window.to + 1) ++ codes " to " ++ decimal last ++ codes " are left out: a picture shows 400 at most\n"
+-- that no entry lies in the window
+unfoldable pub none_text : Window → List ℕ
+none_text window = codes "no entry lies from " ++ decimal window.from ++ codes " to " ++ decimal window.to
+
+-- that none of so many does
+unfoldable pub missed_text : Window → ℕ → List ℕ
+missed_text window count = none_text window ++ codes ": the last one is " ++ decimal count ++ codes "\n"
+
+-- of so many entries, if there are any, none lies in the window
+abbrev pub is_missed : Window → ℕ → Bool
+is_missed window count = nat_lt 0 count && nat_lt (min window.to count) window.from
+
+-- what a picture of so many entries lacks of the window that is asked for: entries behind the first ones, which it shows, or any at all; else nothing
+unfoldable pub lack : Window → ℕ → Option (List ℕ)
+lack asked count =
+    if nat_lt (narrowed asked).to (min asked.to count) then Some (left_out_text (narrowed asked) (min asked.to count))
+    else (if is_missed asked count then Some (missed_text asked count) else None)
 
 -- no entry belongs to a call of this name
 abbrev pub HasNothingOf : JournalFields → List ℕ → Type 0
@@ -134,14 +149,12 @@ Draws j history window Trace text = text ≡ trace_text j.shape j.entries histor
 abbrev pub IsPictureOf : JournalFields → Window → Format → List ℕ → Type 0
 IsPictureOf j window format text = (history : List Item) × HasHistory j.shape j.entries history × EachAtItsPlace j.entries history × Draws j history window format text
 
--- what is shown of a picture: it, where the entries are a run, with what it leaves out, if anything, or that there is no call of the name that was given, or the first wrong entry
+-- what is shown of a picture: it, where the entries are a run, with what it lacks, if anything, or that there is no call of the name that was given, or the first wrong entry
 abbrev pub IsDrawn : JournalFields → Option (List ℕ) → ℕ → ℕ → Format → Shown → Type 0
 IsDrawn j name from to format (Text text) =
-    IsRun j.shape j.entries × ((asked : Window) × IsAsked j name from to asked × IsPictureOf j (narrowed asked) format (string_bytes text) × (last_of j asked ≤ (narrowed asked).to))
+    IsRun j.shape j.entries × ((asked : Window) × IsAsked j name from to asked × IsPictureOf j (narrowed asked) format (string_bytes text) × (lack asked (length j.entries) ≡ None))
 IsDrawn j name from to format (Partial text told) =
-    IsRun j.shape j.entries
-    × ((asked : Window) × IsAsked j name from to asked × IsPictureOf j (narrowed asked) format (string_bytes text)
-    × ((narrowed asked).to < last_of j asked) × (string_bytes told ≡ left_out_text (narrowed asked) (last_of j asked)))
+    IsRun j.shape j.entries × ((asked : Window) × IsAsked j name from to asked × IsPictureOf j (narrowed asked) format (string_bytes text) × (lack asked (length j.entries) ≡ Some (string_bytes told)))
 IsDrawn j name from to format (Wanting text) = IsRun j.shape j.entries × HasNoWindow j name × (string_bytes text ≡ no_call_text name)
 IsDrawn j name from to format (No position) = IsFirstWrong j.shape j.entries position
 IsDrawn j name from to format Yes = ⊥

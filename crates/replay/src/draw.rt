@@ -1,10 +1,10 @@
 //! The picture of a journal.
-ghost use Rattle.std.specs.Prelude.{◌≡◌, ◌≢◌, ◌++◌, codes, decimal, IfErr, IfOk, MatchOption, Some, option_map, string_bytes};
+ghost use Rattle.std.specs.Prelude.{◌≡◌, ◌≢◌, ◌<◌, IfErr, IfOk, MatchOption, Some, option_map, string_bytes};
 ghost use Rattle.command_line.specs.Tasks.{picture};
 ghost use Rattle.replay.specs.declared.fault.Fault.TheVariants.{CannotWriteOutput};
 ghost use Rattle.replay.specs.Commands.{Does, IsFault};
 ghost use Rattle.command_line.specs.declared.format.Format.TheVariants.{Svg};
-ghost use Rattle.replay.specs.Tellings.{Draws, HasNoWindow, HasNothingOf, IsAsked, IsDrawn, IsPictureOf, between, narrowed, no_call_text};
+ghost use Rattle.replay.specs.Tellings.{Draws, HasNoWindow, HasNothingOf, IsAsked, IsDrawn, IsPictureOf, between, is_missed, lack, left_out_text, missed_text, narrowed, no_call_text, none_text};
 
 use crate::audit::{Audited, checked};
 use crate::explain::no_call;
@@ -79,16 +79,12 @@ fn drawn(
     let Some(wide) = window_of(journal, name, asked) else {
         return Ok(Shown::Wanting(no_call_of(alloc, name)?));
     };
-    let window = narrowed(&wide);
-    let text = picture_in(alloc, journal, &window, format)?;
-    let last = wide.to.min(journal.entries().len() as u64);
-    if window.to < last {
-        return Ok(Shown::Partial {
-            text,
-            told: left_out(alloc, window.to + 1, last)?,
-        });
+    let text = picture_in(alloc, journal, &narrowed(&wide), format)?;
+    let count = journal.entries().len() as u64;
+    match lack_of(alloc, &wide, count)? {
+        Some(told) => Ok(Shown::Partial { text, told }),
+        None => Ok(Shown::Text(text)),
     }
-    Ok(Shown::Text(text))
 }
 
 // That there is no call of the name, if one was given.
@@ -101,13 +97,61 @@ fn no_call_of(alloc: Global, name: Option<&str>) -> Result<String, AllocError>
     }
 }
 
-// Which entries a picture leaves out, from the first to the last.
-fn left_out(alloc: Global, first: u64, last: u64) -> Result<String, AllocError>
-    ensures { IfOk result (λ told. string_bytes told ≡ codes "entries " ++ decimal first ++ codes " to " ++ decimal last ++ codes " are left out: a picture shows 400 at most\n") }
+// What a picture of so many entries lacks of the window that was asked for.
+#[tactic(auto, unfolding(crate::specs::Tellings::lack))]
+fn lack_of(alloc: Global, asked: &Window, count: u64) -> Result<Option<String>, AllocError>
+    ensures { IfOk result (λ told. option_map string_bytes told ≡ lack asked.now count) }
 {
+    let window = narrowed(asked);
+    let last = asked.to.min(count);
+    if window.to < last {
+        return Ok(Some(left_out(alloc, &window, last)?));
+    }
+    if is_missed(asked, count) {
+        return Ok(Some(missed(alloc, asked, count)?));
+    }
+    Ok(None)
+}
+
+// Whether there are entries, so many, and none lies in the window.
+fn is_missed(window: &Window, count: u64) -> bool
+    ensures { result ≡ is_missed window.now count }
+{
+    count > 0 && window.to.min(count) < window.from
+}
+
+// Which entries up to the last one a picture of the window leaves out.
+#[tactic(auto, unfolding(crate::specs::Tellings::left_out_text))]
+fn left_out(alloc: Global, window: &Window, last: u64) -> Result<String, AllocError>
+    requires { window.now.to < last }
+    ensures { IfOk result (λ told. string_bytes told ≡ left_out_text window.now last) }
+{
+    let first = window.to + 1;
     let mut told = String::new(alloc);
-    write!(told, "entries {first} to ")?;
-    write!(told, "{last} are left out: a picture shows 400 at most\n")?;
+    write!(told, "entries {first} to {last} are left out: ")?;
+    writeln!(told, "a picture shows {MOST_DRAWN} at most")?;
+    Ok(told)
+}
+
+// That none of so many entries lies in the window.
+#[tactic(auto, unfolding(crate::specs::Tellings::missed_text))]
+fn missed(alloc: Global, window: &Window, count: u64) -> Result<String, AllocError>
+    ensures { IfOk result (λ told. string_bytes told ≡ missed_text window.now count) }
+{
+    let mut told = none_in(alloc, window)?;
+    writeln!(told, ": the last one is {count}")?;
+    Ok(told)
+}
+
+// That no entry lies in the window.
+#[tactic(auto, unfolding(crate::specs::Tellings::none_text))]
+fn none_in(alloc: Global, window: &Window) -> Result<String, AllocError>
+    ensures { IfOk result (λ told. string_bytes told ≡ none_text window.now) }
+{
+    let from = window.from;
+    let to = window.to;
+    let mut told = String::new(alloc);
+    write!(told, "no entry lies from {from} to {to}")?;
     Ok(told)
 }
 

@@ -17,7 +17,7 @@ pub enum Shown {
     Wanting(String),
     /// A text of a part of what was asked for, and what is told of the rest: of a run on threads that was
     /// ended as stuck, a line for each call that is open then; of recorded locks, one for each that is not served; of a
-    /// picture, which entries it leaves out.
+    /// picture, which entries it leaves out, or that there is none where it was asked for.
     Partial { text: String, told: String },
     /// `audit yes`: the entries of the journal are a run.
     Yes,

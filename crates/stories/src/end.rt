@@ -5,7 +5,7 @@ use std::marker::Model;
 
 /// An entry that ends a call without a reply, with its position, from 1.
 #[derive(Drop)]
-pub(crate) struct End<'a> {
+pub struct End<'a> {
     position: u64,
     entry: &'a Entry,
 }
@@ -40,7 +40,7 @@ impl<'a> End<'a> {
     }
 
     /// The position.
-    pub(crate) fn position(&self) -> u64
+    pub fn position(&self) -> u64
         ensures { result ≡ self.now.0 }
     {
         self.position

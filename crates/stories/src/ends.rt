@@ -11,17 +11,13 @@ use std::alloc::AllocError;
 use std::collections::HashMap;
 
 /// By an ending: the first of the entries behind a place that is it.
-pub(crate) type Ends<'a> = HashMap<Ending, End<'a>>;
+pub type Ends<'a> = HashMap<Ending, End<'a>>;
 
 /// Takes the entry at this position, which stands before those of the index, into it.
 ///
 /// # Errors
 /// `AllocError` where a request for memory was refused.
-pub(crate) fn note_end<'a>(
-    ends: &mut Ends<'a>,
-    position: u64,
-    entry: &'a Entry,
-) -> Result<(), AllocError>
+pub fn note_end<'a>(ends: &mut Ends<'a>, position: u64, entry: &'a Entry) -> Result<(), AllocError>
     ensures { OnOk result ((ending : Ending) → end_in ends.new ending ≡ cond (is_ending ending entry.entry.now) (Some (position, entry.entry.now)) (end_in ends.old ending)) }
 {
     if let Some(ending) = Ending::of(entry) {
@@ -31,7 +27,7 @@ pub(crate) fn note_end<'a>(
 }
 
 /// The first of the entries of the index that ends the call.
-pub(crate) fn first_end<'a>(ends: &Ends<'a>, made: &MadeCall) -> Option<End<'a>>
+pub fn first_end<'a>(ends: &Ends<'a>, made: &MadeCall) -> Option<End<'a>>
     ensures { result ≡ first_end ends.now made.now }
 {
     let exit = end_in(ends, &Ending::exit_on(&made.call, made.pid));

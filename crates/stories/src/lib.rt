@@ -3,9 +3,9 @@
 
 pub mod about;
 mod answered_calls;
-mod end;
-mod ending;
-mod ends;
+pub mod end;
+pub mod ending;
+pub mod ends;
 pub mod lines;
 pub mod made_call;
 mod numbered_message;

@@ -1,11 +1,12 @@
-use Rattle.std.proofs.Common.{◌≡◌, ◌+◌, ◌++◌, ℕ, drop, filter_map}
+use Rattle.std.proofs.Common.{◌≡◌, ◌+◌, ℕ, drop, filter_map, reverse}
 use Rattle.std.specs.List.{enumerate_from}
 use Rattle.messages.specs.Entries.{EntryFields}
-use Rattle.pictures.specs.Bars.{bar_at, bars}
+use Rattle.stories.proofs.OpenEnds.{KnowsEnds}
+use Rattle.pictures.specs.Bars.{bar_at}
 use Rattle.pictures.proofs.bars.bars.Given as goal
 
-abbrev pub invariant-loop-entry : goal.invariant-loop-entry
-invariant-loop-entry l = record {
-  standing : l.position ≡ l.entry-index;
-  made : l.bars.items ++ filter_map (λ (p : ℕ × EntryFields). bar_at l.window l.entries p.0 p.1) (enumerate_from (l.position + 1) (drop l.entry-index l.entries)) ≡ bars l.window l.entries;
+abbrev pub invariant-loop-index : goal.invariant-loop-index
+invariant-loop-index l = record {
+  found : reverse l.bars.items ≡ filter_map (λ (p : ℕ × EntryFields). bar_at l.window l.entries p.0 p.1) (enumerate_from (l.index + 1) (drop l.index l.entries));
+  known : KnowsEnds l.ends (l.index + 1) (drop l.index l.entries);
 }
