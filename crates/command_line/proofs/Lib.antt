@@ -7,6 +7,7 @@ pub mod Formats
 pub mod Numbers
 pub mod ExploreWords
 pub mod PictureWords
+pub mod RunWords
 pub mod ScheduleWords
 pub mod StraceWords
 pub mod ThreadsWords

@@ -1,18 +1,19 @@
 -- What clap makes of plain words.
-use Rattle.std.proofs.Common.{arith, refl, sym, subst, codes, true, false, Bool, List, Some, None, [], ◌∷◌, ◌++◌, ◌≡◌, ◌≢◌}
+use Rattle.std.proofs.Common.{arith, refl, sym, subst, codes, true, false, List, Some, None, [], ◌∷◌, ◌≡◌, ◌≢◌}
 use Rattle.std.specs.Prelude.{decimal, slice_get}
 use Rattle.std.specs.List.{All}
 use Rattle.clap.specs.Words.{Text, is_simple, is_simple_and_free}
 use Rattle.clap.proofs.OnLiterals.{clap_on_literals}
 use Rattle.command_line.specs.Program.{program_app}
-use Rattle.command_line.specs.Tasks.{Task, run, threads, audit, history, explain, open_calls, check, picture, from_strace, explore, schedule, flag_words, greatest_seed, most_nodes, HasPlainWords, paths_of, plain_words_of}
+use Rattle.command_line.specs.Tasks.{Task, run, threads, audit, history, explain, open_calls, check, picture, from_strace, explore, schedule, greatest_seed, most_nodes, HasPlainWords, paths_of, plain_words_of}
 use Rattle.command_line.specs.Words.{AsksFor, IsPlain}
 use Rattle.command_line.specs.declared.format.Format.TheVariants.{Svg}
-use Rattle.command_line.proofs.BuiltCommands.{audit_command, check_command, explain_command, explore_command, history_command, open_command, picture_command, run_command, schedule_command, strace_command, threads_command}
+use Rattle.command_line.proofs.BuiltCommands.{audit_command, check_command, explain_command, explore_command, history_command, open_command, picture_command, schedule_command, strace_command, threads_command}
 use Rattle.command_line.proofs.CommandWords.{asks_by, is_path, IsPath}
 use Rattle.command_line.proofs.ExploreWords.{explore_asks}
 use Rattle.command_line.proofs.Numbers.{greatest_writes, hundred_writes, number_text, one_writes}
 use Rattle.command_line.proofs.PictureWords.{around_asks, picture_asks}
+use Rattle.command_line.proofs.RunWords.{run_asks}
 use Rattle.command_line.proofs.ScheduleWords.{schedule_asks}
 use Rattle.command_line.proofs.StraceWords.{strace_asks}
 use Rattle.command_line.proofs.ThreadsWords.{threads_asks, written_asks}
@@ -92,71 +93,17 @@ explain_asks program journal call p q =
     asks_by _ _ explain_command program (journal ∷ call ∷ []) (explain journal call) (rw (p.no_dashes, p.no_minus, p.no_minus, q.no_dashes, q.no_minus, q.no_minus) refl)
     (rw (p.no_dashes, p.no_minus, p.no_minus, q.no_dashes, q.no_minus, q.no_minus) refl)
 
--- `run SCRIPT`, with what may stand behind it
-module _ (program script : Text) (p : IsPath script) where
-  run_asks : (listed : Bool) → AsksFor (program ∷ codes "run" ∷ script ∷ flag_words (codes "--open") listed ++ flag_words (codes "--quiet") false) (run script None None listed false)
-  unfolding clap_on_literals
-  run_asks false =
-      asks_by _ _ run_command program (script ∷ []) (run script None None false false) (rw (p.no_dashes, p.no_minus, p.no_minus) refl)
-      (rw (p.no_dashes, p.no_minus, p.no_minus) refl, tt)
-  run_asks true =
-      asks_by _ _ run_command program (script ∷ codes "--open" ∷ []) (run script None None true false) (rw (p.no_dashes, p.no_minus, p.no_minus) refl)
-      (rw (p.no_dashes, p.no_minus, p.no_minus) refl, tt)
-
-  run_to_asks : (file : Text) → IsPath file → (listed quiet : Bool)
-      → AsksFor (program ∷ codes "run" ∷ script ∷ codes "--journal" ∷ file ∷ flag_words (codes "--open") listed ++ flag_words (codes "--quiet") quiet) (run script None (Some file) listed quiet)
-  unfolding clap_on_literals
-  run_to_asks file f false false =
-      asks_by _ _ run_command program (script ∷ codes "--journal" ∷ file ∷ []) (run script None (Some file) false false) (rw (p.no_dashes, p.no_minus, p.no_minus, f.no_dashes, f.no_minus, f.no_minus) refl)
-      (rw (p.no_dashes, p.no_minus, p.no_minus, f.no_dashes, f.no_minus, f.no_minus) refl, tt)
-  run_to_asks file f false true =
-      asks_by _ _ run_command program (script ∷ codes "--journal" ∷ file ∷ codes "--quiet" ∷ []) (run script None (Some file) false true) (rw (p.no_dashes, p.no_minus, p.no_minus, f.no_dashes, f.no_minus, f.no_minus) refl)
-      (rw (p.no_dashes, p.no_minus, p.no_minus, f.no_dashes, f.no_minus, f.no_minus) refl, tt)
-  run_to_asks file f true false =
-      asks_by _ _ run_command program (script ∷ codes "--journal" ∷ file ∷ codes "--open" ∷ []) (run script None (Some file) true false) (rw (p.no_dashes, p.no_minus, p.no_minus, f.no_dashes, f.no_minus, f.no_minus) refl)
-      (rw (p.no_dashes, p.no_minus, p.no_minus, f.no_dashes, f.no_minus, f.no_minus) refl, tt)
-  run_to_asks file f true true =
-      asks_by _ _ run_command program (script ∷ codes "--journal" ∷ file ∷ codes "--open" ∷ codes "--quiet" ∷ []) (run script None (Some file) true true) (rw (p.no_dashes, p.no_minus, p.no_minus, f.no_dashes, f.no_minus, f.no_minus) refl)
-      (rw (p.no_dashes, p.no_minus, p.no_minus, f.no_dashes, f.no_minus, f.no_minus) refl, tt)
-
-  run_after_asks : (after : Text) → IsPath after → (listed : Bool) → AsksFor (program ∷ codes "run" ∷ script ∷ codes "--after" ∷ after ∷ flag_words (codes "--open") listed ++ flag_words (codes "--quiet") false) (run script (Some after) None listed false)
-  unfolding clap_on_literals
-  run_after_asks after a false =
-      asks_by _ _ run_command program (script ∷ codes "--after" ∷ after ∷ []) (run script (Some after) None false false) (rw (p.no_dashes, p.no_minus, p.no_minus, a.no_dashes, a.no_minus, a.no_minus) refl)
-      (rw (p.no_dashes, p.no_minus, p.no_minus, a.no_dashes, a.no_minus, a.no_minus) refl, tt)
-  run_after_asks after a true =
-      asks_by _ _ run_command program (script ∷ codes "--after" ∷ after ∷ codes "--open" ∷ []) (run script (Some after) None true false) (rw (p.no_dashes, p.no_minus, p.no_minus, a.no_dashes, a.no_minus, a.no_minus) refl)
-      (rw (p.no_dashes, p.no_minus, p.no_minus, a.no_dashes, a.no_minus, a.no_minus) refl, tt)
-
-  run_after_to_asks : (after file : Text) → IsPath after → IsPath file → (listed quiet : Bool)
-      → AsksFor (program ∷ codes "run" ∷ script ∷ codes "--after" ∷ after ∷ codes "--journal" ∷ file ∷ flag_words (codes "--open") listed ++ flag_words (codes "--quiet") quiet) (run script (Some after) (Some file) listed quiet)
-  unfolding clap_on_literals
-  run_after_to_asks after file a f false false =
-      asks_by _ _ run_command program (script ∷ codes "--after" ∷ after ∷ codes "--journal" ∷ file ∷ []) (run script (Some after) (Some file) false false) (rw (p.no_dashes, p.no_minus, p.no_minus, a.no_dashes, a.no_minus, a.no_minus, f.no_dashes, f.no_minus, f.no_minus) refl)
-      (rw (p.no_dashes, p.no_minus, p.no_minus, a.no_dashes, a.no_minus, a.no_minus, f.no_dashes, f.no_minus, f.no_minus) refl, tt)
-  run_after_to_asks after file a f false true =
-      asks_by _ _ run_command program (script ∷ codes "--after" ∷ after ∷ codes "--journal" ∷ file ∷ codes "--quiet" ∷ []) (run script (Some after) (Some file) false true) (rw (p.no_dashes, p.no_minus, p.no_minus, a.no_dashes, a.no_minus, a.no_minus, f.no_dashes, f.no_minus, f.no_minus) refl)
-      (rw (p.no_dashes, p.no_minus, p.no_minus, a.no_dashes, a.no_minus, a.no_minus, f.no_dashes, f.no_minus, f.no_minus) refl, tt)
-  run_after_to_asks after file a f true false =
-      asks_by _ _ run_command program (script ∷ codes "--after" ∷ after ∷ codes "--journal" ∷ file ∷ codes "--open" ∷ []) (run script (Some after) (Some file) true false) (rw (p.no_dashes, p.no_minus, p.no_minus, a.no_dashes, a.no_minus, a.no_minus, f.no_dashes, f.no_minus, f.no_minus) refl)
-      (rw (p.no_dashes, p.no_minus, p.no_minus, a.no_dashes, a.no_minus, a.no_minus, f.no_dashes, f.no_minus, f.no_minus) refl, tt)
-  run_after_to_asks after file a f true true =
-      asks_by _ _ run_command program (script ∷ codes "--after" ∷ after ∷ codes "--journal" ∷ file ∷ codes "--open" ∷ codes "--quiet" ∷ []) (run script (Some after) (Some file) true true) (rw (p.no_dashes, p.no_minus, p.no_minus, a.no_dashes, a.no_minus, a.no_minus, f.no_dashes, f.no_minus, f.no_minus) refl)
-      (rw (p.no_dashes, p.no_minus, p.no_minus, a.no_dashes, a.no_minus, a.no_minus, f.no_dashes, f.no_minus, f.no_minus) refl, tt)
-
 abbrev words_of : Text → Task → List Text
 words_of program task = program ∷ plain_words_of task
 
 plain_task : (program : Text) (task : Task) → All (λ path. slice_get path 0 ≢ Some 45) (paths_of task) → HasPlainWords task → AsksFor (words_of program task) task
-plain_task program (run script None None listed false) plain within = run_asks program script (is_path script (plain 0 [] (omega arith))) listed
-plain_task program (run script None None listed true) plain within = absurd within
+plain_task program (run script None None listed quiet) plain within = run_asks program script (is_path script (plain 0 [] (omega arith))) None tt None tt listed quiet within
 plain_task program (run script None (Some file) listed quiet) plain within =
-    run_to_asks program script (is_path script (plain 0 [] (omega arith))) file (is_path file (plain 1 [] (omega arith))) listed quiet
-plain_task program (run script (Some after) None listed false) plain within =
-    run_after_asks program script (is_path script (plain 0 [] (omega arith))) after (is_path after (plain 1 [] (omega arith))) listed
-plain_task program (run script (Some after) None listed true) plain within = absurd within
+    run_asks program script (is_path script (plain 0 [] (omega arith))) None tt (Some file) (is_path file (plain 1 [] (omega arith))) listed quiet within
+plain_task program (run script (Some after) None listed quiet) plain within =
+    run_asks program script (is_path script (plain 0 [] (omega arith))) (Some after) (is_path after (plain 1 [] (omega arith))) None tt listed quiet within
 plain_task program (run script (Some after) (Some file) listed quiet) plain within =
-    run_after_to_asks program script (is_path script (plain 0 [] (omega arith))) after file (is_path after (plain 1 [] (omega arith))) (is_path file (plain 2 [] (omega arith))) listed quiet
+    run_asks program script (is_path script (plain 0 [] (omega arith))) (Some after) (is_path after (plain 1 [] (omega arith))) (Some file) (is_path file (plain 2 [] (omega arith))) listed quiet within
 plain_task program (threads script seed stop no_join None) plain within =
     threads_asks program script (decimal seed) seed (is_path script (plain 0 [] (omega arith))) (number_text 0 greatest_seed seed (omega arith) (omega arith) within) stop no_join
 plain_task program (threads script seed stop no_join (Some file)) plain within =

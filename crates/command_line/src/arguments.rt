@@ -83,14 +83,15 @@ pub(crate) fn failures_argument<'a>(alloc: Global) -> Arg<'a>
         .help("Let nodes and servers fail")
 }
 
-// A seed, up to the greatest, under the name of this option.
-pub(crate) fn seed_argument<'a>(alloc: Global, long: &'a str) -> Arg<'a>
+// A seed, up to the greatest, under the name of this option, of which help says this.
+pub(crate) fn seed_argument<'a>(alloc: Global, long: &'a str, help: &'a str) -> Arg<'a>
     ensures { rule_of result ≡ seed_rule long.entry.now }
 {
     Arg::new(alloc, "N")
         .long(long)
         .default_value("1")
         .value_parser(value_parser!(u32))
+        .help(help)
 }
 
 // How many seeds there are.

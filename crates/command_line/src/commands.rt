@@ -1,7 +1,7 @@
 //! The commands of the program.
-ghost use Rattle.std.specs.Prelude.{◌≡◌, IfOk};
-ghost use Rattle.clap.specs.Words.{app_of};
-ghost use Rattle.command_line.specs.Program.{audit_app, check_app, explain_app, explore_app, history_app, open_app, picture_app, program_app, run_app, schedule_app, strace_app, threads_app};
+ghost use Rattle.std.specs.Prelude.{◌≡◌, IfOk, IsOkAnd};
+ghost use Rattle.clap.specs.Words.{AddsSubcommand, app_of, new_app};
+ghost use Rattle.command_line.specs.Program.{audit_app, bare_app, check_app, explain_app, explore_app, history_app, open_app, picture_app, program_app, run_app, schedule_app, strace_app, threads_app};
 
 use crate::arguments::{
     after_argument, around_argument, call_argument, failures_argument, file_argument,
@@ -20,146 +20,214 @@ use std::alloc::{AllocError, Global};
 pub(crate) fn program<'a>(alloc: Global) -> Result<Command<'a>, AllocError>
     ensures { IfOk result (λ command. app_of command ≡ program_app) }
 {
+    let program = with_command(Ok(bare_program(alloc)), run_command(alloc));
+    let program = with_command(program, threads_command(alloc));
+    let program = with_command(program, audit_command(alloc));
+    let program = with_command(program, history_command(alloc));
+    let program = with_command(program, explain_command(alloc));
+    let program = with_command(program, open_command(alloc));
+    let program = with_command(program, check_command(alloc));
+    let program = with_command(program, picture_command(alloc));
+    let program = with_command(program, strace_command(alloc));
+    let program = with_command(program, explore_command(alloc));
+    with_command(program, schedule_command(alloc))
+}
+
+// The program's command line without its commands.
+fn bare_program<'a>(alloc: Global) -> Command<'a>
+    ensures { app_of result ≡ bare_app }
+{
     Command::new(alloc, "lockreplay")
         .about("Run scripts of record locks in a cluster, and print what came of them")
         .after_long_help(PROGRAM_NOTES)
         .version(VERSION)
         .subcommand_required(true)
         .arg_required_else_help(true)
-        .subcommand(run_command(alloc)?)?
-        .subcommand(threads_command(alloc)?)?
-        .subcommand(audit_command(alloc)?)?
-        .subcommand(history_command(alloc)?)?
-        .subcommand(explain_command(alloc)?)?
-        .subcommand(open_command(alloc)?)?
-        .subcommand(check_command(alloc)?)?
-        .subcommand(picture_command(alloc)?)?
-        .subcommand(strace_command(alloc)?)?
-        .subcommand(explore_command(alloc)?)?
-        .subcommand(schedule_command(alloc)?)
+}
+
+// The program with one more command, if there was memory for both.
+fn with_command<'a>(
+    program: Result<Command<'a>, AllocError>,
+    command: Result<Command<'a>, AllocError>,
+) -> Result<Command<'a>, AllocError>
+    ensures { IfOk result (λ r. IsOkAnd program.entry (λ old. IsOkAnd command.entry (λ added. AddsSubcommand old added r))) }
+{
+    program?.subcommand(command?)
+}
+
+// A command without arguments, with what its help says.
+fn bare_command<'a>(alloc: Global, name: &'a str, about: &'a str, notes: &'a str) -> Command<'a>
+    ensures { app_of result ≡ new_app name.entry.now }
+{
+    Command::new(alloc, name)
+        .about(about)
+        .after_long_help(notes)
 }
 
 fn run_command<'a>(alloc: Global) -> Result<Command<'a>, AllocError>
     ensures { IfOk result (λ command. app_of command ≡ run_app) }
 {
-    Command::new(alloc, "run")
-        .about("Run each line of a script in order and print the listing")
-        .after_long_help(RUN_NOTES)
-        .arg(script_argument(alloc))?
-        .arg(after_argument(alloc))?
-        .arg(file_argument(alloc))?
-        .arg(open_argument(alloc))?
-        .arg(quiet_argument(alloc))
+    let arguments = vec![in alloc;
+        script_argument(alloc),
+        after_argument(alloc),
+        file_argument(alloc),
+        open_argument(alloc),
+        quiet_argument(alloc),
+    ]?;
+    bare_command(
+        alloc,
+        "run",
+        "Run each line of a script in order and print the listing",
+        RUN_NOTES,
+    )
+    .args(arguments)
 }
 
 fn threads_command<'a>(alloc: Global) -> Result<Command<'a>, AllocError>
     ensures { IfOk result (λ command. app_of command ≡ threads_app) }
 {
-    let seed = seed_argument(alloc, "seed").help(
+    let seed = seed_argument(
+        alloc,
+        "seed",
         "The seed of the weather that messages meet, up to 4294967295",
     );
-    Command::new(alloc, "threads")
-        .about("Run a script on threads and print the listing")
-        .after_long_help(THREADS_NOTES)
-        .arg(script_argument(alloc))?
-        .arg(seed)?
-        .arg(stop_argument(alloc))?
-        .arg(no_join_argument(alloc))?
-        .arg(file_argument(alloc))
+    let arguments = vec![in alloc;
+        script_argument(alloc),
+        seed,
+        stop_argument(alloc),
+        no_join_argument(alloc),
+        file_argument(alloc),
+    ]?;
+    bare_command(
+        alloc,
+        "threads",
+        "Run a script on threads and print the listing",
+        THREADS_NOTES,
+    )
+    .args(arguments)
 }
 
 fn audit_command<'a>(alloc: Global) -> Result<Command<'a>, AllocError>
     ensures { IfOk result (λ command. app_of command ≡ audit_app) }
 {
-    Command::new(alloc, "audit")
-        .about("Say whether a journal is one of a run")
-        .after_long_help(AUDIT_NOTES)
-        .arg(journal_argument(alloc))
+    bare_command(
+        alloc,
+        "audit",
+        "Say whether a journal is one of a run",
+        AUDIT_NOTES,
+    )
+    .arg(journal_argument(alloc))
 }
 
 fn history_command<'a>(alloc: Global) -> Result<Command<'a>, AllocError>
     ensures { IfOk result (λ command. app_of command ≡ history_app) }
 {
-    Command::new(alloc, "history")
-        .about("Print the history of a journal")
-        .after_long_help(HISTORY_NOTES)
-        .arg(journal_argument(alloc))
+    bare_command(
+        alloc,
+        "history",
+        "Print the history of a journal",
+        HISTORY_NOTES,
+    )
+    .arg(journal_argument(alloc))
 }
 
 fn explain_command<'a>(alloc: Global) -> Result<Command<'a>, AllocError>
     ensures { IfOk result (λ command. app_of command ≡ explain_app) }
 {
-    Command::new(alloc, "explain")
-        .about("Tell the story of a call of a journal")
-        .after_long_help(EXPLAIN_NOTES)
-        .arg(journal_argument(alloc))?
-        .arg(call_argument(alloc))
+    bare_command(
+        alloc,
+        "explain",
+        "Tell the story of a call of a journal",
+        EXPLAIN_NOTES,
+    )
+    .arg(journal_argument(alloc))?
+    .arg(call_argument(alloc))
 }
 
 fn open_command<'a>(alloc: Global) -> Result<Command<'a>, AllocError>
     ensures { IfOk result (λ command. app_of command ≡ open_app) }
 {
-    Command::new(alloc, "open")
-        .about("List the calls of a journal that have no reply")
-        .after_long_help(OPEN_NOTES)
-        .arg(journal_argument(alloc))
+    bare_command(
+        alloc,
+        "open",
+        "List the calls of a journal that have no reply",
+        OPEN_NOTES,
+    )
+    .arg(journal_argument(alloc))
 }
 
 fn check_command<'a>(alloc: Global) -> Result<Command<'a>, AllocError>
     ensures { IfOk result (λ command. app_of command ≡ check_app) }
 {
-    Command::new(alloc, "check")
-        .about("Say what is wrong in a script")
-        .after_long_help(CHECK_NOTES)
-        .arg(script_argument(alloc))
+    let script = script_argument(alloc);
+    bare_command(alloc, "check", "Say what is wrong in a script", CHECK_NOTES).arg(script)
 }
 
 fn picture_command<'a>(alloc: Global) -> Result<Command<'a>, AllocError>
     ensures { IfOk result (λ command. app_of command ≡ picture_app) }
 {
-    Command::new(alloc, "picture")
-        .about("Draw a journal, as SVG, Mermaid or a trace")
-        .after_long_help(PICTURE_NOTES)
-        .arg(journal_argument(alloc))?
-        .arg(around_argument(alloc))?
-        .arg(from_argument(alloc))?
-        .arg(to_argument(alloc))?
-        .arg(format_argument(alloc))
+    let arguments = vec![in alloc;
+        journal_argument(alloc),
+        around_argument(alloc),
+        from_argument(alloc),
+        to_argument(alloc),
+        format_argument(alloc),
+    ]?;
+    bare_command(
+        alloc,
+        "picture",
+        "Draw a journal, as SVG, Mermaid or a trace",
+        PICTURE_NOTES,
+    )
+    .args(arguments)
 }
 
 fn strace_command<'a>(alloc: Global) -> Result<Command<'a>, AllocError>
     ensures { IfOk result (λ command. app_of command ≡ strace_app) }
 {
-    Command::new(alloc, "from-strace")
-        .about("Turn the output of strace into a script")
-        .after_long_help(STRACE_NOTES)
-        .arg(recording_argument(alloc))?
-        .arg(nodes_argument(alloc))
+    bare_command(
+        alloc,
+        "from-strace",
+        "Turn the output of strace into a script",
+        STRACE_NOTES,
+    )
+    .arg(recording_argument(alloc))?
+    .arg(nodes_argument(alloc))
 }
 
 fn explore_command<'a>(alloc: Global) -> Result<Command<'a>, AllocError>
     ensures { IfOk result (λ command. app_of command ≡ explore_app) }
 {
-    let first = seed_argument(alloc, "first").help(
+    let first = seed_argument(
+        alloc,
+        "first",
         "The seed of the first schedule, up to 4294967295",
     );
-    Command::new(alloc, "explore")
-        .about("Run a script under many schedules and tell the outcomes")
-        .after_long_help(EXPLORE_NOTES)
-        .arg(script_argument(alloc))?
-        .arg(seeds_argument(alloc))?
-        .arg(first)?
-        .arg(failures_argument(alloc))
+    let arguments = vec![in alloc;
+        script_argument(alloc),
+        seeds_argument(alloc),
+        first,
+        failures_argument(alloc),
+    ]?;
+    bare_command(
+        alloc,
+        "explore",
+        "Run a script under many schedules and tell the outcomes",
+        EXPLORE_NOTES,
+    )
+    .args(arguments)
 }
 
 fn schedule_command<'a>(alloc: Global) -> Result<Command<'a>, AllocError>
     ensures { IfOk result (λ command. app_of command ≡ schedule_app) }
 {
-    let seed = seed_argument(alloc, "seed").help("The seed of the schedule, up to 4294967295");
-    Command::new(alloc, "schedule")
-        .about("Print the script of a schedule")
-        .after_long_help(SCHEDULE_NOTES)
-        .arg(script_argument(alloc))?
-        .arg(seed)?
-        .arg(failures_argument(alloc))
+    let seed = seed_argument(alloc, "seed", "The seed of the schedule, up to 4294967295");
+    let arguments = vec![in alloc; script_argument(alloc), seed, failures_argument(alloc)]?;
+    bare_command(
+        alloc,
+        "schedule",
+        "Print the script of a schedule",
+        SCHEDULE_NOTES,
+    )
+    .args(arguments)
 }

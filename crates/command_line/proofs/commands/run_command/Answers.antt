@@ -1,22 +1,14 @@
-use Rattle.std.proofs.Common.{ap, ap₂, codes, refl, ◌≡◌, ◌∙◌}
+use Rattle.std.proofs.Common.{ap, codes, map, refl, List, [], ◌∷◌, ◌≡◌, ◌∙◌}
 use Rattle.std.proofs.lemmas.Result.{IfOk-weaker}
-use Rattle.clap.specs.Words.{app_of, new_app, with_rule}
-use Rattle.clap.specs.Simple.{app_of_fields}
+use Rattle.clap.specs.Words.{Rule, new_app, rule_of}
 use Rattle.command_line.specs.Program.{after_rule, file_rule, flag_rule, path_rule}
-use Rattle.command_line.proofs.Tables.{no_global}
+use Rattle.command_line.proofs.Tables.{also, has_rules}
 use Rattle.command_line.proofs.commands.run_command.Goals as goal
 
 pub returns : goal.returns
 returns c =
-    let argument-1 = c.script_argument.ensures in
-    let argument-2 = c.after_argument.ensures in
-    let argument-3 = c.file_argument.ensures in
-    let argument-4 = c.open_argument.ensures in
-    let argument-5 = c.quiet_argument.ensures in
-    let begins : app_of c.after_long_help.result ≡ new_app (codes "run") =
-    ap app_of_fields c.after_long_help.ensures ∙ (ap app_of_fields c.about.ensures ∙ c.new.ensures.app) in
-    let added-1 = c.in_ok-arg.ensures.shape (no_global c.script_argument.result (path_rule (codes "SCRIPT")) argument-1 refl) ∙ ap₂ with_rule begins argument-1 in
-    let added-2 = c.in_ok-arg-2.ensures.shape (no_global c.after_argument.result after_rule argument-2 refl) ∙ ap₂ with_rule added-1 argument-2 in
-    let added-3 = c.in_ok-arg-3.ensures.shape (no_global c.file_argument.result file_rule argument-3 refl) ∙ ap₂ with_rule added-2 argument-3 in
-    let added-4 = c.in_ok-arg-4.ensures.shape (no_global c.open_argument.result (flag_rule (codes "open")) argument-4 refl) ∙ ap₂ with_rule added-3 argument-4 in
-    IfOk-weaker c.arg-5.result _ _ (λ r adds. adds.shape (no_global c.quiet_argument.result (flag_rule (codes "quiet")) argument-5 refl) ∙ ap₂ with_rule added-4 argument-5) c.arg-5.ensures
+    let arguments = c.in_ok-arguments.arguments.items in
+    let rules : List Rule = path_rule (codes "SCRIPT") ∷ after_rule ∷ file_rule ∷ flag_rule (codes "open") ∷ flag_rule (codes "quiet") ∷ [] in
+    let are : map rule_of arguments ≡ rules =
+    ap (map rule_of) c.in_ok-arguments.ensures.items ∙ also c.script_argument.ensures (also c.after_argument.ensures (also c.file_argument.ensures (also c.open_argument.ensures (also c.quiet_argument.ensures refl)))) in
+    IfOk-weaker c.args-2.result _ _ (λ r adds. has_rules arguments rules (new_app (codes "run")) c.bare_command.result r c.bare_command.ensures are refl adds) c.args-2.ensures
