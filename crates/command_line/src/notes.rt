@@ -8,9 +8,9 @@ pub(crate) const PROGRAM_NOTES: &str = "\
 Exit status:
   0  done; of audit, history, explain, open and picture: the journal is one of a run
   1  audit, history, explain, open, picture or --after: the journal is not one of a run;
-     explain, picture: it has no such call; picture: entries are left out; threads: it
-     lacks a receipt, or the run was stopped as stuck; explore: an outcome is not as
-     expected; from-strace: a part of the recording is not served
+     explain, picture: it has no such call; picture: entries that were asked for are
+     not drawn; threads: it lacks a receipt, or the run was stopped as stuck; explore: an
+     outcome is not as expected; from-strace: a part of the recording is not served
   2  the words of the command line are refused
   3  SCRIPT or JOURNAL has a bad line, that or RECORDING can't be read, JOURNAL is too
      old to go on from, or FILE or the text can't be written; check: the file has bad
@@ -187,7 +187,7 @@ pub(crate) const PICTURE_NOTES: &str = "\
 The journal is audited first. Where its entries are no run, the text is 'audit no K', as
 of 'lockreplay audit' (exit status 1).
 
-Else the text is a picture in this format (exit status 0, if nothing is left out):
+Else the text is a picture in this format (exit status 0, if it lacks nothing):
   svg        SVG, which browsers show
   mermaid    a sequence diagram in Mermaid, which many wikis show
   trace      JSON of trace events, which Perfetto and Chrome open
@@ -199,9 +199,9 @@ the rows it shows who held which bytes.
 
 With --from K and --to L the entries from K to L are drawn, with --around CALL those
 from ten before the first that has to do with the call to ten behind the last; with
-both, those in both. Of these the first 400 are drawn; where there are more, standard
-error tells which are left out (exit status 1). Where the journal has no call of that
-name, the text is 'no call CALL' (exit status 1).";
+both, those in both. Of these the first 400 are drawn. Where there are more, or none,
+standard error tells so (exit status 1). Where the journal has no call of that name, the
+text is 'no call CALL' (exit status 1).";
 
 /// What stands under the options of `from-strace`.
 pub(crate) const STRACE_NOTES: &str = "\
