@@ -15,9 +15,9 @@ use std::{hint, thread};
 use trail::name::Name;
 
 // How often a thread looks whether it can have the book before it sleeps, and how long it pauses between two looks.
-const LOOKS: u32 = 200;
+const LOOKS: u32 = 100;
 
-const PAUSES: u32 = 20;
+const PAUSES: u32 = 10;
 
 /// The mailbox of an actor, and whether it takes a tick: 0 where its worker waits for one, and 1 where
 /// one is on its way or the worker needs none.

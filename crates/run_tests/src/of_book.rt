@@ -168,11 +168,7 @@ fn a_book_knows_its_seats_by_its_trail(rt: HostRuntime) -> Result<(), Fail> {
 }
 
 // Whether the server, once it was declared failed, is not again, and takes no step that was prepared before.
-fn fails<J: Name>(
-    book: &mut Book<J>,
-    alloc: Global,
-    seat: &mut Seat<J>,
-) -> Result<bool, Fail> {
+fn fails<J: Name>(book: &mut Book<J>, alloc: Global, seat: &mut Seat<J>) -> Result<bool, Fail> {
     let prepared = seat.prepare(alloc, Event::Resend { file: 1 })?;
     let position = book.fail_server(alloc, 1)?.position();
     let again = book.fail_server(alloc, 1).err();

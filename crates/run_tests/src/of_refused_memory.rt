@@ -166,7 +166,12 @@ fn seat_of<'a, J: Name>(seats: &'a mut Vec<Seat<J>>, event: &Event) -> Option<&'
 }
 
 // The actor's step, by its seat; no answer is a refusal, here and below.
-fn commits<J: Name>(alloc: Global, book: &mut Book<J>, seat: &mut Seat<J>, event: &Event) -> Option<u32> {
+fn commits<J: Name>(
+    alloc: Global,
+    book: &mut Book<J>,
+    seat: &mut Seat<J>,
+    event: &Event,
+) -> Option<u32> {
     let event = event.copy(alloc).ok()?;
     let prepared = seat.prepare(alloc, event).ok()?;
     let stamp = book.commit(alloc, seat, prepared, None).ok()?;
@@ -174,21 +179,36 @@ fn commits<J: Name>(alloc: Global, book: &mut Book<J>, seat: &mut Seat<J>, event
 }
 
 // The server begins again, with another seat.
-fn starts<J: Name>(alloc: Global, book: &mut Book<J>, seats: &mut Vec<Seat<J>>, file: u16) -> Option<u32> {
+fn starts<J: Name>(
+    alloc: Global,
+    book: &mut Book<J>,
+    seats: &mut Vec<Seat<J>>,
+    file: u16,
+) -> Option<u32> {
     let (seat, stamp) = book.start_server(alloc, file).ok()?;
     *seats.last_mut()? = seat;
     Some(stamp.position())
 }
 
 // The first node begins again, with another seat.
-fn restarts<J: Name>(alloc: Global, book: &mut Book<J>, seats: &mut Vec<Seat<J>>, node: u8) -> Option<u32> {
+fn restarts<J: Name>(
+    alloc: Global,
+    book: &mut Book<J>,
+    seats: &mut Vec<Seat<J>>,
+    node: u8,
+) -> Option<u32> {
     let seat = book.restart(alloc, node).ok()?;
     *seats.first_mut()? = seat;
     Some(book.len())
 }
 
 // Where the entry of the event stands, from 1.
-fn taken<J: Name>(alloc: Global, book: &mut Book<J>, seats: &mut Vec<Seat<J>>, event: &Event) -> Option<u32> {
+fn taken<J: Name>(
+    alloc: Global,
+    book: &mut Book<J>,
+    seats: &mut Vec<Seat<J>>,
+    event: &Event,
+) -> Option<u32> {
     match event {
         Event::Declare { node } => Some(book.declare(alloc, *node).ok()?.position()),
         Event::Restart { node } => restarts(alloc, book, seats, *node),
@@ -222,7 +242,12 @@ fn ends_with<J: Name>(book: &Book<J>, position: u32, entry: &Entry) -> bool {
 }
 
 // Whether the events of the entries come to them.
-fn takes_all<J: Name>(alloc: Global, book: &mut Book<J>, seats: &mut Vec<Seat<J>>, entries: &[Entry]) -> bool {
+fn takes_all<J: Name>(
+    alloc: Global,
+    book: &mut Book<J>,
+    seats: &mut Vec<Seat<J>>,
+    entries: &[Entry],
+) -> bool {
     for entry in entries {
         match taken_again(alloc, book, seats, entry.event()) {
             Some(position) if ends_with(book, position, entry) => {}
