@@ -18,6 +18,8 @@ use std::alloc::Global;
 use std::marker::Brand;
 use std::test::Fail;
 use trail::name::Name;
+use trail::trail::Trail;
+use trail::unnamed::Unnamed;
 
 // A cluster of two nodes and one file, with its seats. (In boxes, since what a test keeps in a box is dropped in fewer steps.)
 fn begins<J: Name>(
@@ -138,9 +140,26 @@ fn a_step_is_of_a_book(rt: HostRuntime) -> Result<(), Fail> {
     Ok(())
 }
 
-// Whether a book knows its own seat by the trail, before and after the node's failure, and not one that made as many steps of
-// another book, and whose state is another.
-fn knows_its_own<J: Name>(alloc: Global, trail: NewTrail) -> Result<bool, Fail>
+// Whether an item that is put into a trail has a place, which is that of its copy and not that of the next one.
+fn has_places<J: Name>(items: Unnamed<u8>) -> bool
+    requires { items ≡ J.trail }
+{
+    let mut trail: Trail<J, u8> = items.named();
+    let (Some(one), Some(other)) = (trail.push(&7), trail.push(&7)) else {
+        return false;
+    };
+    one.is_at(&one.again()) && other.is_at(&other) && !one.is_at(&other) && !other.is_at(&one)
+}
+
+#[test]
+fn each_item_of_a_trail_has_its_place(rt: HostRuntime) -> Result<(), Fail> {
+    assert!(rt; has_places::<Brand>(Unnamed::new()));
+    Ok(())
+}
+
+// Whether a book with a trail takes and refuses what one without takes and refuses: steps of its own seat, before and after the
+// node's failure, and one of a seat of another book that made as many, and whose state is another.
+fn takes_the_same<J: Name>(alloc: Global, trail: NewTrail) -> Result<bool, Fail>
     requires { trail ≡ J.trail }
 {
     let (mut book, mut seats) = begins::<J>(alloc, Some(trail))?;
@@ -161,9 +180,9 @@ fn knows_its_own<J: Name>(alloc: Global, trail: NewTrail) -> Result<bool, Fail>
 }
 
 #[test]
-fn a_book_knows_its_seats_by_its_trail(rt: HostRuntime) -> Result<(), Fail> {
-    let known = knows_its_own::<Brand>(rt.alloc(), NewTrail::new())?;
-    assert!(rt; known);
+fn a_book_with_a_trail_takes_the_same(rt: HostRuntime) -> Result<(), Fail> {
+    let taken = takes_the_same::<Brand>(rt.alloc(), NewTrail::new())?;
+    assert!(rt; taken);
     Ok(())
 }
 
