@@ -203,7 +203,7 @@ impl<'a, J: Name> Cluster<'a, J> {
 
 /// Runs a cluster of the shape on threads for as long as the body does, which is lent it. Each actor
 /// has a thread, a mailbox and a weather, nodes first. The body's result comes with the journal. Its book has no trail, so
-/// each step is compared with the book's copy of its actor's state (`run_threads` has one).
+/// at each step the seat's state is compared with the book's copy (that of `run_threads` has one).
 ///
 /// Where a hundred requests for memory are refused one after the other, with no step between them, the
 /// threads of the actors end: calls that are open then are answered `Unanswered`, and later ones `Closed`.
@@ -327,7 +327,8 @@ fn posts_of<J: Name, W: Weather>(
     Ok((mailboxes, workers))
 }
 
-// Starts the threads, calls the body and stops the threads.
+// Starts the threads, calls the body and stops the threads. (As `run_begun` of `threads.rt`, which takes no body: a bound on one can't
+// name a trail.)
 fn run_body<
     G: Gate + Sync,
     W: Weather + Send,

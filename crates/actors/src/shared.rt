@@ -87,7 +87,7 @@ pub(crate) struct Shared<'a, J: Name, G> {
 }
 
 impl<J: Name, G> Shared<'_, J, G> {
-    /// The book under its lock. A commit holds it for a microsecond or two, which is less than it takes to sleep and be
+    /// The book under its lock. A commit of a script's run holds it for less time than it takes to sleep and be
     /// woken, so a thread looks for a while first.
     pub(crate) fn lock_book<R: Wait>(&self, rt: &R) -> MutexGuard<'_, Book<J>> {
         for _ in 0..LOOKS {

@@ -47,7 +47,7 @@ use token_server::server::Server;
 use trail::name::Name;
 
 /// The journal that the actors of a cluster share, and a copy of each actor's state after it: always a
-/// run. Its name tells the proofs, which know nothing of a value under a lock but its type, which seats are its own.
+/// run. It is generic in the name of its trail, so that a place that a seat keeps is known to be one of the same trail.
 #[derive(Drop)]
 pub struct Book<J: Name> {
     run: Run,
@@ -136,8 +136,9 @@ fn push_servers<J: Name>(
 
 impl<J: Name> Book<J> {
     /// A book with an empty journal, and the seats of its nodes and then of its servers, each by number
-    /// from 1. Without a trail each commit compares the seat's state with the book's copy; with one, what a
-    /// commit costs doesn't grow with the state.
+    /// from 1. Without a trail each commit compares the seat's state with the book's copy. With one it does so
+    /// only where it doesn't know that they are one, as at a seat's first commit; a trail costs a place for each
+    /// actor.
     ///
     /// # Errors
     /// `NoMemory` where a request for memory was refused.

@@ -1,5 +1,5 @@
 //! The last states of actors.
-ghost use Rattle.std.specs.Prelude.{◌≡◌, ◌+◌, [], IfOk, IfSome, Some};
+ghost use Rattle.std.specs.Prelude.{◌≡◌, IfOk, IfSome, Some};
 ghost use Rattle.book.specs.Marks.{IsMark, Marked, Forgotten, place_of, AreReached};
 ghost use Rattle.book.specs.States.{actor_of};
 
@@ -39,7 +39,7 @@ fn place_of(actor: Actor) -> usize
 }
 
 impl<J: Name> Marks<J> {
-    /// No actor's state is known. With a trail those of all nodes, and of so many files, can come to be.
+    /// No actor's state is known. With a trail, the states of all nodes and of that many servers can become known.
     ///
     /// # Errors
     /// `AllocError` where a request for memory was refused.

@@ -8,7 +8,7 @@ use trail::trail::Trail;
 use trail::unnamed::Unnamed;
 
 /// An empty trail for the states that are committed to a book, by which a seat is known to have the state of the book's copy
-/// without being compared with it. It takes no memory. Contracts see which one it is, by which a call picks its name.
+/// without being compared with it. It asks for no memory. Contracts see which one it is, by which a call picks its name.
 #[derive(Drop)]
 pub struct NewTrail {
     states: Unnamed<State>,

@@ -16,7 +16,7 @@ use trail::name::Name;
 use trail::spot::Spot;
 
 /// The right to commit the steps of one actor, with its state, how many it committed, and where the last state that it
-/// committed stands in its book's trail, if that is known. It is of the book with that name.
+/// committed stands in its book's trail, if that is known. It is generic in the name of that trail.
 #[derive(Drop)]
 pub struct Seat<J: Name> {
     state: State,

@@ -199,9 +199,9 @@ the rows it shows who held which bytes.
 
 With --from K and --to L the entries from K to L are drawn, with --around CALL those
 from ten before the first that has to do with the call to ten behind the last; with
-both, those in both. Of these the first 400 are drawn. Where there are more, or none,
-standard error tells so (exit status 1). Where the journal has no call of that name, the
-text is 'no call CALL' (exit status 1).";
+both, those in both. Of these the first 400 are drawn. Where there are more, or none
+though the journal has some, standard error tells so (exit status 1). Where the journal
+has no call of that name, the text is 'no call CALL' (exit status 1).";
 
 /// What stands under the options of `from-strace`.
 pub(crate) const STRACE_NOTES: &str = "\

@@ -1,4 +1,5 @@
-//! A list that only grows and that exists in the proofs alone: whoever keeps a place of it knows what stands there.
+//! A list that only grows: whoever keeps a place of it knows what stands there. The list stands in the proofs alone. At run
+//! time it is its length, and a place a number.
 #![tactic(auto)]
 
 pub mod name;

@@ -45,8 +45,8 @@ impl<J: Name, E> Trail<J, E> {
         }
     }
 
-    /// Puts an item last, of which nothing is kept but that it stands there: its spot. None where the trail is at its
-    /// greatest length, 2^62, or another has made it longer since.
+    /// Puts an item last, of which nothing is kept but where it stands: its spot. None where the trail has 2^62 items.
+    /// (The contract allows that another value has made the trail longer. None can.)
     pub fn push(&mut self, item: &E) -> Option<Spot<J, E>>
         ensures { IfSome result (λ spot. spot.item ≡ Some item.now) }
     {

@@ -1,6 +1,5 @@
 //! Trails without a name.
 ghost use Rattle.std.specs.Prelude.{◌≡◌};
-ghost use Rattle.trail.specs.Rules.{head_of};
 
 use crate::name::Name;
 use crate::rule::Law;
