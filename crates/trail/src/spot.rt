@@ -1,5 +1,5 @@
 //! Places of trails.
-ghost use Rattle.std.specs.Prelude.{◌≡◌, ◌<◌, length, slice_get, true};
+ghost use Rattle.std.specs.Prelude.{◌≡◌, ◌<◌, ◌↔◌, length, slice_get, true, IsTrue};
 
 use crate::name::Name;
 use crate::rule::Law;
@@ -51,7 +51,7 @@ impl<J: Name, E> Spot<J, E> {
 
     /// Whether the other is the same place. Then the same item stands there.
     pub fn is_at(&self, other: &Spot<J, E>) -> bool
-        ensures places { result ≡ true → self.now.place ≡ other.now.place }
+        ensures places { IsTrue result ↔ (self.now.place ≡ other.now.place) }
         ensures items { result ≡ true → self.now.item ≡ other.now.item }
     {
         let mut both = self.seen.again();

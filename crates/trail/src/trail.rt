@@ -1,5 +1,5 @@
 //! Trails.
-ghost use Rattle.std.specs.Prelude.{◌≡◌, [], Some, IfSome};
+ghost use Rattle.std.specs.Prelude.{◌≡◌, ◌<◌, ◌≤◌, ◌^◌, ◌⊎◌, ◌++◌, ◌∷◌, [], length, Some, IfNone, IfSome};
 ghost use Rattle.trail.specs.Rules.{head_of};
 
 use crate::name::Name;
@@ -36,6 +36,7 @@ impl<J: Name, E> Trail<J, E> {
         requires book { seen.book ≡ J.trail }
         requires empty { seen.log ≡ [] }
         requires head { head ≡ head_of J.trail }
+        ensures { result ≡ [] }
     {
         Trail {
             head,
@@ -48,7 +49,9 @@ impl<J: Name, E> Trail<J, E> {
     /// Puts an item last, of which nothing is kept but where it stands: its spot. None where the trail has 2^62 items.
     /// (The contract allows that another value has made the trail longer. None can.)
     pub fn push(&mut self, item: &E) -> Option<Spot<J, E>>
-        ensures { IfSome result (λ spot. spot.item ≡ Some item.now) }
+        ensures spot { IfSome result (λ spot. (spot.place ≡ length self.old) × (spot.item ≡ Some item.now)) }
+        ensures put { IfSome result (λ _. self.new ≡ self.old ++ item.now ∷ []) }
+        ensures none { IfNone result ((2 ^ 62 ≤ length self.old) ⊎ (length self.old < length self.new)) }
     {
         let place = self.len;
         if place >= MOST {

@@ -1,5 +1,5 @@
 //! Trails without a name.
-ghost use Rattle.std.specs.Prelude.{◌≡◌};
+ghost use Rattle.std.specs.Prelude.{◌≡◌, []};
 
 use crate::name::Name;
 use crate::rule::Law;
@@ -39,6 +39,7 @@ impl<E> Unnamed<E> {
     /// The trail under its name.
     pub fn named<J: Name>(self) -> Trail<J, E>
         requires { self ≡ J.trail }
+        ensures { result ≡ [] }
     {
         let Unnamed { head, seen } = self;
         Trail::new(head, seen)

@@ -15,11 +15,17 @@ compare_exchange-found-requires g c =
       rw (ap (λ w. w.key) h, pen.1, offer.1, offer.3) (adds_moves c.self.inside.seen.log c.args.item.now c.self.inside.len (sym c.self.invariant.0)),
     )
 
-pub returns : goal.returns
-returns g c =
+pub returns-clause-spot : goal.returns-clause-spot
+returns-clause-spot g c =
     let v = c.self.inside.seen.log in
     let w = c.compare_exchange-found.new.seen.log in
     let item = c.args.item.now in
     let put : w ≡ v ++ item ∷ [] = added c.plain-offer.result.ask v w c.self.inside.len c.compare_exchange-found.result c.if-found-place.false c.compare_exchange-found.ensures.7 ∙ ap (λ e. v ++ e ∷ []) c.plain-offer.ensures.1 in
     let stands : slice_get w c.self.inside.len ≡ Some item = rw (put, c.self.invariant.0) (last_get v item) in
-    rw (c.new.ensures, c.again.ensures) stands
+    rw (c.new.ensures, c.again.ensures, ← c.self.view_is) (c.self.invariant.0, stands)
+
+pub returns-clause-put : goal.returns-clause-put
+returns-clause-put g c =
+    let v = c.self.inside.seen.log in
+    let put = added c.plain-offer.result.ask v c.compare_exchange-found.new.seen.log c.self.inside.len c.compare_exchange-found.result c.if-found-place.false c.compare_exchange-found.ensures.7 in
+    rw (← c.self.view_is) (put ∙ ap (λ e. v ++ e ∷ []) c.plain-offer.ensures.1)
