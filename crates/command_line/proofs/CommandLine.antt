@@ -5,11 +5,9 @@ use Rattle.std.specs.Str.{bytes_eq}
 use Rattle.std.specs.Str.Parse.{digits_value, without_leading_plus}
 use Rattle.std.proofs.Common.{ℕ, Bool, Bor, true, false, cond, refl, sym, subst, ap, codes, inl, inr, is_some, option_map, List, Option, Some, None, [], ◌∷◌, ◌≡◌, ◌∙◌}
 use Rattle.clap.specs.declared.error.Error.{Error}
-use Rattle.clap.specs.Words.{HasKind, IsAmong, kind_of, Kinds, Row, Text, fault_of, first_of, subcommand_name_of, one_of, subcommand_of, subcommand_rows_of}
+use Rattle.clap.specs.Words.{HasKind, IsAmong, kind_of, Kinds, Row, Text, fault_of, first_of, one_of, subcommand_of}
 use Rattle.clap.specs.declared.error.kind.ErrorKind.{ErrorKind}
 use Rattle.clap.specs.declared.error.kind.ErrorKind.TheVariants.{OutOfMemory, ValueValidation}
-use Rattle.clap.specs.declared.parser.matches.ArgMatches.{ArgMatches}
-use Rattle.clap.specs.declared.parser.matches.ArgMatches.TheViews.{out-ArgMatches}
 use Rattle.command_line.specs.Kinds.{IsKindOf, IsOfKind}
 use Rattle.command_line.specs.Program.{program_app, flag_text, IsMet, IsNumber}
 use Rattle.command_line.specs.Tasks.{Task, run, threads, audit, history, explain, open_calls, check, picture, from_strace, explore, schedule, format_text, greatest_seed, most_nodes, MayBeQuiet}
@@ -18,22 +16,6 @@ use Rattle.command_line.specs.declared.format.Format.{Format}
 use Rattle.command_line.specs.declared.format.Format.TheVariants.{Svg, Mermaid, Trace}
 use Rattle.command_line.specs.declared.refusal.Refusal.{Refusal}
 use Rattle.command_line.specs.declared.refusal.Refusal.TheVariants.{Help, Wrong, NotText, NoMemory}
-
--- the name beside the rows
-names_are : {B : Type 0} (name : B → Text) (rows : B → List Row) (sub : Option B) → option_map name sub ≡ option_map (λ (p : Text × List Row). p.0) (option_map (λ b. (name b, rows b)) sub)
-names_are name rows None = refl
-names_are name rows (Some b) = refl
-
-pub name_met : (m : ArgMatches) → subcommand_name_of m ≡ option_map (λ (p : Text × List Row). p.0) (subcommand_rows_of m)
-name_met m = names_are _ _ (out-ArgMatches m).subcommand
-
-pub pair_met : (met : Option (Text × List Row)) (name : Text) (rows : List Row) → ◌≡◌ {A = Option Text} (Some name) (option_map (λ p. p.0) met) → ◌≡◌ {A = Option (List Row)} (Some rows) (option_map (λ p. p.1) met)
-    → Some (name, rows) ≡ met
-pair_met None name rows name_is rows_are = cc
-pair_met (Some p) name rows name_is rows_are =
-    let names : name ≡ p.0 = cc in
-    let same : rows ≡ p.1 = cc in
-    λ i. Some (names i, same i)
 
 -- an error of a parse by the table
 pub fails_so : (words : List Text) (error : Error) → HasKind (fault_of program_app words) error → IsKindOf words (kind_of error)
@@ -97,7 +79,7 @@ name_of (from_strace r n) = codes "from-strace"
 name_of (explore s k n f) = codes "explore"
 name_of (schedule s n f) = codes "schedule"
 
-pub name_is : (p : Text × List Row) (task : Task) → IsMet (Some p) task → p.0 ≡ name_of task
+name_is : (p : Text × List Row) (task : Task) → IsMet (Some p) task → p.0 ≡ name_of task
 name_is p (run s a j o q) met = ap name_in met.0
 name_is p (threads s n h k j) met = ap name_in met.1
 name_is p (audit j) met = ap name_in met
@@ -220,7 +202,7 @@ unmet : (values : Values) → ◌≡◌ {A = Option Values} None (Some values) �
 unmet values is = cc
 
 -- where nothing is met, or a name that no task has, or a name without one of its values
-pub nothing_met : (task : Task) → IsMet None task → ⊥
+nothing_met : (task : Task) → IsMet None task → ⊥
 nothing_met (run s a j o q) is = unmet _ is.0
 nothing_met (threads s n h k j) is = unmet _ is.1
 nothing_met (audit j) is = cc

@@ -1,13 +1,13 @@
 -- What clap makes of the words of a command, behind the command's name.
 use Rattle.std.proofs.Common.{refl, ap, ap₂, sym, subst, false, is_some, ℕ, List, Option, Some, None, [], ◌∷◌, ◌++◌, ◌≡◌, ◌≢◌, ◌∙◌}
-use Rattle.std.specs.Prelude.{fold, slice_get}
+use Rattle.std.specs.Prelude.{fold, slice_get, ⊤}
 use Rattle.std.specs.Str.{bytes_eq}
 use Rattle.std.proofs.lemmas.Bool.{ne_eqb}
 use Rattle.std.proofs.lemmas.List.{append_assoc, append-nil}
 use Rattle.clap.specs.Lexer.{strip_byte}
 use Rattle.clap.specs.Faults.{check_fault, defaults_fault, entered_fault, level_fault, settle_fault, turn_fault, walk_fault}
 use Rattle.clap.specs.Kinds.{or_else}
-use Rattle.clap.specs.Simple.{built, entered, names_of}
+use Rattle.clap.specs.Simple.{built, built_leaf, entered, names_of}
 use Rattle.clap.specs.Walk.{finished, idle, nothing_held, option, rows_after, settled, walk_from, walked, Names, Waiting, Walk}
 use Rattle.clap.specs.Words.{App, Kinds, Row, Rule, Shape, Text, fault_of, subcommand_of}
 use Rattle.clap.specs.declared.builder.value_parser.Reading.{Reading}
@@ -47,12 +47,19 @@ fault_behind w =
     or_else (entered_fault app w.stopped) (or_else (settle_fault app.top.rules app.top.args_override_self w.held)
     (or_else (defaults_fault (settled app.top.rules w.held).rows app.top.rules) (check_fault app.top (finished app.top.rules w.held) (is_some (entered app w.stopped)))))
 
-abbrev pub fault_after : Shape → Walk → Kinds
-fault_after shape w =
-    or_else (settle_fault shape.rules shape.args_override_self w.held)
-    (or_else (defaults_fault (settled shape.rules w.held).rows shape.rules) (check_fault shape (finished shape.rules w.held) false))
+module _ (command : App) where
+  abbrev pub shape : Shape
+  shape = built_leaf command.top
 
-module _ (shape : Shape) where
+  abbrev pub fault_after : Walk → Kinds
+  fault_after w =
+      or_else (settle_fault shape.rules shape.args_override_self w.held)
+      (or_else (defaults_fault (settled shape.rules w.held).rows shape.rules) (check_fault shape (finished shape.rules w.held) false))
+
+  -- the command and its rows, where its walk ends so
+  abbrev pub met_after : Walk → Option (Text × List Row)
+  met_after w = Some (command.top.name, finished shape.rules w.held)
+
   -- one word is read with no fault, and then all of them
   pub record Reads (before : Walk) (word : Text) (after : Walk) : Type 0 where
     pub step : walked shape.rules [] before word ≡ after
@@ -73,40 +80,58 @@ module _ (shape : Shape) where
     fine = ap₂ or_else one.fine (ap (λ (w : Walk). walk_fault shape [] w words) one.step ∙ more.fine);
   }
 
--- the program has the command of this name, which is built so
-pub record IsCommand (name : Text) (shape : Shape) : Type 0 where
-  pub name_read : walked app.top.rules names begin name ≡ stopped_at name [] begin
-  pub name_is_fine : turn_fault app.top names begin name ≡ []
-  pub entered_is : (words : List Text) → entered app (Some (name, words)) ≡ Some (name, rows_after shape.rules [] words)
-  pub behind_is : (words : List Text) → fault_behind (stopped_at name words begin) ≡ or_else (level_fault shape [] nothing_held words false []) []
+-- what the program makes of the name of a command: how its walk goes on, and what is wrong by then; and of the words behind it: what is entered, and what is wrong there
+abbrev Told : Type 0
+Told = Walk × Kinds × Option (Text × List Row) × Kinds
 
-module _ (name : Text) (shape : Shape) (command : IsCommand name shape) where
+abbrev told : Text → List Text → Told
+told name words = (walked app.top.rules names begin name, turn_fault app.top names begin name, entered app (Some (name, words)), fault_behind (stopped_at name words begin))
+
+-- the program has this command, to which it passes the words behind its name
+abbrev pub IsCommand : App → Type 0
+IsCommand command =
+    let name : Text = command.top.name in
+    let behind : List Text → Kinds = λ words. level_fault (shape command) [] nothing_held words false [] in
+    (words : List Text) → told name words ≡ (stopped_at name [] begin, [], Some (name, rows_after (shape command).rules [] words), or_else (behind words) [])
+
+module _ (command : App) (is_command : IsCommand command) where
+  abbrev name : Text
+  name = command.top.name
+
+  abbrev behind : List Text → Kinds
+  behind words = level_fault (shape command) [] nothing_held words false []
+
+  name_read : walked app.top.rules names begin name ≡ stopped_at name [] begin
+  name_read = ap (λ (t : Told). t.0) (is_command [])
+
   all_walked : (words : List Text) → fold (walked app.top.rules names) begin (name ∷ words) ≡ stopped_at name words begin
-  all_walked words = ap (λ (w : Walk). fold (walked app.top.rules names) w words) command.name_read ∙ passed_on app.top.rules names begin name [] words
+  all_walked words = ap (λ (w : Walk). fold (walked app.top.rules names) w words) name_read ∙ passed_on app.top.rules names begin name [] words
 
   all_fine : (words : List Text) → walk_fault app.top names begin (name ∷ words) ≡ []
   unfolding walk_fault
-  all_fine words = ap₂ or_else command.name_is_fine (ap (λ (w : Walk). walk_fault app.top names w words) command.name_read ∙ no_fault_behind app.top names begin name [] words)
+  all_fine words =
+      ap₂ or_else (ap (λ (t : Told). t.1) (is_command [])) (ap (λ (w : Walk). walk_fault app.top names w words) name_read ∙ no_fault_behind app.top names begin name [] words)
 
-  command_rows : (program : Text) (words : List Text) → subcommand_of program_app (program ∷ name ∷ words) ≡ Some (name, rows_after shape.rules [] words)
-  command_rows program words = ap (λ (w : Walk). entered app w.stopped) (all_walked words) ∙ command.entered_is words
+  command_rows : (program : Text) (words : List Text) → subcommand_of program_app (program ∷ name ∷ words) ≡ Some (name, rows_after (shape command).rules [] words)
+  command_rows program words = ap (λ (w : Walk). entered app w.stopped) (all_walked words) ∙ ap (λ (t : Told). t.2) (is_command words)
 
-  fault_is : (program : Text) (words : List Text) → level_fault shape [] nothing_held words false [] ≡ [] → fault_of program_app (program ∷ name ∷ words) ≡ []
+  fault_is : (program : Text) (words : List Text) → behind words ≡ [] → fault_of program_app (program ∷ name ∷ words) ≡ []
   fault_is program words fine =
-      ap₂ or_else (all_fine words) (ap fault_behind (all_walked words) ∙ (command.behind_is words ∙ ap (λ (kinds : Kinds). or_else kinds []) fine))
+      ap₂ or_else (all_fine words) (ap fault_behind (all_walked words) ∙ (ap (λ (t : Told). t.3) (is_command words) ∙ ap (λ (kinds : Kinds). or_else kinds []) fine))
 
   -- what the command makes of the words behind its name tells what the words ask for
-  pub asks_by : (program : Text) (words : List Text) (task : Task) → level_fault shape [] nothing_held words false [] ≡ [] → IsMet (Some (name, rows_after shape.rules [] words)) task → AsksFor (program ∷ name ∷ words) task
+  pub asks_by : (program : Text) (words : List Text) (task : Task) → level_fault (shape command) [] nothing_held words false [] ≡ [] → IsMet (Some (name, rows_after (shape command).rules [] words)) task
+      → AsksFor (program ∷ name ∷ words) task
   asks_by program words task fine met =
       let P : Option (Text × List Row) → Type 0 = λ found. IsMet found task in
       record { taken = fault_is program words fine; met = subst P (sym (command_rows program words)) met }
 
   -- where the walk ends tells it
-  pub asks_after : (program : Text) (words : List Text) (last : Walk) (task : Task) → ReadsAll shape begin words last → fault_after shape last ≡ [] → IsMet (Some (name, finished shape.rules last.held)) task
+  pub asks_after : (program : Text) (words : List Text) (last : Walk) (task : Task) → ReadsAll command begin words last → fault_after command last ≡ [] → IsMet (met_after command last) task
       → AsksFor (program ∷ name ∷ words) task
   asks_after program words last task all fine met =
-      let P : Walk → Type 0 = λ w. IsMet (Some (name, finished shape.rules w.held)) task in
-      asks_by program words task (ap₂ or_else all.fine (ap (fault_after shape) all.step ∙ fine)) (subst P (sym all.step) met)
+      let P : Walk → Type 0 = λ w. IsMet (met_after command w) task in
+      asks_by program words task (ap₂ or_else all.fine (ap (fault_after command) all.step ∙ fine)) (subst P (sym all.step) met)
 
 -- the rows of what was read
 abbrev pub row : Text → Text → Reading → Row
@@ -147,6 +172,11 @@ has_flag rows = behind_path rows None idle
 pub record IsPath (path : Text) : Type 0 where
   pub no_minus : strip_byte 45 path ≡ None
   pub no_dashes : bytes_eq path (45 ∷ 45 ∷ []) ≡ false
+
+-- so is each that there may be
+abbrev pub MayBePath : Option Text → Type 0
+MayBePath None = ⊤
+MayBePath (Some path) = IsPath path
 
 pub is_path : (path : Text) → slice_get path 0 ≢ Some 45 → IsPath path
 is_path [] plain = record { no_minus = refl; no_dashes = refl }

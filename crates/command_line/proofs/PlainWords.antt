@@ -4,11 +4,11 @@ use Rattle.std.specs.Prelude.{decimal, slice_get}
 use Rattle.std.specs.List.{All}
 use Rattle.clap.specs.Words.{Text, is_simple, is_simple_and_free}
 use Rattle.clap.proofs.OnLiterals.{clap_on_literals}
-use Rattle.command_line.specs.Program.{program_app}
+use Rattle.command_line.specs.Program.{audit_app, check_app, explain_app, explore_app, history_app, open_app, picture_app, program_app, schedule_app, strace_app, threads_app}
 use Rattle.command_line.specs.Tasks.{Task, run, threads, audit, history, explain, open_calls, check, picture, from_strace, explore, schedule, greatest_seed, most_nodes, HasPlainWords, paths_of, plain_words_of}
 use Rattle.command_line.specs.Words.{AsksFor, IsPlain}
 use Rattle.command_line.specs.declared.format.Format.TheVariants.{Svg}
-use Rattle.command_line.proofs.BuiltCommands.{audit_command, check_command, explain_command, explore_command, history_command, open_command, picture_command, schedule_command, strace_command, threads_command}
+use Rattle.command_line.proofs.BuiltCommands.{commands}
 use Rattle.command_line.proofs.CommandWords.{asks_by, is_path, IsPath}
 use Rattle.command_line.proofs.ExploreWords.{explore_asks}
 use Rattle.command_line.proofs.Numbers.{greatest_writes, hundred_writes, number_text, one_writes}
@@ -16,7 +16,7 @@ use Rattle.command_line.proofs.PictureWords.{around_asks, picture_asks}
 use Rattle.command_line.proofs.RunWords.{run_asks}
 use Rattle.command_line.proofs.ScheduleWords.{schedule_asks}
 use Rattle.command_line.proofs.StraceWords.{strace_asks}
-use Rattle.command_line.proofs.ThreadsWords.{threads_asks, written_asks}
+use Rattle.command_line.proofs.ThreadsWords.{threads_asks}
 
 pub is_simple_program : is_simple program_app ≡ true
 unfolding clap_on_literals
@@ -30,44 +30,44 @@ is_free_program = refl
 module _ (program path : Text) (p : IsPath path) where
   audit_asks : AsksFor (program ∷ codes "audit" ∷ path ∷ []) (audit path)
   unfolding clap_on_literals
-  audit_asks = asks_by _ _ audit_command program (path ∷ []) (audit path) (rw (p.no_dashes, p.no_minus, p.no_minus) refl) (rw (p.no_dashes, p.no_minus, p.no_minus) refl)
+  audit_asks = asks_by audit_app commands.audit program (path ∷ []) (audit path) (rw (p.no_dashes, p.no_minus, p.no_minus) refl) (rw (p.no_dashes, p.no_minus, p.no_minus) refl)
 
   history_asks : AsksFor (program ∷ codes "history" ∷ path ∷ []) (history path)
   unfolding clap_on_literals
-  history_asks = asks_by _ _ history_command program (path ∷ []) (history path) (rw (p.no_dashes, p.no_minus, p.no_minus) refl) (rw (p.no_dashes, p.no_minus, p.no_minus) refl)
+  history_asks = asks_by history_app commands.history program (path ∷ []) (history path) (rw (p.no_dashes, p.no_minus, p.no_minus) refl) (rw (p.no_dashes, p.no_minus, p.no_minus) refl)
 
   open_asks : AsksFor (program ∷ codes "open" ∷ path ∷ []) (open_calls path)
   unfolding clap_on_literals
-  open_asks = asks_by _ _ open_command program (path ∷ []) (open_calls path) (rw (p.no_dashes, p.no_minus, p.no_minus) refl) (rw (p.no_dashes, p.no_minus, p.no_minus) refl)
+  open_asks = asks_by open_app commands.open_calls program (path ∷ []) (open_calls path) (rw (p.no_dashes, p.no_minus, p.no_minus) refl) (rw (p.no_dashes, p.no_minus, p.no_minus) refl)
 
   check_asks : AsksFor (program ∷ codes "check" ∷ path ∷ []) (check path)
   unfolding clap_on_literals
-  check_asks = asks_by _ _ check_command program (path ∷ []) (check path) (rw (p.no_dashes, p.no_minus, p.no_minus) refl) (rw (p.no_dashes, p.no_minus, p.no_minus) refl)
+  check_asks = asks_by check_app commands.check program (path ∷ []) (check path) (rw (p.no_dashes, p.no_minus, p.no_minus) refl) (rw (p.no_dashes, p.no_minus, p.no_minus) refl)
 
   -- what is left out
   left_threads : AsksFor (program ∷ codes "threads" ∷ path ∷ []) (threads path 1 false false None)
   unfolding clap_on_literals
-  left_threads = asks_by _ _ threads_command program (path ∷ []) (threads path 1 false false None) (rw (p.no_dashes, p.no_minus, p.no_minus) refl) (codes "1", rw (p.no_dashes, p.no_minus, p.no_minus) refl, one_writes 0 greatest_seed (omega arith) (omega arith))
+  left_threads = asks_by threads_app commands.threads program (path ∷ []) (threads path 1 false false None) (rw (p.no_dashes, p.no_minus, p.no_minus) refl) (codes "1", rw (p.no_dashes, p.no_minus, p.no_minus) refl, one_writes 0 greatest_seed (omega arith) (omega arith))
 
   left_picture : AsksFor (program ∷ codes "picture" ∷ path ∷ []) (picture path None 1 greatest_seed Svg)
   unfolding clap_on_literals
   left_picture =
-      asks_by _ _ picture_command program (path ∷ []) (picture path None 1 greatest_seed Svg) (rw (p.no_dashes, p.no_minus, p.no_minus) refl)
+      asks_by picture_app commands.picture program (path ∷ []) (picture path None 1 greatest_seed Svg) (rw (p.no_dashes, p.no_minus, p.no_minus) refl)
       (codes "1", codes "4294967295", rw (p.no_dashes, p.no_minus, p.no_minus) refl, one_writes 1 greatest_seed (omega arith) (omega arith), greatest_writes)
 
   left_strace : AsksFor (program ∷ codes "from-strace" ∷ path ∷ []) (from_strace path 1)
   unfolding clap_on_literals
-  left_strace = asks_by _ _ strace_command program (path ∷ []) (from_strace path 1) (rw (p.no_dashes, p.no_minus, p.no_minus) refl) (codes "1", rw (p.no_dashes, p.no_minus, p.no_minus) refl, one_writes 1 most_nodes (omega arith) (omega arith))
+  left_strace = asks_by strace_app commands.strace program (path ∷ []) (from_strace path 1) (rw (p.no_dashes, p.no_minus, p.no_minus) refl) (codes "1", rw (p.no_dashes, p.no_minus, p.no_minus) refl, one_writes 1 most_nodes (omega arith) (omega arith))
 
   left_explore : AsksFor (program ∷ codes "explore" ∷ path ∷ []) (explore path 100 1 false)
   unfolding clap_on_literals
   left_explore =
-      asks_by _ _ explore_command program (path ∷ []) (explore path 100 1 false) (rw (p.no_dashes, p.no_minus, p.no_minus) refl)
+      asks_by explore_app commands.explore program (path ∷ []) (explore path 100 1 false) (rw (p.no_dashes, p.no_minus, p.no_minus) refl)
       (codes "100", codes "1", rw (p.no_dashes, p.no_minus, p.no_minus) refl, hundred_writes, one_writes 0 greatest_seed (omega arith) (omega arith))
 
   left_schedule : AsksFor (program ∷ codes "schedule" ∷ path ∷ []) (schedule path 1 false)
   unfolding clap_on_literals
-  left_schedule = asks_by _ _ schedule_command program (path ∷ []) (schedule path 1 false) (rw (p.no_dashes, p.no_minus, p.no_minus) refl) (codes "1", rw (p.no_dashes, p.no_minus, p.no_minus) refl, one_writes 0 greatest_seed (omega arith) (omega arith))
+  left_schedule = asks_by schedule_app commands.schedule program (path ∷ []) (schedule path 1 false) (rw (p.no_dashes, p.no_minus, p.no_minus) refl) (codes "1", rw (p.no_dashes, p.no_minus, p.no_minus) refl, one_writes 0 greatest_seed (omega arith) (omega arith))
 
 -- what is asked where no option is given
 module _ (program path : Text) (plain : slice_get path 0 ≢ Some 45) where
@@ -90,7 +90,7 @@ module _ (program path : Text) (plain : slice_get path 0 ≢ Some 45) where
 explain_asks : (program journal call : Text) → IsPath journal → IsPath call → AsksFor (program ∷ codes "explain" ∷ journal ∷ call ∷ []) (explain journal call)
 unfolding clap_on_literals
 explain_asks program journal call p q =
-    asks_by _ _ explain_command program (journal ∷ call ∷ []) (explain journal call) (rw (p.no_dashes, p.no_minus, p.no_minus, q.no_dashes, q.no_minus, q.no_minus) refl)
+    asks_by explain_app commands.explain program (journal ∷ call ∷ []) (explain journal call) (rw (p.no_dashes, p.no_minus, p.no_minus, q.no_dashes, q.no_minus, q.no_minus) refl)
     (rw (p.no_dashes, p.no_minus, p.no_minus, q.no_dashes, q.no_minus, q.no_minus) refl)
 
 abbrev words_of : Text → Task → List Text
@@ -105,9 +105,9 @@ plain_task program (run script (Some after) None listed quiet) plain within =
 plain_task program (run script (Some after) (Some file) listed quiet) plain within =
     run_asks program script (is_path script (plain 0 [] (omega arith))) (Some after) (is_path after (plain 1 [] (omega arith))) (Some file) (is_path file (plain 2 [] (omega arith))) listed quiet within
 plain_task program (threads script seed stop no_join None) plain within =
-    threads_asks program script (decimal seed) seed (is_path script (plain 0 [] (omega arith))) (number_text 0 greatest_seed seed (omega arith) (omega arith) within) stop no_join
+    threads_asks program script (decimal seed) seed (is_path script (plain 0 [] (omega arith))) (number_text 0 greatest_seed seed (omega arith) (omega arith) within) None tt stop no_join
 plain_task program (threads script seed stop no_join (Some file)) plain within =
-    written_asks program script (decimal seed) seed (is_path script (plain 0 [] (omega arith))) (number_text 0 greatest_seed seed (omega arith) (omega arith) within) file
+    threads_asks program script (decimal seed) seed (is_path script (plain 0 [] (omega arith))) (number_text 0 greatest_seed seed (omega arith) (omega arith) within) (Some file)
     (is_path file (plain 1 [] (omega arith))) stop no_join
 plain_task program (audit journal) plain within = audit_asks program journal (is_path journal (plain 0 [] (omega arith)))
 plain_task program (history journal) plain within = history_asks program journal (is_path journal (plain 0 [] (omega arith)))

@@ -1,17 +1,16 @@
 -- What clap makes of the words of `run`, word by word.
 use Rattle.std.proofs.Common.{refl, codes, true, false, Bool, List, [], ◌∷◌, ◌++◌, ◌≡◌, Option, Some, None}
-use Rattle.std.specs.Prelude.{⊤}
-use Rattle.clap.specs.Walk.{finished, Walk}
+use Rattle.clap.specs.Walk.{Walk}
 use Rattle.clap.specs.Words.{Row, Text}
 use Rattle.clap.proofs.OnLiterals.{clap_on_literals}
-use Rattle.command_line.specs.Program.{flag_text, run_values_in}
+use Rattle.command_line.specs.Program.{flag_text, run_app, run_values_in}
 use Rattle.command_line.specs.Tasks.{run, flag_words, option_words, MayBeQuiet}
 use Rattle.command_line.specs.Words.{AsksFor}
-use Rattle.command_line.proofs.CommandWords.{asks_after, begin, fault_after, has_flag, has_value, none_read, path_row, read_then, waits_for, IsPath, Reads, ReadsAll}
-use Rattle.command_line.proofs.BuiltCommands.{run_command, run_shape}
+use Rattle.command_line.proofs.CommandWords.{asks_after, begin, fault_after, has_flag, has_value, met_after, none_read, path_row, read_then, waits_for, IsPath, MayBePath, Reads, ReadsAll}
+use Rattle.command_line.proofs.BuiltCommands.{commands}
 
 abbrev values_after : Walk → Option (Text × List (Option Text))
-values_after w = run_values_in (Some (codes "run", finished run_shape.rules w.held))
+values_after w = run_values_in (met_after run_app w)
 
 -- the rows of the script and of the journals, if there are any
 abbrev rows : Text → Option Text → Option Text → List Row
@@ -34,36 +33,36 @@ flagged script after file true false = has_flag (rows script after file ++ path_
 flagged script after file false true = has_flag (rows script after file ++ path_row (codes "quiet") (codes "true") ∷ [])
 flagged script after file true true = has_flag (rows script after file ++ path_row (codes "open") (codes "true") ∷ path_row (codes "quiet") (codes "true") ∷ [])
 
-script_read : (script : Text) → IsPath script → Reads run_shape begin script (named script None None)
+script_read : (script : Text) → IsPath script → Reads run_app begin script (named script None None)
 unfolding clap_on_literals
 script_read script p = record { step = rw (p.no_dashes, p.no_minus, p.no_minus) refl; fine = rw (p.no_dashes, p.no_minus, p.no_minus) refl }
 
-after_read : (script : Text) → Reads run_shape (named script None None) (codes "--after") (waits_for (codes "JOURNAL") (rows script None None))
+after_read : (script : Text) → Reads run_app (named script None None) (codes "--after") (waits_for (codes "JOURNAL") (rows script None None))
 unfolding clap_on_literals
 after_read script = record { step = refl; fine = refl }
 
-journal_read : (script : Text) (after : Option Text) → Reads run_shape (named script after None) (codes "--journal") (waits_for (codes "FILE") (rows script after None))
+journal_read : (script : Text) (after : Option Text) → Reads run_app (named script after None) (codes "--journal") (waits_for (codes "FILE") (rows script after None))
 unfolding clap_on_literals
 journal_read script None = record { step = refl; fine = refl }
 journal_read script (Some after) = record { step = refl; fine = refl }
 
 -- the path of either journal
-path_read : (seen : List Row) (path : Text) → IsPath path → Reads run_shape (waits_for (codes "JOURNAL") seen) path (has_value (codes "JOURNAL") path seen)
+path_read : (seen : List Row) (path : Text) → IsPath path → Reads run_app (waits_for (codes "JOURNAL") seen) path (has_value (codes "JOURNAL") path seen)
 unfolding clap_on_literals
 path_read seen path p = record { step = rw (p.no_dashes, p.no_minus, p.no_minus) refl; fine = rw (p.no_dashes, p.no_minus, p.no_minus) refl }
 
-file_read : (seen : List Row) (path : Text) → IsPath path → Reads run_shape (waits_for (codes "FILE") seen) path (has_value (codes "FILE") path seen)
+file_read : (seen : List Row) (path : Text) → IsPath path → Reads run_app (waits_for (codes "FILE") seen) path (has_value (codes "FILE") path seen)
 unfolding clap_on_literals
 file_read seen path p = record { step = rw (p.no_dashes, p.no_minus, p.no_minus) refl; fine = rw (p.no_dashes, p.no_minus, p.no_minus) refl }
 
-open_read : (script : Text) (after file : Option Text) → Reads run_shape (named script after file) (codes "--open") (flagged script after file true false)
+open_read : (script : Text) (after file : Option Text) → Reads run_app (named script after file) (codes "--open") (flagged script after file true false)
 unfolding clap_on_literals
 open_read script None None = record { step = refl; fine = refl }
 open_read script (Some after) None = record { step = refl; fine = refl }
 open_read script None (Some file) = record { step = refl; fine = refl }
 open_read script (Some after) (Some file) = record { step = refl; fine = refl }
 
-quiet_read : (script : Text) (after : Option Text) (file : Text) (listed : Bool) → Reads run_shape (flagged script after (Some file) listed false) (codes "--quiet") (flagged script after (Some file) listed true)
+quiet_read : (script : Text) (after : Option Text) (file : Text) (listed : Bool) → Reads run_app (flagged script after (Some file) listed false) (codes "--quiet") (flagged script after (Some file) listed true)
 unfolding clap_on_literals
 quiet_read script None file false = record { step = refl; fine = refl }
 quiet_read script None file true = record { step = refl; fine = refl }
@@ -71,7 +70,7 @@ quiet_read script (Some after) file false = record { step = refl; fine = refl }
 quiet_read script (Some after) file true = record { step = refl; fine = refl }
 
 flags_read : (script : Text) (after file : Option Text) (listed quiet : Bool) → MayBeQuiet file quiet
-    → ReadsAll run_shape (named script after file) (flag_words (codes "--open") listed ++ flag_words (codes "--quiet") quiet) (flagged script after file listed quiet)
+    → ReadsAll run_app (named script after file) (flag_words (codes "--open") listed ++ flag_words (codes "--quiet") quiet) (flagged script after file listed quiet)
 flags_read script after file false false may = none_read _ (named script after file)
 flags_read script after file true false may = read_then _ (open_read script after file) (none_read _ (flagged script after file true false))
 flags_read script after (Some file) false true may = read_then _ (quiet_read script after file false) (none_read _ (flagged script after (Some file) false true))
@@ -80,58 +79,41 @@ flags_read script after (Some file) true true may =
 flags_read script after None false true may = absurd may
 flags_read script after None true true may = absurd may
 
-abbrev ArePaths : Option Text → Type 0
-ArePaths None = ⊤
-ArePaths (Some path) = IsPath path
-
-file_words_read : (script : Text) (after file : Option Text) → ArePaths file → (words : List Text) (last : Walk) → ReadsAll run_shape (named script after file) words last
-    → ReadsAll run_shape (named script after None) (option_words (codes "--journal") file ++ words) last
+file_words_read : (script : Text) (after file : Option Text) → MayBePath file → (words : List Text) (last : Walk) → ReadsAll run_app (named script after file) words last
+    → ReadsAll run_app (named script after None) (option_words (codes "--journal") file ++ words) last
 file_words_read script after None f words last more = more
 file_words_read script None (Some file) f words last more = read_then _ (journal_read script None) (read_then _ (file_read (rows script None None) file f) more)
 file_words_read script (Some after) (Some file) f words last more = read_then _ (journal_read script (Some after)) (read_then _ (file_read (rows script (Some after) None) file f) more)
 
-after_words_read : (script : Text) (after : Option Text) → ArePaths after → (words : List Text) (last : Walk) → ReadsAll run_shape (named script after None) words last
-    → ReadsAll run_shape (named script None None) (option_words (codes "--after") after ++ words) last
+after_words_read : (script : Text) (after : Option Text) → MayBePath after → (words : List Text) (last : Walk) → ReadsAll run_app (named script after None) words last
+    → ReadsAll run_app (named script None None) (option_words (codes "--after") after ++ words) last
 after_words_read script None a words last more = more
 after_words_read script (Some after) a words last more = read_then _ (after_read script) (read_then _ (path_read (rows script None None) after a) more)
 
-last_fine : (script : Text) (after file : Option Text) (listed quiet : Bool) → MayBeQuiet file quiet → fault_after run_shape (flagged script after file listed quiet) ≡ []
+-- nothing is wrong at the end, where all is met
+last_tells : (script : Text) (after file : Option Text) (listed quiet : Bool) → MayBeQuiet file quiet
+    → (fault_after run_app (flagged script after file listed quiet) ≡ [])
+    × (values_after (flagged script after file listed quiet) ≡ Some (codes "run", Some script ∷ after ∷ file ∷ Some (flag_text listed) ∷ Some (flag_text quiet) ∷ []))
 unfolding clap_on_literals
-last_fine script None None false false may = refl
-last_fine script None None true false may = refl
-last_fine script (Some after) None false false may = refl
-last_fine script (Some after) None true false may = refl
-last_fine script None (Some file) false false may = refl
-last_fine script None (Some file) true false may = refl
-last_fine script None (Some file) false true may = refl
-last_fine script None (Some file) true true may = refl
-last_fine script (Some after) (Some file) false false may = refl
-last_fine script (Some after) (Some file) true false may = refl
-last_fine script (Some after) (Some file) false true may = refl
-last_fine script (Some after) (Some file) true true may = refl
-last_fine script after None listed true may = absurd may
+last_tells script None None false false may = (refl, refl)
+last_tells script None None true false may = (refl, refl)
+last_tells script (Some after) None false false may = (refl, refl)
+last_tells script (Some after) None true false may = (refl, refl)
+last_tells script None (Some file) false false may = (refl, refl)
+last_tells script None (Some file) true false may = (refl, refl)
+last_tells script None (Some file) false true may = (refl, refl)
+last_tells script None (Some file) true true may = (refl, refl)
+last_tells script (Some after) (Some file) false false may = (refl, refl)
+last_tells script (Some after) (Some file) true false may = (refl, refl)
+last_tells script (Some after) (Some file) false true may = (refl, refl)
+last_tells script (Some after) (Some file) true true may = (refl, refl)
+last_tells script after None listed true may = absurd may
 
-last_values : (script : Text) (after file : Option Text) (listed quiet : Bool) → MayBeQuiet file quiet
-    → values_after (flagged script after file listed quiet) ≡ Some (codes "run", Some script ∷ after ∷ file ∷ Some (flag_text listed) ∷ Some (flag_text quiet) ∷ [])
-unfolding clap_on_literals
-last_values script None None false false may = refl
-last_values script None None true false may = refl
-last_values script (Some after) None false false may = refl
-last_values script (Some after) None true false may = refl
-last_values script None (Some file) false false may = refl
-last_values script None (Some file) true false may = refl
-last_values script None (Some file) false true may = refl
-last_values script None (Some file) true true may = refl
-last_values script (Some after) (Some file) false false may = refl
-last_values script (Some after) (Some file) true false may = refl
-last_values script (Some after) (Some file) false true may = refl
-last_values script (Some after) (Some file) true true may = refl
-last_values script after None listed true may = absurd may
-
-pub run_asks : (program script : Text) → IsPath script → (after : Option Text) → ArePaths after → (file : Option Text) → ArePaths file → (listed quiet : Bool) → MayBeQuiet file quiet
+pub run_asks : (program script : Text) → IsPath script → (after : Option Text) → MayBePath after → (file : Option Text) → MayBePath file → (listed quiet : Bool) → MayBeQuiet file quiet
     → AsksFor (program ∷ codes "run" ∷ script ∷ (option_words (codes "--after") after ++ (option_words (codes "--journal") file ++ (flag_words (codes "--open") listed ++ flag_words (codes "--quiet") quiet)))) (run script after file listed quiet)
 run_asks program script p after a file f listed quiet may =
     let last = flagged script after file listed quiet in
     let flags = flags_read script after file listed quiet may in
     let paths = after_words_read script after a _ last (file_words_read script after file f _ last flags) in
-    asks_after _ _ run_command program _ last (run script after file listed quiet) (read_then _ (script_read script p) paths) (last_fine script after file listed quiet may) (last_values script after file listed quiet may, may)
+    let tells = last_tells script after file listed quiet may in
+    asks_after run_app commands.run program _ last (run script after file listed quiet) (read_then _ (script_read script p) paths) tells.0 (tells.1, may)

@@ -1,19 +1,19 @@
 //! The commands of the program.
-ghost use Rattle.std.specs.Prelude.{◌≡◌, IfOk, IsOkAnd};
-ghost use Rattle.clap.specs.Words.{AddsSubcommand, app_of, new_app};
-ghost use Rattle.command_line.specs.Program.{audit_app, bare_app, check_app, explain_app, explore_app, history_app, open_app, picture_app, program_app, run_app, schedule_app, strace_app, threads_app};
+ghost use Rattle.std.specs.Prelude.{◌≡◌, codes, fold, map, IfOk, IsOkAnd, List, true};
+ghost use Rattle.std.specs.List.{list_all};
+ghost use Rattle.clap.specs.Words.{AddsSubcommand, Rule, app_of, new_app, rule_of, with_rule};
+ghost use Rattle.command_line.specs.Program.{bare_app, check_app, explain_app, explore_app, path_rule, picture_app, program_app, run_app, schedule_app, strace_app, threads_app};
 
 use crate::arguments::{
-    after_argument, around_argument, call_argument, failures_argument, file_argument,
-    format_argument, from_argument, journal_argument, no_join_argument, nodes_argument,
-    open_argument, quiet_argument, recording_argument, script_argument, seed_argument,
-    seeds_argument, stop_argument, to_argument,
+    failures_argument, file_argument, flag_argument, journal_argument, option_argument,
+    path_argument, script_argument, seed_argument, with_number,
 };
 use crate::notes::{
     AUDIT_NOTES, CHECK_NOTES, EXPLAIN_NOTES, EXPLORE_NOTES, HISTORY_NOTES, OPEN_NOTES,
     PICTURE_NOTES, PROGRAM_NOTES, RUN_NOTES, SCHEDULE_NOTES, STRACE_NOTES, THREADS_NOTES, VERSION,
 };
-use clap::Command;
+use crate::values::{GREATEST_SEED, MOST_NODES};
+use clap::{Arg, Command};
 use std::alloc::{AllocError, Global};
 
 /// The program's command line.
@@ -22,10 +22,16 @@ pub(crate) fn program<'a>(alloc: Global) -> Result<Command<'a>, AllocError>
 {
     let program = with_command(Ok(bare_program(alloc)), run_command(alloc));
     let program = with_command(program, threads_command(alloc));
-    let program = with_command(program, audit_command(alloc));
-    let program = with_command(program, history_command(alloc));
+    let about = "Say whether a journal is one of a run";
+    let audit = journal_command(alloc, "audit", about, AUDIT_NOTES);
+    let program = with_command(program, audit);
+    let about = "Print the history of a journal";
+    let history = journal_command(alloc, "history", about, HISTORY_NOTES);
+    let program = with_command(program, history);
     let program = with_command(program, explain_command(alloc));
-    let program = with_command(program, open_command(alloc));
+    let about = "List the calls of a journal that have no reply";
+    let open = journal_command(alloc, "open", about, OPEN_NOTES);
+    let program = with_command(program, open);
     let program = with_command(program, check_command(alloc));
     let program = with_command(program, picture_command(alloc));
     let program = with_command(program, strace_command(alloc));
@@ -37,12 +43,15 @@ pub(crate) fn program<'a>(alloc: Global) -> Result<Command<'a>, AllocError>
 fn bare_program<'a>(alloc: Global) -> Command<'a>
     ensures { app_of result ≡ bare_app }
 {
-    Command::new(alloc, "lockreplay")
-        .about("Run scripts of record locks in a cluster, and print what came of them")
-        .after_long_help(PROGRAM_NOTES)
-        .version(VERSION)
-        .subcommand_required(true)
-        .arg_required_else_help(true)
+    bare_command(
+        alloc,
+        "lockreplay",
+        "Run scripts of record locks in a cluster, and print what came of them",
+        PROGRAM_NOTES,
+    )
+    .version(VERSION)
+    .subcommand_required(true)
+    .arg_required_else_help(true)
 }
 
 // The program with one more command, if there was memory for both.
@@ -64,170 +73,161 @@ fn bare_command<'a>(alloc: Global, name: &'a str, about: &'a str, notes: &'a str
         .after_long_help(notes)
 }
 
+// A command with these arguments, if there was memory for it.
+fn command_with<'a>(
+    alloc: Global,
+    name: &'a str,
+    about: &'a str,
+    notes: &'a str,
+    arguments: Vec<Arg<'a>>,
+) -> Result<Command<'a>, AllocError>
+    ensures { (rules : List Rule) → map rule_of arguments.entry.items ≡ rules → list_all (λ r. r.is_simple) rules ≡ true → IfOk result (λ command. app_of command ≡ fold with_rule (new_app name.entry.now) rules) }
+{
+    bare_command(alloc, name, about, notes).args(arguments)
+}
+
+// One with a journal alone.
+fn journal_command<'a>(
+    alloc: Global,
+    name: &'a str,
+    about: &'a str,
+    notes: &'a str,
+) -> Result<Command<'a>, AllocError>
+    ensures { IfOk result (λ command. app_of command ≡ with_rule (new_app name.entry.now) (path_rule (codes "JOURNAL"))) }
+{
+    let arguments = vec![in alloc; journal_argument(alloc)]?;
+    command_with(alloc, name, about, notes, arguments)
+}
+
 fn run_command<'a>(alloc: Global) -> Result<Command<'a>, AllocError>
     ensures { IfOk result (λ command. app_of command ≡ run_app) }
 {
+    let help = "Go on behind the run of JOURNAL";
+    let after = option_argument(alloc, "JOURNAL", "after", help);
+    let help = "List the calls without a reply behind the listing";
+    let open = flag_argument(alloc, "open", help);
+    let help = "Make no listing: what is kept of the run is FILE";
+    let quiet = flag_argument(alloc, "quiet", help);
     let arguments = vec![in alloc;
         script_argument(alloc),
-        after_argument(alloc),
+        after,
         file_argument(alloc),
-        open_argument(alloc),
-        quiet_argument(alloc),
+        open,
+        quiet,
     ]?;
-    bare_command(
-        alloc,
-        "run",
-        "Run each line of a script in order and print the listing",
-        RUN_NOTES,
-    )
-    .args(arguments)
+    let about = "Run each line of a script in order and print the listing";
+    command_with(alloc, "run", about, RUN_NOTES, arguments)
 }
 
 fn threads_command<'a>(alloc: Global) -> Result<Command<'a>, AllocError>
     ensures { IfOk result (λ command. app_of command ≡ threads_app) }
 {
-    let seed = seed_argument(
-        alloc,
-        "seed",
-        "The seed of the weather that messages meet, up to 4294967295",
-    );
+    let help = "The seed of the weather that messages meet, up to 4294967295";
+    let seed = seed_argument(alloc, "seed", help);
+    let help = "End the run where no open call can be answered any more";
+    let stop = flag_argument(alloc, "stop-when-stuck", help);
+    let help = "Make failures and starts while calls are open";
+    let no_join = flag_argument(alloc, "no-join", help);
     let arguments = vec![in alloc;
         script_argument(alloc),
         seed,
-        stop_argument(alloc),
-        no_join_argument(alloc),
+        stop,
+        no_join,
         file_argument(alloc),
     ]?;
-    bare_command(
-        alloc,
-        "threads",
-        "Run a script on threads and print the listing",
-        THREADS_NOTES,
-    )
-    .args(arguments)
-}
-
-fn audit_command<'a>(alloc: Global) -> Result<Command<'a>, AllocError>
-    ensures { IfOk result (λ command. app_of command ≡ audit_app) }
-{
-    bare_command(
-        alloc,
-        "audit",
-        "Say whether a journal is one of a run",
-        AUDIT_NOTES,
-    )
-    .arg(journal_argument(alloc))
-}
-
-fn history_command<'a>(alloc: Global) -> Result<Command<'a>, AllocError>
-    ensures { IfOk result (λ command. app_of command ≡ history_app) }
-{
-    bare_command(
-        alloc,
-        "history",
-        "Print the history of a journal",
-        HISTORY_NOTES,
-    )
-    .arg(journal_argument(alloc))
+    let about = "Run a script on threads and print the listing";
+    command_with(alloc, "threads", about, THREADS_NOTES, arguments)
 }
 
 fn explain_command<'a>(alloc: Global) -> Result<Command<'a>, AllocError>
     ensures { IfOk result (λ command. app_of command ≡ explain_app) }
 {
-    bare_command(
-        alloc,
-        "explain",
-        "Tell the story of a call of a journal",
-        EXPLAIN_NOTES,
-    )
-    .arg(journal_argument(alloc))?
-    .arg(call_argument(alloc))
-}
-
-fn open_command<'a>(alloc: Global) -> Result<Command<'a>, AllocError>
-    ensures { IfOk result (λ command. app_of command ≡ open_app) }
-{
-    bare_command(
-        alloc,
-        "open",
-        "List the calls of a journal that have no reply",
-        OPEN_NOTES,
-    )
-    .arg(journal_argument(alloc))
+    let help = "The call, by its name in replies and history, as 2.1.3";
+    let call = path_argument(alloc, "CALL", help);
+    let arguments = vec![in alloc; journal_argument(alloc), call]?;
+    let about = "Tell the story of a call of a journal";
+    command_with(alloc, "explain", about, EXPLAIN_NOTES, arguments)
 }
 
 fn check_command<'a>(alloc: Global) -> Result<Command<'a>, AllocError>
     ensures { IfOk result (λ command. app_of command ≡ check_app) }
 {
-    let script = script_argument(alloc);
-    bare_command(alloc, "check", "Say what is wrong in a script", CHECK_NOTES).arg(script)
+    let arguments = vec![in alloc; script_argument(alloc)]?;
+    let about = "Say what is wrong in a script";
+    command_with(alloc, "check", about, CHECK_NOTES, arguments)
 }
 
 fn picture_command<'a>(alloc: Global) -> Result<Command<'a>, AllocError>
     ensures { IfOk result (λ command. app_of command ≡ picture_app) }
 {
-    let arguments = vec![in alloc;
-        journal_argument(alloc),
-        around_argument(alloc),
-        from_argument(alloc),
-        to_argument(alloc),
-        format_argument(alloc),
-    ]?;
-    bare_command(
-        alloc,
-        "picture",
-        "Draw a journal, as SVG, Mermaid or a trace",
-        PICTURE_NOTES,
-    )
-    .args(arguments)
+    let help = "Draw the entries around the call, by its name, as 2.1.3";
+    let around = option_argument(alloc, "CALL", "around", help);
+    let help = "Draw no entry before entry K, counted from 1";
+    let from = with_number(
+        option_argument(alloc, "K", "from", help),
+        "1",
+        1,
+        GREATEST_SEED,
+    );
+    let help = "Draw no entry behind entry L, counted from 1";
+    let to = with_number(
+        option_argument(alloc, "L", "to", help),
+        "4294967295",
+        1,
+        GREATEST_SEED,
+    );
+    let help = "Draw it as svg, mermaid or trace";
+    let format = option_argument(alloc, "FORMAT", "format", help).default_value("svg");
+    let arguments = vec![in alloc; journal_argument(alloc), around, from, to, format]?;
+    let about = "Draw a journal, as SVG, Mermaid or a trace";
+    command_with(alloc, "picture", about, PICTURE_NOTES, arguments)
 }
 
 fn strace_command<'a>(alloc: Global) -> Result<Command<'a>, AllocError>
     ensures { IfOk result (λ command. app_of command ≡ strace_app) }
 {
-    bare_command(
-        alloc,
-        "from-strace",
-        "Turn the output of strace into a script",
-        STRACE_NOTES,
-    )
-    .arg(recording_argument(alloc))?
-    .arg(nodes_argument(alloc))
+    let help = "The recording: the output of strace -f, or /dev/stdin";
+    let recording = path_argument(alloc, "RECORDING", help);
+    let help = "The nodes of the script's cluster, from 1 to 64";
+    let nodes = with_number(
+        option_argument(alloc, "N", "nodes", help),
+        "1",
+        1,
+        MOST_NODES,
+    );
+    let arguments = vec![in alloc; recording, nodes]?;
+    let about = "Turn the output of strace into a script";
+    command_with(alloc, "from-strace", about, STRACE_NOTES, arguments)
 }
 
 fn explore_command<'a>(alloc: Global) -> Result<Command<'a>, AllocError>
     ensures { IfOk result (λ command. app_of command ≡ explore_app) }
 {
-    let first = seed_argument(
-        alloc,
-        "first",
-        "The seed of the first schedule, up to 4294967295",
+    let help = "How many schedules, up to 4294967295";
+    let seeds = with_number(
+        option_argument(alloc, "COUNT", "seeds", help),
+        "100",
+        1,
+        GREATEST_SEED,
     );
+    let help = "The seed of the first schedule, up to 4294967295";
+    let first = seed_argument(alloc, "first", help);
     let arguments = vec![in alloc;
         script_argument(alloc),
-        seeds_argument(alloc),
+        seeds,
         first,
         failures_argument(alloc),
     ]?;
-    bare_command(
-        alloc,
-        "explore",
-        "Run a script under many schedules and tell the outcomes",
-        EXPLORE_NOTES,
-    )
-    .args(arguments)
+    let about = "Run a script under many schedules and tell the outcomes";
+    command_with(alloc, "explore", about, EXPLORE_NOTES, arguments)
 }
 
 fn schedule_command<'a>(alloc: Global) -> Result<Command<'a>, AllocError>
     ensures { IfOk result (λ command. app_of command ≡ schedule_app) }
 {
-    let seed = seed_argument(alloc, "seed", "The seed of the schedule, up to 4294967295");
+    let help = "The seed of the schedule, up to 4294967295";
+    let seed = seed_argument(alloc, "seed", help);
     let arguments = vec![in alloc; script_argument(alloc), seed, failures_argument(alloc)]?;
-    bare_command(
-        alloc,
-        "schedule",
-        "Print the script of a schedule",
-        SCHEDULE_NOTES,
-    )
-    .args(arguments)
+    let about = "Print the script of a schedule";
+    command_with(alloc, "schedule", about, SCHEDULE_NOTES, arguments)
 }

@@ -1,7 +1,9 @@
 //! The lines that words may ask for.
-ghost use Rattle.std.specs.Prelude.{◌≡◌, codes, List, map, IfErr, IfOk, Some};
-ghost use Rattle.clap.specs.Words.{found_of, kind_of, rows_of, subcommand_rows_of};
+ghost use Rattle.std.specs.Prelude.{◌≡◌, ◌⊎◌, codes, List, map, IfErr, IfOk, Some};
+ghost use Rattle.clap.specs.Words.{app_of, found_of, kind_of, rows_of, subcommand_rows_of};
+ghost use Rattle.clap.specs.declared.error.kind.ErrorKind.TheVariants.{OutOfMemory, ValueValidation};
 ghost use Rattle.command_line.specs.Kinds.{IsKindOf, IsLineOf};
+ghost use Rattle.command_line.specs.Program.{program_app};
 ghost use Rattle.command_line.specs.Tasks.{task_of};
 ghost use Rattle.command_line.specs.Words.{AsksFor, IsRefusal};
 
@@ -10,7 +12,7 @@ use crate::format::{Format, format_in};
 use crate::refusal::Refusal;
 use crate::values::{GREATEST_SEED, MOST_NODES, flag_in, number_in};
 use clap::error::ErrorKind;
-use clap::{ArgMatches, Error};
+use clap::{ArgMatches, Command, Error};
 use std::alloc::Global;
 use std::convert::AsStr;
 
@@ -118,10 +120,28 @@ fn line_in<'a, S: AsStr>(alloc: Global, words: &'a [S]) -> Result<Line<'a>, Erro
     ensures kind { IfErr result (λ error. IsKindOf (map S.text words.entry.now) (kind_of error)) }
 {
     let mut command = program(alloc)?;
+    line_by(&mut command, words)
+}
+
+// The line that the program's command makes of the words, or its error.
+fn line_by<'a, S: AsStr>(command: &mut Command<'a>, words: &'a [S]) -> Result<Line<'a>, Error>
+    ensures asked { app_of command.old ≡ program_app → IfOk result (λ line. AsksFor (map S.text words.entry.now) (task_of line)) }
+    ensures kind { app_of command.old ≡ program_app → IfErr result (λ error. IsKindOf (map S.text words.entry.now) (kind_of error)) }
+{
     let matches = command.try_get_matches_from_mut(words)?;
     match line_of(&matches) {
         Some(line) => Ok(line),
-        None => Err(command.error(ErrorKind::ValueValidation, complaint(&matches))?),
+        None => Err(unserved(command, &matches)),
+    }
+}
+
+// The error of words with which nothing is wrong by the table, but which come to no line.
+fn unserved(command: &mut Command<'_>, matches: &ArgMatches<'_>) -> Error
+    ensures { (kind_of result ≡ ValueValidation) ⊎ (kind_of result ≡ OutOfMemory) }
+{
+    match command.error(ErrorKind::ValueValidation, complaint(matches)) {
+        Ok(error) => error,
+        Err(error) => Error::from(error),
     }
 }
 

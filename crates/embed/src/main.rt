@@ -74,21 +74,31 @@ const UNLOCK: Op = Op::Unlock {
 
 fn main(rt: HostRuntime) -> anyhow::Result<()> {
     let mut cluster = Cluster::new(rt.alloc(), 2)?;
-    begin(&rt, &mut cluster, 1)?;
-    begin(&rt, &mut cluster, 2)?;
-    cluster.call(&rt, 1, SET)?;
-    wait(&rt, &mut cluster, 2)?;
-    cluster.call(&rt, 1, UNLOCK)?;
-    cluster.show(&rt)?;
-    cluster.pass(&rt, 16)?;
-    wait(&rt, &mut cluster, 1)?;
-    cluster.fail(&rt, 2)?;
-    cluster.pass(&rt, 16)?;
-    cluster.restart(&rt, 2)?;
-    begin(&rt, &mut cluster, 2)?;
-    cluster.call(&rt, 2, SET)?;
-    cluster.pass(&rt, 16)?;
-    cluster.show(&rt)
+    pass_on(&rt, &mut cluster)?;
+    outlive(&rt, &mut cluster)
+}
+
+// A call of node 2 waits for a lock of node 1, and gets it.
+fn pass_on(rt: &HostRuntime, cluster: &mut Cluster) -> anyhow::Result<()> {
+    begin(rt, cluster, 1)?;
+    begin(rt, cluster, 2)?;
+    cluster.call(rt, 1, SET)?;
+    wait(rt, cluster, 2)?;
+    cluster.call(rt, 1, UNLOCK)?;
+    cluster.show(rt)?;
+    cluster.pass(rt, 16)
+}
+
+// Node 2 dies with a lock that a call of node 1 waits for, and begins again.
+fn outlive(rt: &HostRuntime, cluster: &mut Cluster) -> anyhow::Result<()> {
+    wait(rt, cluster, 1)?;
+    cluster.fail(rt, 2)?;
+    cluster.pass(rt, 16)?;
+    cluster.restart(rt, 2)?;
+    begin(rt, cluster, 2)?;
+    cluster.call(rt, 2, SET)?;
+    cluster.pass(rt, 16)?;
+    cluster.show(rt)
 }
 
 // The process of the node begins, and opens the file.

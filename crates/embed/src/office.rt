@@ -92,22 +92,27 @@ impl Office {
 
     /// Prints what the server does and knows.
     pub fn show(&self, rt: &HostRuntime) -> anyhow::Result<()> {
-        let alloc = rt.alloc();
+        self.show_requests(rt)?;
+        for row in &self.server.rows(rt.alloc())? {
+            show_row(rt, row)?;
+        }
+        for node in &self.server.awaited_nodes(rt.alloc())? {
+            println!(rt; "  awaited: the token of node {node}")?;
+        }
+        Ok(())
+    }
+
+    // Prints the requests that the server has.
+    fn show_requests(&self, rt: &HostRuntime) -> anyhow::Result<()> {
         for held in self.server.served() {
             show_request(rt, "served", &held.request)?;
             println!(rt; "    for the row of node {}", held.at)?;
         }
-        for request in &self.server.queued(alloc)? {
+        for request in &self.server.queued(rt.alloc())? {
             show_request(rt, "queued", request)?;
         }
-        for request in &self.server.waiting(alloc)? {
+        for request in &self.server.waiting(rt.alloc())? {
             show_request(rt, "waiting", request)?;
-        }
-        for row in &self.server.rows(alloc)? {
-            show_row(rt, row)?;
-        }
-        for node in &self.server.awaited_nodes(alloc)? {
-            println!(rt; "  awaited: the token of node {node}")?;
         }
         Ok(())
     }

@@ -1,6 +1,6 @@
 -- One step of a walk over a script, a schedule or entries.
-use Rattle.std.proofs.Common.{◌≡◌, ℕ, zero, suc, ◌+◌, ◌<◌, ◌==◌, ◌&&◌, Bool, true, false, List, [], ◌∷◌, ◌++◌, length, get_or, drop, take, map, refl, sym, ap, subst, ◌∙◌, inl, inr, arith, drop-cons, add-one, append_assoc, Option, Some, None}
-use Rattle.std.specs.Prelude.{◌⊎◌, if◌then◌else◌, slice_get}
+use Rattle.std.proofs.Common.{◌≡◌, ℕ, zero, suc, ◌+◌, ◌<◌, ◌==◌, ◌&&◌, Bool, true, false, cond, List, [], ◌∷◌, ◌++◌, length, get_or, drop, take, map, refl, sym, ap, subst, ◌∙◌, inl, inr, arith, drop-cons, add-one, append_assoc, Option, Some, None}
+use Rattle.std.specs.Prelude.{◌⊎◌, if◌then◌else◌, find, flat_map, option_map, slice_get}
 use Rattle.std.specs.List.{enumerate_from}
 use Rattle.std.specs.Option.{option_map_or}
 use Rattle.std.proofs.lemmas.Bool.{cases_eq, eq-eqb, ne_eqb}
@@ -26,6 +26,15 @@ drop_at {A} xs k x within = drop-cons xs k x within ∙ ap (λ (n : ℕ). get_or
 pub drop_here : {A : Type 0} (xs : List A) (k : ℕ) (x : A) → k < length xs → x ≡ get_or xs k x → drop k xs ≡ x ∷ drop (k + 1) xs
 drop_here {A} xs k x within is = drop_at xs k x within ∙ ap (λ (y : A). y ∷ drop (k + 1) xs) (sym is)
 
+-- what is written of one element more of a list
+pub flat-next : {A : Type 0} (f : A → List ℕ) (xs : List A) (k : ℕ) (x : A) (old new all : List ℕ) → k < length xs → new ≡ old ++ f (get_or xs k x) → old ++ flat_map f (drop k xs) ≡ all → new ++ flat_map f (drop (k + 1) xs) ≡ all
+flat-next {A} f xs k x old new all within is before =
+    let rest = flat_map f (drop (k + 1) xs) in
+    ap (λ (ys : List ℕ). ys ++ rest) is
+    ∙ append_assoc old (f (get_or xs k x)) rest
+    ∙ ap (λ (ys : List A). old ++ flat_map f ys) (sym (drop_at xs k x within))
+    ∙ before
+
 pub calls-push : (node pid : ℕ) (commands : List Command) (c : Command) → calls_of node pid (commands ++ c ∷ []) ≡ calls_of node pid commands ++ op_of node pid c
 calls-push node pid commands c = flat_map-append (op_of node pid) commands (c ∷ []) ∙ ap (λ (ops : List Op). calls_of node pid commands ++ ops) (append-nil (op_of node pid c))
 
@@ -48,6 +57,17 @@ tries-next refused node pid number c old new refusal rest all is code before =
     ap (λ (xs : List (Option ℕ)). xs ++ more) (is ∙ ap (λ (r : Option ℕ). old ++ (if calls_by node pid c then r ∷ [] else [])) code)
     ∙ append_assoc old (if calls_by node pid c then refusal_of refused number ∷ [] else []) more
     ∙ before
+
+-- the number of this refusal, or of the other one
+code-of : (b : Bool) (l : RefusedLine) (other : Option RefusedLine) → cond b (Some l.code) (option_map (λ (r : RefusedLine). r.code) other) ≡ option_map (λ (r : RefusedLine). r.code) (if b then Some l else other)
+code-of true l other = refl
+code-of false l other = refl
+
+-- one refused line more, before those
+pub refusal-more : (l : RefusedLine) (rest : List RefusedLine) (number : ℕ) (known : Option ℕ) → known ≡ refusal_of rest number → cond (l.line == number) (Some l.code) known ≡ refusal_of (l ∷ rest) number
+refusal-more l rest number known is =
+    ap (λ (o : Option ℕ). cond (l.line == number) (Some l.code) o) is
+    ∙ code-of (l.line == number) l (find (λ (r : RefusedLine). r.line == number) rest)
 
 -- one call more that was tried
 count-next : (ts : List (Option ℕ)) (k : ℕ) → count_taken (take (k + 1) ts) ≡ count_taken (take k ts) + (if option_map_or is_taken (slice_get ts k) false then 1 else 0)

@@ -1,7 +1,7 @@
 //! What comes next in a schedule.
 use crate::chance::Chance;
 use crate::failed::Failed;
-use crate::part::Part;
+use crate::part::{Part, add_call, count_ready, next_ready, push_retries, see_all};
 use cluster_core::run::Run;
 use lockscript::script_line::{Command, ScriptLine};
 use messages::entry::Entry;
@@ -116,45 +116,30 @@ impl<'a> Chooser<'a> {
             self.letters.clear();
             self.sent = sent;
         }
-        for index in self.sent..sent {
-            let number = u32::try_from(index).unwrap_or(0).saturating_add(1);
-            self.letters.push(Letter {
-                number,
-                is_repeat: false,
-            })?;
-        }
+        note_sent(&mut self.letters, self.sent, sent)?;
         self.sent = sent;
         Ok(())
     }
 
     // Takes note of an entry.
     fn see_entry(&mut self, entry: &Entry) -> Result<(), AllocError> {
-        for part in self.parts.iter_mut() {
-            if part.see(entry) {
-                self.rounds = 0;
-            }
+        if see_all(self.parts.as_mut_slice(), entry) {
+            self.rounds = 0;
         }
         if let Event::Declare { node } = entry.event() {
-            self.tell(*node, entry.incarnation())?;
+            push_learns(
+                &mut self.due,
+                self.files.as_slice(),
+                *node,
+                entry.incarnation(),
+            )?;
         }
         self.failed.see(entry)
     }
 
-    // The servers of the files are to learn that this incarnation of a node was declared failed.
-    fn tell(&mut self, node: u8, incarnation: u16) -> Result<(), AllocError> {
-        for file in self.files.iter() {
-            self.due.push(Command::Learn {
-                file: *file,
-                node,
-                incarnation,
-            })?;
-        }
-        Ok(())
-    }
-
     // Puts what comes next into the queue, if anything does.
     fn fill(&mut self) -> Result<(), AllocError> {
-        let ready = self.parts.iter().filter(|part| part.is_ready()).count();
+        let ready = count_ready(self.parts.as_slice());
         if let Some(command) = self.choose(ready)? {
             self.queue.push_back(command)?;
             return Ok(());
@@ -182,27 +167,13 @@ impl<'a> Chooser<'a> {
         }
         let index = self.chance.below(all);
         if index < ready {
-            return Ok(self.call(index));
+            return Ok(next_ready(self.parts.as_mut_slice(), index));
         }
         let index = index - ready;
         if index < letters {
             return self.letter(index);
         }
         Ok(take(&mut self.due, index - letters))
-    }
-
-    // The next call of the process that is ready at this index among those that are.
-    fn call(&mut self, index: usize) -> Option<Command> {
-        let mut left = index;
-        for part in self.parts.iter_mut() {
-            if part.is_ready() {
-                if left == 0 {
-                    return part.next();
-                }
-                left -= 1;
-            }
-        }
-        None
     }
 
     // The message at this index is delivered, or lost unless it was asked for again; where it is delivered, it
@@ -269,18 +240,11 @@ impl<'a> Chooser<'a> {
 
     // What has no answer is asked for again, if a call is open: by the servers of the files and by the nodes.
     fn ask_again(&mut self) -> Result<(), AllocError> {
-        for part in self.parts.iter() {
-            if let Some(retry) = part.retry() {
-                self.queue.push_back(retry)?;
-            }
-        }
+        push_retries(self.parts.as_slice(), &mut self.queue)?;
         if self.queue.is_empty() {
             return Ok(());
         }
-        for file in self.files.iter() {
-            self.queue.push_back(Command::Resend { file: *file })?;
-        }
-        Ok(())
+        push_resends(&mut self.queue, self.files.as_slice())
     }
 
     // The phase ends: all messages are settled, unless they are, and the line behind it has its turn. The next
@@ -317,35 +281,59 @@ impl<'a> Chooser<'a> {
                 return Ok(());
             };
             self.taken = self.taken.saturating_add(1);
-            self.note_file(&op)?;
-            self.add(node, pid, line.command())?;
+            note_file(&mut self.files, &op)?;
+            add_call(&mut self.parts, self.alloc, node, pid, line.command())?;
         }
         Ok(())
     }
+}
 
-    // A file that a process opens.
-    fn note_file(&mut self, op: &Op) -> Result<(), AllocError> {
-        if let Op::Open { file, .. } = op {
-            let known = self.files.iter().any(|other| *other == *file);
-            if !known {
-                self.files.push(*file)?;
-            }
-        }
-        Ok(())
+// The messages at these indexes may come.
+fn note_sent(letters: &mut Vec<Letter>, first: usize, end: usize) -> Result<(), AllocError> {
+    for index in first..end {
+        let number = u32::try_from(index).unwrap_or(0).saturating_add(1);
+        letters.push(Letter {
+            number,
+            is_repeat: false,
+        })?;
     }
+    Ok(())
+}
 
-    // The process is to make one call more.
-    fn add(&mut self, node: u8, pid: u16, call: Command) -> Result<(), AllocError> {
-        for part in self.parts.iter_mut() {
-            if part.is_of(node, pid) {
-                return part.add(call);
-            }
-        }
-        let mut part = Part::new(self.alloc, node, pid);
-        part.add(call)?;
-        self.parts.push(part)?;
-        Ok(())
+// The servers of the files are to learn that this incarnation of a node was declared failed.
+fn push_learns(
+    due: &mut Vec<Command>,
+    files: &[u16],
+    node: u8,
+    incarnation: u16,
+) -> Result<(), AllocError> {
+    for file in files {
+        due.push(Command::Learn {
+            file: *file,
+            node,
+            incarnation,
+        })?;
     }
+    Ok(())
+}
+
+// The servers of the files ask again for what has no answer.
+fn push_resends(queue: &mut VecDeque<Command>, files: &[u16]) -> Result<(), AllocError> {
+    for file in files {
+        queue.push_back(Command::Resend { file: *file })?;
+    }
+    Ok(())
+}
+
+// A file that a process opens.
+fn note_file(files: &mut Vec<u16>, op: &Op) -> Result<(), AllocError> {
+    if let Op::Open { file, .. } = op {
+        let known = files.iter().any(|other| *other == *file);
+        if !known {
+            files.push(*file)?;
+        }
+    }
+    Ok(())
 }
 
 // Takes out the value at the index, if there is one; the last comes to its place.

@@ -2,10 +2,11 @@
 ghost use Rattle.std.specs.Prelude.{◌≡◌, ◌≢◌, ◌+◌, ◌<◌, ◌∷◌, ◌++◌, ◌↔◌, [], ℕ, All, Bool, HoldsAt, List, MatchOption, length, slice_index_or, slice_set, IfErr, IfOk, IsTrue, OnOk};
 ghost use Rattle.std.specs.List.{list_any};
 ghost use Rattle.std.specs.List.Sorted.{IsPermutation};
-ghost use Rattle.player.specs.declared.play.PlayError.TheVariants.{JournalFull};
+ghost use Rattle.player.specs.declared.play.PlayError.TheVariants.{JournalFull, NoMemory};
 ghost use Rattle.player.specs.Parts.{state_of};
 ghost use Rattle.explorer.specs.declared.answer.Answer.{Answer};
 ghost use Rattle.explorer.specs.Answers.{answers_in};
+ghost use Rattle.explorer.specs.Expectations.{breaks};
 ghost use Rattle.explorer.specs.Explores.{Explores};
 ghost use Rattle.explorer.specs.Outcomes.{AreMet, AreOrdered, AreOutcomesOf, ComesIn, IsOutcomeOf, OutcomeParts, seed_of, seeds_of, with_seed};
 ghost use Rattle.explorer.specs.Schedules.{HasFullSchedule};
@@ -116,8 +117,7 @@ fn answers_of(
     ensures full { IfErr result (λ error. error ≡ JournalFull → HasFullSchedule failures script.now) }
 {
     let scheduled = schedule(alloc, script, seed, failures)?;
-    let answers = answers_under(alloc, script, &scheduled)?;
-    Ok(answers)
+    answers_under(alloc, script, &scheduled)
 }
 
 // What the lines of the script come to in this schedule.
@@ -125,15 +125,17 @@ fn answers_under(
     alloc: Global,
     script: &Script,
     scheduled: &Scheduled,
-) -> Result<Vec<Answer>, AllocError>
-    ensures { IfOk result (λ answers. answers.items ≡ answers_in script.now.lines scheduled.now.commands (state_of scheduled.now.played)) }
+) -> Result<Vec<Answer>, PlayError>
+    ensures answered { IfOk result (λ answers. answers.items ≡ answers_in script.now.lines scheduled.now.commands (state_of scheduled.now.played)) }
+    ensures err { IfErr result (λ error. error ≡ NoMemory) }
 {
-    answers(
+    let answers = answers(
         alloc,
         script.lines(),
         scheduled.commands(),
         scheduled.played(),
-    )
+    )?;
+    Ok(answers)
 }
 
 // A seed comes to these answers: to the outcome that has them, or to a new one, which comes last.
@@ -155,13 +157,28 @@ fn add(
             Ok(())
         }
         None => {
-            let broken = breaks(alloc, text, script.lines(), answers.as_slice())?;
-            let mut outcome = Outcome::new(alloc, answers, broken);
-            outcome.add_seed(seed)?;
-            outcomes.push(outcome)?;
+            add_new(outcomes, alloc, text, script, answers, seed)?;
             Ok(())
         }
     }
+}
+
+// The outcome of these answers, to which the seed comes, comes last.
+fn add_new(
+    outcomes: &mut Vec<Outcome>,
+    alloc: Global,
+    text: &str,
+    script: &Script,
+    answers: Vec<Answer>,
+    seed: u32,
+) -> Result<(), AllocError>
+    ensures { OnOk result (outcomes.new.items ≡ outcomes.old.items ++ record { answers = answers.items; seeds = seed ∷ []; breaks = breaks text.now script.now.lines answers.items } ∷ []) }
+{
+    let broken = breaks(alloc, text, script.lines(), answers.as_slice())?;
+    let mut outcome = Outcome::new(alloc, answers, broken);
+    outcome.add_seed(seed)?;
+    outcomes.push(outcome)?;
+    Ok(())
 }
 
 // Where an outcome with these answers stands; none where each has others.

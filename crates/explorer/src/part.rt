@@ -81,3 +81,71 @@ impl Part {
         is_answered
     }
 }
+
+/// Each process takes note of an entry. Whether it answers a call of one of them.
+pub(crate) fn see_all(parts: &mut [Part], entry: &Entry) -> bool {
+    let mut is_answered = false;
+    for part in parts.iter_mut() {
+        if part.see(entry) {
+            is_answered = true;
+        }
+    }
+    is_answered
+}
+
+/// How many of the processes may make their next call.
+pub(crate) fn count_ready(parts: &[Part]) -> usize {
+    parts.iter().filter(|part| part.is_ready()).count()
+}
+
+/// The next call of the process that is ready at this index among those that are.
+pub(crate) fn next_ready(parts: &mut [Part], index: usize) -> Option<Command> {
+    let mut left = index;
+    for part in parts.iter_mut() {
+        if part.is_ready() {
+            if left == 0 {
+                return part.next();
+            }
+            left -= 1;
+        }
+    }
+    None
+}
+
+/// The process is to make one call more.
+///
+/// # Errors
+/// `AllocError` where a request for memory was refused.
+pub(crate) fn add_call(
+    parts: &mut Vec<Part>,
+    alloc: Global,
+    node: u8,
+    pid: u16,
+    call: Command,
+) -> Result<(), AllocError> {
+    for part in parts.iter_mut() {
+        if part.is_of(node, pid) {
+            return part.add(call);
+        }
+    }
+    let mut part = Part::new(alloc, node, pid);
+    part.add(call)?;
+    parts.push(part)?;
+    Ok(())
+}
+
+/// The lines by which open calls are tried again come last in the queue.
+///
+/// # Errors
+/// `AllocError` where a request for memory was refused.
+pub(crate) fn push_retries(
+    parts: &[Part],
+    queue: &mut VecDeque<Command>,
+) -> Result<(), AllocError> {
+    for part in parts {
+        if let Some(retry) = part.retry() {
+            queue.push_back(retry)?;
+        }
+    }
+    Ok(())
+}

@@ -1,5 +1,5 @@
 //! Making schedules.
-ghost use Rattle.std.specs.Prelude.{◌≡◌, ◌+◌, ◌≤◌, ◌∷◌, ◌++◌, [], List, length, IfErr, IfOk, IfSome, OnOk, Some};
+ghost use Rattle.std.specs.Prelude.{◌≡◌, ◌+◌, ◌≤◌, ◌∷◌, ◌++◌, [], ℕ, List, length, IfErr, IfOk, IfSome, OnOk, Some};
 ghost use Rattle.cluster_core.specs.Histories.{HasOneHistory};
 ghost use Rattle.cluster_core.specs.Runs.{Leads};
 ghost use Rattle.cluster_core.specs.World.{first_world};
@@ -7,9 +7,10 @@ ghost use Rattle.lockscript.specs.declared.script_line.Command.{Command};
 ghost use Rattle.player.specs.declared.play.PlayError.TheVariants.{JournalFull};
 ghost use Rattle.player.specs.Parts.{progress, state_of};
 ghost use Rattle.player.specs.Played.{played_of, ComesTo};
-ghost use Rattle.player.specs.Progress.{RunsTo};
+ghost use Rattle.player.specs.Progress.{Does, RunsTo};
+ghost use Rattle.explorer.specs.ByProcess.{list_in};
 ghost use Rattle.explorer.specs.Indexes.{KnowsCalls, KnowsLines};
-ghost use Rattle.explorer.specs.Schedules.{most_lines, numbered, Follows, HasFullSchedule, IsFullFrom, IsScheduleOf};
+ghost use Rattle.explorer.specs.Schedules.{most_lines, numbered, op_of, Follows, HasFullSchedule, IsFullFrom, IsScheduleOf};
 
 use crate::calls::{Calls, calls_in, note_call};
 use crate::chooser::Chooser;
@@ -65,11 +66,9 @@ pub fn schedule(
     ensures full { IfErr result (λ error. error ≡ JournalFull → HasFullSchedule failures script.now) }
 {
     let shape = script.shape();
-    let lines = script.lines();
-    let chooser = Chooser::new(alloc, lines, seed, failures)?;
-    let player = Player::new(alloc, shape)?;
-    let made = choose_lines(alloc, failures, lines, chooser, player)?;
-    Ok(finished(shape, made.0, made.1))
+    let mut player = Player::new(alloc, shape)?;
+    let commands = choose(alloc, failures, script.lines(), seed, &mut player)?;
+    Ok(finished(shape, commands, player))
 }
 
 // The schedule of these commands, on a cluster of this shape, where the player stands behind them.
@@ -82,34 +81,68 @@ fn finished(shape: Shape, commands: Vec<Command>, player: Player) -> Scheduled
     Scheduled::new(commands, player.finish(shape))
 }
 
-// Chooses line after line from where the player stands, and carries each out.
+// Chooses line after line from where the player stands, by the chance of a seed, and carries each out.
+fn choose(
+    alloc: Global,
+    failures: bool,
+    lines: &[ScriptLine],
+    seed: u32,
+    player: &mut Player,
+) -> Result<Vec<Command>, PlayError>
+    ensures of_script { IfOk result (λ made. IsScheduleOf failures lines.now made.items) }
+    ensures few { IfOk result (λ made. length made.items ≤ most_lines) }
+    ensures runs { IfOk result (λ made. RunsTo (progress player.old) (numbered made.items) (Some (progress player.new))) }
+    ensures full { IfErr result (λ error. error ≡ JournalFull → IsFullFrom failures lines.now (progress player.old)) }
+{
+    let mut chooser = Chooser::new(alloc, lines, seed, failures)?;
+    choose_lines(alloc, failures, lines, &mut chooser, player)
+}
+
+// The same, with the chooser given.
 fn choose_lines(
     alloc: Global,
     failures: bool,
     lines: &[ScriptLine],
-    mut chooser: Chooser<'_>,
-    mut player: Player,
-) -> Result<(Vec<Command>, Player), PlayError>
-    ensures of_script { IfOk result (λ made. IsScheduleOf failures lines.now made.0.items) }
-    ensures few { IfOk result (λ made. length made.0.items ≤ most_lines) }
-    ensures runs { IfOk result (λ made. RunsTo (progress player) (numbered made.0.items) (Some (progress made.1))) }
-    ensures full { IfErr result (λ error. error ≡ JournalFull → IsFullFrom failures lines.now (progress player)) }
+    chooser: &mut Chooser<'_>,
+    player: &mut Player,
+) -> Result<Vec<Command>, PlayError>
+    ensures of_script { IfOk result (λ made. IsScheduleOf failures lines.now made.items) }
+    ensures few { IfOk result (λ made. length made.items ≤ most_lines) }
+    ensures runs { IfOk result (λ made. RunsTo (progress player.old) (numbered made.items) (Some (progress player.new))) }
+    ensures full { IfErr result (λ error. error ≡ JournalFull → IsFullFrom failures lines.now (progress player.old)) }
 {
     let calls = calls_in(alloc, lines)?;
     let mut made = HashMap::new(alloc);
     let mut commands = Vec::new(alloc);
     for number in FIRST_LINE..line_limit(lines) {
-        let next = next_line(failures, lines, &calls, &made, &mut chooser, player.run())?;
+        let next = next_line(failures, lines, &calls, &made, chooser, player.run())?;
         match next {
-            Some(command) => {
-                player.carry_out(alloc, number, command)?;
-                note_call(&mut made, alloc, &command)?;
-                add(&mut commands, command)?;
-            }
+            Some(command) => carry_out(alloc, number, command, player, &mut made, &mut commands)?,
             None => break,
         }
     }
-    Ok((commands, player))
+    Ok(commands)
+}
+
+// Carries the command out as the line of this number: it comes last of the commands, and of the calls that were made.
+fn carry_out(
+    alloc: Global,
+    number: u32,
+    command: Command,
+    player: &mut Player,
+    made: &mut Calls,
+    commands: &mut Vec<Command>,
+) -> Result<(), PlayError>
+    ensures does { OnOk result (Does number command (progress player.old) (Some (progress player.new))) }
+    ensures noted { OnOk result ((node pid : ℕ) → list_in made.new node pid ≡ list_in made.old node pid ++ op_of node pid command) }
+    ensures items { OnOk result (commands.new.items ≡ commands.old.items ++ command ∷ []) }
+    ensures len { OnOk result (length commands.new.items ≡ length commands.old.items + 1) }
+    ensures full { IfErr result (λ error. error ≡ JournalFull → Does number command (progress player.old) None) }
+{
+    player.carry_out(alloc, number, command)?;
+    note_call(made, alloc, &command)?;
+    add(commands, command)?;
+    Ok(())
 }
 
 // The command comes last.

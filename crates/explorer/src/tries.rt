@@ -1,5 +1,6 @@
 //! Which calls of a schedule were refused.
-ghost use Rattle.std.specs.Prelude.{◌≡◌, ◌++◌, ◌∷◌, [], ℕ, if◌then◌else◌, IfOk, OnOk};
+ghost use Rattle.std.specs.Prelude.{◌≡◌, ◌++◌, ◌∷◌, [], ℕ, if◌then◌else◌, IfOk, List, OnOk};
+ghost use Rattle.lockscript.specs.declared.refused_line.RefusedLine.{RefusedLine};
 ghost use Rattle.explorer.specs.Answers.{calls_by};
 ghost use Rattle.explorer.specs.ByProcess.{list_in};
 ghost use Rattle.explorer.specs.Indexes.{KnowsRefusals, KnowsTries};
@@ -44,10 +45,17 @@ fn refusals(alloc: Global, refused: &[RefusedLine]) -> Result<Refusals, AllocErr
 {
     let mut refusals = HashMap::new(alloc);
     for index in (0..refused.len()).rev() {
-        let line = &refused[index];
-        refusals.insert(u64::from(line.line), line.code)?;
+        note_refusal(&mut refusals, &refused[index])?;
     }
     Ok(refusals)
+}
+
+// The refusal of a line that stands before those of which the index knows.
+fn note_refusal(refusals: &mut Refusals, line: &RefusedLine) -> Result<(), AllocError>
+    ensures { OnOk result ((behind : List RefusedLine) → KnowsRefusals refusals.old behind → KnowsRefusals refusals.new (line.now ∷ behind)) }
+{
+    refusals.insert(u64::from(line.line), line.code)?;
+    Ok(())
 }
 
 // This became of the command: it comes last of what its process tried, if it is a call.

@@ -1,11 +1,8 @@
-use Rattle.std.proofs.Common.{ap₂, codes, refl, ◌∙◌}
-use Rattle.std.proofs.lemmas.Result.{IfOk-weaker}
-use Rattle.clap.specs.Words.{with_rule}
-use Rattle.command_line.specs.Program.{path_rule}
-use Rattle.command_line.proofs.Tables.{no_global}
+use Rattle.std.proofs.Common.{ap, map, refl, ◌∙◌}
+use Rattle.clap.specs.Words.{rule_of}
+use Rattle.command_line.proofs.Tables.{also}
 use Rattle.command_line.proofs.commands.check_command.Goals as goal
 
 pub returns : goal.returns
 returns c =
-    let local = no_global c.script_argument-script.result (path_rule (codes "SCRIPT")) c.script_argument-script.ensures refl in
-    IfOk-weaker c.arg.result _ _ (λ r adds. adds.shape local ∙ ap₂ with_rule c.bare_command.ensures c.script_argument-script.ensures) c.arg.ensures
+    c.command_with.ensures _ (ap (map rule_of) c.in_ok-arguments.ensures.items ∙ also c.script_argument.ensures refl) refl

@@ -1,14 +1,8 @@
-use Rattle.std.proofs.Common.{ap, codes, map, refl, List, [], ◌∷◌, ◌≡◌, ◌∙◌}
-use Rattle.std.proofs.lemmas.Result.{IfOk-weaker}
-use Rattle.clap.specs.Words.{Rule, new_app, rule_of}
-use Rattle.command_line.specs.Program.{flag_rule, path_rule, seed_rule, seeds_rule}
-use Rattle.command_line.proofs.Tables.{also, has_rules}
+use Rattle.std.proofs.Common.{ap, map, refl, ◌∙◌}
+use Rattle.clap.specs.Words.{rule_of}
+use Rattle.command_line.proofs.Tables.{also}
 use Rattle.command_line.proofs.commands.explore_command.Goals as goal
 
 pub returns : goal.returns
 returns c =
-    let arguments = c.in_ok-arguments.arguments.items in
-    let rules : List Rule = path_rule (codes "SCRIPT") ∷ seeds_rule ∷ seed_rule (codes "first") ∷ flag_rule (codes "failures") ∷ [] in
-    let are : map rule_of arguments ≡ rules =
-    ap (map rule_of) c.in_ok-arguments.ensures.items ∙ also c.script_argument.ensures (also c.seeds_argument.ensures (also c.seed_argument-first.ensures (also c.failures_argument.ensures refl))) in
-    IfOk-weaker c.args-2.result _ _ (λ r adds. has_rules arguments rules (new_app (codes "explore")) c.bare_command.result r c.bare_command.ensures are refl adds) c.args-2.ensures
+    c.command_with.ensures _ (ap (map rule_of) c.in_ok-arguments.ensures.items ∙ also c.script_argument.ensures (also (c.with_number-seeds.ensures _ _ c.option_argument.ensures) (also c.seed_argument-first.ensures (also c.failures_argument.ensures refl)))) refl

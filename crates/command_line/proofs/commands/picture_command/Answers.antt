@@ -1,14 +1,9 @@
-use Rattle.std.proofs.Common.{ap, codes, map, refl, List, [], ◌∷◌, ◌≡◌, ◌∙◌}
-use Rattle.std.proofs.lemmas.Result.{IfOk-weaker}
-use Rattle.clap.specs.Words.{Rule, new_app, rule_of}
-use Rattle.command_line.specs.Program.{around_rule, format_rule, from_rule, path_rule, to_rule}
-use Rattle.command_line.proofs.Tables.{also, has_rules}
+use Rattle.std.proofs.Common.{ap, codes, map, refl, [], ◌∷◌, ◌∙◌}
+use Rattle.clap.specs.Words.{Rule, rule_of}
+use Rattle.command_line.proofs.Tables.{also}
 use Rattle.command_line.proofs.commands.picture_command.Goals as goal
 
 pub returns : goal.returns
 returns c =
-    let arguments = c.in_ok-arguments.arguments.items in
-    let rules : List Rule = path_rule (codes "JOURNAL") ∷ around_rule ∷ from_rule ∷ to_rule ∷ format_rule ∷ [] in
-    let are : map rule_of arguments ≡ rules =
-    ap (map rule_of) c.in_ok-arguments.ensures.items ∙ also c.journal_argument.ensures (also c.around_argument.ensures (also c.from_argument.ensures (also c.to_argument.ensures (also c.format_argument.ensures refl)))) in
-    IfOk-weaker c.args-2.result _ _ (λ r adds. has_rules arguments rules (new_app (codes "picture")) c.bare_command.result r c.bare_command.ensures are refl adds) c.args-2.ensures
+    let format = ap rule_of c.default_value-format.ensures ∙ ap (λ (r : Rule). record r { defaults = codes "svg" ∷ [] }) c.option_argument-3.ensures in
+    c.command_with.ensures _ (ap (map rule_of) c.in_ok-arguments.ensures.items ∙ also c.journal_argument.ensures (also c.option_argument-around.ensures (also (c.with_number-from.ensures _ _ c.option_argument.ensures) (also (c.with_number-to.ensures _ _ c.option_argument-2.ensures) (also format refl))))) refl

@@ -1,14 +1,8 @@
-use Rattle.std.proofs.Common.{ap, codes, map, refl, List, [], ◌∷◌, ◌≡◌, ◌∙◌}
-use Rattle.std.proofs.lemmas.Result.{IfOk-weaker}
-use Rattle.clap.specs.Words.{Rule, new_app, rule_of}
-use Rattle.command_line.specs.Program.{file_rule, flag_rule, path_rule, seed_rule}
-use Rattle.command_line.proofs.Tables.{also, has_rules}
+use Rattle.std.proofs.Common.{ap, map, refl, ◌∙◌}
+use Rattle.clap.specs.Words.{rule_of}
+use Rattle.command_line.proofs.Tables.{also}
 use Rattle.command_line.proofs.commands.threads_command.Goals as goal
 
 pub returns : goal.returns
 returns c =
-    let arguments = c.in_ok-arguments.arguments.items in
-    let rules : List Rule = path_rule (codes "SCRIPT") ∷ seed_rule (codes "seed") ∷ flag_rule (codes "stop-when-stuck") ∷ flag_rule (codes "no-join") ∷ file_rule ∷ [] in
-    let are : map rule_of arguments ≡ rules =
-    ap (map rule_of) c.in_ok-arguments.ensures.items ∙ also c.script_argument.ensures (also c.seed_argument-seed.ensures (also c.stop_argument.ensures (also c.no_join_argument.ensures (also c.file_argument.ensures refl)))) in
-    IfOk-weaker c.args-2.result _ _ (λ r adds. has_rules arguments rules (new_app (codes "threads")) c.bare_command.result r c.bare_command.ensures are refl adds) c.args-2.ensures
+    c.command_with.ensures _ (ap (map rule_of) c.in_ok-arguments.ensures.items ∙ also c.script_argument.ensures (also c.seed_argument-seed.ensures (also c.flag_argument-stop.ensures (also c.flag_argument-no_join.ensures (also c.file_argument.ensures refl))))) refl

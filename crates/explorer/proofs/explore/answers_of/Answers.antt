@@ -1,11 +1,17 @@
+use Rattle.std.proofs.Common.{◌≡◌}
+use Rattle.std.specs.Global.{Vec}
+use Rattle.std.proofs.lemmas.Result.{IfOk-weaker}
 use Rattle.player.specs.Parts.{state_of}
+use Rattle.explorer.specs.declared.answer.Answer.{Answer}
+use Rattle.explorer.specs.Answers.{answers_in}
+use Rattle.explorer.specs.Outcomes.{ComesIn}
 use Rattle.explorer.proofs.explore.answers_of.Goals as goal
 
 pub returns-clause-answered : goal.returns-clause-answered
-returns-clause-answered c = record {
-  commands = c.in_ok-scheduled.scheduled.commands;
-  played = state_of c.in_ok-scheduled.scheduled.played;
-  of_script = c.in_ok-scheduled.ensures.of_script;
-  comes = c.in_ok-scheduled.ensures.played;
-  answered = c.in_ok-answers.ensures;
-}
+returns-clause-answered c =
+    let s = c.in_ok-scheduled.scheduled in
+    let made = c.in_ok-scheduled.ensures in
+    let script = c.args.script.now in
+    IfOk-weaker c.answers_under.result (λ (answers : Vec Answer). answers.items ≡ answers_in script.lines s.commands (state_of s.played)) (λ (answers : Vec Answer). ComesIn c.args.failures script answers.items)
+    (λ answers is. record { commands = s.commands; played = state_of s.played; of_script = made.of_script; comes = made.played; answered = is })
+    c.answers_under.ensures.answered

@@ -21,15 +21,15 @@ loop-number-preserved c =
     let command = c.in-Some.command in
     let follows = rw c.in-Some.is at (c.in_ok-next.ensures commands c.loop-number.invariant.known) in
     record {
-      runs = rw c.in_ok-add-in-Some.ensures.items (carried-on _ _ _ _ _ _ c.loop-number.invariant.counted c.loop-number.invariant.runs c.in_ok-carry_out-in-Some.ensures.ok);
+      runs = rw c.in_ok-carry_out-in-Some.ensures.items (carried-on _ _ _ _ _ _ c.loop-number.invariant.counted c.loop-number.invariant.runs c.in_ok-carry_out-in-Some.ensures.does);
       known = λ node pid.
-          c.in_ok-note_call-in-Some.ensures node pid
+          c.in_ok-carry_out-in-Some.ensures.noted node pid
           ∙ ap (λ (ops : List Op). ops ++ op_of node pid command) (c.loop-number.invariant.known node pid)
           ∙ sym (calls-push node pid commands command)
-          ∙ sym (ap (calls_of node pid) c.in_ok-add-in-Some.ensures.items);
-      scheduled = rw c.in_ok-add-in-Some.ensures.items (schedule-on _ _ _ _ follows c.loop-number.invariant.scheduled);
-      within = omega (arith, c.loop-number.invariant.counted, c.loop-number-test.true, c.line_limit-number-end.ensures, c.in_ok-add-in-Some.ensures.len);
-      counted = omega (arith, c.loop-number.invariant.counted, c.in_ok-add-in-Some.ensures.len);
+          ∙ sym (ap (calls_of node pid) c.in_ok-carry_out-in-Some.ensures.items);
+      scheduled = rw c.in_ok-carry_out-in-Some.ensures.items (schedule-on _ _ _ _ follows c.loop-number.invariant.scheduled);
+      within = omega (arith, c.loop-number.invariant.counted, c.loop-number-test.true, c.line_limit-number-end.ensures, c.in_ok-carry_out-in-Some.ensures.len);
+      counted = omega (arith, c.loop-number.invariant.counted, c.in_ok-carry_out-in-Some.ensures.len);
     }
 
 pub returns-in_err-carry_out-in-Some-clause-full : goal.returns-in_err-carry_out-in-Some-clause-full

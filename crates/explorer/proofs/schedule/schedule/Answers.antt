@@ -10,14 +10,14 @@ use Rattle.explorer.proofs.schedule.schedule.Goals as goal
 pub finished-requires : goal.finished-requires
 finished-requires c =
     let first = subst (λ (p : Progress). Leads (first_world c.shape-shape.result) p.entries p.world) (sym c.in_ok-player.ensures.first) refl in
-    lines_lead (first_world c.shape-shape.result) (progress c.in_ok-player.player) _ _ first c.in_ok-made.ensures.runs
+    lines_lead (first_world c.shape-shape.result) (progress c.in_ok-player.player) _ _ first c.in_ok-commands.ensures.runs
 
 pub returns-clause-played : goal.returns-clause-played
 returns-clause-played c =
-    let runs = rw c.in_ok-player.ensures.first at c.in_ok-made.ensures.runs in
-    rw (c.finished.ensures.commands, ← c.shape-shape.ensures) (progress c.in_ok-made.made.1, runs, c.finished.ensures.played)
+    let runs = rw c.in_ok-player.ensures.first at c.in_ok-commands.ensures.runs in
+    rw (c.finished.ensures.commands, ← c.shape-shape.ensures) (progress c.choose.new.player, runs, c.finished.ensures.played)
 
-pub returns-in_err-made-clause-full : goal.returns-in_err-made-clause-full
-returns-in_err-made-clause-full c =
-    let p = err_from_is_err_and c.from_residual-in_err-made.result c.from_residual-in_err-made.ensures.1 in
-    rw (p.1, p.2, ← c.shape-shape.ensures, ← c.in_ok-player.ensures.first, ← c.lines-lines.ensures) c.in_err-made.ensures.full
+pub returns-in_err-commands-clause-full : goal.returns-in_err-commands-clause-full
+returns-in_err-commands-clause-full c =
+    let p = err_from_is_err_and c.from_residual-in_err-commands.result c.from_residual-in_err-commands.ensures.1 in
+    rw (p.1, p.2, ← c.shape-shape.ensures, ← c.in_ok-player.ensures.first, ← c.lines.ensures) c.in_err-commands.ensures.full
