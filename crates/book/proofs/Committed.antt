@@ -1,11 +1,13 @@
 -- What a commit, declarations, failures and restarts do, put together.
-use Rattle.std.proofs.Common.{◌≡◌, ℕ, ◌+◌, ◌<◌, true, [], ◌∷◌, ◌++◌, length, sym, ap, ◌∙◌, subst, Result, Ok, Err}
+use Rattle.std.proofs.Common.{◌≡◌, ◌≢◌, ℕ, ◌+◌, ◌<◌, true, [], ◌∷◌, ◌++◌, length, sym, ap, ◌∙◌, subst, Result, Ok, Err}
 use Rattle.messages.specs.Messages.{sending}
+use Rattle.messages.specs.declared.actor.Actor.{Actor}
 use Rattle.messages.specs.declared.actor.Actor.TheVariants.{Node as ANode, Server as AServer}
 use Rattle.messages.specs.declared.event.Event.{Event}
 use Rattle.messages.specs.declared.event.Event.TheVariants.{Declare, Restart, FailServer, StartServer}
 use Rattle.messages.specs.declared.entry.Entry.{Entry}
 use Rattle.messages.specs.declared.refusal.Refused.{Refused}
+use Rattle.messages.specs.declared.outcome.Outcome.{Outcome}
 use Rattle.token_server.specs.Resends.{outstanding}
 use Rattle.cluster_core.specs.World.{WorldState, journal_limit}
 use Rattle.cluster_core.specs.Next.{entry, next_server, next, kept_next}
@@ -14,13 +16,14 @@ use Rattle.cluster_core.specs.Journals.{RunFields, GoesOn}
 use Rattle.cluster_core.proofs.common.Refusals.{ok_is}
 use Rattle.cluster_core.proofs.steps.Steps.{kept_taken, kept_of}
 use Rattle.cluster_core.specs.Actors.{Records}
-use Rattle.book.specs.States.{actor_of, Becomes, StepsTo, is_declared, made_by}
+use Rattle.book.specs.declared.state.State.{State}
+use Rattle.book.specs.States.{actor_of, Becomes, HasState, StepsTo, is_declared, made_by}
 use Rattle.book.specs.Fields.{SeatFields, PreparedFields, StampFields}
 use Rattle.book.specs.Commits.{IsStepFrom, IsSeatOf, Accepts, Commits}
-use Rattle.book.specs.Turns.{Declared, Restarted, Failed, Started}
-use Rattle.book.specs.Marks.{Marks, AreReached, Marked, Forgotten}
+use Rattle.book.specs.Turns.{Turns, IsLastStamp, Declared, Restarted, Failed, Started}
+use Rattle.book.specs.LastSpots.{LastSpots, AreReached, Noted, Forgotten}
 use Rattle.book.proofs.Fences.{stays_declared}
-use Rattle.book.proofs.Reached.{reached_marked, reached_forgotten}
+use Rattle.book.proofs.Reached.{reached_noted, reached_forgotten}
 use Rattle.book.proofs.Stamps.{stays, new_stamp}
 use Rattle.book.proofs.Steps.{actor_kept, leads, comes_next, made_entry, may_step, mine, others}
 use Rattle.book.proofs.Turns.{declared_entry, declared_others, declared_fences, restarted_others, failed_entry, failed_others, failed_fences, started_entry, started_others}
@@ -66,109 +69,81 @@ committed b d s r p seen t accepted is went becomes commits position said gave s
       stamps = λ x h. stays b.entries d.entries (made_by w p.event r.state p.outcome).1 x goes.entries h;
     }
 
+-- what an event that a run took leaves of a book
+turned : (b d : RunFields) (event : Event) (a : Actor) → GoesOn b event d
+    → ((q : WorldState × Entry) (y : State) → next (world_state b.world) event ≡ Ok q → actor_of y ≢ a → HasState (world_state b.world) y → HasState q.0 y)
+    → Turns b event a d
+turned b d event a went others =
+    let w = world_state b.world in
+    let q : WorldState × Entry = (world_state d.world, went.0) in
+    let step = (kept_taken w event q went.1).1 in
+    record {
+      goes = went;
+      fences = λ x was. stays_declared w event q x.state step was;
+      stamps = λ x h. stays b.entries d.entries went.0 x went.2 h;
+      others = λ x ne has. others q x.state step ne has;
+    }
+
+-- the stamp of its entry
+stamped : (b d : RunFields) (event : Event) (out : Outcome) (t : StampFields) (went : GoesOn b event d)
+    → ((q : WorldState × Entry) → next (world_state b.world) event ≡ Ok q → (k : ℕ) × (q.1 ≡ entry event k out))
+    → t.position ≡ length d.entries → t.event ≡ event → t.outcome ≡ out → t.seen ≡ 0 → IsLastStamp d event t
+stamped b d event out t went entry_of position said gave seen_is =
+    let w = world_state b.world in
+    let q : WorldState × Entry = (world_state d.world, went.0) in
+    let k = entry_of q (kept_taken w event q went.1).1 in
+    record {
+      position = position;
+      event_is = said;
+      seen_is = seen_is;
+      stamped = new_stamp b.entries d.entries went.0 k.0 t went.2 (k.1 ∙ (λ i. entry (sym said i) k.0 (sym gave i))) position;
+    }
+
 pub declared : (b d : RunFields) (n : ℕ) (t : StampFields) → GoesOn b (Declare n) d → t.position ≡ length d.entries → t.event ≡ Declare n → t.outcome ≡ sending [] → t.seen ≡ 0 → Declared b n d t
 declared b d n t went position said gave seen_is =
     let w = world_state b.world in
-    let q : WorldState × Entry = (world_state d.world, went.0) in
-    let step = (kept_taken w (Declare n) q went.1).1 in
-    let k = declared_entry w n q step in
-    record {
-      goes = went;
-      position = position;
-      event = said;
-      seen_is = seen_is;
-      stamped = new_stamp b.entries d.entries went.0 k.0 t went.2 (k.1 ∙ (λ i. entry (sym said i) k.0 (sym gave i))) position;
-      fences = λ x was. stays_declared w (Declare n) q x.state step was;
-      stamps = λ x h. stays b.entries d.entries went.0 x went.2 h;
-      fenced = λ s is same least. declared_fences w n q s.state step is same least;
-      others = λ x ne has. declared_others w n q x.state step ne has;
-    }
+    let q : WorldState × Entry = (world_state d.world, went.0) in (
+      turned b d (Declare n) (ANode n) went (declared_others w n),
+      stamped b d (Declare n) (sending []) t went (declared_entry w n) position said gave seen_is,
+      λ s is same least. declared_fences w n q s.state (kept_taken w (Declare n) q went.1).1 is same least,
+    )
 
 pub restarted : (b d : RunFields) (n : ℕ) (s : SeatFields) → GoesOn b (Restart n) d → actor_of s.state ≡ ANode n → s.commits ≡ 0 → IsSeatOf d s → Restarted b n d s
-restarted b d n s went actor commits stands =
-    let w = world_state b.world in
-    let q : WorldState × Entry = (world_state d.world, went.0) in
-    let step = (kept_taken w (Restart n) q went.1).1 in
-    record {
-      goes = went;
-      actor = actor;
-      commits = commits;
-      mine = stands;
-      fences = λ x was. stays_declared w (Restart n) q x.state step was;
-      stamps = λ x h. stays b.entries d.entries went.0 x went.2 h;
-      others = λ x ne has. restarted_others w n q x.state step ne has;
-    }
+restarted b d n s went actor commits stands = (
+  turned b d (Restart n) (ANode n) went (restarted_others (world_state b.world) n),
+  record { actor = actor; commits = commits; mine = stands },
+)
 
 pub failed : (b d : RunFields) (f : ℕ) (t : StampFields) → GoesOn b (FailServer f) d → t.position ≡ length d.entries → t.event ≡ FailServer f → t.outcome ≡ sending [] → t.seen ≡ 0 → Failed b f d t
 failed b d f t went position said gave seen_is =
     let w = world_state b.world in
-    let q : WorldState × Entry = (world_state d.world, went.0) in
-    let step = (kept_taken w (FailServer f) q went.1).1 in
-    let k = failed_entry w f q step in
-    record {
-      goes = went;
-      position = position;
-      event = said;
-      seen_is = seen_is;
-      stamped = new_stamp b.entries d.entries went.0 k.0 t went.2 (k.1 ∙ (λ i. entry (sym said i) k.0 (sym gave i))) position;
-      fences = λ x was. stays_declared w (FailServer f) q x.state step was;
-      stamps = λ x h. stays b.entries d.entries went.0 x went.2 h;
-      fenced = λ s is same least. failed_fences w f q s.state step is same least;
-      others = λ x ne has. failed_others w f q x.state step ne has;
-    }
+    let q : WorldState × Entry = (world_state d.world, went.0) in (
+      turned b d (FailServer f) (AServer f) went (failed_others w f),
+      stamped b d (FailServer f) (sending []) t went (failed_entry w f) position said gave seen_is,
+      λ s is same least. failed_fences w f q s.state (kept_taken w (FailServer f) q went.1).1 is same least,
+    )
 
 pub started : (b d : RunFields) (f : ℕ) (s : SeatFields) (t : StampFields) → GoesOn b (StartServer f) d → actor_of s.state ≡ AServer f → s.commits ≡ 0 → IsSeatOf d s → t.position ≡ length d.entries → t.event ≡ StartServer f → t.outcome ≡ sending (outstanding (next_server (world_state b.world) f)) → t.seen ≡ 0 → Started b f d s t
 started b d f s t went actor commits stands position said gave seen_is =
-    let w = world_state b.world in
-    let q : WorldState × Entry = (world_state d.world, went.0) in
-    let step = (kept_taken w (StartServer f) q went.1).1 in
-    let k = started_entry w f q step in
-    record {
-      goes = went;
-      actor = actor;
-      commits = commits;
-      mine = stands;
-      position = position;
-      event = said;
-      seen_is = seen_is;
-      stamped = new_stamp b.entries d.entries went.0 k.0 t went.2 (k.1 ∙ (λ i. entry (sym said i) k.0 (sym gave i))) position;
-      fences = λ x was. stays_declared w (StartServer f) q x.state step was;
-      stamps = λ x h. stays b.entries d.entries went.0 x went.2 h;
-      others = λ x ne has. started_others w f q x.state step ne has;
-    }
+    let w = world_state b.world in (
+      turned b d (StartServer f) (AServer f) went (started_others w f),
+      record { actor = actor; commits = commits; mine = stands },
+      stamped b d (StartServer f) (sending (outstanding (next_server w f))) t went (started_entry w f) position said gave seen_is,
+    )
 
--- a commit leaves the marks of a book's actors right, where its own actor's is the new state's
-pub committed_reached : (b d : RunFields) (s r : SeatFields) (p : PreparedFields) (seen : ℕ) (t : StampFields) (old new : Marks) → Commits b s p seen d r t → AreReached (world_state b.world) old → Marked old r.state new → AreReached (world_state d.world) new
-committed_reached b d s r p seen t old new made reached marked =
+-- a commit leaves the last spots of a book's actors right, where its own actor's is the new state's
+pub committed_reached : (b d : RunFields) (s r : SeatFields) (p : PreparedFields) (seen : ℕ) (t : StampFields) (old new : LastSpots) → Commits b s p seen d r t → AreReached (world_state b.world) old → Noted old r.state new → AreReached (world_state d.world) new
+committed_reached b d s r p seen t old new made reached noted =
     let kept = actor_kept s.state p.event r.state p.outcome made.step in
-    reached_marked (world_state b.world) (world_state d.world) old new r.state reached marked made.mine
+    reached_noted (world_state b.world) (world_state d.world) old new r.state reached noted made.mine
     (λ y ne has. made.others (record { state = y; commits = 0 }) (λ e. ne (e ∙ sym kept)) has)
 
--- and so do failures and starts, where their own actor's is forgotten
-pub declared_reached : (b d : RunFields) (n : ℕ) (old new : Marks) → GoesOn b (Declare n) d → AreReached (world_state b.world) old → Forgotten old (ANode n) new → AreReached (world_state d.world) new
-declared_reached b d n old new went reached forgotten =
+-- and so does a failure or a start, of which other actors' states are kept and its own actor's is forgotten
+pub turned_reached : (b d : RunFields) (event : Event) (a : Actor) (old new : LastSpots) → GoesOn b event d → AreReached (world_state b.world) old → Forgotten old a new
+    → ((q : WorldState × Entry) (y : State) → next (world_state b.world) event ≡ Ok q → actor_of y ≢ a → HasState (world_state b.world) y → HasState q.0 y)
+    → AreReached (world_state d.world) new
+turned_reached b d event a old new went reached forgotten others =
     let w = world_state b.world in
     let q : WorldState × Entry = (world_state d.world, went.0) in
-    let step = (kept_taken w (Declare n) q went.1).1 in
-    reached_forgotten w (world_state d.world) old new (ANode n) reached forgotten (λ y ne has. declared_others w n q y step ne has)
-
-pub restarted_reached : (b d : RunFields) (n : ℕ) (old new : Marks) → GoesOn b (Restart n) d → AreReached (world_state b.world) old → Forgotten old (ANode n) new → AreReached (world_state d.world) new
-restarted_reached b d n old new went reached forgotten =
-    let w = world_state b.world in
-    let q : WorldState × Entry = (world_state d.world, went.0) in
-    let step = (kept_taken w (Restart n) q went.1).1 in
-    reached_forgotten w (world_state d.world) old new (ANode n) reached forgotten (λ y ne has. restarted_others w n q y step ne has)
-
-pub failed_reached : (b d : RunFields) (f : ℕ) (old new : Marks) → GoesOn b (FailServer f) d → AreReached (world_state b.world) old → Forgotten old (AServer f) new → AreReached (world_state d.world) new
-failed_reached b d f old new went reached forgotten =
-    let w = world_state b.world in
-    let q : WorldState × Entry = (world_state d.world, went.0) in
-    let step = (kept_taken w (FailServer f) q went.1).1 in
-    reached_forgotten w (world_state d.world) old new (AServer f) reached forgotten (λ y ne has. failed_others w f q y step ne has)
-
-pub started_reached : (b d : RunFields) (f : ℕ) (old new : Marks) → GoesOn b (StartServer f) d → AreReached (world_state b.world) old → Forgotten old (AServer f) new → AreReached (world_state d.world) new
-started_reached b d f old new went reached forgotten =
-    let w = world_state b.world in
-    let q : WorldState × Entry = (world_state d.world, went.0) in
-    let step = (kept_taken w (StartServer f) q went.1).1 in
-    reached_forgotten w (world_state d.world) old new (AServer f) reached forgotten (λ y ne has. started_others w f q y step ne has)
+    let step = (kept_taken w event q went.1).1 in
+    reached_forgotten w (world_state d.world) old new a reached forgotten (λ y ne has. others q y step ne has)

@@ -1,11 +1,12 @@
--- What commits and failures leave of the marks.
-use Rattle.std.proofs.Common.{◌≡◌, ◌≢◌, ◌⊎◌, inl, inr, ℕ, zero, suc, None, Some, [], ◌∷◌, ◌++◌, ap, sym, ◌∙◌}
+-- What commits and failures leave of the spots.
+use Rattle.std.proofs.Common.{◌≡◌, ◌≢◌, ◌⊎◌, inl, inr, ℕ, None, Some, [], ◌∷◌, ◌++◌, ap, sym, ◌∙◌}
 use Rattle.messages.specs.declared.actor.Actor.{Actor}
 use Rattle.cluster_core.specs.World.{WorldState}
+use Rattle.cluster_core.proofs.common.Places.{slice_get-push}
 use Rattle.trail.specs.Spots.{SpotFields}
 use Rattle.book.specs.declared.state.State.{State}
 use Rattle.book.specs.States.{actor_of, HasState}
-use Rattle.book.specs.Marks.{Marks, place_of, IsMark, AreReached, Marked, Forgotten}
+use Rattle.book.specs.LastSpots.{LastSpots, place_of, IsLastSpot, AreReached, Noted, Forgotten}
 
 -- what holds of the state that a spot tells holds of the state that stands there
 abbrev Stands : WorldState → ℕ → SpotFields State → Type 0
@@ -15,29 +16,29 @@ Stands w i spot = (s : State) × (spot.item ≡ Some s) × (place_of (actor_of s
 kept : (w v : WorldState) (a : Actor) (i : ℕ) (spot : SpotFields State) → ((y : State) → actor_of y ≢ a → HasState w y → HasState v y) → i ≢ place_of a → Stands w i spot → Stands v i spot
 kept w v a i spot others ne (y, is, at, has) = (y, is, at, others y (λ e. ne (sym at ∙ ap place_of e)) has)
 
-pub reached_marked : (w v : WorldState) (old new : Marks) (s : State) → AreReached w old → Marked old s new → HasState v s → ((y : State) → actor_of y ≢ actor_of s → HasState w y → HasState v y) → AreReached v new
-reached_marked w v old new s reached marked has others i spot is = by (marked i spot is)
+pub reached_noted : (w v : WorldState) (old new : LastSpots) (s : State) → AreReached w old → Noted old s new → HasState v s → ((y : State) → actor_of y ≢ actor_of s → HasState w y → HasState v y) → AreReached v new
+reached_noted w v old new s reached noted has others i spot is = by (noted i spot is)
   where
-    by : ((i ≡ place_of (actor_of s)) × (spot.item ≡ Some s)) ⊎ ((i ≢ place_of (actor_of s)) × IsMark old i spot) → Stands v i spot
+    by : ((i ≡ place_of (actor_of s)) × (spot.item ≡ Some s)) ⊎ ((i ≢ place_of (actor_of s)) × IsLastSpot old i spot) → Stands v i spot
     by (inl here) = (s, here.1, sym here.0, has)
     by (inr there) = kept w v (actor_of s) i spot others there.0 (reached i spot there.1)
 
-pub reached_forgotten : (w v : WorldState) (old new : Marks) (a : Actor) → AreReached w old → Forgotten old a new → ((y : State) → actor_of y ≢ a → HasState w y → HasState v y) → AreReached v new
+pub reached_forgotten : (w v : WorldState) (old new : LastSpots) (a : Actor) → AreReached w old → Forgotten old a new → ((y : State) → actor_of y ≢ a → HasState w y → HasState v y) → AreReached v new
 reached_forgotten w v old new a reached forgotten others i spot is =
     let there = forgotten i spot is in kept w v a i spot others there.0 (reached i spot there.1)
 
 -- no actor's state is known
-abbrev pub Unknown : Marks → Type 0
-Unknown marks = (i : ℕ) (spot : SpotFields State) → IsMark marks i spot → ⊥
+abbrev pub Unknown : LastSpots → Type 0
+Unknown spots = (i : ℕ) (spot : SpotFields State) → IsLastSpot spots i spot → ⊥
 
 pub unknown_first : Unknown []
 unknown_first i spot is = absurd (cc)
 
-pub unknown_more : (marks : Marks) → Unknown marks → Unknown (marks ++ None ∷ [])
-unknown_more [] none zero spot is = absurd (cc)
-unknown_more [] none (suc i) spot is = absurd (cc)
-unknown_more (m ∷ marks) none zero spot is = none zero spot is
-unknown_more (m ∷ marks) none (suc i) spot is = unknown_more marks (λ j. none (suc j)) i spot is
+pub unknown_more : (spots : LastSpots) → Unknown spots → Unknown (spots ++ None ∷ [])
+unknown_more spots none i spot is = elim (slice_get-push spots None i (Some spot) is) [
+  | inl old ↦ none i spot old
+  | inr new ↦ absurd (cc (new.1))
+]
 
-pub unknown_reached : (w : WorldState) (marks : Marks) → Unknown marks → AreReached w marks
-unknown_reached w marks none i spot is = absurd (none i spot is)
+pub unknown_reached : (w : WorldState) (spots : LastSpots) → Unknown spots → AreReached w spots
+unknown_reached w spots none i spot is = absurd (none i spot is)

@@ -4,5 +4,5 @@ pub mod Receipts
 pub mod Commits
 pub mod Seats
 pub mod Turns
-pub mod Marks
+pub mod LastSpots
 pub mod Numbers

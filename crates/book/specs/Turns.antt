@@ -1,6 +1,8 @@
 -- What declarations and restarts of nodes do, and failures and starts of token servers.
 use Rattle.std.specs.Prelude.{◌≡◌, ◌≢◌, ℕ, ◌≤◌, true, length}
+use Rattle.messages.specs.declared.actor.Actor.{Actor}
 use Rattle.messages.specs.declared.actor.Actor.TheVariants.{Node as ANode, Server as AServer}
+use Rattle.messages.specs.declared.event.Event.{Event}
 use Rattle.messages.specs.declared.event.Event.TheVariants.{Declare, Restart, FailServer, StartServer}
 use Rattle.cluster_core.specs.Parts.{world_state}
 use Rattle.cluster_core.specs.Journals.{RunFields, GoesOn}
@@ -9,50 +11,42 @@ use Rattle.book.specs.Fields.{SeatFields, StampFields}
 use Rattle.book.specs.Receipts.{IsStampOf}
 use Rattle.book.specs.Commits.{IsSeatOf}
 
--- the node was alive in this incarnation, of which each seat is fenced from here on; seats that were fenced stay so, and seats of other actors stay seats of the book
-pub record Declared (b : RunFields) (n : ℕ) (b' : RunFields) (t : StampFields) : Type 0 where
-  pub goes : GoesOn b (Declare n) b'
-  pub position : t.position ≡ length b'.entries
-  pub event : t.event ≡ Declare n
-  pub seen_is : t.seen ≡ 0
-  pub stamped : IsStampOf b'.entries t
+-- the book goes on by an event of this actor: seats that were fenced stay so, and stamps of the book and seats of other actors stay the book's
+pub record Turns (b : RunFields) (event : Event) (a : Actor) (b' : RunFields) : Type 0 where
+  pub goes : GoesOn b event b'
   pub fences : (o : SeatFields) → is_declared (world_state b.world) o.state ≡ true → is_declared (world_state b'.world) o.state ≡ true
   pub stamps : (o : StampFields) → IsStampOf b.entries o → IsStampOf b'.entries o
-  pub fenced : (s : SeatFields) → actor_of s.state ≡ ANode n → incarnation_of s.state ≡ ((world_state b.world).nodes n).incarnation → 1 ≤ incarnation_of s.state → is_declared (world_state b'.world) s.state ≡ true
-  pub others : (o : SeatFields) → actor_of o.state ≢ ANode n → IsSeatOf b o → IsSeatOf b' o
+  pub others : (o : SeatFields) → actor_of o.state ≢ a → IsSeatOf b o → IsSeatOf b' o
 
--- the seat is of the node as it begins again; seats that were fenced stay so, and seats of other actors stay seats of the book
-pub record Restarted (b : RunFields) (n : ℕ) (b' : RunFields) (s : SeatFields) : Type 0 where
-  pub goes : GoesOn b (Restart n) b'
-  pub actor : actor_of s.state ≡ ANode n
+-- the stamp is that of the last entry, which this event made, and saw nothing
+pub record IsLastStamp (b : RunFields) (event : Event) (t : StampFields) : Type 0 where
+  pub position : t.position ≡ length b.entries
+  pub event_is : t.event ≡ event
+  pub seen_is : t.seen ≡ 0
+  pub stamped : IsStampOf b.entries t
+
+-- each seat of the actor in this incarnation, or epoch, is fenced
+abbrev pub AreFenced : RunFields → Actor → ℕ → Type 0
+AreFenced b a i = (s : SeatFields) → actor_of s.state ≡ a → incarnation_of s.state ≡ i → 1 ≤ incarnation_of s.state → is_declared (world_state b.world) s.state ≡ true
+
+-- the seat is of the actor as it begins again
+pub record BeginsAgain (b : RunFields) (a : Actor) (s : SeatFields) : Type 0 where
+  pub actor : actor_of s.state ≡ a
   pub commits : s.commits ≡ 0
-  pub mine : IsSeatOf b' s
-  pub fences : (o : SeatFields) → is_declared (world_state b.world) o.state ≡ true → is_declared (world_state b'.world) o.state ≡ true
-  pub stamps : (o : StampFields) → IsStampOf b.entries o → IsStampOf b'.entries o
-  pub others : (o : SeatFields) → actor_of o.state ≢ ANode n → IsSeatOf b o → IsSeatOf b' o
+  pub mine : IsSeatOf b s
 
--- the server of the file worked in this epoch, of which each seat is fenced from here on; seats that were fenced stay so, and seats of other actors stay seats of the book
-pub record Failed (b : RunFields) (f : ℕ) (b' : RunFields) (t : StampFields) : Type 0 where
-  pub goes : GoesOn b (FailServer f) b'
-  pub position : t.position ≡ length b'.entries
-  pub event : t.event ≡ FailServer f
-  pub seen_is : t.seen ≡ 0
-  pub stamped : IsStampOf b'.entries t
-  pub fences : (o : SeatFields) → is_declared (world_state b.world) o.state ≡ true → is_declared (world_state b'.world) o.state ≡ true
-  pub stamps : (o : StampFields) → IsStampOf b.entries o → IsStampOf b'.entries o
-  pub fenced : (s : SeatFields) → actor_of s.state ≡ AServer f → incarnation_of s.state ≡ ((world_state b.world).servers f).epoch → 1 ≤ incarnation_of s.state → is_declared (world_state b'.world) s.state ≡ true
-  pub others : (o : SeatFields) → actor_of o.state ≢ AServer f → IsSeatOf b o → IsSeatOf b' o
+-- the incarnation in which the node was alive is fenced from here on
+abbrev pub Declared : RunFields → ℕ → RunFields → StampFields → Type 0
+Declared b n b' t = Turns b (Declare n) (ANode n) b' × IsLastStamp b' (Declare n) t × AreFenced b' (ANode n) ((world_state b.world).nodes n).incarnation
 
--- the seat is of the server of the file as it begins again, and the stamp of what it asks the nodes; seats that were fenced stay so, and seats of other actors stay seats of the book
-pub record Started (b : RunFields) (f : ℕ) (b' : RunFields) (s : SeatFields) (t : StampFields) : Type 0 where
-  pub goes : GoesOn b (StartServer f) b'
-  pub actor : actor_of s.state ≡ AServer f
-  pub commits : s.commits ≡ 0
-  pub mine : IsSeatOf b' s
-  pub position : t.position ≡ length b'.entries
-  pub event : t.event ≡ StartServer f
-  pub seen_is : t.seen ≡ 0
-  pub stamped : IsStampOf b'.entries t
-  pub fences : (o : SeatFields) → is_declared (world_state b.world) o.state ≡ true → is_declared (world_state b'.world) o.state ≡ true
-  pub stamps : (o : StampFields) → IsStampOf b.entries o → IsStampOf b'.entries o
-  pub others : (o : SeatFields) → actor_of o.state ≢ AServer f → IsSeatOf b o → IsSeatOf b' o
+-- the node begins again
+abbrev pub Restarted : RunFields → ℕ → RunFields → SeatFields → Type 0
+Restarted b n b' s = Turns b (Restart n) (ANode n) b' × BeginsAgain b' (ANode n) s
+
+-- the epoch in which the server of the file worked is fenced from here on
+abbrev pub Failed : RunFields → ℕ → RunFields → StampFields → Type 0
+Failed b f b' t = Turns b (FailServer f) (AServer f) b' × IsLastStamp b' (FailServer f) t × AreFenced b' (AServer f) ((world_state b.world).servers f).epoch
+
+-- the server of the file begins again, and the stamp has what it asks the nodes
+abbrev pub Started : RunFields → ℕ → RunFields → SeatFields → StampFields → Type 0
+Started b f b' s t = Turns b (StartServer f) (AServer f) b' × BeginsAgain b' (AServer f) s × IsLastStamp b' (StartServer f) t

@@ -10,6 +10,7 @@ ghost use Rattle.cluster_core.specs.Parts.{world_state};
 ghost use Rattle.cluster_core.specs.Runs.{Leads};
 ghost use Rattle.cluster_core.specs.Journals.{RunFields, GoesOn, journal_of};
 ghost use Rattle.cluster_core.specs.Histories.{HasOneHistory};
+ghost use Rattle.cluster_core.specs.Safe.{IsSafe};
 ghost use Rattle.book.specs.Fields.{SeatFields, StampFields};
 ghost use Rattle.book.specs.States.{actor_of, HasState};
 ghost use Rattle.book.specs.Receipts.{Holds, IsStampOf, IsReceiptOf};
@@ -21,8 +22,8 @@ ghost use Rattle.messages.specs.declared.actor.Actor.TheVariants.{Node as ANode,
 
 use crate::commit_error::CommitError;
 use crate::holds::holds;
+use crate::last_spots::LastSpots;
 use crate::mark::Mark;
-use crate::marks::Marks;
 use crate::new_trail::NewTrail;
 use crate::prepared::Prepared;
 use crate::receipt::Receipt;
@@ -32,6 +33,7 @@ use crate::state::State;
 use crate::tests_of::{accepts, seen_of};
 use cluster_core::journal::Journal;
 use cluster_core::run::Run;
+use cluster_core::world::World;
 use intervals::span_map::NoMemory;
 use messages::actor::Actor;
 use messages::entry::Entry;
@@ -51,19 +53,19 @@ use trail::name::Name;
 #[derive(Drop)]
 pub struct Book<J: Name> {
     run: Run,
-    marks: Marks<J>,
+    spots: LastSpots<J>,
 }
 
 impl<J: Name> Model for Book<J> {
     ghost use Rattle.cluster_core.specs.Journals.{RunFields};
     ghost use Rattle.cluster_core.specs.Parts.{world_state};
-    ghost use Rattle.book.specs.Marks.{AreReached};
+    ghost use Rattle.book.specs.LastSpots.{AreReached};
 
     ghost Value = { RunFields };
 
     ghost view = { λ b. b.run };
 
-    ghost invariant = { λ b. AreReached (world_state b.run.world) b.marks };
+    ghost invariant = { λ b. AreReached (world_state b.run.world) b.spots };
 }
 
 // The run goes on by an event that is known to lead on: only memory can be refused.
@@ -160,8 +162,8 @@ impl<J: Name> Book<J> {
             Some(trail) => Some(trail.named()),
             None => None,
         };
-        let marks = Marks::new(alloc, trail, shape.files())?;
-        Ok((Book { run, marks }, seats))
+        let spots = LastSpots::new(alloc, trail, shape.files())?;
+        Ok((Book { run, spots }, seats))
     }
 
     /// How many entries the journal has, which are a run that leads to the book's copies.
@@ -204,11 +206,11 @@ impl<J: Name> Book<J> {
         ensures unchanged { OnErr result ((self.new ≡ self.old) × (seat.new ≡ seat.old)) }
     {
         let seen = seen_of(seen);
-        accepts(&self.run, &self.marks, seat, &prepared, seen)?;
+        accepts(&self.run, &self.spots, seat, &prepared, seen)?;
         let parts = prepared.into_parts();
         take_next(&mut self.run, alloc, parts.event)?;
         let outcome = seat.advance(parts.edit, parts.outcome);
-        let spot = self.marks.note(seat.state());
+        let spot = self.spots.note(seat.state());
         seat.stand_at(spot);
         Ok(Stamp::new(self.run.len(), parts.told, outcome, seen))
     }
@@ -225,7 +227,7 @@ impl<J: Name> Book<J> {
         ensures unchanged { OnErr result (self.new ≡ self.old) }
     {
         self.run.take(alloc, Event::Declare { node })?;
-        self.marks.forget(Actor::Node(node));
+        self.spots.forget(Actor::Node(node));
         let outcome = Outcome::sending(Items::new(alloc));
         let position = self.run.len();
         Ok(Stamp::new(position, Event::Declare { node }, outcome, 0))
@@ -244,7 +246,7 @@ impl<J: Name> Book<J> {
         ensures unchanged { OnErr result (self.new ≡ self.old) }
     {
         let begun = self.run.restart(alloc, node)?;
-        self.marks.forget(Actor::Node(node));
+        self.spots.forget(Actor::Node(node));
         Ok(Seat::new(State::OfNode {
             number: node,
             node: begun,
@@ -263,7 +265,7 @@ impl<J: Name> Book<J> {
         ensures unchanged { OnErr result (self.new ≡ self.old) }
     {
         self.run.take(alloc, Event::FailServer { file })?;
-        self.marks.forget(Actor::Server(file));
+        self.spots.forget(Actor::Server(file));
         let outcome = Outcome::sending(Items::new(alloc));
         let position = self.run.len();
         Ok(Stamp::new(position, Event::FailServer { file }, outcome, 0))
@@ -282,7 +284,7 @@ impl<J: Name> Book<J> {
         ensures unchanged { OnErr result (self.new ≡ self.old) }
     {
         let (begun, asks) = self.run.start(alloc, file)?;
-        self.marks.forget(Actor::Server(file));
+        self.spots.forget(Actor::Server(file));
         let position = self.run.len();
         let stamp = Stamp::new(position, Event::StartServer { file }, asks, 0);
         let state = State::OfServer {
@@ -300,13 +302,14 @@ impl<J: Name> Book<J> {
         holds(self.run.entries(), receipt)
     }
 
-    /// The journal, which is a run, and so has one history.
-    pub fn into_journal(self) -> Journal
-        ensures value { result ≡ journal_of self }
-        ensures leads { Leads (first_world result.shape) result.entries (world_state self.world) }
-        ensures one_table { HasOneHistory result.shape result.entries }
+    /// The journal and the world at its end. The journal is a run, so it has one history; the world, which holds the
+    /// actors' copies, is safe.
+    pub fn into_journal(self) -> (Journal, World)
+        ensures value { result.0 ≡ journal_of self }
+        ensures leads { Leads (first_world result.0.shape) result.0.entries (world_state result.1) }
+        ensures one_table { HasOneHistory result.0.shape result.0.entries }
+        ensures safe { IsSafe (world_state result.1) }
     {
-        let (journal, _) = self.run.into_journal();
-        journal
+        self.run.into_journal()
     }
 }

@@ -2,12 +2,12 @@
 ghost use Rattle.std.specs.Prelude.{◌≡◌, ◌<◌, ◌≤◌, ◌≢◌, ◌↔◌, Err, IsTrue, MatchResult, option_copied};
 ghost use Rattle.cluster_core.specs.Parts.{world_state};
 ghost use Rattle.book.specs.Commits.{Accepts, Refuses, seen_at};
-ghost use Rattle.book.specs.Marks.{AreReached};
+ghost use Rattle.book.specs.LastSpots.{AreReached};
 ghost use Rattle.book.specs.States.{HasState};
 
 use crate::commit_error::CommitError;
+use crate::last_spots::LastSpots;
 use crate::mark::Mark;
-use crate::marks::Marks;
 use crate::prepared::Prepared;
 use crate::seat::Seat;
 use cluster_core::run::Run;
@@ -25,12 +25,12 @@ pub(crate) fn seen_of(seen: Option<&Mark>) -> u32
 }
 
 // Whether the seat's actor is in its state there, and alive: known by where the state stands, or found by comparing.
-fn stands<J: Name>(marks: &Marks<J>, seat: &Seat<J>, world: &World) -> bool
-    requires { AreReached (world_state world.now) marks.now }
+fn stands<J: Name>(spots: &LastSpots<J>, seat: &Seat<J>, world: &World) -> bool
+    requires { AreReached (world_state world.now) spots.now }
     ensures { IsTrue result ↔ HasState (world_state world.now) seat.now.state }
 {
-    if let (Some(mark), Some(spot)) = (marks.at(seat.actor()), seat.spot()) {
-        if mark.is_at(spot) {
+    if let (Some(last), Some(spot)) = (spots.at(seat.actor()), seat.spot()) {
+        if last.is_at(spot) {
             return true;
         }
     }
@@ -44,12 +44,12 @@ fn stands<J: Name>(marks: &Marks<J>, seat: &Seat<J>, world: &World) -> bool
 /// Those of `Book::commit` but `NoMemory`, in their order.
 pub(crate) fn accepts<J: Name>(
     run: &Run,
-    marks: &Marks<J>,
+    spots: &LastSpots<J>,
     seat: &Seat<J>,
     prepared: &Prepared,
     seen: u32,
 ) -> Result<(), CommitError>
-    requires { AreReached (world_state run.now.world) marks.now }
+    requires { AreReached (world_state run.now.world) spots.now }
     ensures tests { MatchResult result (λ _. Accepts run.now seat.now prepared.now seen) (λ e. Refuses run.now seat.now prepared.now seen e) }
     ensures definite { result ≢ Err CommitError.NoMemory }
 {
@@ -66,7 +66,7 @@ pub(crate) fn accepts<J: Name>(
     if seat.state().is_declared_in(world) {
         return Err(CommitError::Fenced);
     }
-    if !stands(marks, seat, world) || run.len() < seen {
+    if !stands(spots, seat, world) || run.len() < seen {
         return Err(CommitError::Stale);
     }
     Ok(())

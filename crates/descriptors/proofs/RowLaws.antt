@@ -60,11 +60,6 @@ slot-none zero fd = refl
 slot-none (suc n) zero = refl
 slot-none (suc n) (suc fd) = slot-none n fd
 
--- a description that a descriptor refers to can be
-pub some_numbered : (fds : List (Option Opened)) (fd : ℕ) (o : Option Opened) → AreNumbered fds → o ≡ slot fds fd → IfSome o (λ opened. IsNumber most_descriptions opened.description)
-some_numbered fds fd None h e = tt
-some_numbered fds fd (Some o) h e = h fd o (sym e)
-
 -- rows that say the same are the same processes
 pub processes-is : (rows : List ProcessEntry) (ps : Processes) → ((q : ℕ) → (row rows q).runs ≡ ps.runs q) → ((q fd : ℕ) → slot (row rows q).opened fd ≡ ps.opened q fd) → processes rows ≡ ps
 unfolding processes

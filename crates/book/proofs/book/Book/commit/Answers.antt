@@ -13,7 +13,7 @@ use Rattle.book.specs.Commits.{IsStepFrom, Refuses, Commits, seen_at}
 use Rattle.book.proofs.Committed.{committed, committed_reached}
 use Rattle.book.proofs.Steps.{leads_on}
 use Rattle.book.specs.declared.state.State.{State}
-use Rattle.book.specs.Marks.{AreReached, Marked}
+use Rattle.book.specs.LastSpots.{AreReached, Noted}
 use Rattle.book.proofs.book.Book.commit.Given.{Over}
 use Rattle.book.proofs.book.Book.commit.Goals as goal
 
@@ -68,13 +68,13 @@ returns-in_err-accepts-clause-outcome g c =
     rw (told.1, told.2) (subst (λ (x : RunFields). Refuses x s p (seen_at (option_copied c.args.seen)) e) c.self.view_is here)
 
 pub invariant_of-self : goal.invariant_of-self
-invariant_of-self g c = subst (λ (r : RunFields). AreReached (world_state r.world) c.self.inside.marks) (sym c.in_err-take_next.ensures.unchanged) c.self.invariant
+invariant_of-self g c = subst (λ (r : RunFields). AreReached (world_state r.world) c.self.inside.spots) (sym c.in_err-take_next.ensures.unchanged) c.self.invariant
 
 pub invariant_of-self-2 : goal.invariant_of-self-2
 invariant_of-self-2 g c =
     let r = c.stand_at.new.self in
-    let old = c.self.inside.marks in
+    let old = c.self.inside.spots in
     let new = c.note-spot.new.self in
     let state = c.state.ensures ∙ sym (ap (λ (x : SeatFields). x.state) c.stand_at.ensures) in
-    let marked : Marked old r.state new = subst (λ (x : State). Marked old x new) state c.note-spot.ensures.marked in
-    committed_reached c.self.inside.run c.take_next.new.run c.args.seat.now r c.args.prepared (seen_at (option_copied c.args.seen)) c.new.result old new (made g c) c.self.invariant marked
+    let noted : Noted old r.state new = subst (λ (x : State). Noted old x new) state c.note-spot.ensures.noted in
+    committed_reached c.self.inside.run c.take_next.new.run c.args.seat.now r c.args.prepared (seen_at (option_copied c.args.seen)) c.new.result old new (made g c) c.self.invariant noted

@@ -1,5 +1,6 @@
 use Rattle.std.proofs.Common.{◌≡◌, sym, ap, ◌∙◌, subst, Err}
 use Rattle.std.proofs.lemmas.Result.{err_from_is_err_and}
+use Rattle.messages.specs.declared.actor.Actor.TheVariants.{Node as ANode}
 use Rattle.messages.specs.declared.event.Event.TheVariants.{Declare}
 use Rattle.messages.specs.declared.refusal.Refused.{Refused}
 use Rattle.cluster_core.specs.Next.{kept_next}
@@ -9,7 +10,8 @@ use Rattle.messages.specs.Messages.{sending}
 use Rattle.cluster_core.specs.Journals.{RunFields}
 use Rattle.book.specs.Fields.{StampFields}
 use Rattle.book.specs.Turns.{Declared}
-use Rattle.book.proofs.Committed.{declared, declared_reached}
+use Rattle.book.proofs.Turns.{declared_others}
+use Rattle.book.proofs.Committed.{declared, turned_reached}
 use Rattle.book.proofs.book.Book.declare.Goals as goal
 
 pub returns-clause-ok : goal.returns-clause-ok
@@ -32,4 +34,4 @@ returns-in_err-take-clause-refused g c = λ e refused.
     told.1 ∙ ap (λ (r : Refused). Err r) (told.2 ∙ err_is _ _ same)
 
 pub invariant_of-self-2 : goal.invariant_of-self-2
-invariant_of-self-2 g c = declared_reached c.self.inside.run c.take.new.self c.args.node c.self.inside.marks c.forget.new.self c.in_ok-take.ensures.ok c.self.invariant c.forget.ensures
+invariant_of-self-2 g c = turned_reached c.self.inside.run c.take.new.self (Declare c.args.node) (ANode c.args.node) c.self.inside.spots c.forget.new.self c.in_ok-take.ensures.ok c.self.invariant c.forget.ensures (declared_others (world_state c.self.inside.run.world) c.args.node)

@@ -1,5 +1,6 @@
 use Rattle.std.proofs.Common.{◌≡◌, sym, ap, ◌∙◌, subst, Err}
 use Rattle.std.proofs.lemmas.Result.{err_from_is_err_and}
+use Rattle.messages.specs.declared.actor.Actor.TheVariants.{Server as AServer}
 use Rattle.messages.specs.declared.event.Event.TheVariants.{FailServer}
 use Rattle.messages.specs.declared.refusal.Refused.{Refused}
 use Rattle.cluster_core.specs.Next.{kept_next}
@@ -9,7 +10,8 @@ use Rattle.messages.specs.Messages.{sending}
 use Rattle.cluster_core.specs.Journals.{RunFields}
 use Rattle.book.specs.Fields.{StampFields}
 use Rattle.book.specs.Turns.{Failed}
-use Rattle.book.proofs.Committed.{failed, failed_reached}
+use Rattle.book.proofs.Turns.{failed_others}
+use Rattle.book.proofs.Committed.{failed, turned_reached}
 use Rattle.book.proofs.book.Book.fail_server.Goals as goal
 
 pub returns-clause-ok : goal.returns-clause-ok
@@ -32,4 +34,4 @@ returns-in_err-take-clause-refused g c = λ e refused.
     told.1 ∙ ap (λ (r : Refused). Err r) (told.2 ∙ err_is _ _ same)
 
 pub invariant_of-self-2 : goal.invariant_of-self-2
-invariant_of-self-2 g c = failed_reached c.self.inside.run c.take.new.self c.args.file c.self.inside.marks c.forget.new.self c.in_ok-take.ensures.ok c.self.invariant c.forget.ensures
+invariant_of-self-2 g c = turned_reached c.self.inside.run c.take.new.self (FailServer c.args.file) (AServer c.args.file) c.self.inside.spots c.forget.new.self c.in_ok-take.ensures.ok c.self.invariant c.forget.ensures (failed_others (world_state c.self.inside.run.world) c.args.file)

@@ -1,4 +1,5 @@
 use Rattle.std.proofs.Common.{refl, sym, subst}
+use Rattle.messages.specs.declared.actor.Actor.TheVariants.{Node as ANode}
 use Rattle.messages.specs.declared.event.Event.TheVariants.{Restart}
 use Rattle.messages.specs.declared.entry.Entry.{Entry}
 use Rattle.node_core.specs.Parts.{node_state}
@@ -9,8 +10,8 @@ use Rattle.cluster_core.proofs.steps.Steps.{kept_taken}
 use Rattle.book.specs.declared.state.State.TheVariants.{OfNode}
 use Rattle.book.specs.Fields.{SeatFields}
 use Rattle.book.specs.Turns.{Restarted}
-use Rattle.book.proofs.Turns.{restarted_mine}
-use Rattle.book.proofs.Committed.{restarted, restarted_reached}
+use Rattle.book.proofs.Turns.{restarted_mine, restarted_others}
+use Rattle.book.proofs.Committed.{restarted, turned_reached}
 use Rattle.book.proofs.book.Book.restart.Goals as goal
 
 pub returns-clause-ok : goal.returns-clause-ok
@@ -27,4 +28,4 @@ returns-clause-ok g c =
     subst (λ (x : RunFields). Restarted x n d c.new.result) c.self.view_is same
 
 pub invariant_of-self-2 : goal.invariant_of-self-2
-invariant_of-self-2 g c = restarted_reached c.self.inside.run c.restart.new.self c.args.node c.self.inside.marks c.forget.new.self c.in_ok-begun.ensures.ok c.self.invariant c.forget.ensures
+invariant_of-self-2 g c = turned_reached c.self.inside.run c.restart.new.self (Restart c.args.node) (ANode c.args.node) c.self.inside.spots c.forget.new.self c.in_ok-begun.ensures.ok c.self.invariant c.forget.ensures (restarted_others (world_state c.self.inside.run.world) c.args.node)

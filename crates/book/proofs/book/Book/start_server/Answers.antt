@@ -1,4 +1,5 @@
 use Rattle.std.proofs.Common.{refl, sym, ap, ◌∙◌, subst}
+use Rattle.messages.specs.declared.actor.Actor.TheVariants.{Server as AServer}
 use Rattle.messages.specs.declared.event.Event.TheVariants.{StartServer}
 use Rattle.messages.specs.declared.entry.Entry.{Entry}
 use Rattle.token_server.specs.Parts.{server_state}
@@ -9,8 +10,8 @@ use Rattle.cluster_core.proofs.steps.Steps.{kept_taken}
 use Rattle.book.specs.declared.state.State.TheVariants.{OfServer}
 use Rattle.book.specs.Fields.{SeatFields, StampFields}
 use Rattle.book.specs.Turns.{Started}
-use Rattle.book.proofs.Turns.{started_mine}
-use Rattle.book.proofs.Committed.{started, started_reached}
+use Rattle.book.proofs.Turns.{started_mine, started_others}
+use Rattle.book.proofs.Committed.{started, turned_reached}
 use Rattle.book.proofs.book.Book.start_server.Goals as goal
 
 pub returns-clause-ok : goal.returns-clause-ok
@@ -31,4 +32,4 @@ returns-clause-ok g c =
     subst (λ (x : RunFields). Started x f d c.new.result t) c.self.view_is same
 
 pub invariant_of-self-2 : goal.invariant_of-self-2
-invariant_of-self-2 g c = started_reached c.self.inside.run c.start.new.self c.args.file c.self.inside.marks c.forget.new.self c.in_ok-begun.ensures.ok c.self.invariant c.forget.ensures
+invariant_of-self-2 g c = turned_reached c.self.inside.run c.start.new.self (StartServer c.args.file) (AServer c.args.file) c.self.inside.spots c.forget.new.self c.in_ok-begun.ensures.ok c.self.invariant c.forget.ensures (started_others (world_state c.self.inside.run.world) c.args.file)

@@ -1,6 +1,6 @@
 //! The last states of actors.
 ghost use Rattle.std.specs.Prelude.{◌≡◌, IfOk, IfSome, Some};
-ghost use Rattle.book.specs.Marks.{IsMark, Marked, Forgotten, place_of, AreReached};
+ghost use Rattle.book.specs.LastSpots.{IsLastSpot, Noted, Forgotten, place_of, AreReached};
 ghost use Rattle.book.specs.States.{actor_of};
 
 use crate::state::State;
@@ -15,20 +15,20 @@ use trail::trail::Trail;
 /// The trail of all states that were committed to a book, and for each actor where in it its last state stands, if that is
 /// known. So a seat whose state stands at that place has the state of the book's copy, and need not be compared with it.
 #[derive(Drop)]
-pub(crate) struct Marks<J: Name> {
+pub(crate) struct LastSpots<J: Name> {
     trail: Option<Trail<J, State>>,
     last: Vec<Option<Spot<J, State>>>,
 }
 
-impl<J: Name> Model for Marks<J> {
-    ghost use Rattle.book.specs.Marks.{Marks};
+impl<J: Name> Model for LastSpots<J> {
+    ghost use Rattle.book.specs.LastSpots.{LastSpots};
 
-    ghost Value = { Marks };
+    ghost Value = { LastSpots };
 
-    ghost view = { λ m. m.last.items };
+    ghost view = { λ s. s.last.items };
 }
 
-// The place of the actor among the marks.
+// The place of the actor among the spots.
 fn place_of(actor: Actor) -> usize
     ensures { result ≡ place_of actor }
 {
@@ -38,7 +38,7 @@ fn place_of(actor: Actor) -> usize
     }
 }
 
-impl<J: Name> Marks<J> {
+impl<J: Name> LastSpots<J> {
     /// No actor's state is known. With a trail, the states of all nodes and of that many servers can become known.
     ///
     /// # Errors
@@ -47,8 +47,8 @@ impl<J: Name> Marks<J> {
         alloc: Global,
         trail: Option<Trail<J, State>>,
         files: u16,
-    ) -> Result<Marks<J>, AllocError>
-        ensures { (w : _) → IfOk result (λ marks. AreReached w marks) }
+    ) -> Result<LastSpots<J>, AllocError>
+        ensures { (w : _) → IfOk result (λ spots. AreReached w spots) }
     {
         let mut last = Vec::new(alloc);
         if trail.is_some() {
@@ -56,12 +56,12 @@ impl<J: Name> Marks<J> {
                 last.push(None)?;
             }
         }
-        Ok(Marks { trail, last })
+        Ok(LastSpots { trail, last })
     }
 
     /// Where the actor's state stands, if that is known.
     pub(crate) fn at(&self, actor: Actor) -> Option<&Spot<J, State>>
-        ensures { IfSome result (λ spot. IsMark self.now (place_of actor) spot.now) }
+        ensures { IfSome result (λ spot. IsLastSpot self.now (place_of actor) spot.now) }
     {
         self.last.get(place_of(actor))?.as_ref()
     }
@@ -69,14 +69,14 @@ impl<J: Name> Marks<J> {
     /// The state is its actor's from here on: where it stands, if that can be known.
     pub(crate) fn note(&mut self, state: &State) -> Option<Spot<J, State>>
         ensures spot { IfSome result (λ spot. spot.item ≡ Some state.now) }
-        ensures marked { Marked self.old state.now self.new }
+        ensures noted { Noted self.old state.now self.new }
     {
         let spot = match &mut self.trail {
             Some(trail) => trail.push(state),
             None => None,
         };
-        if let Some(mark) = self.last.get_mut(place_of(state.actor())) {
-            *mark = spot.as_ref().map(|spot| spot.again());
+        if let Some(last) = self.last.get_mut(place_of(state.actor())) {
+            *last = spot.as_ref().map(|spot| spot.again());
         }
         spot
     }
@@ -85,8 +85,8 @@ impl<J: Name> Marks<J> {
     pub(crate) fn forget(&mut self, actor: Actor)
         ensures { Forgotten self.old actor self.new }
     {
-        if let Some(mark) = self.last.get_mut(place_of(actor)) {
-            *mark = None;
+        if let Some(last) = self.last.get_mut(place_of(actor)) {
+            *last = None;
         }
     }
 }
