@@ -13,13 +13,15 @@ use std::alloc::Global;
 use std::marker::Model;
 use std::sync::Wait;
 
-/// A process of a cluster that runs, as one who makes its calls, one after the other.
+/// A process of a cluster that runs, as one who makes its calls, one after the other. Its node's worker has where the
+/// answers to it go, up to a call that fails; the next one tells another path.
 #[derive(Drop)]
 pub struct Client<'a> {
     process: Process,
     last: Option<Mark>,
     alloc: Global,
     mailbox: &'a Sender<Letter>,
+    answers: Option<Receiver<Answer>>,
 }
 
 impl<'a> Model for Client<'a> {
@@ -41,6 +43,7 @@ impl<'a> Client<'a> {
             last: None,
             alloc,
             mailbox,
+            answers: None,
         }
     }
 
@@ -71,7 +74,7 @@ impl<'a> Client<'a> {
     }
 
     // The call, with what the client has seen.
-    fn question(&self, op: Op, back: Sender<Answer>) -> Question
+    fn question(&self, op: Op, back: Option<Sender<Answer>>) -> Question
         ensures process { result.process ≡ self.now.process }
         ensures operation { result.op ≡ op }
         ensures seen { unwrap_or result.seen 0 ≡ self.now.last }
@@ -101,9 +104,7 @@ impl<'a> Client<'a> {
         ensures seen { IfOk result (λ receipt. self.new ≡ record self.old { last = receipt.reply_at }) }
         ensures unchanged { OnErr result (self.new ≡ self.old) }
     {
-        let Ok((back, answers)) = bounded(self.alloc, 1) else {
-            return Err(CallError::NoMemory);
-        };
+        let (answers, back) = self.path()?;
         let letter = Letter::Ask(self.question(op, back));
         match self.mailbox.send(rt, letter) {
             Ok(()) => {}
@@ -112,25 +113,32 @@ impl<'a> Client<'a> {
         }
         let receipt = self.wait_for_answer(rt, &answers, op)?;
         self.last = Some(receipt.mark());
+        self.answers = Some(answers);
         Ok(receipt)
     }
 
-    // The receipt of the call, or why there is none. Other receipts are passed over.
+    // Where the answer to a call comes; and where it is to go, if the node's worker has no such path.
+    fn path(&mut self) -> Result<(Receiver<Answer>, Option<Sender<Answer>>), CallError>
+        ensures { self.new ≡ self.old }
+    {
+        if let Some(answers) = self.answers.take() {
+            return Ok((answers, None));
+        }
+        match bounded(self.alloc, 1) {
+            Ok((back, answers)) => Ok((answers, Some(back))),
+            Err(_) => Err(CallError::NoMemory),
+        }
+    }
+
+    // The receipt of the call, or why there is none. (No worker answers with the receipt of another.)
     fn wait_for_answer<R: Wait>(&self, rt: &R, answers: &Receiver<Answer>, op: Op) -> Answer
         ensures { IfOk result (IsMadeBy self.now op) }
     {
-        for _ in rt.forever() {
-            match answers.recv(rt) {
-                Ok(Ok(receipt)) => {
-                    if self.has_made(&receipt, op) {
-                        return Ok(receipt);
-                    }
-                }
-                Ok(Err(why)) => return Err(why),
-                Err(_) => return Err(CallError::Closed),
-            }
+        match answers.recv(rt) {
+            Ok(Ok(receipt)) if self.has_made(&receipt, op) => Ok(receipt),
+            Ok(Err(why)) => Err(why),
+            _ => Err(CallError::Closed),
         }
-        unreachable!()
     }
 
     // Whether the receipt is of a call of this process with this operation, made with what was seen.

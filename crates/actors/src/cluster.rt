@@ -234,7 +234,10 @@ pub fn with_cluster<
     let (begun, workers) = begin(alloc, shape, seats, weathers)?;
     let book = Mutex::new(book);
     match run_body(rt, gate, &book, &begun, workers, body) {
-        Some(made) => Ok((made, book.into_inner().into_journal())),
+        Some(made) => {
+            let (journal, _) = book.into_inner().into_journal();
+            Ok((made, journal))
+        }
         None => Err(AllocError),
     }
 }

@@ -22,13 +22,14 @@ pub(crate) enum Letter {
     Begin,
 }
 
-/// A call, with what its client has seen of the journal, and where the answer goes.
+/// A call, with what its client has seen of the journal, and where answers to it go from here on, if another path is
+/// told than before.
 #[derive(Drop)]
 pub(crate) struct Question {
     pub(crate) process: Process,
     pub(crate) op: Op,
     pub(crate) seen: Option<Mark>,
-    pub(crate) back: Sender<Answer>,
+    pub(crate) back: Option<Sender<Answer>>,
 }
 
 /// What comes of a call.

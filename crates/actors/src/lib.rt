@@ -25,6 +25,7 @@ mod place;
 pub mod played_line;
 mod rebuilt;
 mod resends;
+mod return_paths;
 pub mod run_error;
 pub mod run_watcher;
 pub mod seeded;

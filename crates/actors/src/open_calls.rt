@@ -3,38 +3,40 @@ ghost use Rattle.std.specs.Prelude.{◌≡◌, ◌<◌, ◌≤◌, vec_len, OnOk
 ghost use Rattle.std.specs.Vec.{vec_capacity};
 
 use crate::call_error::CallError;
-use crate::letter::Answer;
 use crate::patience::Patience;
 use book::receipt::Receipt;
 use book::stamp::Stamp;
-use crossbeam_channel::Sender;
 use messages::event::Event;
 use messages::message::Message;
+use model::process::Process;
 use std::alloc::{AllocError, Global};
 use std::mem;
 
-/// A call that its node took and has not answered, where the answer goes, when it is tried again, and
-/// whether its last try asked for no token: then a lock of its own node is in the way.
+/// A call that its node took and has not answered, with its process, when it is tried again, and whether its last try
+/// asked for no token: then a lock of its own node is in the way.
 #[derive(Drop)]
 pub(crate) struct OpenCall {
-    pid: u16,
+    process: Process,
     stamp: Stamp,
-    pub(crate) back: Sender<Answer>,
     patience: Patience,
     blocked_here: bool,
 }
 
 impl OpenCall {
     /// A call of the process that its node has just taken.
-    pub(crate) fn new(pid: u16, stamp: Stamp, back: Sender<Answer>) -> OpenCall {
+    pub(crate) fn new(process: Process, stamp: Stamp) -> OpenCall {
         let blocked_here = stamp.outcome().sends.is_empty();
         OpenCall {
-            pid,
+            process,
             stamp,
-            back,
             patience: Patience::new(),
             blocked_here,
         }
+    }
+
+    /// The process that made the call.
+    pub(crate) fn process(&self) -> Process {
+        self.process
     }
 
     /// That the call ended without a reply.
@@ -62,7 +64,7 @@ impl OpenCall {
     // The step may have tried the call again.
     fn note(&mut self, step: &Stamp) {
         let event = step.event();
-        if retried(event) == Some(self.pid) {
+        if retried(event) == Some(self.process.pid) {
             self.blocked_here = step.outcome().sends.is_empty();
         }
         if let Some(number) = granted(event) {
@@ -138,7 +140,7 @@ impl OpenCalls {
         ensures fewer { vec_len self.new.calls ≤ vec_len self.old.calls }
         ensures room { vec_capacity self.new.calls ≡ vec_capacity self.old.calls }
     {
-        let index = self.calls.iter().position(|call| call.pid == pid)?;
+        let index = self.calls.iter().position(|call| call.process.pid == pid)?;
         Some(self.calls.remove(index))
     }
 
@@ -172,7 +174,7 @@ impl OpenCalls {
 
     /// The open call of the process was refused memory, and waits as if for the first time.
     pub(crate) fn wait_anew(&mut self, pid: u16) {
-        if let Some(call) = self.calls.iter_mut().find(|call| call.pid == pid) {
+        if let Some(call) = self.calls.iter_mut().find(|call| call.process.pid == pid) {
             call.patience = Patience::new();
         }
     }
@@ -188,6 +190,6 @@ impl OpenCalls {
     /// The process whose call stands at the index.
     pub(crate) fn pid_at(&self, index: usize) -> Option<u16> {
         let call = self.calls.get(index)?;
-        Some(call.pid)
+        Some(call.process.pid)
     }
 }

@@ -81,6 +81,13 @@ impl ThreadRun {
         &self.journal
     }
 
+    /// The same, without the rest.
+    pub fn into_journal(self) -> Journal
+        ensures { result ≡ self.journal }
+    {
+        self.journal
+    }
+
     /// The lines of the script with what each came to, in order.
     pub fn lines(&self) -> &[PlayedLine]
         ensures { result.now ≡ self.now.lines }

@@ -4,6 +4,10 @@ ghost use Rattle.actors.specs.Runs.{IsFullJournal, IsOfScript};
 ghost use Rattle.actors.specs.declared.run_error.RunError.{RunError};
 ghost use Rattle.cluster_core.specs.Histories.{HasOneHistory};
 ghost use Rattle.cluster_core.specs.Journals.{JournalFields};
+ghost use Rattle.cluster_core.specs.Parts.{world_state};
+ghost use Rattle.cluster_core.specs.Runs.{Leads};
+ghost use Rattle.cluster_core.specs.Safe.{IsSafe};
+ghost use Rattle.cluster_core.specs.World.{first_world};
 ghost use Rattle.lockscript.specs.ThreadLines.{bad_line};
 
 use crate::cluster::{Begun, Cluster, begin, start_all};
@@ -21,6 +25,7 @@ use crate::worker::Worker;
 use book::book::Book;
 use book::new_trail::NewTrail;
 use cluster_core::journal::Journal;
+use cluster_core::world::World;
 use lockscript::script::Script;
 use lockscript::script_line::ScriptLine;
 use messages::shape::Shape;
@@ -50,6 +55,9 @@ use trail::name::Name;
 ///
 /// The watcher is told now and then how many calls are open, and how many entries the journal has.
 ///
+/// Besides what came of the lines it gives the world at the end of the journal, in which tokens of two nodes don't
+/// conflict, and tokens cover all locks.
+///
 /// # Errors
 /// `BadLine` with the number of the first line that is another, before anything runs; `NoMemory` where
 /// a request for memory or for a thread was refused; `JournalFull` with the journal where the run needs
@@ -62,13 +70,15 @@ pub fn run_threads<G: Gate + Sync, R: Threads + Wait + Clock + Sync, V: RunWatch
     seed: u32,
     manner: Manner,
     watcher: &mut V,
-) -> Result<ThreadRun, RunError>
+) -> Result<(ThreadRun, World), RunError>
     // The run is of the script: each line has just one outcome, which is of what it asks, and the calls,
     // failures and starts in the journal are those of its lines.
-    ensures of_script { IfOk result (IsOfScript script.now manner.no_join manner.may_stop) }
+    ensures of_script { IfOk result (λ made. IsOfScript script.now manner.no_join manner.may_stop made.0) }
 
     // One table explains every reply, and ends as what the nodes hold.
-    ensures one_table { IfOk result (λ run. HasOneHistory run.journal.shape run.journal.entries) }
+    ensures one_table { IfOk result (λ made. HasOneHistory made.0.journal.shape made.0.journal.entries) }
+    ensures leads { IfOk result (λ made. Leads (first_world made.0.journal.shape) made.0.journal.entries (world_state made.1)) }
+    ensures safe { IfOk result (λ made. IsSafe (world_state made.1)) }
 
     // Where it needs more entries, the journal of a run of the script's cluster has no room for another,
     // and the calls, failures and starts in it are of lines of the script.
@@ -80,11 +90,19 @@ pub fn run_threads<G: Gate + Sync, R: Threads + Wait + Clock + Sync, V: RunWatch
     }
     let trail = NewTrail::new();
     let run = run_script::<Brand, _, _, _>(rt, alloc, trail, script, gate, seed, manner, watcher);
-    let Ok((lines, journal)) = run else {
+    let Ok(ended) = run else {
         return Err(RunError::NoMemory);
     };
+    let Ended {
+        lines,
+        journal,
+        world,
+    } = ended;
     match lines {
-        Ok(lines) => Ok(ThreadRun::new(alloc, script, manner, lines, journal)?),
+        Ok(lines) => {
+            let run = ThreadRun::new(alloc, script, manner, lines, journal)?;
+            Ok((run, world))
+        }
         Err(Stop::JournalFull) if is_full(alloc, script, &journal) => {
             Err(RunError::JournalFull(journal))
         }
@@ -92,7 +110,40 @@ pub fn run_threads<G: Gate + Sync, R: Threads + Wait + Clock + Sync, V: RunWatch
     }
 }
 
-// The lines of a script that has none of another kind, with what they came to, and the journal.
+// The lines of a script with what they came to, the journal, and the world at its end.
+#[derive(Drop)]
+struct Ended {
+    lines: Result<Vec<PlayedLine>, Stop>,
+    journal: Journal,
+    world: World,
+}
+
+impl Ended {
+    // The end of a run on this book. A lock says nothing of the book that it gives back, so its shape is looked at: an
+    // error where it is another.
+    fn of<J: Name>(
+        book: Book<J>,
+        shape: Shape,
+        lines: Result<Vec<PlayedLine>, Stop>,
+    ) -> Result<Ended, AllocError>
+        ensures shape { IfOk result (λ run. run.journal.shape ≡ shape) }
+        ensures one_table { IfOk result (λ run. HasOneHistory run.journal.shape run.journal.entries) }
+        ensures leads { IfOk result (λ run. Leads (first_world run.journal.shape) run.journal.entries (world_state run.world)) }
+        ensures safe { IfOk result (λ run. IsSafe (world_state run.world)) }
+    {
+        let (journal, world) = book.into_journal();
+        if !same_shape(&journal.shape(), &shape) {
+            return Err(AllocError);
+        }
+        Ok(Ended {
+            lines,
+            journal,
+            world,
+        })
+    }
+}
+
+// What came of a script that has no line of another kind.
 fn run_script<
     J: Name + Send + Sync,
     G: Gate + Sync,
@@ -107,10 +158,12 @@ fn run_script<
     seed: u32,
     manner: Manner,
     watcher: &mut V,
-) -> Result<(Result<Vec<PlayedLine>, Stop>, Journal), AllocError>
+) -> Result<Ended, AllocError>
     requires { trail ≡ J.trail }
-    ensures shape { IfOk result (λ run. run.1.shape ≡ script.now.shape) }
-    ensures one_table { IfOk result (λ run. HasOneHistory run.1.shape run.1.entries) }
+    ensures shape { IfOk result (λ run. run.journal.shape ≡ script.now.shape) }
+    ensures one_table { IfOk result (λ run. HasOneHistory run.journal.shape run.journal.entries) }
+    ensures leads { IfOk result (λ run. Leads (first_world run.journal.shape) run.journal.entries (world_state run.world)) }
+    ensures safe { IfOk result (λ run. IsSafe (world_state run.world)) }
 {
     let shape = script.shape();
     let actors = u32::from(shape.nodes()) + u32::from(shape.files());
@@ -119,18 +172,12 @@ fn run_script<
     let (begun, workers) = begin(alloc, shape, seats, weathers)?;
     let book = Mutex::new(book);
     let lines = script.lines();
-    let Some(played) = run_begun::<J, _, _, _>(
+    let Some(lines) = run_begun::<J, _, _, _>(
         rt, gate, &book, &begun, workers, lines, manner, watcher,
     ) else {
         return Err(AllocError);
     };
-    let journal = book.into_inner().into_journal();
-
-    // A lock says nothing of the book that it gives back, so the shape is looked at.
-    if !same_shape(&journal.shape(), &shape) {
-        return Err(AllocError);
-    }
-    Ok((played, journal))
+    Ended::of(book.into_inner(), shape, lines)
 }
 
 // Starts the threads, runs the lines and stops the threads. None where a thread can't be made.

@@ -5,11 +5,12 @@ ghost use Rattle.book.specs.Commits.{Names, IsStepFrom};
 
 use crate::call_error::CallError;
 use crate::gate::{Gate, Point};
-use crate::letter::{Answer, Letter, Question};
+use crate::letter::{Letter, Question};
 use crate::open_calls::{OpenCall, OpenCalls};
 use crate::outgoing::Outgoing;
 use crate::rebuilt::Rebuilt;
 use crate::resends::Resends;
+use crate::return_paths::ReturnPaths;
 use crate::shared::Shared;
 use crate::weather::Weather;
 use book::mark::Mark;
@@ -17,7 +18,7 @@ use book::prepared::Prepared;
 use book::receipt::Receipt;
 use book::seat::Seat;
 use book::stamp::Stamp;
-use crossbeam_channel::{Receiver, RecvTimeoutError, Sender};
+use crossbeam_channel::{Receiver, RecvTimeoutError};
 use messages::actor::Actor;
 use messages::event::Event;
 use messages::refusal::StepError;
@@ -35,8 +36,8 @@ use trail::name::Name;
 const LONGEST_SLEEP: u64 = 250;
 
 /// An actor at work: its seat, and why no step of it is taken any more, if that was met; its messages on
-/// their way; its mailbox, and whether the last tick has not been given back; of a node the open calls of
-/// its clients; and of a server when it sends again.
+/// their way; its mailbox, and whether the last tick has not been given back; of a node where the answers to its
+/// clients go, and their open calls; and of a server when it sends again.
 #[derive(Drop)]
 pub(crate) struct Worker<J: Name, W: Weather> {
     seat: Seat<J>,
@@ -44,6 +45,7 @@ pub(crate) struct Worker<J: Name, W: Weather> {
     outgoing: Outgoing<W>,
     inbox: Receiver<Letter>,
     has_tick: bool,
+    paths: ReturnPaths,
     waiting: OpenCalls,
     resends: Resends,
 }
@@ -71,6 +73,7 @@ impl<J: Name, W: Weather> Worker<J, W> {
             outgoing: Outgoing::new(alloc, weather),
             inbox,
             has_tick: true,
+            paths: ReturnPaths::new(alloc),
             waiting: OpenCalls::new(alloc),
             resends: Resends::new(),
         }
@@ -193,14 +196,17 @@ impl<J: Name, W: Weather> Worker<J, W> {
             seen,
             back,
         } = question;
+        if !self.paths.learn(rt, process, back) {
+            return;
+        }
         match self.begin(rt, shared, process, op, seen.as_ref()) {
             Ok(stamp) => {
-                self.open(rt, process.pid, stamp, back);
+                self.open(rt, process, stamp);
                 if may_release(&op) {
                     self.retry_all(rt, shared, process.node, Cause::Release);
                 }
             }
-            Err(why) => answer(rt, &back, Err(why)),
+            Err(why) => self.paths.answer(rt, process, Err(why)),
         }
     }
 
@@ -227,16 +233,17 @@ impl<J: Name, W: Weather> Worker<J, W> {
     }
 
     // The process has made the call of this step, which is answered or open from here on.
-    fn open<R: Wait>(&mut self, rt: &R, pid: u16, stamp: Stamp, back: Sender<Answer>)
+    fn open<R: Wait>(&mut self, rt: &R, process: Process, stamp: Stamp)
         requires { vec_len self.old.waiting.calls < vec_capacity self.old.waiting.calls }
     {
         // A process that has an open call only exits, which ends the call without a reply.
-        if let Some(ended) = self.waiting.take_of(pid) {
-            answer(rt, &ended.back, Err(ended.killed()));
+        if let Some(ended) = self.waiting.take_of(process.pid) {
+            let killed = Err(ended.killed());
+            self.paths.answer(rt, ended.process(), killed);
         }
         match Receipt::of(&stamp, &stamp) {
-            Some(receipt) => answer(rt, &back, Ok(receipt)),
-            None => self.waiting.add(OpenCall::new(pid, stamp, back)),
+            Some(receipt) => self.paths.answer(rt, process, Ok(receipt)),
+            None => self.waiting.add(OpenCall::new(process, stamp)),
         }
     }
 
@@ -369,7 +376,7 @@ impl<J: Name, W: Weather> Worker<J, W> {
     // The call that the step answers gets its receipt.
     fn answer_by<R: Wait>(&mut self, rt: &R, stamp: &Stamp) {
         if let Some((call, receipt)) = self.waiting.take_answered(stamp) {
-            answer(rt, &call.back, Ok(receipt));
+            self.paths.answer(rt, call.process(), Ok(receipt));
         }
     }
 
@@ -386,21 +393,22 @@ impl<J: Name, W: Weather> Worker<J, W> {
     // Each open call ends without a reply, as its node was declared failed.
     fn kill_all<R: Wait>(&mut self, rt: &R, alloc: Global) {
         for call in self.waiting.take_all(alloc) {
-            answer(rt, &call.back, Err(call.killed()));
+            self.paths.answer(rt, call.process(), Err(call.killed()));
         }
     }
 
     // The worker ends, and leaves each open call without an answer.
     fn leave_all<R: Wait>(&mut self, rt: &R, alloc: Global) {
         for call in self.waiting.take_all(alloc) {
-            answer(rt, &call.back, Err(call.unanswered()));
+            let unanswered = Err(call.unanswered());
+            self.paths.answer(rt, call.process(), unanswered);
         }
     }
 
     // Each open call ends without a reply.
     fn end_all<R: Wait>(&mut self, rt: &R, alloc: Global, why: CallError) {
         for call in self.waiting.take_all(alloc) {
-            answer(rt, &call.back, Err(why));
+            self.paths.answer(rt, call.process(), Err(why));
         }
     }
 }
@@ -412,11 +420,6 @@ fn may_release(op: &Op) -> bool {
         Op::Set { mode, .. } | Op::Wait { mode, .. } => *mode == Mode::Read,
         _ => false,
     }
-}
-
-// Answers a client. One that is gone needs no answer.
-fn answer<R: Wait>(rt: &R, back: &Sender<Answer>, answer: Answer) {
-    let _ = back.send(rt, answer);
 }
 
 // Prepares a step of the seat with no lock, and commits it. That memory is refused for it is noted.

@@ -1,5 +1,5 @@
 -- Lemmas on texts of journals that are audited.
-use Rattle.std.proofs.Common.{◌≡◌, ℕ, ◌≤◌, List, Option, Some, length, inr, arith, Result, Ok, Err}
+use Rattle.std.proofs.Common.{ℕ, ◌≤◌, List, Option, Some, inr, arith, Result, Ok, Err}
 use Rattle.std.specs.Prelude.{◌≢◌, IfErr, IsUtf8}
 use Rattle.cluster_core.specs.Journals.{JournalFields}
 use Rattle.cluster_core.specs.World.{journal_limit}

@@ -1,5 +1,5 @@
 -- What is shown of the schedules of a script, and why nothing is.
-use Rattle.std.specs.Prelude.{◌≡◌, ℕ, ◌⊎◌, Bool, true, false, List, string_bytes, Option}
+use Rattle.std.specs.Prelude.{◌≡◌, ℕ, Bool, true, false, List, string_bytes, Option}
 use Rattle.explorer.specs.declared.explored.Explored.{Explored}
 use Rattle.explorer.specs.Explores.{Explores}
 use Rattle.explorer.specs.Schedules.{HasFullSchedule, IsScheduleOf, numbered}
@@ -9,10 +9,11 @@ use Rattle.lockscript.specs.Scripts.{ScriptFields}
 use Rattle.lockscript.specs.ThreadLines.{IsBadOnThreads, IsForThreads}
 use Rattle.player.specs.Played.{ComesTo, PlayedState}
 use Rattle.replay.specs.declared.fault.Fault.{Fault}
-use Rattle.replay.specs.declared.fault.Fault.TheVariants.{BadLine, CannotRead, NoMemory, JournalFull}
+use Rattle.replay.specs.declared.fault.Fault.TheVariants.{BadLine, NoMemory, JournalFull}
 use Rattle.replay.specs.declared.shown.Shown.{Shown}
 use Rattle.replay.specs.declared.shown.Shown.TheVariants.{Text, Wanting, Partial, Yes, No}
-use Rattle.replay.specs.Stores.{HasText, HasNoText}
+use Rattle.replay.specs.Faults.{IsFileFault}
+use Rattle.replay.specs.Stores.{HasText}
 use Rattle.replay.specs.Threads.{IsTaken}
 
 -- the text is a script of a schedule of this one, which comes to something
@@ -47,10 +48,13 @@ IsExploreTextFault failures text NoMemory = (s : ScriptFields) × IsForThreads t
 IsExploreTextFault failures text JournalFull = (s : ScriptFields) × IsForThreads text s × HasFullSchedule failures s
 IsExploreTextFault failures text fault = ⊥
 
--- the same of a file: no text, or what is at fault in it; memory is short where `RanShort` says it, or for a script that threads take
+-- the same of the script of a file
+abbrev pub ExploreFault : Bool → (Option (List ℕ) → Type 0) → Fault → Type 0
+ExploreFault failures Holds (BadLine line) = HasText Holds (λ text. IsBadOnThreads text line)
+ExploreFault failures Holds NoMemory = IsTaken Holds
+ExploreFault failures Holds JournalFull = (s : ScriptFields) × HasText Holds (λ text. IsForThreads text s) × HasFullSchedule failures s
+ExploreFault failures Holds fault = ⊥
+
+-- that, or the file has no text, or memory is short where `RanShort` says it
 abbrev pub IsExploreFault : Bool → (Option (List ℕ) → Type 0) → Type 0 → List ℕ → Fault → Type 0
-IsExploreFault failures Holds RanShort path (CannotRead named) = (named.now ≡ path) × HasNoText Holds
-IsExploreFault failures Holds RanShort path (BadLine line) = HasText Holds (λ text. IsBadOnThreads text line)
-IsExploreFault failures Holds RanShort path NoMemory = RanShort ⊎ IsTaken Holds
-IsExploreFault failures Holds RanShort path JournalFull = (s : ScriptFields) × HasText Holds (λ text. IsForThreads text s) × HasFullSchedule failures s
-IsExploreFault failures Holds RanShort path fault = ⊥
+IsExploreFault failures Holds RanShort path = IsFileFault Holds RanShort path (ExploreFault failures Holds)

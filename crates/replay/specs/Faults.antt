@@ -36,21 +36,33 @@ IsUnread Holds RanShort path (CannotRead named) = (named.now ≡ path) × Holds 
 IsUnread Holds RanShort path NoMemory = RanShort
 IsUnread Holds RanShort path fault = ⊥
 
--- why the script of the file is not run to its end: no text, a bad line, a full journal; memory is short where `RanShort` says it, or for the run of a script
-abbrev pub IsScriptFault : (Option (List ℕ) → Type 0) → Type 0 → List ℕ → Fault → Type 0
-IsScriptFault Holds RanShort path (BadLine line) = HasText Holds (λ text. scripts.IsFirstBad text line)
-IsScriptFault Holds RanShort path (CannotRead named) = (named.now ≡ path) × HasNoText Holds
-IsScriptFault Holds RanShort path NoMemory = RanShort ⊎ ((script : scripts.ScriptFields) × HasScript Holds script)
-IsScriptFault Holds RanShort path JournalFull = (script : scripts.ScriptFields) × HasScript Holds script × FillsJournal script.shape script.lines
-IsScriptFault Holds RanShort path fault = ⊥
+-- a fault at a file of this path: it has no text, memory is short where `RanShort` says it, or `Told` allows the fault, which may be short memory too
+abbrev pub IsFileFault : (Option (List ℕ) → Type 0) → Type 0 → List ℕ → (Fault → Type 0) → Fault → Type 0
+IsFileFault Holds RanShort path Told (CannotRead named) = (named.now ≡ path) × HasNoText Holds
+IsFileFault Holds RanShort path Told NoMemory = RanShort ⊎ Told NoMemory
+IsFileFault Holds RanShort path Told fault = Told fault
 
--- why the script of the file is not run to its end on threads: no text, a bad line, a full journal; memory is short where `RanShort` says it, or for the run of a script that threads take
+-- why the script of the file is not run to its end: a bad line, a full journal, or short memory for the run of a script
+abbrev pub ScriptFault : (Option (List ℕ) → Type 0) → Fault → Type 0
+ScriptFault Holds (BadLine line) = HasText Holds (λ text. scripts.IsFirstBad text line)
+ScriptFault Holds NoMemory = (script : scripts.ScriptFields) × HasScript Holds script
+ScriptFault Holds JournalFull = (script : scripts.ScriptFields) × HasScript Holds script × FillsJournal script.shape script.lines
+ScriptFault Holds fault = ⊥
+
+-- that, or the file has no text, or memory is short where `RanShort` says it
+abbrev pub IsScriptFault : (Option (List ℕ) → Type 0) → Type 0 → List ℕ → Fault → Type 0
+IsScriptFault Holds RanShort path = IsFileFault Holds RanShort path (ScriptFault Holds)
+
+-- why the script of the file is not run to its end on threads: a bad line, a full journal, or short memory for the run of a script that threads take
+abbrev pub ThreadsFault : (Option (List ℕ) → Type 0) → Fault → Type 0
+ThreadsFault Holds (BadLine line) = HasText Holds (λ text. IsBadOnThreads text line)
+ThreadsFault Holds NoMemory = IsTaken Holds
+ThreadsFault Holds JournalFull = FillsOnThreads Holds
+ThreadsFault Holds fault = ⊥
+
+-- that, or the file has no text, or memory is short where `RanShort` says it
 abbrev pub IsThreadsFault : (Option (List ℕ) → Type 0) → Type 0 → List ℕ → Fault → Type 0
-IsThreadsFault Holds RanShort path (BadLine line) = HasText Holds (λ text. IsBadOnThreads text line)
-IsThreadsFault Holds RanShort path (CannotRead named) = (named.now ≡ path) × HasNoText Holds
-IsThreadsFault Holds RanShort path NoMemory = RanShort ⊎ IsTaken Holds
-IsThreadsFault Holds RanShort path JournalFull = FillsOnThreads Holds
-IsThreadsFault Holds RanShort path fault = ⊥
+IsThreadsFault Holds RanShort path = IsFileFault Holds RanShort path (ThreadsFault Holds)
 
 -- what is wrong in the text of a file of this path: of one that begins as a journal its first bad line, and of another its bad lines as a script
 abbrev pub IsFaulty : List ℕ → List ℕ → String Global → Type 0
@@ -64,12 +76,15 @@ IsCheckTextFault path text (Faulty report) = IsFaulty path text report
 IsCheckTextFault path text NoMemory = ⊤
 IsCheckTextFault path text fault = ⊥
 
--- why the file is not said to be a script or a journal: no text, or one in which something is wrong, which is reported; memory is short where `RanShort` says it, or for a text
+-- why the file is not said to be a script or a journal: something is wrong in its text, which is reported, or memory is short for it
+abbrev pub CheckFault : (Option (List ℕ) → Type 0) → List ℕ → Fault → Type 0
+CheckFault Holds path (Faulty report) = HasText Holds (λ text. IsFaulty path text report)
+CheckFault Holds path NoMemory = HasText Holds (λ text. ⊤)
+CheckFault Holds path fault = ⊥
+
+-- that, or the file has no text, or memory is short where `RanShort` says it
 abbrev pub IsCheckFault : (Option (List ℕ) → Type 0) → Type 0 → List ℕ → Fault → Type 0
-IsCheckFault Holds RanShort path (Faulty report) = HasText Holds (λ text. IsFaulty path text report)
-IsCheckFault Holds RanShort path (CannotRead named) = (named.now ≡ path) × HasNoText Holds
-IsCheckFault Holds RanShort path NoMemory = RanShort ⊎ HasText Holds (λ text. ⊤)
-IsCheckFault Holds RanShort path fault = ⊥
+IsCheckFault Holds RanShort path = IsFileFault Holds RanShort path (CheckFault Holds path)
 
 -- why the journal that the text writes is not audited: a bad line, or too many entries; memory is short for the audit of one that has not too many
 abbrev pub IsTextFault : List ℕ → Fault → Type 0
@@ -78,13 +93,16 @@ IsTextFault text NoMemory = (j : JournalFields) × WritesFew text j
 IsTextFault text JournalFull = (j : JournalFields) × readings.WritesJournal text j.shape j.entries × (journal_limit < length j.entries)
 IsTextFault text fault = ⊥
 
--- why the journal of the file is not audited: no text, a bad line, too many entries; memory is short where `RanShort` says it, or for the audit of a journal that has not too many
+-- why the journal of the file is not audited: a bad line, too many entries, or short memory for the audit of a journal that has not too many
+abbrev pub JournalFault : (Option (List ℕ) → Type 0) → Fault → Type 0
+JournalFault Holds (BadLine line) = HasText Holds (λ text. readings.IsFirstBad text line)
+JournalFault Holds NoMemory = (j : JournalFields) × HasJournal Holds j
+JournalFault Holds JournalFull = (j : JournalFields) × HasEntries Holds j × (journal_limit < length j.entries)
+JournalFault Holds fault = ⊥
+
+-- that, or the file has no text, or memory is short where `RanShort` says it
 abbrev pub IsJournalFault : (Option (List ℕ) → Type 0) → Type 0 → List ℕ → Fault → Type 0
-IsJournalFault Holds RanShort path (BadLine line) = HasText Holds (λ text. readings.IsFirstBad text line)
-IsJournalFault Holds RanShort path (CannotRead named) = (named.now ≡ path) × HasNoText Holds
-IsJournalFault Holds RanShort path NoMemory = RanShort ⊎ ((j : JournalFields) × HasJournal Holds j)
-IsJournalFault Holds RanShort path JournalFull = (j : JournalFields) × HasEntries Holds j × (journal_limit < length j.entries)
-IsJournalFault Holds RanShort path fault = ⊥
+IsJournalFault Holds RanShort path = IsFileFault Holds RanShort path (JournalFault Holds)
 
 -- why the journal that the text writes is none behind which a run goes on: version 1, a bad line, too many entries; memory is short for the audit of one that has not too many
 abbrev pub IsOldTextFault : List ℕ → Fault → Type 0
@@ -94,22 +112,28 @@ IsOldTextFault text NoMemory = (j : JournalFields) × WritesFew text j × (j.sha
 IsOldTextFault text JournalFull = (j : JournalFields) × readings.WritesJournal text j.shape j.entries × (j.shape.version ≡ Second) × (journal_limit < length j.entries)
 IsOldTextFault text fault = ⊥
 
--- why the journal of the file is none behind which a run goes on: no text, version 1, a bad line, too many entries; memory is short where `RanShort` says it, or for the audit of a journal that has not too many
-abbrev pub IsOldFault : (Option (List ℕ) → Type 0) → Type 0 → List ℕ → Fault → Type 0
-IsOldFault Holds RanShort path OldJournal = HasText Holds readings.IsOld
-IsOldFault Holds RanShort path (BadLine line) = HasText Holds (λ text. readings.IsFirstBad text line × ¬ (readings.IsOld text))
-IsOldFault Holds RanShort path (CannotRead named) = (named.now ≡ path) × HasNoText Holds
-IsOldFault Holds RanShort path NoMemory = RanShort ⊎ ((j : JournalFields) × HasNewJournal Holds j)
-IsOldFault Holds RanShort path JournalFull = (j : JournalFields) × HasEntries Holds j × (j.shape.version ≡ Second) × (journal_limit < length j.entries)
-IsOldFault Holds RanShort path fault = ⊥
+-- why the journal of the file is none behind which a run goes on: version 1, a bad line, too many entries, or short memory for the audit of a journal that has not too many
+abbrev pub OldFault : (Option (List ℕ) → Type 0) → Fault → Type 0
+OldFault Holds OldJournal = HasText Holds readings.IsOld
+OldFault Holds (BadLine line) = HasText Holds (λ text. readings.IsFirstBad text line × ¬ (readings.IsOld text))
+OldFault Holds NoMemory = (j : JournalFields) × HasNewJournal Holds j
+OldFault Holds JournalFull = (j : JournalFields) × HasEntries Holds j × (j.shape.version ≡ Second) × (journal_limit < length j.entries)
+OldFault Holds fault = ⊥
 
--- why the script of the file is not run to its end behind the run of a journal: no text, another cluster or a bad line, a full journal; memory is short where `RanShort` says it, or for the run of a script
+-- that, or the file has no text, or memory is short where `RanShort` says it
+abbrev pub IsOldFault : (Option (List ℕ) → Type 0) → Type 0 → List ℕ → Fault → Type 0
+IsOldFault Holds RanShort path = IsFileFault Holds RanShort path (OldFault Holds)
+
+-- why the script of the file is not run to its end behind the run of a journal: another cluster or a bad line, a full journal, or short memory for the run of a script
+abbrev pub BehindFault : JournalFields → (Option (List ℕ) → Type 0) → Fault → Type 0
+BehindFault j Holds (BadLine line) = HasText Holds (λ text. IsBadForShape j.shape text line)
+BehindFault j Holds NoMemory = (script : scripts.ScriptFields) × HasScriptFor Holds j.shape script
+BehindFault j Holds JournalFull = (script : scripts.ScriptFields) × HasScriptFor Holds j.shape script × FillsBehind j script.lines
+BehindFault j Holds fault = ⊥
+
+-- that, or the file has no text, or memory is short where `RanShort` says it
 abbrev pub IsBehindFault : JournalFields → (Option (List ℕ) → Type 0) → Type 0 → List ℕ → Fault → Type 0
-IsBehindFault j Holds RanShort path (BadLine line) = HasText Holds (λ text. IsBadForShape j.shape text line)
-IsBehindFault j Holds RanShort path (CannotRead named) = (named.now ≡ path) × HasNoText Holds
-IsBehindFault j Holds RanShort path NoMemory = RanShort ⊎ ((script : scripts.ScriptFields) × HasScriptFor Holds j.shape script)
-IsBehindFault j Holds RanShort path JournalFull = (script : scripts.ScriptFields) × HasScriptFor Holds j.shape script × FillsBehind j script.lines
-IsBehindFault j Holds RanShort path fault = ⊥
+IsBehindFault j Holds RanShort path = IsFileFault Holds RanShort path (BehindFault j Holds)
 
 -- its number or its path, as the user gave it
 abbrev pub fault_line : Fault → List ℕ

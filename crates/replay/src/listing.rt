@@ -19,7 +19,7 @@ use placement::history::History;
 use placement::placed::placed;
 use std::alloc::Global;
 
-/// The listing of the run of a journal, in which these lines were refused.
+/// The listing of the run of a journal that ends in this world, in which these lines were refused.
 ///
 /// # Errors
 /// `NoMemory` where a request for memory was refused.
@@ -27,12 +27,12 @@ use std::alloc::Global;
 pub(crate) fn listing_of_journal(
     alloc: Global,
     journal: &Journal,
+    world: World,
     refused: &[RefusedLine],
 ) -> Result<String, NoMemory>
-    ensures { IfOk result (λ text. (world : WorldState) × Leads (first_world journal.now.shape) journal.now.entries world
-        × IsListing (record { journal = journal.now; world = world; refused = refused.now }) (string_bytes text)) }
+    requires { EndsIn journal.now (world_state world) }
+    ensures { IfOk result (λ text. IsListing (state_of (record { journal = journal.now; world = world; refused = refused.now })) (string_bytes text)) }
 {
-    let world = World::after(alloc, journal)?;
     let (mut text, history) = listing_begun(alloc, journal, world, refused)?;
     push_history(&mut text, history.items())?;
     Ok(text)

@@ -32,7 +32,7 @@ pub(crate) fn run_on_threads<R: Threads + Wait + Clock + Sync, V: RunWatcher>(
     ensures full { IfErr result (λ error. error ≡ JournalFull → HasFullJournal script.now) }
 {
     match run_threads(rt, alloc, script, &OpenGate, seed, manner, watcher) {
-        Ok(run) => Ok(Threaded::new(alloc, &run)?),
+        Ok((run, world)) => Ok(Threaded::new(alloc, run, world)?),
         Err(RunError::NoMemory) => Err(PlayError::NoMemory),
         Err(RunError::JournalFull(_)) => Err(PlayError::JournalFull),
         Err(RunError::BadLine(_)) => unreachable!(),

@@ -1,13 +1,17 @@
 //! What came of a script on threads.
 ghost use Rattle.std.specs.Prelude.{◌≡◌, ◌++◌, codes, decimal, flat_map, string_bytes, IfOk, OnOk};
+ghost use Rattle.cluster_core.specs.Parts.{world_state};
+ghost use Rattle.journal_text.specs.Journals.{journal_text};
+ghost use Rattle.player.specs.Played.{EndsIn};
 ghost use Rattle.replay.specs.Threads.{ShowsThreads, Tells, ThreadedFields, open_line};
 
 use crate::counts::held_in;
 use crate::listing::listing_of_journal;
 use crate::shown::Shown;
 use actors::thread_run::ThreadRun;
+use cluster_core::journal::Journal;
+use cluster_core::world::World;
 use intervals::span_map::NoMemory;
-use journal_text::journal::print;
 use journal_text::laws::each_journal_is_read;
 use message_text::names::push_call;
 use model::call::CallId;
@@ -15,13 +19,13 @@ use std::alloc::{AllocError, Global};
 use std::fmt::Write;
 use std::marker::Model;
 
-/// What is told of a run on threads: the listing and the text of its journal, which is one of a run, how
+/// What is told of a run on threads: the listing, the journal, which is one of a run, how
 /// many of its calls were answered, of how many of these the journal holds the receipts, and a line for each
-/// call that is open where it was ended as stuck.
+/// call that is open where it was ended as stuck. Contracts see the journal's text.
 #[derive(Drop)]
 pub struct Threaded {
     listing: String,
-    journal: String,
+    journal: Journal,
     answered: u64,
     held: u64,
     stuck: String,
@@ -29,45 +33,48 @@ pub struct Threaded {
 
 impl Model for Threaded {
     ghost use Rattle.std.specs.Prelude.{string_bytes};
+    ghost use Rattle.journal_text.specs.Journals.{journal_text};
     ghost use Rattle.replay.specs.Threads.{IsThreaded, ThreadedFields};
 
     ghost Value = { ThreadedFields };
 
-    ghost view = { λ t. record { listing = string_bytes t.listing; journal = string_bytes t.journal; answered = t.answered; held = t.held; stuck = string_bytes t.stuck } };
+    ghost view = { λ t. record { listing = string_bytes t.listing; journal = journal_text t.journal.shape t.journal.entries; answered = t.answered; held = t.held; stuck = string_bytes t.stuck } };
 
-    ghost invariant = { λ t. IsThreaded (record { listing = string_bytes t.listing; journal = string_bytes t.journal; answered = t.answered; held = t.held; stuck = string_bytes t.stuck }) };
+    ghost invariant = { λ t. IsThreaded (record { listing = string_bytes t.listing; journal = journal_text t.journal.shape t.journal.entries; answered = t.answered; held = t.held; stuck = string_bytes t.stuck }) };
 }
 
 impl Threaded {
-    /// What is told of the run.
+    /// What is told of the run, which ends in this world.
     ///
     /// # Errors
     /// `NoMemory` where a request for memory was refused.
-    pub fn new(alloc: Global, run: &ThreadRun) -> Result<Threaded, NoMemory>
-        ensures { IfOk result (Tells run.now) }
+    pub fn new(alloc: Global, run: ThreadRun, world: World) -> Result<Threaded, NoMemory>
+        requires { EndsIn run.journal (world_state world) }
+        ensures { IfOk result (Tells run) }
     {
         let journal = run.journal();
         each_journal_is_read(journal);
-        let listing = listing_of_journal(alloc, journal, run.refused())?;
-        let printed = print(alloc, &journal.shape(), journal.entries())?;
+        let listing = listing_of_journal(alloc, journal, world, run.refused())?;
         let receipts = run.receipts();
         let held = held_in(journal, receipts);
+        let answered = receipts.len() as u64;
+        let stuck = open_lines(alloc, run.open_calls())?;
         Ok(Threaded {
             listing,
-            journal: printed,
-            answered: receipts.len() as u64,
+            journal: run.into_journal(),
+            answered,
             held,
-            stuck: open_lines(alloc, run.open_calls())?,
+            stuck,
         })
     }
 
-    /// What is shown of it, and the text of its journal.
+    /// What is shown of it, and its journal.
     ///
     /// # Errors
     /// Where a request for memory was refused.
-    pub(crate) fn into_texts(self) -> Result<(Shown, String), AllocError>
+    pub(crate) fn into_shown(self) -> Result<(Shown, Journal), AllocError>
         ensures shown { IfOk result (λ made. ShowsThreads self made.0) }
-        ensures journal { IfOk result (λ made. string_bytes made.1 ≡ self.journal) }
+        ensures journal { IfOk result (λ made. journal_text made.1.shape made.1.entries ≡ self.journal) }
     {
         let Threaded {
             listing,

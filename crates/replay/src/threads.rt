@@ -16,6 +16,7 @@ use crate::store::Store;
 use crate::threaded::Threaded;
 use actors::manner::Manner;
 use actors::run_watcher::RunWatcher;
+use journal_text::journal::into_text;
 use lockscript::script::Script;
 use std::alloc::Global;
 use std::sync::Wait;
@@ -58,7 +59,7 @@ fn run_threads<'a, R: Threads + Wait + Clock + Sync, S: Store, V: RunWatcher>(
         × IsFault (S.holds store.old) (S.ran_short store.new) (S.refuses store.new) (threads path.now seed manner.may_stop manner.no_join None) (S.holds store.new) fault) }
 {
     let threaded = threaded_of(rt, alloc, store, path, seed, manner, watcher)?;
-    let (shown, _) = threaded.into_texts()?;
+    let (shown, _) = threaded.into_shown()?;
     Ok(shown)
 }
 
@@ -78,8 +79,9 @@ fn run_threads_with_journal<'a, R: Threads + Wait + Clock + Sync, S: Store, V: R
         × IsFault (S.holds store.old) (S.ran_short store.new) (S.refuses store.new) (threads path.now seed manner.may_stop manner.no_join (Some file.now)) (S.holds store.new) fault) }
 {
     let threaded = threaded_of(rt, alloc, store, path, seed, manner, watcher)?;
-    let (shown, journal) = threaded.into_texts()?;
-    match store.write(file, journal.as_bytes()) {
+    let (shown, journal) = threaded.into_shown()?;
+    let text = into_text(alloc, journal)?;
+    match store.write(file, text.as_bytes()) {
         Ok(()) => Ok(shown),
         Err(_) => Err(Fault::CannotWrite(file)),
     }

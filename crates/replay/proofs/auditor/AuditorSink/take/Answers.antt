@@ -1,4 +1,4 @@
-use Rattle.std.proofs.Common.{◌≡◌, sym}
+use Rattle.std.proofs.Common.{sym}
 use Rattle.cluster_core.specs.Parts.{world_state}
 use Rattle.replay.proofs.Audits.{counts-more, tells-more, tells-next, tells-wrong}
 use Rattle.replay.proofs.auditor.AuditorSink.take.Goals as goal
