@@ -1,14 +1,14 @@
 #!/bin/sh
 # Times `threads`: a client on each of 1, 2, 4 and 8 nodes locks and unlocks ten bytes of a file of its own, which its node's
 # token covers from the first lock on; alone, and where 100 other processes of its node have 100 regions each in that file.
-# Prints calls per second of the whole command (the run, its listing and its audit) by
-# elapsed time, the fastest of three, beside those of fcntl(F_SETLK) on a file of this machine by one process, and beside
-# what the form of such a cluster allows (bench/limit.c: a mailbox, a thread for each node, one mutex, an answer, and no locks),
-# both in the same minute; and how many times longer than in that form a call takes. Another run of each script with a tenth of the calls is taken off, so that what the start
-# and the end cost has no part in it.
-# usage: bench/threads.sh [CALLS]   (of each client; some 20,000)
+# Prints, each of the fastest of three runs, how many calls a second are answered while the clients call (`bench/pace`), beside
+# those of fcntl(F_SETLK) on a file of this machine by one process, and beside what the form of such a cluster allows
+# (bench/limit.c: a mailbox, a thread for each node, one mutex, an answer, and no locks), both in the same minute; how many times
+# longer than in that form a call takes; and the calls a second of the whole command, those that set the regions among them. It
+# also reads the script, looks at what came of it, and prints the listing.
+# usage: bench/threads.sh [CALLS]   (of all clients together; some 960,000)
 here=$(dirname -- "$(readlink -f -- "$0")") || exit 1
-calls=${1:-20000}
+calls=${1:-960000}
 folder=$(mktemp -d) || exit 1
 trap 'rm -rf "$folder"' EXIT
 "$here/../lockreplay" --help >/dev/null || exit 1
@@ -36,33 +36,33 @@ script() {
     }'
 }
 
-# The seconds of the fastest of three runs of a script, by the clock.
-seconds() {
-    best=
-    for _ in 1 2 3; do
-        before=$(date +%s%N)
-        "$program" threads "$1" >"$folder/listing" || exit 1
-        after=$(date +%s%N)
-        tail -n 1 "$folder/listing" | grep -q '^audit yes$' || exit 1
-        took=$((after - before))
-        if [ -z "$best" ] || [ "$took" -lt "$best" ]; then best=$took; fi
-    done
-    echo "$best"
+# The greater of two numbers.
+greater() {
+    if [ "$1" -gt "$2" ]; then echo "$1"; else echo "$2"; fi
 }
 
-echo "nodes  owners  calls    calls/s   fcntl calls/s  limit calls/s  times the limit"
+echo "nodes  owners  calls/s  fcntl calls/s  limit calls/s  times the limit  calls/s of the command"
 for owners in 0 100; do
     for nodes in 1 2 4 8; do
-        script "$nodes" "$calls" "$owners" >"$folder/whole.lock"
-        script "$nodes" "$((calls / 10))" "$owners" >"$folder/part.lock"
-        whole=$(seconds "$folder/whole.lock") || exit 1
-        part=$(seconds "$folder/part.lock") || exit 1
-        machine=$("$folder/fcntl" "$folder/file" 2000000) || exit 1
-        limit=$("$folder/limit" "$nodes" 100000) || exit 1
-        echo "$nodes $calls $whole $part $machine $owners $limit" | awk '{
-            made = $1 * ($2 - int($2 / 10))
-            rate = made / (($3 - $4) / 1e9)
-            printf "%-6d %-7d %-8d %-9.0f %-14.0f %-14.0f %.2f\n", $1, $6, $1 * $2, rate, $5, $7, $7 / rate
+        each=$((calls / nodes))
+        script "$nodes" "$each" "$owners" >"$folder/run.lock"
+        all=$(grep -c '^call' "$folder/run.lock")
+        best=0
+        whole=0
+        limit=0
+        machine=0
+        for _ in 1 2 3; do
+            paced=$("$here/pace" "$folder/listing" "$program" threads "$folder/run.lock") || exit 1
+            tail -n 1 "$folder/listing" | grep -q '^audit yes$' || exit 1
+            best=$(greater "$best" "${paced% *}")
+            whole=$(greater "$whole" "$(echo "$all ${paced#* }" | awk '{ printf "%.0f", $1 / $2 }')")
+            form=$("$folder/limit" "$nodes" 100000) || exit 1
+            limit=$(greater "$limit" "$form")
+            kernel=$("$folder/fcntl" "$folder/file" 2000000) || exit 1
+            machine=$(greater "$machine" "${kernel%.*}")
+        done
+        echo "$nodes $owners $best $machine $limit $whole" | awk '{
+            printf "%-6d %-7d %-8d %-14d %-14d %-16.2f %d\n", $1, $2, $3, $4, $5, $5 / $3, $6
         }'
     done
 done
