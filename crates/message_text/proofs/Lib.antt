@@ -8,8 +8,9 @@ pub mod SpanParts
 pub mod Words
 pub mod Commands
 pub mod ReportWords
+pub mod Feedless
+pub mod FieldTexts
+pub mod Variants
 pub mod MessageKinds
 pub mod ReportFields
-pub mod Feedless
-pub mod FeedlessMessages
 pub mod TextLaws

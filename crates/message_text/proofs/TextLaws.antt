@@ -6,12 +6,11 @@ use Rattle.texts.specs.Reads.{Reads}
 use Rattle.message_text.specs.OneText.{MessagesHaveTexts}
 use Rattle.message_text.specs.Served.{IsServedMessage}
 use Rattle.message_text.specs.Texts.{message_text}
-use Rattle.message_text.proofs.FeedlessMessages.{feedless-message}
-use Rattle.message_text.proofs.MessageKinds.{apart-message}
+use Rattle.message_text.proofs.MessageKinds.{message}
 
 read-again : (version : Version) (m : Message) → IsServedMessage version m → (found : Option Message) → Reads (message_text version) (IsServedMessage version) (message_text version m) found → found ≡ Some m
 read-again version m fits None none = absurd (none m fits refl)
-read-again version m fits (Some other) some = ap Some (apart-message version other m some.0 fits (sym some.1))
+read-again version m fits (Some other) some = ap Some ((message version).apart other m some.0 fits (sym some.1))
 
 pub messages_have_texts : (version : Version) → MessagesHaveTexts version
-messages_have_texts version = record { one_value = apart-message version; is_read = read-again version; is_line = feedless-message version }
+messages_have_texts version = record { one_value = (message version).apart; is_read = read-again version; is_line = (message version).feedless }

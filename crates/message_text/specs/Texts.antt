@@ -1,5 +1,5 @@
 -- Texts of messages.
-use Rattle.std.specs.Prelude.{ℕ, ◌-◌, List, ◌∷◌, ◌++◌, codes, decimal, flat_map, length}
+use Rattle.std.specs.Prelude.{Bool, false, true, ℕ, ◌-◌, List, ◌∷◌, ◌++◌, codes, decimal, flat_map, length}
 use Rattle.intervals.specs.Bytes.{Range}
 use Rattle.messages.specs.Epochs.{begin_of, epoch_of}
 use Rattle.messages.specs.Wants.{Wants}
@@ -65,3 +65,11 @@ message_text version (Hello file number holder) =
     codes "hello " ++ pair_text decimal (pair_text epoch_text holder_text) (file, (number, holder))
 message_text version (Report file number holder runs) =
     codes "report " ++ pair_text decimal (pair_text epoch_text (pair_text holder_text runs_text)) (file, (number, (holder, runs)))
+
+-- a token is taken back, its holder answers, or a call is told of the answer
+abbrev pub is_about_revoke : Message → Bool
+is_about_revoke (Revoke file number holder call mode wanted) = true
+is_about_revoke (Released file number holder call span) = true
+is_about_revoke (Conflict file number holder call lock) = true
+is_about_revoke (Deny file call holder number lock) = true
+is_about_revoke message = false

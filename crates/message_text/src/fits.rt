@@ -58,38 +58,6 @@ pub fn lock_fits(lock: LockInfo)
     let _node = lock.owner.node;
 }
 
-fn request_fits(call: CallId, wanted: Wanted)
-    ensures call { IsCall call }
-    ensures wanted { AreServedWants wanted }
-{
-    call_fits(call);
-    wants_fit(wanted);
-}
-
-fn revoke_fits(number: CommandNumber, call: CallId, wanted: Wanted)
-    ensures command { IsCommand number × IsCall call }
-    ensures wanted { AreServedWants wanted }
-{
-    command_fits(number, call);
-    wants_fit(wanted);
-}
-
-fn grant_fits(number: CommandNumber, call: CallId, span: Span)
-    ensures command { IsCommand number × IsCall call }
-    ensures span { IsServedSpan span }
-{
-    command_fits(number, call);
-    span_fits(span);
-}
-
-fn conflict_fits(number: CommandNumber, call: CallId, lock: LockInfo)
-    ensures command { IsCommand number × IsCall call }
-    ensures lock { IsServedLock lock }
-{
-    command_fits(number, call);
-    lock_fits(lock);
-}
-
 fn epoch_fits(number: EpochNumber)
     ensures { IsRebuilt number }
 {
@@ -117,47 +85,25 @@ pub fn message_fits(message: &Message)
     let _file = message.file();
     host_fits(message.host());
     match message {
-        Request { call, wanted, .. } => request_fits(*call, *wanted),
-        Revoke {
-            number,
-            call,
-            wanted,
-            ..
-        } => revoke_fits(*number, *call, *wanted),
-        Taken { number, call, .. } => command_fits(*number, *call),
-        Grant {
-            number,
-            call,
-            span,
-            ..
-        }
-        | Released {
-            number,
-            call,
-            span,
-            ..
-        } => grant_fits(*number, *call, *span),
-        Conflict {
-            number,
-            call,
-            lock,
-            ..
-        } => conflict_fits(*number, *call, *lock),
-        Deny {
-            holder,
-            number,
-            call,
-            lock,
-            ..
-        } => {
-            host_fits(*holder);
-            conflict_fits(*number, *call, *lock);
-        }
+        Request { call, .. } => call_fits(*call),
+        Grant { number, call, .. }
+        | Revoke { number, call, .. }
+        | Taken { number, call, .. }
+        | Released { number, call, .. }
+        | Conflict { number, call, .. }
+        | Deny { number, call, .. } => command_fits(*number, *call),
         Freed { .. } => (),
-        Hello { number, .. } => epoch_fits(*number),
-        Report { number, runs, .. } => {
-            epoch_fits(*number);
-            runs_fit(runs);
+        Hello { number, .. } | Report { number, .. } => epoch_fits(*number),
+    }
+    match message {
+        Request { wanted, .. } | Revoke { wanted, .. } => wants_fit(*wanted),
+        Grant { span, .. } | Released { span, .. } => span_fits(*span),
+        Conflict { lock, .. } => lock_fits(*lock),
+        Deny { holder, lock, .. } => {
+            host_fits(*holder);
+            lock_fits(*lock);
         }
+        Report { runs, .. } => runs_fit(runs),
+        Taken { .. } | Freed { .. } | Hello { .. } => (),
     }
 }

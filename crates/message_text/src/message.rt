@@ -37,17 +37,7 @@ pub fn message_of(version: Version, text: &str) -> Option<WrittenMessage<'_>>
 pub fn message_in<V: Edition>(text: &str) -> Option<WrittenMessage<'_>>
     ensures { Reads (message_text V.version) (IsServedMessage V.version) text.now result }
 {
-    match split_field(text) {
-        Some((word, operands)) => message_with::<V>(word, operands),
-        None => None,
-    }
-}
-
-// The message of this word, with these operands.
-fn message_with<'a, V: Edition>(word: &str, operands: &'a str) -> Option<WrittenMessage<'a>>
-    requires { Lacks space word.now }
-    ensures { Reads (message_text V.version) (IsServedMessage V.version) (word.now ++ space ∷ operands.now) result }
-{
+    let (word, operands) = split_field(text)?;
     match word {
         "request" => request_of::<V>(operands),
         "grant" => grant_of::<V>(operands),

@@ -1,6 +1,8 @@
 //! Texts of messages.
-ghost use Rattle.std.specs.Prelude.{◌≡◌, ◌++◌, string_bytes, OnOk};
-ghost use Rattle.message_text.specs.Texts.{message_text};
+ghost use Rattle.std.specs.Prelude.{◌≡◌, ◌++◌, codes, decimal, string_bytes, true, OnOk};
+ghost use Rattle.texts.specs.Reads.{pair_text};
+ghost use Rattle.message_text.specs.Names.{holder_text};
+ghost use Rattle.message_text.specs.Texts.{epoch_text, is_about_revoke, message_text, runs_text};
 
 use crate::edition::{Edition, FirstEdition, SecondEdition};
 use crate::operands::{
@@ -8,8 +10,15 @@ use crate::operands::{
     RequestFields, RevokeFields, TakenFields,
 };
 use crate::reports::push_runs;
+use messages::epoch_number::EpochNumber;
+use messages::file_number::FileNumber;
 use messages::message::Message;
+use messages::message::Message::{
+    Conflict, Deny, Freed, Grant, Hello, Released, Report, Request, Revoke, Taken,
+};
+use messages::token_run::TokenRuns;
 use messages::version::Version;
+use model::host::Host;
 use std::alloc::AllocError;
 use texts::text::Text;
 
@@ -30,28 +39,49 @@ pub fn push_message(out: &mut String, version: Version, message: &Message) -> Re
 fn push_message_in<V: Edition>(out: &mut String, message: &Message) -> Result<(), AllocError>
     ensures { OnOk result (string_bytes out.new ≡ string_bytes out.old ++ message_text V.version message.now) }
 {
-    match message {
-        Message::Request {
+    match *message {
+        Request {
             file,
             call,
             urgency,
             mode,
             wanted,
-        } => {
-            out.push_str("request ")?;
-            RequestFields::write(&(*file, (*call, (*urgency, (*mode, *wanted)))), out)
+        } => push::<RequestFields>(out, "request ", &(file, (call, (urgency, (mode, wanted))))),
+        Taken { file, number, call } => {
+            push::<TakenFields<V>>(out, "taken ", &(file, (number, call)))
         }
-        Message::Grant {
+        Grant {
             file,
             number,
             call,
             mode,
             span,
-        } => {
-            out.push_str("grant ")?;
-            <GrantFields<V>>::write(&(*file, (*number, (*call, (*mode, *span)))), out)
+        } => push::<GrantFields<V>>(out, "grant ", &(file, (number, (call, (mode, span))))),
+        Revoke { .. } | Released { .. } | Conflict { .. } | Deny { .. } => {
+            push_of_revoke::<V>(out, message)
         }
-        Message::Revoke {
+        Freed { file, holder } => push::<FreedFields>(out, "freed ", &(file, holder)),
+        Hello {
+            file,
+            number,
+            holder,
+        } => push::<HelloFields>(out, "hello ", &(file, (number, holder))),
+        Report {
+            file,
+            number,
+            holder,
+            ref runs,
+        } => push_report(out, &(file, (number, holder)), runs),
+    }
+}
+
+// Writes a revoke, its answer, or what a call is told of that.
+fn push_of_revoke<V: Edition>(out: &mut String, message: &Message) -> Result<(), AllocError>
+    requires { is_about_revoke message.now ≡ true }
+    ensures { OnOk result (string_bytes out.new ≡ string_bytes out.old ++ message_text V.version message.now) }
+{
+    match *message {
+        Revoke {
             file,
             number,
             holder,
@@ -59,66 +89,54 @@ fn push_message_in<V: Edition>(out: &mut String, message: &Message) -> Result<()
             mode,
             wanted,
         } => {
-            out.push_str("revoke ")?;
-            let fields = (*file, (*number, (*holder, (*call, (*mode, *wanted)))));
-            <RevokeFields<V>>::write(&fields, out)
+            let fields = (file, (number, (holder, (call, (mode, wanted)))));
+            push::<RevokeFields<V>>(out, "revoke ", &fields)
         }
-        Message::Taken { file, number, call } => {
-            out.push_str("taken ")?;
-            <TakenFields<V>>::write(&(*file, (*number, *call)), out)
-        }
-        Message::Released {
+        Released {
             file,
             number,
             holder,
             call,
             span,
-        } => {
-            out.push_str("released ")?;
-            <ReleasedFields<V>>::write(&(*file, (*number, (*holder, (*call, *span)))), out)
-        }
-        Message::Conflict {
+        } => push::<ReleasedFields<V>>(out, "released ", &(file, (number, (holder, (call, span))))),
+        Conflict {
             file,
             number,
             holder,
             call,
             lock,
-        } => {
-            out.push_str("conflict ")?;
-            <ConflictFields<V>>::write(&(*file, (*number, (*holder, (*call, *lock)))), out)
-        }
-        Message::Deny {
+        } => push::<ConflictFields<V>>(out, "conflict ", &(file, (number, (holder, (call, lock))))),
+        Deny {
             file,
             call,
             holder,
             number,
             lock,
-        } => {
-            out.push_str("deny ")?;
-            <DenyFields<V>>::write(&(*file, (*call, (*holder, (*number, *lock)))), out)
-        }
-        Message::Freed { file, holder } => {
-            out.push_str("freed ")?;
-            FreedFields::write(&(*file, *holder), out)
-        }
-        Message::Hello {
-            file,
-            number,
-            holder,
-        } => {
-            out.push_str("hello ")?;
-            HelloFields::write(&(*file, (*number, *holder)), out)
-        }
-        Message::Report {
-            file,
-            number,
-            holder,
-            runs,
-        } => {
-            out.push_str("report ")?;
-            HelloFields::write(&(*file, (*number, *holder)), out)?;
-            out.push_str(" ")?;
-            push_runs(out, runs)
-        }
+        } => push::<DenyFields<V>>(out, "deny ", &(file, (call, (holder, (number, lock))))),
+        _ => unreachable!(),
     }
+}
+
+/// Writes a front, and fields behind it.
+///
+/// # Errors
+/// `AllocError` where a request for memory was refused.
+pub fn push<F: Text>(out: &mut String, front: &str, fields: &F::Value) -> Result<(), AllocError>
+    ensures { OnOk result (string_bytes out.new ≡ string_bytes out.old ++ (front.now ++ F.text_of fields.now)) }
+{
+    out.push_str(front)?;
+    F::write(fields, out)
+}
+
+// Writes a report, of which the fields before the runs are given as those of a hello.
+fn push_report(
+    out: &mut String,
+    about: &(FileNumber, (EpochNumber, Host)),
+    runs: &TokenRuns,
+) -> Result<(), AllocError>
+    ensures { OnOk result (string_bytes out.new ≡ string_bytes out.old ++ (codes "report " ++ pair_text decimal (pair_text epoch_text (pair_text holder_text runs_text)) (about.now.0, (about.now.1.0, (about.now.1.1, runs.now))))) }
+{
+    push::<HelloFields>(out, "report ", about)?;
+    out.push_str(" ")?;
+    push_runs(out, runs)
 }

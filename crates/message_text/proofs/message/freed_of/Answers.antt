@@ -1,7 +1,6 @@
-use Rattle.message_text.proofs.Fronts.{none-of_kind}
-use Rattle.message_text.proofs.MessageKinds.{messages}
-use Rattle.message_text.proofs.MessageKinds.MessageKind.{frees}
+use Rattle.message_text.proofs.MessageKinds.{frees}
+use Rattle.message_text.proofs.Variants.{none-of}
 use Rattle.message_text.proofs.message.freed_of.Goals as goal
 
 pub returns-in_err-file : goal.returns-in_err-file
-returns-in_err-file g c = rw c.from_residual.ensures (none-of_kind (messages g.V.Edition.version) frees c.args.operands.now c.in_err-file.ensures)
+returns-in_err-file g c = rw c.from_residual.ensures (none-of (frees g.V.Edition.version) c.args.operands.now c.in_err-file.ensures)
