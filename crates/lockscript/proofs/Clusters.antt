@@ -11,9 +11,9 @@ use Rattle.messages.specs.declared.version.Version.TheVariants.{Second}
 use Rattle.texts.specs.Reads.{Reads, Both, after_text, pair_text}
 use Rattle.lockscript.specs.Scripts.{IsScriptShape, IsShapeOf, counts_text, shape_text}
 use Rattle.texts.specs.Words.{policy_text}
-use Rattle.texts.proofs.FieldValues.{apart-number, apart-policy}
-use Rattle.texts.proofs.Pairs.{AreApart, apart-after, apart-pair, cancel-front}
-use Rattle.message_text.proofs.SingleWords.{file_words, node_words}
+use Rattle.texts.proofs.Pairs.{AreApart, cancel-front}
+use Rattle.message_text.proofs.FieldTexts.{AreTexts, both, file}
+use Rattle.lockscript.proofs.FieldTexts.{behind, node, policy as policies}
 
 abbrev pub IsCounts : ℕ × (ℕ × Policy) → Type 0
 IsCounts = Both (IsNumber most_nodes) (Both (IsNumber most_files) (λ _. ⊤))
@@ -22,12 +22,8 @@ IsCounts = Both (IsNumber most_nodes) (Both (IsNumber most_files) (λ _. ⊤))
 abbrev pub parts_text : ℕ × (ℕ × Policy) → List ℕ
 parts_text = pair_text decimal (after_text (codes "files ") (pair_text decimal (after_text (codes "policy ") policy_text)))
 
-apart-counts : AreApart parts_text IsCounts
-apart-counts = apart-pair decimal (after_text (codes "files ") (pair_text decimal (after_text (codes "policy ") policy_text))) (IsNumber most_nodes) (Both (IsNumber most_files) (λ _. ⊤))
-    node_words (apart-number most_nodes (omega arith))
-    (apart-after (codes "files ") (pair_text decimal (after_text (codes "policy ") policy_text)) (Both (IsNumber most_files) (λ _. ⊤))
-    (apart-pair decimal (after_text (codes "policy ") policy_text) (IsNumber most_files) (λ _. ⊤) file_words (apart-number most_files (omega arith))
-    (apart-after (codes "policy ") policy_text (λ _. ⊤) apart-policy)))
+pub shape_counts : AreTexts parts_text IsCounts
+shape_counts = both node (behind (codes "files ") refl (both file (behind (codes "policy ") refl policies)))
 
 abbrev pub counts_of : ShapeFields → ℕ × (ℕ × Policy)
 counts_of s = (s.nodes, (s.files, s.policy))
@@ -44,7 +40,7 @@ counts-fit s fits = ((fits.nodes_in.0, omega (arith, fits.nodes_in.1)), (fits.fi
 -- no counts are those of two clusters of one version
 pub apart-clusters : (version : Version) → AreApart counts_text (IsShapeOf version)
 apart-clusters version s t s_in t_in e =
-    let same = apart-counts (counts_of s) (counts_of t) (counts-fit s s_in.is_shape) (counts-fit t t_in.is_shape) (sym (counts-parts s) ∙ e ∙ counts-parts t) in
+    let same = shape_counts.apart (counts_of s) (counts_of t) (counts-fit s s_in.is_shape) (counts-fit t t_in.is_shape) (sym (counts-parts s) ∙ e ∙ counts-parts t) in
     ap (λ (v : Version). shape_with v (counts_of s)) s_in.is_version ∙ ap (shape_with version) same ∙ sym (ap (λ (v : Version). shape_with v (counts_of t)) t_in.is_version)
 
 -- no line names two clusters
@@ -63,5 +59,5 @@ counts-made version text nodes files policy (Ok shape) counts same served =
     let is : IsShapeOf version (shape_with version (nodes, (files, policy))) = record { is_shape = record { nodes_in = within.0; files_in = within.1 }; is_version = refl } in
     rw same (is, counts.1 ∙ sym (counts-parts (shape_with version (nodes, (files, policy)))))
 counts-made version text nodes files policy (Err error) counts same served = λ s fits e.
-    let one = apart-counts (nodes, (files, policy)) (counts_of s) counts.0 (counts-fit s fits.is_shape) (sym counts.1 ∙ e ∙ counts-parts s) in
+    let one = shape_counts.apart (nodes, (files, policy)) (counts_of s) counts.0 (counts-fit s fits.is_shape) (sym counts.1 ∙ e ∙ counts-parts s) in
     false≢true (served.1 (rw (ap (λ (c : ℕ × (ℕ × Policy)). c.0) one, ap (λ (c : ℕ × (ℕ × Policy)). c.1.0) one) (fits.is_shape.nodes_in, fits.is_shape.files_in)))

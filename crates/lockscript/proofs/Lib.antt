@@ -5,8 +5,7 @@ pub mod OneReading
 pub mod ThreadScripts
 pub mod ShapedTexts
 pub mod SingleWords
-pub mod AskedFields
-pub mod FieldValues
+pub mod FieldTexts
 pub mod OperationKinds
 pub mod CommandKinds
 pub mod Clusters

@@ -1,72 +1,49 @@
 -- The kinds of operations.
-use Rattle.std.proofs.Common.{ℕ, ℤ, List, [], ◌∷◌, inl, inr, refl, arith, codes, decimal}
-use Rattle.std.specs.Prelude.{⊤}
-use Rattle.model.specs.Limits.{IsNumber, most_processes}
-use Rattle.model.specs.declared.access.Access.{Access}
-use Rattle.model.specs.declared.mode.Mode.{Mode}
+use Rattle.std.proofs.Common.{ℕ, List, [], ◌∷◌, inl, inr, refl, codes}
 use Rattle.model.specs.declared.op.Op.TheVariants.{Spawn, Fork, Open, Dup, Close, Exit, Set, Wait, Unlock, Query}
-use Rattle.model.specs.declared.owner.Kind.{Kind}
-use Rattle.messages.specs.Shapes.{most_files}
-use Rattle.texts.specs.Reads.{Both, pair_text}
-use Rattle.texts.specs.Words.{access_text, kind_text}
-use Rattle.texts.proofs.FieldValues.{apart-byte, apart-number}
 use Rattle.texts.proofs.FirstWords.{BeginsWithWord}
-use Rattle.texts.proofs.OfKinds.{IsKind, apart-kind}
-use Rattle.texts.proofs.Pairs.{AreApart}
-use Rattle.lockscript.specs.Served.{IsDescriptor, IsServedOp}
-use Rattle.lockscript.proofs.AskedFields.{AreOffsets, IsAskedLock}
-use Rattle.lockscript.specs.Texts.{asked_lock_text, op_text, segment_text}
-use Rattle.lockscript.proofs.FieldValues.{apart-asked_lock, apart-open, apart-unlock}
+use Rattle.lockscript.specs.Served.{IsServedOp}
+use Rattle.lockscript.specs.Texts.{op_text}
+use Rattle.message_text.proofs.FieldTexts.{AreTexts, both, file, mode, pid}
+use Rattle.message_text.proofs.Variants.{Variant, of_variants, variant}
+use Rattle.lockscript.proofs.FieldTexts.{access, fd, kind, nothing, segment}
 
-pub forks : IsKind op_text IsServedOp (codes "fork ") decimal (IsNumber most_processes) (λ child. Fork child)
-forks = record { fits = λ f fit. fit; written = λ f. refl; told = elim [ Fork child ↦ λ fits. inl (child, fits, refl) | _ ↦ λ _. inr refl ] }
+abbrev OpKind : Type 1
+OpKind = Variant op_text IsServedOp
 
-pub opens : IsKind op_text IsServedOp (codes "open ") (pair_text decimal access_text) (Both (IsNumber most_files) (λ _. ⊤)) (λ (f : ℕ × Access). Open f.0 f.1)
-opens = record { fits = λ f fit. fit.0; written = λ f. refl; told = elim [ Open file access ↦ λ fits. inl ((file, access), (fits, tt), refl) | _ ↦ λ _. inr refl ] }
+abbrev pub forks : OpKind
+forks = variant (codes "fork ") refl pid.texts (λ child. Fork child) (λ f fit. fit) (λ f. refl) (elim [ Fork child ↦ λ fits. inl (child, fits, refl) | _ ↦ λ _. inr refl ])
 
-pub dups : IsKind op_text IsServedOp (codes "dup ") decimal IsDescriptor (λ fd. Dup fd)
-dups = record { fits = λ f fit. fit; written = λ f. refl; told = elim [ Dup fd ↦ λ fits. inl (fd, fits, refl) | _ ↦ λ _. inr refl ] }
+abbrev pub opens : OpKind
+opens = variant (codes "open ") refl (both file access) (λ f. Open f.0 f.1) (λ f fit. fit.0) (λ f. refl) (elim [ Open file access ↦ λ fits. inl ((file, access), (fits, tt), refl) | _ ↦ λ _. inr refl ])
 
-pub closes : IsKind op_text IsServedOp (codes "close ") decimal IsDescriptor (λ fd. Close fd)
-closes = record { fits = λ f fit. fit; written = λ f. refl; told = elim [ Close fd ↦ λ fits. inl (fd, fits, refl) | _ ↦ λ _. inr refl ] }
+abbrev pub dups : OpKind
+dups = variant (codes "dup ") refl fd.texts (λ fd. Dup fd) (λ f fit. fit) (λ f. refl) (elim [ Dup fd ↦ λ fits. inl (fd, fits, refl) | _ ↦ λ _. inr refl ])
 
--- the fields of a lock that a call asks for or about
-abbrev pub AskedLock : Type 0
-AskedLock = ℕ × (Kind × (Mode × (ℤ × ℤ)))
+abbrev pub closes : OpKind
+closes = variant (codes "close ") refl fd.texts (λ fd. Close fd) (λ f fit. fit) (λ f. refl) (elim [ Close fd ↦ λ fits. inl (fd, fits, refl) | _ ↦ λ _. inr refl ])
 
-pub sets : IsKind op_text IsServedOp (codes "set ") asked_lock_text IsAskedLock (λ (f : AskedLock). Set f.0 f.1.0 f.1.1.0 f.1.1.1.0 f.1.1.1.1)
-sets = record {
-  fits = λ f fit. (fit.0, fit.1.1.1.0, fit.1.1.1.1);
-  written = λ f. refl;
-  told = elim [ Set fd kind mode start len ↦ λ fits. inl ((fd, (kind, (mode, (start, len)))), (fits.0, (tt, (tt, (fits.1, fits.2)))), refl) | _ ↦ λ _. inr refl ];
-}
+abbrev pub sets : OpKind
+sets = variant (codes "set ") refl (both fd (both kind (both mode segment))) (λ f. Set f.0 f.1.0 f.1.1.0 f.1.1.1.0 f.1.1.1.1) (λ f fit. (fit.0, fit.1.1.1.0, fit.1.1.1.1)) (λ f. refl)
+    (elim [ Set fd kind mode start len ↦ λ fits. inl ((fd, (kind, (mode, (start, len)))), (fits.0, (tt, (tt, (fits.1, fits.2)))), refl) | _ ↦ λ _. inr refl ])
 
-pub waits : IsKind op_text IsServedOp (codes "wait ") asked_lock_text IsAskedLock (λ (f : AskedLock). Wait f.0 f.1.0 f.1.1.0 f.1.1.1.0 f.1.1.1.1)
-waits = record {
-  fits = λ f fit. (fit.0, fit.1.1.1.0, fit.1.1.1.1);
-  written = λ f. refl;
-  told = elim [ Wait fd kind mode start len ↦ λ fits. inl ((fd, (kind, (mode, (start, len)))), (fits.0, (tt, (tt, (fits.1, fits.2)))), refl) | _ ↦ λ _. inr refl ];
-}
+abbrev pub waits : OpKind
+waits = variant (codes "wait ") refl (both fd (both kind (both mode segment))) (λ f. Wait f.0 f.1.0 f.1.1.0 f.1.1.1.0 f.1.1.1.1) (λ f fit. (fit.0, fit.1.1.1.0, fit.1.1.1.1)) (λ f. refl)
+    (elim [ Wait fd kind mode start len ↦ λ fits. inl ((fd, (kind, (mode, (start, len)))), (fits.0, (tt, (tt, (fits.1, fits.2)))), refl) | _ ↦ λ _. inr refl ])
 
-pub unlocks : IsKind op_text IsServedOp (codes "unlock ") (pair_text decimal (pair_text kind_text segment_text)) (Both IsDescriptor (Both (λ _. ⊤) AreOffsets)) (λ (f : ℕ × (Kind × (ℤ × ℤ))). Unlock f.0 f.1.0 f.1.1.0 f.1.1.1)
-unlocks = record {
-  fits = λ f fit. (fit.0, fit.1.1.0, fit.1.1.1);
-  written = λ f. refl;
-  told = elim [ Unlock fd kind start len ↦ λ fits. inl ((fd, (kind, (start, len))), (fits.0, (tt, (fits.1, fits.2))), refl) | _ ↦ λ _. inr refl ];
-}
+abbrev pub unlocks : OpKind
+unlocks = variant (codes "unlock ") refl (both fd (both kind segment)) (λ f. Unlock f.0 f.1.0 f.1.1.0 f.1.1.1) (λ f fit. (fit.0, fit.1.1.0, fit.1.1.1)) (λ f. refl)
+    (elim [ Unlock fd kind start len ↦ λ fits. inl ((fd, (kind, (start, len))), (fits.0, (tt, (fits.1, fits.2))), refl) | _ ↦ λ _. inr refl ])
 
-pub queries : IsKind op_text IsServedOp (codes "query ") asked_lock_text IsAskedLock (λ (f : AskedLock). Query f.0 f.1.0 f.1.1.0 f.1.1.1.0 f.1.1.1.1)
-queries = record {
-  fits = λ f fit. (fit.0, fit.1.1.1.0, fit.1.1.1.1);
-  written = λ f. refl;
-  told = elim [ Query fd kind mode start len ↦ λ fits. inl ((fd, (kind, (mode, (start, len)))), (fits.0, (tt, (tt, (fits.1, fits.2)))), refl) | _ ↦ λ _. inr refl ];
-}
+abbrev pub queries : OpKind
+queries = variant (codes "query ") refl (both fd (both kind (both mode segment))) (λ f. Query f.0 f.1.0 f.1.1.0 f.1.1.1.0 f.1.1.1.1) (λ f fit. (fit.0, fit.1.1.1.0, fit.1.1.1.1)) (λ f. refl)
+    (elim [ Query fd kind mode start len ↦ λ fits. inl ((fd, (kind, (mode, (start, len)))), (fits.0, (tt, (tt, (fits.1, fits.2)))), refl) | _ ↦ λ _. inr refl ])
 
-spawns : IsKind op_text IsServedOp (codes "spawn") (λ (f : ⊤). []) (λ _. ⊤) (λ _. Spawn)
-spawns = record { fits = λ f fit. tt; written = λ f. refl; told = elim [ Spawn ↦ λ fits. inl (tt, tt, refl) | _ ↦ λ _. inr refl ] }
+abbrev spawns : OpKind
+spawns = variant (codes "spawn") refl nothing (λ _. Spawn) (λ f fit. tt) (λ f. refl) (elim [ Spawn ↦ λ fits. inl (tt, tt, refl) | _ ↦ λ _. inr refl ])
 
-exits : IsKind op_text IsServedOp (codes "exit") (λ (f : ⊤). []) (λ _. ⊤) (λ _. Exit)
-exits = record { fits = λ f fit. tt; written = λ f. refl; told = elim [ Exit ↦ λ fits. inl (tt, tt, refl) | _ ↦ λ _. inr refl ] }
+abbrev exits : OpKind
+exits = variant (codes "exit") refl nothing (λ _. Exit) (λ f fit. tt) (λ f. refl) (elim [ Exit ↦ λ fits. inl (tt, tt, refl) | _ ↦ λ _. inr refl ])
 
 -- the words of operations with fields, and of the others
 abbrev pub words : List (List ℕ)
@@ -78,14 +55,8 @@ lone_words = codes "spawn" ∷ codes "exit" ∷ []
 pub begins-op : BeginsWithWord op_text IsServedOp words lone_words
 begins-op = record { told = elim [ Spawn ↦ λ _. inr (refl, refl) | Exit ↦ λ _. inr (refl, refl) | _ ↦ λ _. inl (refl, refl) ] }
 
-pub apart-op : AreApart op_text IsServedOp
-apart-op (Fork child) = λ y fits. apart-kind forks (apart-number most_processes (omega arith)) child fits y
-apart-op (Open file access) = λ y x_fits. apart-kind opens apart-open (file, access) (x_fits, tt) y
-apart-op (Dup fd) = λ y x_fits. apart-kind dups apart-byte fd x_fits y
-apart-op (Close fd) = λ y x_fits. apart-kind closes apart-byte fd x_fits y
-apart-op (Set fd kind mode start len) = λ y fits. apart-kind sets apart-asked_lock (fd, (kind, (mode, (start, len)))) (fits.0, (tt, (tt, (fits.1, fits.2)))) y
-apart-op (Wait fd kind mode start len) = λ y fits. apart-kind waits apart-asked_lock (fd, (kind, (mode, (start, len)))) (fits.0, (tt, (tt, (fits.1, fits.2)))) y
-apart-op (Unlock fd kind start len) = λ y fits. apart-kind unlocks apart-unlock (fd, (kind, (start, len))) (fits.0, (tt, (fits.1, fits.2))) y
-apart-op (Query fd kind mode start len) = λ y fits. apart-kind queries apart-asked_lock (fd, (kind, (mode, (start, len)))) (fits.0, (tt, (tt, (fits.1, fits.2)))) y
-apart-op Spawn = λ y _. apart-kind spawns (λ p q _ _ _. refl) tt tt y
-apart-op Exit = λ y _. apart-kind exits (λ p q _ _ _. refl) tt tt y
+abbrev ops : List OpKind
+ops = forks ∷ opens ∷ dups ∷ closes ∷ sets ∷ waits ∷ unlocks ∷ queries ∷ spawns ∷ exits ∷ []
+
+pub op : AreTexts op_text IsServedOp
+op = of_variants ops (elim [ Spawn ↦ refl | _ ↦ refl ])

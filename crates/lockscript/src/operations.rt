@@ -1,18 +1,21 @@
 //! Operations in scripts.
-ghost use Rattle.std.specs.Prelude.{◌≡◌, ◌∷◌, ◌++◌};
-ghost use Rattle.model.specs.declared.op.Op.TheVariants.{Open, Query, Set, Unlock, Wait};
+ghost use Rattle.std.specs.Prelude.{◌∷◌, ◌++◌};
 ghost use Rattle.texts.specs.Layout.{space};
 ghost use Rattle.texts.specs.Reads.{IsOneField, Lacks, Reads};
 ghost use Rattle.lockscript.specs.Served.{IsServedOp};
 ghost use Rattle.lockscript.specs.Texts.{op_text};
 
 use message_text::numbers::{FileField, PidField};
+use message_text::writing::push;
 use model::access::Access;
 use model::mode::Mode;
 use model::op::Op;
 use model::owner::Kind;
 use std::alloc::AllocError;
 use texts::text::{Text, split_field};
+
+/// `FILE ACCESS`.
+type Opened = (FileField, Access);
 
 /// `START LEN`.
 type Segment = (i64, i64);
@@ -41,24 +44,12 @@ impl Text for Operation {
     }
 
     fn write(value: &Op, out: &mut String) -> Result<(), AllocError> {
-        match value {
+        match *value {
             Op::Spawn => out.push_str("spawn"),
-            Op::Fork { child } => {
-                out.push_str("fork ")?;
-                PidField::write(child, out)
-            }
-            Op::Open { file, access } => {
-                out.push_str("open ")?;
-                <(FileField, Access)>::write(&(*file, *access), out)
-            }
-            Op::Dup { fd } => {
-                out.push_str("dup ")?;
-                u8::write(fd, out)
-            }
-            Op::Close { fd } => {
-                out.push_str("close ")?;
-                u8::write(fd, out)
-            }
+            Op::Fork { child } => push::<PidField>(out, "fork ", &child),
+            Op::Open { file, access } => push::<Opened>(out, "open ", &(file, access)),
+            Op::Dup { fd } => push::<u8>(out, "dup ", &fd),
+            Op::Close { fd } => push::<u8>(out, "close ", &fd),
             Op::Exit => out.push_str("exit"),
             Op::Set {
                 fd,
@@ -66,39 +57,27 @@ impl Text for Operation {
                 mode,
                 start,
                 len,
-            } => {
-                out.push_str("set ")?;
-                AskedLock::write(&(*fd, (*kind, (*mode, (*start, *len)))), out)
-            }
+            } => push::<AskedLock>(out, "set ", &(fd, (kind, (mode, (start, len))))),
             Op::Wait {
                 fd,
                 kind,
                 mode,
                 start,
                 len,
-            } => {
-                out.push_str("wait ")?;
-                AskedLock::write(&(*fd, (*kind, (*mode, (*start, *len)))), out)
-            }
+            } => push::<AskedLock>(out, "wait ", &(fd, (kind, (mode, (start, len))))),
             Op::Unlock {
                 fd,
                 kind,
                 start,
                 len,
-            } => {
-                out.push_str("unlock ")?;
-                Unlocked::write(&(*fd, (*kind, (*start, *len))), out)
-            }
+            } => push::<Unlocked>(out, "unlock ", &(fd, (kind, (start, len)))),
             Op::Query {
                 fd,
                 kind,
                 mode,
                 start,
                 len,
-            } => {
-                out.push_str("query ")?;
-                AskedLock::write(&(*fd, (*kind, (*mode, (*start, *len)))), out)
-            }
+            } => push::<AskedLock>(out, "query ", &(fd, (kind, (mode, (start, len))))),
         }
     }
 }
@@ -110,16 +89,36 @@ fn op_with(word: &str, operands: &str) -> Option<Op>
 {
     match word {
         "fork" => PidField::read(operands).map(|child| Op::Fork { child }),
-        "open" => <(FileField, Access)>::read(operands).map(|(file, access)| Op::Open {
-            file,
-            access,
-        }),
+        "open" => Opened::read(operands).map(|(file, access)| Op::Open { file, access }),
         "dup" => u8::read(operands).map(|fd| Op::Dup { fd }),
         "close" => u8::read(operands).map(|fd| Op::Close { fd }),
-        "set" => AskedLock::read(operands).map(set_of),
-        "wait" => AskedLock::read(operands).map(wait_of),
-        "unlock" => Unlocked::read(operands).map(unlock_of),
-        "query" => AskedLock::read(operands).map(query_of),
+        "set" => AskedLock::read(operands).map(|(fd, (kind, (mode, (start, len))))| Op::Set {
+            fd,
+            kind,
+            mode,
+            start,
+            len,
+        }),
+        "wait" => AskedLock::read(operands).map(|(fd, (kind, (mode, (start, len))))| Op::Wait {
+            fd,
+            kind,
+            mode,
+            start,
+            len,
+        }),
+        "unlock" => Unlocked::read(operands).map(|(fd, (kind, (start, len)))| Op::Unlock {
+            fd,
+            kind,
+            start,
+            len,
+        }),
+        "query" => AskedLock::read(operands).map(|(fd, (kind, (mode, (start, len))))| Op::Query {
+            fd,
+            kind,
+            mode,
+            start,
+            len,
+        }),
         _ => None,
     }
 }
@@ -133,56 +132,5 @@ fn op_alone(word: &str) -> Option<Op>
         "spawn" => Some(Op::Spawn),
         "exit" => Some(Op::Exit),
         _ => None,
-    }
-}
-
-fn set_of(fields: AskedLock) -> Op
-    ensures { result ≡ Set fields.0 fields.1.0 fields.1.1.0 fields.1.1.1.0 fields.1.1.1.1 }
-{
-    let (fd, (kind, (mode, (start, len)))) = fields;
-    Op::Set {
-        fd,
-        kind,
-        mode,
-        start,
-        len,
-    }
-}
-
-fn wait_of(fields: AskedLock) -> Op
-    ensures { result ≡ Wait fields.0 fields.1.0 fields.1.1.0 fields.1.1.1.0 fields.1.1.1.1 }
-{
-    let (fd, (kind, (mode, (start, len)))) = fields;
-    Op::Wait {
-        fd,
-        kind,
-        mode,
-        start,
-        len,
-    }
-}
-
-fn unlock_of(fields: Unlocked) -> Op
-    ensures { result ≡ Unlock fields.0 fields.1.0 fields.1.1.0 fields.1.1.1 }
-{
-    let (fd, (kind, (start, len))) = fields;
-    Op::Unlock {
-        fd,
-        kind,
-        start,
-        len,
-    }
-}
-
-fn query_of(fields: AskedLock) -> Op
-    ensures { result ≡ Query fields.0 fields.1.0 fields.1.1.0 fields.1.1.1.0 fields.1.1.1.1 }
-{
-    let (fd, (kind, (mode, (start, len)))) = fields;
-    Op::Query {
-        fd,
-        kind,
-        mode,
-        start,
-        len,
     }
 }

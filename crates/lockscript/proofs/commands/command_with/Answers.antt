@@ -5,16 +5,16 @@ use Rattle.lockscript.proofs.CommandKinds.{begins-command, calls, interrupts, le
 use Rattle.lockscript.proofs.commands.command_with.Goals as goal
 
 pub returns-in-call : goal.returns-in-call
-returns-in-call c = rw c.in-call.is (reads-made calls c.args.operands.now c.read.result c.map.result c.read.ensures c.map.ensures.cases (λ f x made. search rules))
+returns-in-call c = rw c.in-call.is (reads-made calls.kind c.args.operands.now c.read.result c.map.result c.read.ensures c.map.ensures.cases (λ f x made. search rules))
 
 pub returns-in-interrupt : goal.returns-in-interrupt
-returns-in-interrupt c = rw c.in-interrupt.is (reads-made interrupts c.args.operands.now c.read-in-interrupt.result c.map-in-interrupt.result c.read-in-interrupt.ensures c.map-in-interrupt.ensures.cases (λ f x made. search rules))
+returns-in-interrupt c = rw c.in-interrupt.is (reads-made interrupts.kind c.args.operands.now c.read-in-interrupt.result c.map-in-interrupt.result c.read-in-interrupt.ensures c.map-in-interrupt.ensures.cases (λ f x made. search rules))
 
 pub returns-in-retry : goal.returns-in-retry
-returns-in-retry c = rw c.in-retry.is (reads-made retries c.args.operands.now c.read-in-retry.result c.map-in-retry.result c.read-in-retry.ensures c.map-in-retry.ensures.cases (λ f x made. search rules))
+returns-in-retry c = rw c.in-retry.is (reads-made retries.kind c.args.operands.now c.read-in-retry.result c.map-in-retry.result c.read-in-retry.ensures c.map-in-retry.ensures.cases (λ f x made. search rules))
 
 pub returns-in-learn : goal.returns-in-learn
-returns-in-learn c = rw c.in-learn.is (reads-made learns c.args.operands.now c.read-in-learn.result c.map-in-learn.result c.read-in-learn.ensures c.map-in-learn.ensures.cases (λ f x made. search rules))
+returns-in-learn c = rw c.in-learn.is (reads-made learns.kind c.args.operands.now c.read-in-learn.result c.map-in-learn.result c.read-in-learn.ensures c.map-in-learn.ensures.cases (λ f x made. search rules))
 
 pub returns-in_default : goal.returns-in_default
 returns-in_default c =
