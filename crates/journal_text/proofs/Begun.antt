@@ -23,7 +23,7 @@ use Rattle.journal_text.specs.Places.IsStuck.{misplaced, no_line}
 use Rattle.journal_text.specs.Readings.{BeginsJournal, IsBad, IsFirstBad, IsJournalText, Passes, Writes, body_lines}
 use Rattle.journal_text.specs.Readings.IsBad.{has_no_line, stands_wrong}
 use Rattle.journal_text.proofs.HeadKinds.{apart-head}
-use Rattle.journal_text.proofs.LineKinds.{apart-line}
+use Rattle.journal_text.proofs.LineKinds.{line as line_texts}
 use Rattle.journal_text.proofs.Runs.{run, run-append, run-journal, run-none}
 use Rattle.journal_text.proofs.Steps.{Further, Reading, empty-open, entries, named, none-some, phase_of-open, place_of, read_lines, some-same}
 use Rattle.journal_text.proofs.Steps.Reading.{nothing, some, whole}
@@ -128,7 +128,7 @@ lines-same v [] [] js_in ks_in e = refl
 lines-same v [] (k ∷ ks) js_in ks_in e = absurd (cc)
 lines-same v (j ∷ js) [] js_in ks_in e = absurd (cc)
 lines-same v (j ∷ js) (k ∷ ks) js_in ks_in e =
-    let one = apart-line v j k (All-head (IsServedLine v) j js js_in) (All-head (IsServedLine v) k ks ks_in) (heads (line_text v j) (line_text v k) (map (line_text v) js) (map (line_text v) ks) e) in
+    let one = (line_texts v).apart j k (All-head (IsServedLine v) j js js_in) (All-head (IsServedLine v) k ks ks_in) (heads (line_text v j) (line_text v k) (map (line_text v) js) (map (line_text v) ks) e) in
     let rest = lines-same v js ks (All-tail (IsServedLine v) j js js_in) (All-tail (IsServedLine v) k ks ks_in) (tails (line_text v j) (line_text v k) (map (line_text v) js) (map (line_text v) ks) e) in
     ap (λ (x : JournalLine). x ∷ js) one ∙ ap (λ (xs : List JournalLine). k ∷ xs) rest
 
@@ -151,7 +151,7 @@ continues v [] (k ∷ ks) line more js_in ks_in e = record {
 }
 continues v (j ∷ js) [] line more js_in ks_in e = absurd (cc)
 continues v (j ∷ js) (k ∷ ks) line more js_in ks_in e =
-    let one = apart-line v j k (All-head (IsServedLine v) j js js_in) (All-head (IsServedLine v) k ks ks_in) (heads (line_text v j) (line_text v k) (map (line_text v) js ++ line ∷ more) (map (line_text v) ks) e) in
+    let one = (line_texts v).apart j k (All-head (IsServedLine v) j js js_in) (All-head (IsServedLine v) k ks ks_in) (heads (line_text v j) (line_text v k) (map (line_text v) js ++ line ∷ more) (map (line_text v) ks) e) in
     let rest = continues v js ks line more (All-tail (IsServedLine v) j js js_in) (All-tail (IsServedLine v) k ks ks_in) (tails (line_text v j) (line_text v k) (map (line_text v) js ++ line ∷ more) (map (line_text v) ks) e) in
     record {
       next_line = rest.next_line;

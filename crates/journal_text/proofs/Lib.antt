@@ -9,8 +9,6 @@ pub mod Standing
 pub mod Stuck
 pub mod Feedless
 pub mod FeedlessOps
-pub mod FeedlessReplies
-pub mod FeedlessEvents
 pub mod FeedlessLines
 pub mod Printed
 pub mod OneReading

@@ -8,7 +8,7 @@ use Rattle.journal_text.specs.declared.lines.JournalLine.{JournalLine}
 use Rattle.journal_text.specs.declared.place.Place.{Place}
 use Rattle.journal_text.specs.Lines.{IsServedLine, line_text}
 use Rattle.journal_text.specs.Places.{IsMisplaced, StandsNext, next_place}
-use Rattle.journal_text.proofs.LineKinds.{apart-line}
+use Rattle.journal_text.proofs.LineKinds.{line as line_texts}
 
 -- no line
 pub misplaced-none : (version : Version) (p : Place) (bytes : List ℕ) → Reads (line_text version) (IsServedLine version) bytes None → IsMisplaced version p bytes
@@ -17,7 +17,7 @@ misplaced-none version p bytes none j served e = absurd (none j served e)
 -- a line that may not stand here
 pub misplaced-line : (version : Version) (p : Place) (bytes : List ℕ) (j : JournalLine) → IsServedLine version j → bytes ≡ line_text version j → next_place p.count p.phase j ≡ None → IsMisplaced version p bytes
 misplaced-line version p bytes j j_in text none k k_in e =
-    subst (λ (x : JournalLine). next_place p.count p.phase x ≡ None) (apart-line version j k j_in k_in (sym text ∙ e)) none
+    subst (λ (x : JournalLine). next_place p.count p.phase x ≡ None) ((line_texts version).apart j k j_in k_in (sym text ∙ e)) none
 
 -- a line that may
 pub stands-next : (version : Version) (p : Place) (rest bytes after : List ℕ) (j : JournalLine) (q : Place) → BeginsWithLine rest bytes after → IsServedLine version j → bytes ≡ line_text version j → next_place p.count p.phase j ≡ Some q → StandsNext version p rest j q after

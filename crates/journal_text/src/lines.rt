@@ -1,7 +1,6 @@
 //! Lines of journals from their texts.
-ghost use Rattle.std.specs.Prelude.{◌∷◌, ◌++◌, codes};
-ghost use Rattle.texts.specs.Layout.{space};
-ghost use Rattle.texts.specs.Reads.{Lacks, Reads};
+ghost use Rattle.std.specs.Prelude.{◌++◌, codes};
+ghost use Rattle.texts.specs.Reads.{Reads};
 ghost use Rattle.journal_text.specs.Lines.{IsServedLine, line_text};
 
 use crate::events::event_in;
@@ -51,66 +50,25 @@ pub fn line_of(version: Version, line: &str) -> Option<JournalLine<'_>>
 fn line_in<V: Edition>(line: &str) -> Option<JournalLine<'_>>
     ensures { Reads (line_text V.version) (IsServedLine V.version) line.now result }
 {
-    match split_field(line) {
-        Some((word, operands)) => line_with::<V>(word, operands),
-        None => None,
-    }
-}
-
-// The line of this word, with these operands.
-fn line_with<'a, V: Edition>(word: &str, operands: &'a str) -> Option<JournalLine<'a>>
-    requires { Lacks space word.now }
-    ensures { Reads (line_text V.version) (IsServedLine V.version) (word.now ++ space ∷ operands.now) result }
-{
+    let (word, operands) = split_field(line)?;
     match word {
         "entry" => entry_line::<V>(operands),
-        "reply" => reply_line::<V>(operands),
-        "send" => send_line::<V>(operands),
-        "end" => end_line::<V>(operands),
+        "reply" => AnswerFields::read(operands).map(|(call, reply)| JournalLine::Answer {
+            call,
+            reply,
+        }),
+        "send" => message_in::<V>(operands).map(|message| JournalLine::Send(message)),
+        "end" => u32::read(operands).map(|count| JournalLine::End { count }),
         _ => None,
     }
 }
 
-// `entry` with these operands.
-fn entry_line<V: Edition>(operands: &str) -> Option<JournalLine<'_>>
-    ensures { Reads (line_text V.version) (IsServedLine V.version) (codes "entry " ++ operands.now) result }
+// `entry POS EVENT`, of which this stands behind the word.
+fn entry_line<V: Edition>(text: &str) -> Option<JournalLine<'_>>
+    ensures { Reads (line_text V.version) (IsServedLine V.version) (codes "entry " ++ text.now) result }
 {
-    match split_field(operands) {
-        Some((position, event)) => entry_of::<V>(position, event),
-        None => None,
-    }
-}
-
-// `entry POS EVENT`.
-fn entry_of<'a, V: Edition>(word: &str, rest: &'a str) -> Option<JournalLine<'a>>
-    requires { Lacks space word.now }
-    ensures { Reads (line_text V.version) (IsServedLine V.version) (codes "entry " ++ (word.now ++ space ∷ rest.now)) result }
-{
+    let (word, rest) = split_field(text)?;
     let position = Counted::read(word)?;
     let event = event_in::<V>(rest)?;
     Some(JournalLine::Entry { position, event })
-}
-
-// `reply` with these operands.
-fn reply_line<V: Edition>(operands: &str) -> Option<JournalLine<'_>>
-    ensures { Reads (line_text V.version) (IsServedLine V.version) (codes "reply " ++ operands.now) result }
-{
-    let (call, reply) = AnswerFields::read(operands)?;
-    Some(JournalLine::Answer { call, reply })
-}
-
-// `send` with these operands.
-fn send_line<V: Edition>(operands: &str) -> Option<JournalLine<'_>>
-    ensures { Reads (line_text V.version) (IsServedLine V.version) (codes "send " ++ operands.now) result }
-{
-    let message = message_in::<V>(operands)?;
-    Some(JournalLine::Send(message))
-}
-
-// `end` with these operands.
-fn end_line<V: Edition>(operands: &str) -> Option<JournalLine<'_>>
-    ensures { Reads (line_text V.version) (IsServedLine V.version) (codes "end " ++ operands.now) result }
-{
-    let count = u32::read(operands)?;
-    Some(JournalLine::End { count })
 }

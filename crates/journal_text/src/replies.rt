@@ -1,5 +1,5 @@
 //! Replies and their texts.
-ghost use Rattle.std.specs.Prelude.{◌∷◌, ◌++◌, codes};
+ghost use Rattle.std.specs.Prelude.{◌∷◌, ◌++◌};
 ghost use Rattle.texts.specs.Layout.{space};
 ghost use Rattle.texts.specs.Reads.{IsOneField, Lacks, Reads};
 ghost use Rattle.lockscript.specs.Texts.{reply_text};
@@ -27,9 +27,9 @@ fn reply_with(word: &str, operand: &str) -> Option<Reply>
     ensures { Reads reply_text IsServedReply (word.now ++ space ∷ operand.now) result }
 {
     match word {
-        "fd" => fd_of(operand),
-        "again" => again_of(operand),
-        "blocked" => blocked_of(operand),
+        "fd" => u8::read(operand).map(|fd| Reply::Fd(fd)),
+        "again" => lock_of(operand).map(|lock| Reply::Again(lock)),
+        "blocked" => lock_of(operand).map(|lock| Reply::Blocked(lock)),
         _ => None,
     }
 }
@@ -52,30 +52,6 @@ fn reply_alone(word: &str) -> Option<Reply>
         "overflow" => Some(Reply::Overflow),
         _ => None,
     }
-}
-
-// `fd` with this operand.
-fn fd_of(operand: &str) -> Option<Reply>
-    ensures { Reads reply_text IsServedReply (codes "fd " ++ operand.now) result }
-{
-    let fd = u8::read(operand)?;
-    Some(Reply::Fd(fd))
-}
-
-// `again` with this operand.
-fn again_of(operand: &str) -> Option<Reply>
-    ensures { Reads reply_text IsServedReply (codes "again " ++ operand.now) result }
-{
-    let lock = lock_of(operand)?;
-    Some(Reply::Again(lock))
-}
-
-// `blocked` with this operand.
-fn blocked_of(operand: &str) -> Option<Reply>
-    ensures { Reads reply_text IsServedReply (codes "blocked " ++ operand.now) result }
-{
-    let lock = lock_of(operand)?;
-    Some(Reply::Blocked(lock))
 }
 
 /// A reply.
