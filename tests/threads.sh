@@ -93,15 +93,17 @@ came=$?
 } >wanted
 judge 'three clients that wait on threads' 0 "$came" wanted came.out none came.err
 
-# A lock that two processes of a node pass on to each other. While one waits for it, the other makes twenty calls and then gives it up: no step of
-# the node comes between that and the reply of the wait. (How many waits were open then, and how many such steps there are.)
+# A lock that two processes of a node pass on to each other. While one waits for it, the other makes a thousand calls and then gives it up: no step of
+# the node comes between that and the reply of the wait, though a third makes calls all the while. (Whether a wait was open then, and how many such
+# steps there are.)
 {
     cat empty.lock
-    printf 'call 1 1 spawn\ncall 1 1 open 1 rw\ncall 1 1 set 0 proc write 0 10\nsettle\ncall 1 2 spawn\ncall 1 2 open 1 rw\nsettle\n'
+    printf 'call 1 1 spawn\ncall 1 1 open 1 rw\ncall 1 1 set 0 proc write 0 10\nsettle\ncall 1 2 spawn\ncall 1 2 open 1 rw\ncall 1 3 spawn\ncall 1 3 open 1 rw\nsettle\n'
     for round in 1 2 3 4 5; do
         for pid in 1 2; do
             echo "call 1 $((3 - pid)) wait 0 proc write 0 10"
-            for _ in $(seq 20); do echo "call 1 $pid query 0 proc read 90 10"; done
+            for _ in $(seq 1000); do echo "call 1 $pid query 0 proc read 90 10"; done
+            for _ in $(seq 1500); do echo "call 1 3 query 0 proc read 90 10"; done
             printf 'call 1 %s unlock 0 proc 0 10\nsettle\n' $pid
         done
     done
@@ -120,7 +122,7 @@ came=$?
     }
     END { print (seen > 0 ? "seen " : "none ") between + 0 }' threads.journal
 } >came.out
-printf 'receipts 225\naudit yes\nseen 0\n' >wanted
+printf 'receipts 25027\naudit yes\nseen 0\n' >wanted
 judge 'a lock that goes on to a wait of its node at once' 0 "$came" wanted came.out none came.err
 
 # Lines are refused in their order, and a node goes on in its next incarnation. What node 1 and node 2 are answered is of their own order.

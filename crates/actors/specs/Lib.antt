@@ -4,3 +4,4 @@ pub mod Lines
 pub mod Cuts
 pub mod Runs
 pub mod Weathers
+pub mod Refusals

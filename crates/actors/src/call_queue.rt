@@ -7,32 +7,33 @@ use book::receipt::Receipt;
 use model::op::Op;
 use std::alloc::{AllocError, Global};
 use std::collections::VecDeque;
+use trail::name::Name;
 
 /// A call that is to be made: the index of its line in the script, what it asks, and the client that makes it and
 /// those behind it, where that is another than before.
 #[derive(Drop)]
-pub(crate) struct NextCall<'a> {
+pub(crate) struct NextCall<'a, J: Name> {
     pub(crate) index: usize,
     pub(crate) op: Op,
-    pub(crate) client: Option<Client<'a>>,
+    pub(crate) client: Option<Client<'a, J>>,
 }
 
 /// The calls that a process is still to make in a phase, in order; its client, while no call is under way;
 /// whether a call that is added needs another, and whether a thread makes them; what the calls so far came to,
 /// and why no more are made, if that was met.
 #[derive(Drop)]
-pub(crate) struct CallQueue<'a> {
-    calls: VecDeque<NextCall<'a>>,
-    client: Option<Client<'a>>,
+pub(crate) struct CallQueue<'a, J: Name> {
+    calls: VecDeque<NextCall<'a, J>>,
+    client: Option<Client<'a, J>>,
     needs_client: bool,
     has_thread: bool,
     outcomes: Vec<(usize, LineOutcome)>,
     stopped: Option<Stop>,
 }
 
-impl<'a> CallQueue<'a> {
+impl<'a, J: Name> CallQueue<'a, J> {
     /// No call, and no client.
-    pub(crate) fn new(alloc: Global) -> CallQueue<'a> {
+    pub(crate) fn new(alloc: Global) -> CallQueue<'a, J> {
         CallQueue {
             calls: VecDeque::new(alloc),
             client: None,
@@ -54,7 +55,7 @@ impl<'a> CallQueue<'a> {
     }
 
     /// Adds a call, with its client if one is needed.
-    pub(crate) fn add(&mut self, call: NextCall<'a>) -> Result<(), AllocError> {
+    pub(crate) fn add(&mut self, call: NextCall<'a, J>) -> Result<(), AllocError> {
         self.calls.push_back(call)?;
         self.needs_client = false;
         Ok(())
@@ -69,14 +70,14 @@ impl<'a> CallQueue<'a> {
 
     /// The next call for the thread: the index of its line, what it asks, and the client that makes it. With none
     /// the thread has ended.
-    pub(crate) fn next(&mut self) -> Option<(usize, Op, Client<'a>)> {
+    pub(crate) fn next(&mut self) -> Option<(usize, Op, Client<'a, J>)> {
         let next = self.take_next();
         self.has_thread = next.is_some();
         next
     }
 
     // Takes out the next call, and the client that makes it.
-    fn take_next(&mut self) -> Option<(usize, Op, Client<'a>)> {
+    fn take_next(&mut self) -> Option<(usize, Op, Client<'a, J>)> {
         let NextCall { index, op, client } = self.calls.pop_front()?;
         let client = match client {
             Some(client) => client,
@@ -89,7 +90,7 @@ impl<'a> CallQueue<'a> {
     /// or has no answer since the run was ended.
     pub(crate) fn end_call(
         &mut self,
-        client: Client<'a>,
+        client: Client<'a, J>,
         index: usize,
         made: Result<Receipt, CallError>,
     ) {
@@ -126,7 +127,7 @@ impl<'a> CallQueue<'a> {
     /// What the calls came to, each with the index of its line, and the client for later calls, if there is one.
     pub(crate) fn into_outcomes(
         self,
-    ) -> Result<(Vec<(usize, LineOutcome)>, Option<Client<'a>>), Stop> {
+    ) -> Result<(Vec<(usize, LineOutcome)>, Option<Client<'a, J>>), Stop> {
         let CallQueue {
             client,
             needs_client,

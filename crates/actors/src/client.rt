@@ -1,8 +1,9 @@
 //! Clients.
-ghost use Rattle.std.specs.Prelude.{◌≡◌, ◌↔◌, IsTrue, IfOk, OnErr, max, unwrap_or};
+ghost use Rattle.std.specs.Prelude.{◌≡◌, ◌↔◌, IsTrue, IfOk, IfSome, OnErr, max, unwrap_or};
 ghost use Rattle.actors.specs.Clients.{ClientFields, IsMadeBy};
 
 use crate::call_error::CallError;
+use crate::direct::Direct;
 use crate::letter::{Answer, Letter, Question};
 use book::mark::Mark;
 use book::receipt::Receipt;
@@ -12,19 +13,22 @@ use model::process::Process;
 use std::alloc::Global;
 use std::marker::Model;
 use std::sync::Wait;
+use trail::name::Name;
 
-/// A process of a cluster that runs, as one who makes its calls, one after the other. Its node's worker has where the
-/// answers to it go, up to a call that fails; the next one tells another path.
+/// A process of a cluster that runs, as one who makes its calls, one after the other. A call that needs no other actor
+/// it may make itself, where the cluster's gate is open. Any other goes to the node's worker, which has where the answers to
+/// the client go, up to a call that fails; the next one tells another path.
 #[derive(Drop)]
-pub struct Client<'a> {
+pub struct Client<'a, J: Name> {
     process: Process,
     last: Option<Mark>,
     alloc: Global,
     mailbox: &'a Sender<Letter>,
+    direct: Option<Direct<'a, J>>,
     answers: Option<Receiver<Answer>>,
 }
 
-impl<'a> Model for Client<'a> {
+impl<'a, J: Name> Model for Client<'a, J> {
     ghost use Rattle.std.specs.Prelude.{unwrap_or};
     ghost use Rattle.actors.specs.Clients.{ClientFields};
 
@@ -33,9 +37,14 @@ impl<'a> Model for Client<'a> {
     ghost view = { λ c. record { process = c.process; last = unwrap_or c.last 0 } };
 }
 
-impl<'a> Client<'a> {
+impl<'a, J: Name> Client<'a, J> {
     /// A client of the process that has seen nothing of the journal.
-    pub(crate) fn new(alloc: Global, process: Process, mailbox: &'a Sender<Letter>) -> Client<'a>
+    pub(crate) fn new(
+        alloc: Global,
+        process: Process,
+        mailbox: &'a Sender<Letter>,
+        direct: Option<Direct<'a, J>>,
+    ) -> Client<'a, J>
         ensures { result ≡ record { process = process; last = 0 } }
     {
         Client {
@@ -43,6 +52,7 @@ impl<'a> Client<'a> {
             last: None,
             alloc,
             mailbox,
+            direct,
             answers: None,
         }
     }
@@ -104,6 +114,34 @@ impl<'a> Client<'a> {
         ensures seen { IfOk result (λ receipt. self.new ≡ record self.old { last = receipt.reply_at }) }
         ensures unchanged { OnErr result (self.new ≡ self.old) }
     {
+        let receipt = match self.make(rt, op) {
+            Some(answer) => answer?,
+            None => self.ask(rt, op)?,
+        };
+        self.last = Some(receipt.mark());
+        Ok(receipt)
+    }
+
+    // Makes the call at the node's desk. None where it isn't made so. (The stamp of one that is made always gives its
+    // receipt.)
+    fn make<R: Wait>(&self, rt: &R, op: Op) -> Option<Answer>
+        ensures { IfSome result (λ answer. IfOk answer (IsMadeBy self.now op)) }
+    {
+        let direct = self.direct.as_ref()?;
+        let stamp = direct.make(rt, self.process, op, self.last.as_ref())?;
+        match Receipt::of(&stamp, &stamp) {
+            Some(receipt) if self.has_made(&receipt, op) => Some(Ok(receipt)),
+            _ => Some(Err(CallError::Unanswered {
+                call_at: stamp.position(),
+            })),
+        }
+    }
+
+    // Has the node's worker make the call, and waits for its reply.
+    fn ask<R: Wait>(&mut self, rt: &R, op: Op) -> Answer
+        ensures made { IfOk result (IsMadeBy self.old op) }
+        ensures unchanged { self.new ≡ self.old }
+    {
         let (answers, back) = self.path()?;
         let letter = Letter::Ask(self.question(op, back));
         match self.mailbox.send(rt, letter) {
@@ -112,7 +150,6 @@ impl<'a> Client<'a> {
             Err(SendError::OutOfMemory(_)) => return Err(CallError::NoMemory),
         }
         let receipt = self.wait_for_answer(rt, &answers, op)?;
-        self.last = Some(receipt.mark());
         self.answers = Some(answers);
         Ok(receipt)
     }

@@ -1,12 +1,16 @@
 //! A cluster on threads.
-ghost use Rattle.std.specs.Prelude.{◌≡◌, ◌+◌, ◌≤◌, ◌↔◌, IfOk, IsErrOf, length};
+ghost use Rattle.std.specs.Prelude.{◌≡◌, ◌+◌, ◌≤◌, ◌↔◌, IfOk, IfErr, true, IsErrOf, length};
 ghost use Rattle.actors.specs.declared.call_error.CallError.TheVariants.{Stranger};
 ghost use Rattle.model.specs.Limits.{IsNumber, most_nodes, most_processes};
 ghost use Rattle.messages.specs.declared.event.Event.TheVariants.{Declare, FailServer};
 ghost use Rattle.cluster_core.specs.Histories.{HasOneHistory};
+ghost use Rattle.cluster_core.specs.World.{journal_limit};
+ghost use Rattle.actors.specs.Refusals.{may_refuse_failure, may_refuse_start};
 
 use crate::call_error::CallError;
 use crate::client::Client;
+use crate::desk::{Desk, Work};
+use crate::direct::Direct;
 use crate::gate::Gate;
 use crate::halt::Halt;
 use crate::letter::Letter;
@@ -36,13 +40,14 @@ use std::thread::{Scope, Threads};
 use std::time::Clock;
 use trail::name::Name;
 
-/// A cluster that runs on threads.
+/// A cluster that runs on threads. It has no desks where its gate isn't open, and its clients then make no call themselves.
 #[derive(Drop)]
 pub struct Cluster<'a, J: Name> {
     alloc: Global,
     nodes: u8,
     book: &'a Mutex<Book<J>>,
     mailboxes: &'a [Mailbox],
+    desks: &'a [Desk<J>],
     places: &'a [Mutex<Place<J>>],
     rebuilt: &'a [Mutex<Option<Rebuilt<J>>>],
     halt: &'a Halt,
@@ -68,7 +73,7 @@ impl<'a, J: Name> Cluster<'a, J> {
     }
 
     /// The workers end, before they take another letter. Calls that are open then are answered `Unanswered`,
-    /// and those that are made later `Closed`.
+    /// and those that are made later `Closed`. (One that a client is just making itself may still be answered.)
     pub(crate) fn stop(&self) {
         self.halt.set();
     }
@@ -101,7 +106,7 @@ impl<'a, J: Name> Cluster<'a, J> {
     /// In this order: `Stranger` where the node is outside the shape or the process outside 1 to 256;
     /// `Fenced` while the node is declared failed; `Busy` where a client of that process of this
     /// incarnation was handed out already; `NoMemory` where a request for memory was refused.
-    pub fn client<R: Wait>(&self, rt: &R, node: u8, pid: u16) -> Result<Client<'a>, CallError>
+    pub fn client<R: Wait>(&self, rt: &R, node: u8, pid: u16) -> Result<Client<'a, J>, CallError>
         ensures process { IfOk result (λ client. (client.process.node ≡ node) × (client.process.pid ≡ pid)) }
         ensures fresh { IfOk result (λ client. client.last ≡ 0) }
         ensures stranger { IsErrOf result Stranger ↔ (IsNumber self.now.nodes node × IsNumber most_processes pid → ⊥) }
@@ -117,15 +122,23 @@ impl<'a, J: Name> Cluster<'a, J> {
             incarnation,
             pid,
         };
-        Ok(Client::new(self.alloc, process, &mailbox.letters))
+        let direct = self.direct(index);
+        Ok(Client::new(self.alloc, process, &mailbox.letters, direct))
+    }
+
+    // What a client needs for calls at the desk of the node at the index.
+    fn direct(&self, index: usize) -> Option<Direct<'a, J>> {
+        let desk = self.desks.get(index)?;
+        Some(Direct::new(self.alloc, desk, self.book, self.halt))
     }
 
     /// Declares the node failed, and each server is sent word of it.
     ///
     /// # Errors
-    /// Those of `Book::declare`.
+    /// Those of `Book::declare`: `JournalFull`, `Stranger`, `NotAlive` or `NoMemory`.
     pub fn declare<R: Wait>(&self, rt: &R, node: u8) -> Result<Stamp, Refused>
-        ensures { IfOk result (λ stamp. stamp.event ≡ Declare node) }
+        ensures event { IfOk result (λ stamp. stamp.event ≡ Declare node) }
+        ensures refused { IfErr result (λ e. may_refuse_failure e ≡ true) }
     {
         let Some(place) = self.place(node) else {
             return self.book.lock(rt).declare(self.alloc, node);
@@ -143,8 +156,11 @@ impl<'a, J: Name> Cluster<'a, J> {
     /// letter. The position of the entry is answered, from 1.
     ///
     /// # Errors
-    /// Those of `Book::restart`.
-    pub fn restart<R: Wait>(&self, rt: &R, node: u8) -> Result<u32, Refused> {
+    /// Those of `Book::restart`: `JournalFull`, `Stranger`, `NotDead`, `TooManyRestarts` or `NoMemory`.
+    pub fn restart<R: Wait>(&self, rt: &R, node: u8) -> Result<u32, Refused>
+        ensures position { IfOk result (IsNumber journal_limit) }
+        ensures refused { IfErr result (λ e. may_refuse_start e ≡ true) }
+    {
         let Some(place) = self.place(node) else {
             let (_, position) = self.restart_in_book(rt, node)?;
             return Ok(position);
@@ -156,7 +172,10 @@ impl<'a, J: Name> Cluster<'a, J> {
     }
 
     // The node's new seat, and the position of the entry.
-    fn restart_in_book<R: Wait>(&self, rt: &R, node: u8) -> Result<(Seat<J>, u32), Refused> {
+    fn restart_in_book<R: Wait>(&self, rt: &R, node: u8) -> Result<(Seat<J>, u32), Refused>
+        ensures position { IfOk result (λ r. IsNumber journal_limit r.1) }
+        ensures refused { IfErr result (λ e. may_refuse_start e ≡ true) }
+    {
         let mut book = self.book.lock(rt);
         let seat = book.restart(self.alloc, node)?;
         Ok((seat, book.len()))
@@ -165,9 +184,10 @@ impl<'a, J: Name> Cluster<'a, J> {
     /// Declares the token server of the file failed.
     ///
     /// # Errors
-    /// Those of `Book::fail_server`.
+    /// Those of `Book::fail_server`: `JournalFull`, `Stranger`, `NotAlive` or `NoMemory`.
     pub fn fail_server<R: Wait>(&self, rt: &R, file: u16) -> Result<Stamp, Refused>
-        ensures { IfOk result (λ stamp. stamp.event ≡ FailServer file) }
+        ensures event { IfOk result (λ stamp. stamp.event ≡ FailServer file) }
+        ensures refused { IfErr result (λ e. may_refuse_failure e ≡ true) }
     {
         self.book.lock(rt).fail_server(self.alloc, file)
     }
@@ -177,8 +197,11 @@ impl<'a, J: Name> Cluster<'a, J> {
     /// answered, from 1.
     ///
     /// # Errors
-    /// Those of `Book::start_server`.
-    pub fn start_server<R: Wait>(&self, rt: &R, file: u16) -> Result<u32, Refused> {
+    /// Those of `Book::start_server`: `JournalFull`, `Stranger`, `NotDead`, `TooManyRestarts` or `NoMemory`.
+    pub fn start_server<R: Wait>(&self, rt: &R, file: u16) -> Result<u32, Refused>
+        ensures position { IfOk result (IsNumber journal_limit) }
+        ensures refused { IfErr result (λ e. may_refuse_start e ≡ true) }
+    {
         let position = self.rebuild(rt, file)?;
         if let Some(mailbox) = self.server_mailbox(file) {
             mailbox.send_surely(rt, Letter::Begin, self.halt);
@@ -188,21 +211,34 @@ impl<'a, J: Name> Cluster<'a, J> {
 
     // The token server of the file begins again, and stands where its worker finds it: the position of the
     // entry.
-    fn rebuild<R: Wait>(&self, rt: &R, file: u16) -> Result<u32, Refused> {
+    fn rebuild<R: Wait>(&self, rt: &R, file: u16) -> Result<u32, Refused>
+        ensures position { IfOk result (IsNumber journal_limit) }
+        ensures refused { IfErr result (λ e. may_refuse_start e ≡ true) }
+    {
         let Some(place) = self.server_place(file) else {
-            let (_, stamp) = self.book.lock(rt).start_server(self.alloc, file)?;
-            return Ok(stamp.position());
+            let (_, position) = self.rebuild_in_book(rt, file)?;
+            return Ok(position);
         };
         let mut place = place.lock(rt);
-        let (seat, stamp) = self.book.lock(rt).start_server(self.alloc, file)?;
-        let position = stamp.position();
-        *place = Some(Rebuilt { seat, stamp });
+        let (rebuilt, position) = self.rebuild_in_book(rt, file)?;
+        *place = Some(rebuilt);
         Ok(position)
+    }
+
+    // The server's new seat with what it asks the nodes, and the position of the entry.
+    fn rebuild_in_book<R: Wait>(&self, rt: &R, file: u16) -> Result<(Rebuilt<J>, u32), Refused>
+        ensures position { IfOk result (λ r. IsNumber journal_limit r.1) }
+        ensures refused { IfErr result (λ e. may_refuse_start e ≡ true) }
+    {
+        let mut book = self.book.lock(rt);
+        let (seat, stamp) = book.start_server(self.alloc, file)?;
+        Ok((Rebuilt { seat, stamp }, book.len()))
     }
 }
 
 /// Runs a cluster of the shape on threads for as long as the body does, which is lent it. Each actor
-/// has a thread, a mailbox and a weather, nodes first. The body's result comes with the journal. Its book has no trail, so
+/// has a thread, a mailbox and a weather, nodes first. Where the gate is open, as it is asked once, a call that needs no other
+/// actor may be made on the thread of who calls. The body's result comes with the journal. Its book has no trail, so
 /// at each step the seat's state is compared with the book's copy (that of `run_threads` has one).
 ///
 /// Where a hundred requests for memory are refused one after the other, with no step between them, the
@@ -242,13 +278,14 @@ pub fn with_cluster<
     }
 }
 
-/// What a cluster begins with beside its book and its workers: a mailbox for each actor, nodes first, a place for
-/// each node, and one for each server as it begins again.
+/// What a cluster begins with beside its book and its workers: a mailbox and a desk for each actor, nodes first, a
+/// place for each node, and one for each server as it begins again.
 #[derive(Drop)]
 pub(crate) struct Begun<J: Name> {
     alloc: Global,
     nodes: u8,
     mailboxes: Vec<Mailbox>,
+    desks: Vec<Desk<J>>,
     places: Vec<Mutex<Place<J>>>,
     rebuilt: Vec<Mutex<Option<Rebuilt<J>>>>,
     halt: Halt,
@@ -271,6 +308,7 @@ impl<J: Name> Begun<J> {
             gate,
             nodes: self.nodes,
             mailboxes: self.mailboxes.as_slice(),
+            desks: self.desks.as_slice(),
             places: self.places.as_slice(),
             rebuilt: self.rebuilt.as_slice(),
             halt: &self.halt,
@@ -279,12 +317,22 @@ impl<J: Name> Begun<J> {
     }
 
     /// What is lent to whoever calls the nodes.
-    pub(crate) fn cluster<'a>(&'a self, book: &'a Mutex<Book<J>>) -> Cluster<'a, J> {
+    pub(crate) fn cluster<'a, G: Gate>(
+        &'a self,
+        book: &'a Mutex<Book<J>>,
+        gate: &G,
+    ) -> Cluster<'a, J> {
+        let desks: &'a [Desk<J>] = if gate.is_open() {
+            self.desks.as_slice()
+        } else {
+            &[]
+        };
         Cluster {
             alloc: self.alloc,
             nodes: self.nodes,
             book,
             mailboxes: self.mailboxes.as_slice(),
+            desks,
             places: self.places.as_slice(),
             rebuilt: self.rebuilt.as_slice(),
             halt: &self.halt,
@@ -301,14 +349,17 @@ pub(crate) fn begin<J: Name, W: Weather>(
     shape: Shape,
     seats: Vec<Seat<J>>,
     weathers: Vec<W>,
-) -> Result<(Begun<J>, Vec<Worker<J, W>>), AllocError>
+) -> Result<(Begun<J>, Vec<Worker<W>>), AllocError>
     requires { length seats.items ≡ shape.nodes + shape.files }
 {
-    let (mailboxes, workers) = posts_of(alloc, seats, weathers)?;
+    let (mailboxes, inboxes) = mailboxes_of(alloc, seats.len())?;
+    let workers = workers_of(alloc, seats.as_slice(), weathers, inboxes)?;
+    let desks = desks_of(alloc, seats)?;
     let begun = Begun {
         alloc,
         nodes: shape.nodes(),
         mailboxes,
+        desks,
         places: places_of(alloc, shape.nodes())?,
         rebuilt: server_places_of(alloc, shape.files())?,
         halt: Halt::new(),
@@ -317,17 +368,13 @@ pub(crate) fn begin<J: Name, W: Weather>(
     Ok((begun, workers))
 }
 
-// A mailbox and a worker for each seat, which meets that weather.
-fn posts_of<J: Name, W: Weather>(
-    alloc: Global,
-    seats: Vec<Seat<J>>,
-    weathers: Vec<W>,
-) -> Result<(Vec<Mailbox>, Vec<Worker<J, W>>), AllocError>
-    ensures { IfOk result (λ made. length made.0.items ≡ length seats.items) }
-{
-    let (mailboxes, inboxes) = mailboxes_of(alloc, seats.len())?;
-    let workers = workers_of(alloc, seats, weathers, inboxes)?;
-    Ok((mailboxes, workers))
+// A desk for each seat.
+fn desks_of<J: Name>(alloc: Global, seats: Vec<Seat<J>>) -> Result<Vec<Desk<J>>, AllocError> {
+    let mut desks = Vec::new(alloc);
+    for seat in seats {
+        desks.push(Mutex::new(Work::new(seat)))?;
+    }
+    Ok(desks)
 }
 
 // Starts the threads, calls the body and stops the threads. (As `run_begun` of `threads.rt`, which takes no body: a bound on one can't
@@ -343,13 +390,13 @@ fn run_body<
     gate: &G,
     book: &Mutex<Book<Brand>>,
     begun: &Begun<Brand>,
-    workers: Vec<Worker<Brand, W>>,
+    workers: Vec<Worker<W>>,
     body: F,
 ) -> Option<T>
     requires { F.IsAlwaysCallable body }
 {
     let shared = begun.shared(book, gate);
-    let cluster = begun.cluster(book);
+    let cluster = begun.cluster(book, gate);
     thread::scope(thread::scope_env(), rt, |scope| {
         let all = start_all(scope, rt, &shared, workers);
         let made = if all { Some(body(&cluster)) } else { None };
@@ -367,12 +414,7 @@ pub(crate) fn start_all<
     G: Gate + Sync,
     W: Weather + Send + 's,
     R: Threads + Wait + Clock + Sync,
->(
-    scope: &Scope<'s, E>,
-    rt: &'s R,
-    shared: &'s Shared<'b, J, G>,
-    workers: Vec<Worker<J, W>>,
-) -> bool {
+>(scope: &Scope<'s, E>, rt: &'s R, shared: &'s Shared<'b, J, G>, workers: Vec<Worker<W>>) -> bool {
     if scope.spawn(move || pace(rt, shared)).is_err() {
         return false;
     }
@@ -394,7 +436,7 @@ fn start<
     G: Gate + Sync,
     W: Weather + Send + 's,
     R: Threads + Wait + Clock + Sync,
->(scope: &Scope<'s, E>, rt: &'s R, shared: &'s Shared<'b, J, G>, worker: Worker<J, W>) -> bool {
+>(scope: &Scope<'s, E>, rt: &'s R, shared: &'s Shared<'b, J, G>, worker: Worker<W>) -> bool {
     shared.working.fetch_add(1, Ordering::SeqCst);
     let started = scope.spawn(move || worker.work(rt, shared)).is_ok();
     if !started {
@@ -420,16 +462,16 @@ fn mailboxes_of(
     Ok((mailboxes, inboxes))
 }
 
-// A worker for each seat, with its weather and its inbox.
+// A worker for the actor of each seat, with its weather and its inbox.
 fn workers_of<J: Name, W: Weather>(
     alloc: Global,
-    seats: Vec<Seat<J>>,
+    seats: &[Seat<J>],
     weathers: Vec<W>,
     inboxes: Vec<Receiver<Letter>>,
-) -> Result<Vec<Worker<J, W>>, AllocError> {
+) -> Result<Vec<Worker<W>>, AllocError> {
     let mut workers = Vec::new(alloc);
-    for ((seat, weather), inbox) in seats.into_iter().zip(weathers).zip(inboxes) {
-        workers.push(Worker::new(alloc, seat, weather, inbox))?;
+    for ((seat, weather), inbox) in seats.iter().zip(weathers).zip(inboxes) {
+        workers.push(Worker::new(alloc, seat.actor(), weather, inbox))?;
     }
     Ok(workers)
 }

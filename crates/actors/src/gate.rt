@@ -4,16 +4,22 @@ use messages::actor::Actor;
 /// A moment in the work of an actor.
 #[derive(Clone, Copy, Debug, PartialEq, Eq)]
 pub enum Point {
-    /// The actor has prepared a step, which it will commit, and holds no lock.
+    /// The actor has prepared a step, which it will commit, and holds no lock but that of its own seat.
     Prepared(Actor),
-    /// The actor has committed the step as the entry at this position, from 1, and holds no lock. No
-    /// message of the step was sent, and no call was answered.
+    /// The actor has committed the step as the entry at this position, from 1, and holds no lock but that of its own
+    /// seat. No message of the step was sent, and no call was answered.
     Committed(Actor, u32),
 }
 
 /// What is told of each such moment. The actor waits there until `at` returns.
 pub trait Gate {
     fn at(&self, point: Point);
+
+    /// Whether no actor is held here, as is asked once, when the cluster begins. A client may then make a call that needs no
+    /// other actor on its own thread, and the gate isn't told of it.
+    fn is_open(&self) -> bool {
+        false
+    }
 }
 
 /// A gate at which no actor waits.
@@ -22,4 +28,8 @@ pub struct OpenGate;
 
 impl Gate for OpenGate {
     fn at(&self, _point: Point) {}
+
+    fn is_open(&self) -> bool {
+        true
+    }
 }

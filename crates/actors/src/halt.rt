@@ -38,8 +38,8 @@ impl Halt {
         self.is_short.load(Ordering::SeqCst) != 0
     }
 
-    /// A step was taken. (Where no request was refused before it, nothing is written: all workers read what lies beside
-    /// it at each letter, and a write would take it from their caches.)
+    /// A step was taken. (Where no request was refused before it, nothing is written: workers and clients read what
+    /// lies beside it at each letter and call, and a write would take it from their caches.)
     pub(crate) fn note_step(&self) {
         if self.refused.load(Ordering::SeqCst) != 0 {
             self.refused.store(0, Ordering::SeqCst);

@@ -8,6 +8,8 @@ use book::receipt::Receipt;
 use book::stamp::Stamp;
 use messages::event::Event;
 use messages::message::Message;
+use model::mode::Mode;
+use model::op::Op;
 use model::process::Process;
 use std::alloc::{AllocError, Global};
 use std::mem;
@@ -70,6 +72,15 @@ impl OpenCall {
         if let Some(number) = granted(event) {
             self.blocked_here = self.blocked_here || self.has_number(number);
         }
+    }
+}
+
+/// Whether a call that asks this may give up a lock.
+pub(crate) fn may_release(op: &Op) -> bool {
+    match op {
+        Op::Unlock { .. } | Op::Close { .. } | Op::Exit => true,
+        Op::Set { mode, .. } | Op::Wait { mode, .. } => *mode == Mode::Read,
+        _ => false,
     }
 }
 

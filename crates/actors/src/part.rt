@@ -6,17 +6,18 @@ use crate::stop::Stop;
 use model::op::Op;
 use std::alloc::{AllocError, Global};
 use std::sync::{Mutex, Wait};
+use trail::name::Name;
 
 /// The node of a process, and its calls in a phase, which one thread at most makes, while others may be added.
 #[derive(Drop)]
-pub(crate) struct Part<'a> {
+pub(crate) struct Part<'a, J: Name> {
     node: u8,
-    queue: Mutex<CallQueue<'a>>,
+    queue: Mutex<CallQueue<'a, J>>,
 }
 
-impl<'a> Part<'a> {
+impl<'a, J: Name> Part<'a, J> {
     /// The part of a process of the node that makes no call.
-    pub(crate) fn new(alloc: Global, node: u8) -> Part<'a> {
+    pub(crate) fn new(alloc: Global, node: u8) -> Part<'a, J> {
         Part {
             node,
             queue: Mutex::new(CallQueue::new(alloc)),
@@ -36,7 +37,7 @@ impl<'a> Part<'a> {
     }
 
     /// Adds a call, with its client if one is needed.
-    pub(crate) fn add<R: Wait>(&self, rt: &R, call: NextCall<'a>) -> Result<(), AllocError> {
+    pub(crate) fn add<R: Wait>(&self, rt: &R, call: NextCall<'a, J>) -> Result<(), AllocError> {
         self.queue.lock(rt).add(call)
     }
 
@@ -59,7 +60,7 @@ impl<'a> Part<'a> {
     }
 
     // Makes the call of the line at the index, with this client.
-    fn make<R: Wait>(&self, rt: &R, index: usize, op: Op, client: Client<'a>) {
+    fn make<R: Wait>(&self, rt: &R, index: usize, op: Op, client: Client<'a, J>) {
         let mut client = client;
         let made = client.call(rt, op);
         self.queue.lock(rt).end_call(client, index, made);
@@ -68,7 +69,7 @@ impl<'a> Part<'a> {
     /// What the calls came to, each with the index of its line, and the client for later calls, if there is one.
     pub(crate) fn into_outcomes(
         self,
-    ) -> Result<(Vec<(usize, LineOutcome)>, Option<Client<'a>>), Stop> {
+    ) -> Result<(Vec<(usize, LineOutcome)>, Option<Client<'a, J>>), Stop> {
         let Part { queue, .. } = self;
         queue.into_inner().into_outcomes()
     }

@@ -35,9 +35,9 @@ pub(crate) struct Phases<'a, 'b, J: Name> {
     is_over: bool,
     lines: Vec<PlayedLine>,
     first: usize,
-    parts: Vec<Part<'a>>,
+    parts: Vec<Part<'a, J>>,
     places: BTreeMap<(u8, u16), usize>,
-    idle: BTreeMap<(u8, u16), Client<'a>>,
+    idle: BTreeMap<(u8, u16), Client<'a, J>>,
     last: Option<Receipt>,
     failed: Vec<u16>,
 }
@@ -119,7 +119,7 @@ impl<'a, 'b, J: Name + Send + Sync> Phases<'a, 'b, J> {
         rt: &R,
         index: usize,
         command: Command,
-        parts: &[Part<'a>],
+        parts: &[Part<'a, J>],
     ) -> Result<(), Stop> {
         let outcome = self.change(rt, command, parts)?;
         self.note(index, outcome);
@@ -131,7 +131,7 @@ impl<'a, 'b, J: Name + Send + Sync> Phases<'a, 'b, J> {
         &mut self,
         rt: &R,
         command: Command,
-        parts: &[Part<'a>],
+        parts: &[Part<'a, J>],
     ) -> Result<LineOutcome, Stop> {
         let made = match command {
             Command::Declare { node } => self.declare(rt, node),
@@ -170,7 +170,12 @@ impl<'a, 'b, J: Name + Send + Sync> Phases<'a, 'b, J> {
     }
 
     // The node begins again, whose clients are gone: the position of the entry.
-    fn restart<R: Wait>(&mut self, rt: &R, node: u8, parts: &[Part<'a>]) -> Result<u32, Refused> {
+    fn restart<R: Wait>(
+        &mut self,
+        rt: &R,
+        node: u8,
+        parts: &[Part<'a, J>],
+    ) -> Result<u32, Refused> {
         let position = self.cluster.restart(rt, node)?;
         self.idle.retain(|process, _| process.0 != node);
         for part in parts {
@@ -180,7 +185,7 @@ impl<'a, 'b, J: Name + Send + Sync> Phases<'a, 'b, J> {
     }
 
     // The client of the process, after all earlier phases: the one that it has, or else a new one.
-    fn client<R: Wait>(&mut self, rt: &R, node: u8, pid: u16) -> Result<Client<'a>, CallError> {
+    fn client<R: Wait>(&mut self, rt: &R, node: u8, pid: u16) -> Result<Client<'a, J>, CallError> {
         let mut client = match self.idle.remove(&(node, pid)) {
             Some(client) => client,
             None => self.cluster.client(rt, node, pid)?,
@@ -222,7 +227,7 @@ impl<'a, 'b, J: Name + Send + Sync> Phases<'a, 'b, J> {
     fn play_all<R: Threads + Wait + Clock + Sync, V: RunWatcher>(
         &mut self,
         rt: &R,
-        parts: &[Part<'a>],
+        parts: &[Part<'a, J>],
         watcher: &mut V,
     ) -> Result<(), Stop> {
         let cluster = self.cluster;
@@ -304,12 +309,12 @@ impl<'a, 'b, J: Name + Send + Sync> Phases<'a, 'b, J> {
     }
 
     // The part of the process, of those of the phase, if it has one.
-    fn part_of<'p>(&self, parts: &'p [Part<'a>], node: u8, pid: u16) -> Option<&'p Part<'a>> {
+    fn part_of<'p>(&self, parts: &'p [Part<'a, J>], node: u8, pid: u16) -> Option<&'p Part<'a, J>> {
         parts.get(*self.places.get(&(node, pid))?)
     }
 
     // Keeps the client of a process that makes no call now.
-    fn keep(&mut self, client: Client<'a>) -> Result<(), Stop> {
+    fn keep(&mut self, client: Client<'a, J>) -> Result<(), Stop> {
         let process = client.process();
         match self.idle.insert((process.node, process.pid), client) {
             Ok(_) => Ok(()),
@@ -318,7 +323,7 @@ impl<'a, 'b, J: Name + Send + Sync> Phases<'a, 'b, J> {
     }
 
     // Takes in a part that was played.
-    fn end(&mut self, part: Part<'a>) -> Result<(), Stop> {
+    fn end(&mut self, part: Part<'a, J>) -> Result<(), Stop> {
         let (outcomes, client) = part.into_outcomes()?;
         for (index, outcome) in outcomes.iter() {
             self.note(*index, *outcome);

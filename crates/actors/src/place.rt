@@ -20,7 +20,7 @@ pub(crate) struct Place<J: Name> {
 }
 
 impl<J: Name> Place<J> {
-    /// The place of a node in its first incarnation, whose worker has its seat.
+    /// The place of a node in its first incarnation, whose seat lies at its desk.
     pub(crate) fn new(alloc: Global) -> Place<J> {
         Place {
             incarnation: 1,

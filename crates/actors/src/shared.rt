@@ -1,4 +1,5 @@
 //! What the threads of a cluster share.
+use crate::desk::Desk;
 use crate::halt::Halt;
 use crate::letter::Letter;
 use crate::place::Place;
@@ -10,14 +11,9 @@ use messages::actor::Actor;
 use messages::message::Message;
 use std::alloc::Global;
 use std::sync::atomic::{AtomicU64, Ordering};
-use std::sync::{Mutex, MutexGuard, Wait};
-use std::{hint, thread};
+use std::sync::{Mutex, Wait};
+use std::thread;
 use trail::name::Name;
-
-// How often a thread looks whether it can have the book before it sleeps, and how long it pauses between two looks.
-const LOOKS: u32 = 100;
-
-const PAUSES: u32 = 10;
 
 /// The mailbox of an actor, and whether it takes a tick: 0 where its worker waits for one, and 1 where
 /// one is on its way or the worker needs none.
@@ -71,7 +67,7 @@ impl Mailbox {
 }
 
 /// What the threads of a cluster share: the book under its lock, the gate, and for each actor, nodes
-/// first, its mailbox; for each node its place; for each file its server that begins again, until its
+/// first, its mailbox and its desk; for each node its place; for each file its server that begins again, until its
 /// worker takes that; whether the workers are to end; and how many work.
 #[derive(Drop)]
 pub(crate) struct Shared<'a, J: Name, G> {
@@ -80,6 +76,7 @@ pub(crate) struct Shared<'a, J: Name, G> {
     pub(crate) gate: &'a G,
     pub(crate) nodes: u8,
     pub(crate) mailboxes: &'a [Mailbox],
+    pub(crate) desks: &'a [Desk<J>],
     pub(crate) places: &'a [Mutex<Place<J>>],
     pub(crate) rebuilt: &'a [Mutex<Option<Rebuilt<J>>>],
     pub(crate) halt: &'a Halt,
@@ -87,23 +84,14 @@ pub(crate) struct Shared<'a, J: Name, G> {
 }
 
 impl<J: Name, G> Shared<'_, J, G> {
-    /// The book under its lock. A commit of a script's run holds it for less time than it takes to sleep and be
-    /// woken, so a thread looks for a while first.
-    pub(crate) fn lock_book<R: Wait>(&self, rt: &R) -> MutexGuard<'_, Book<J>> {
-        for _ in 0..LOOKS {
-            if let Some(book) = self.book.try_lock() {
-                return book;
-            }
-            for _ in 0..PAUSES {
-                hint::spin_loop();
-            }
-        }
-        self.book.lock(rt)
-    }
-
     /// The mailbox of the actor.
     pub(crate) fn mailbox(&self, actor: Actor) -> Option<&Mailbox> {
         self.mailboxes.get(index_of(self.nodes, actor)?)
+    }
+
+    /// The desk of the actor.
+    pub(crate) fn desk(&self, actor: Actor) -> Option<&Desk<J>> {
+        self.desks.get(index_of(self.nodes, actor)?)
     }
 
     /// Puts a copy of the message into the mailbox of its addressee, as `deliver` does.

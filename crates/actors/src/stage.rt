@@ -18,7 +18,7 @@ const LONGEST_PAUSE: u64 = 64;
 pub(crate) struct Stage<'s, 'a, J: Name, R> {
     pub(crate) rt: &'s R,
     pub(crate) cluster: &'s Cluster<'a, J>,
-    pub(crate) parts: &'s [Part<'a>],
+    pub(crate) parts: &'s [Part<'a, J>],
     pub(crate) playing: &'s AtomicU64,
 }
 
@@ -74,7 +74,12 @@ impl<'s, 'a: 's, J: Name + Send + Sync, R: Threads + Wait + Clock + Sync> Stage<
 }
 
 // Plays a part. Where it stops before its end, the cluster ends.
-fn play<J: Name, R: Wait>(rt: &R, cluster: &Cluster<'_, J>, part: &Part<'_>, playing: &AtomicU64) {
+fn play<J: Name, R: Wait>(
+    rt: &R,
+    cluster: &Cluster<'_, J>,
+    part: &Part<'_, J>,
+    playing: &AtomicU64,
+) {
     if !part.play(rt) {
         cluster.stop();
     }

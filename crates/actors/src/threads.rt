@@ -191,13 +191,13 @@ fn run_begun<
     gate: &G,
     book: &Mutex<Book<J>>,
     begun: &Begun<J>,
-    workers: Vec<Worker<J, Seeded>>,
+    workers: Vec<Worker<Seeded>>,
     lines: &[ScriptLine],
     manner: Manner,
     watcher: &mut V,
 ) -> Option<Result<Vec<PlayedLine>, Stop>> {
     let shared = begun.shared(book, gate);
-    let cluster = begun.cluster(book);
+    let cluster = begun.cluster(book, gate);
     thread::scope(thread::scope_env(), rt, |scope| {
         let all = start_all(scope, rt, &shared, workers);
         let played = if all {

@@ -4,9 +4,11 @@ ghost use Rattle.std.specs.Vec.{vec_capacity};
 ghost use Rattle.book.specs.Commits.{Names, IsStepFrom};
 
 use crate::call_error::CallError;
+use crate::desk::Desk;
 use crate::gate::{Gate, Point};
 use crate::letter::{Letter, Question};
-use crate::open_calls::{OpenCall, OpenCalls};
+use crate::locks::lock;
+use crate::open_calls::{OpenCall, OpenCalls, may_release};
 use crate::outgoing::Outgoing;
 use crate::rebuilt::Rebuilt;
 use crate::resends::Resends;
@@ -22,7 +24,6 @@ use crossbeam_channel::{Receiver, RecvTimeoutError};
 use messages::actor::Actor;
 use messages::event::Event;
 use messages::refusal::StepError;
-use model::mode::Mode;
 use model::op::Op;
 use model::process::Process;
 use std::alloc::Global;
@@ -35,12 +36,12 @@ use trail::name::Name;
 // none that tells it to end.
 const LONGEST_SLEEP: u64 = 250;
 
-/// An actor at work: its seat, and why no step of it is taken any more, if that was met; its messages on
+/// An actor at work: why no step of it is taken any more, if that was met; its messages on
 /// their way; its mailbox, and whether the last tick has not been given back; of a node where the answers to its
-/// clients go, and their open calls; and of a server when it sends again.
+/// clients go, and their open calls; and of a server when it sends again. Its seat is at its desk.
 #[derive(Drop)]
-pub(crate) struct Worker<J: Name, W: Weather> {
-    seat: Seat<J>,
+pub(crate) struct Worker<W: Weather> {
+    actor: Actor,
     over: Option<CallError>,
     outgoing: Outgoing<W>,
     inbox: Receiver<Letter>,
@@ -59,16 +60,16 @@ enum Cause {
     Release,
 }
 
-impl<J: Name, W: Weather> Worker<J, W> {
+impl<W: Weather> Worker<W> {
     /// A worker that has done nothing.
     pub(crate) fn new(
         alloc: Global,
-        seat: Seat<J>,
+        actor: Actor,
         weather: W,
         inbox: Receiver<Letter>,
-    ) -> Worker<J, W> {
+    ) -> Worker<W> {
         Worker {
-            seat,
+            actor,
             over: None,
             outgoing: Outgoing::new(alloc, weather),
             inbox,
@@ -79,23 +80,37 @@ impl<J: Name, W: Weather> Worker<J, W> {
         }
     }
 
-    /// Takes letters until the workers are to end.
-    pub(crate) fn work<G: Gate, R: Wait + Clock>(self, rt: &R, shared: &Shared<'_, J, G>) {
+    /// Takes letters until the workers are to end. (Each actor has a desk.)
+    pub(crate) fn work<J: Name, G: Gate, R: Wait + Clock>(self, rt: &R, shared: &Shared<'_, J, G>) {
         let mut worker = self;
-        for _ in rt.forever() {
-            let Some(letter) = worker.next_letter(rt, shared) else {
-                break;
-            };
-            worker.change_seats(rt, shared);
-            worker.take(rt, shared, letter);
-            worker.ask_for_tick(shared);
+        if let Some(desk) = shared.desk(worker.actor) {
+            worker.work_at(rt, shared, desk);
         }
         worker.leave_all(rt, shared.alloc);
         shared.working.fetch_sub(1, Ordering::SeqCst);
     }
 
+    // Takes letters until the workers are to end, and has what lies at the desk for as long as one takes.
+    fn work_at<J: Name, G: Gate, R: Wait + Clock>(
+        &mut self,
+        rt: &R,
+        shared: &Shared<'_, J, G>,
+        desk: &Desk<J>,
+    ) {
+        for _ in rt.forever() {
+            let Some(letter) = self.next_letter(rt, shared) else {
+                break;
+            };
+            let mut work = lock(rt, desk);
+            self.change_seats(rt, shared, &mut work.seat);
+            self.take(rt, shared, &mut work.seat, letter);
+            self.ask_for_tick(shared);
+            work.has_open = !self.waiting.is_empty();
+        }
+    }
+
     // The next letter; none where there will be no more, or the workers are to end.
-    fn next_letter<G: Gate, R: Wait + Clock>(
+    fn next_letter<J: Name, G: Gate, R: Wait + Clock>(
         &self,
         rt: &R,
         shared: &Shared<'_, J, G>,
@@ -116,62 +131,78 @@ impl<J: Name, W: Weather> Worker<J, W> {
     }
 
     // Takes the seat of a new incarnation or epoch, if there is one.
-    fn change_seats<G: Gate, R: Wait>(&mut self, rt: &R, shared: &Shared<'_, J, G>) {
-        match self.seat.actor() {
+    fn change_seats<J: Name, G: Gate, R: Wait>(
+        &mut self,
+        rt: &R,
+        shared: &Shared<'_, J, G>,
+        seat: &mut Seat<J>,
+    ) {
+        match self.actor {
             Actor::Node(node) => {
-                if let Some(seat) = shared.new_seat(rt, node) {
+                if let Some(new) = shared.new_seat(rt, node) {
                     self.kill_all(rt, shared.alloc);
-                    self.seat = seat;
+                    *seat = new;
                     self.over = None;
                 }
             }
             Actor::Server(file) => {
                 if let Some(rebuilt) = shared.new_server(rt, file) {
-                    self.begin_again(rt, shared, rebuilt);
+                    *seat = self.begin_again(rt, shared, rebuilt);
                 }
             }
         }
     }
 
-    // The server begins again, and asks the nodes for their tokens.
-    fn begin_again<G, R: Wait>(&mut self, rt: &R, shared: &Shared<'_, J, G>, rebuilt: Rebuilt<J>) {
+    // The server begins again, on the seat that is answered, and asks the nodes for their tokens.
+    fn begin_again<J: Name, G, R: Wait>(
+        &mut self,
+        rt: &R,
+        shared: &Shared<'_, J, G>,
+        rebuilt: Rebuilt<J>,
+    ) -> Seat<J> {
         let Rebuilt { seat, stamp } = rebuilt;
-        self.seat = seat;
         self.resends = Resends::new();
         self.resends.note(stamp.event());
         self.outgoing.send_all(rt, shared, &stamp);
+        seat
     }
 
     // Does what the letter asks for.
-    fn take<G: Gate, R: Wait>(&mut self, rt: &R, shared: &Shared<'_, J, G>, letter: Letter) {
+    fn take<J: Name, G: Gate, R: Wait>(
+        &mut self,
+        rt: &R,
+        shared: &Shared<'_, J, G>,
+        seat: &mut Seat<J>,
+        letter: Letter,
+    ) {
         match letter {
-            Letter::Ask(question) => self.take_question(rt, shared, question),
+            Letter::Ask(question) => self.take_question(rt, shared, seat, question),
             Letter::Deliver(message) => {
-                let _ = self.step(rt, shared, Event::Deliver(message));
+                let _ = self.step(rt, shared, seat, Event::Deliver(message));
             }
-            Letter::Learn { node, incarnation } => self.learn(rt, shared, node, incarnation),
-            Letter::Tick => self.take_tick(rt, shared),
+            Letter::Learn { node, incarnation } => self.learn(rt, shared, seat, node, incarnation),
+            Letter::Tick => self.take_tick(rt, shared, seat),
             Letter::Begin => {}
         }
     }
 
     // Gives the last tick back if there is something to do at the next.
-    fn ask_for_tick<G>(&mut self, shared: &Shared<'_, J, G>) {
+    fn ask_for_tick<J: Name, G>(&mut self, shared: &Shared<'_, J, G>) {
         let waits = !self.waiting.is_empty() || self.resends.are_needed();
         if !self.has_tick || (!waits && self.outgoing.is_empty()) {
             return;
         }
-        if let Some(mailbox) = shared.mailbox(self.seat.actor()) {
+        if let Some(mailbox) = shared.mailbox(self.actor) {
             mailbox.take_ticks();
             self.has_tick = false;
         }
     }
 
-    // Whether the node may take a call of the process, for which there is room then.
-    fn admit(&mut self, process: Process) -> Result<(), CallError>
+    // Whether the node, which is in that incarnation, may take a call of the process, for which there is room then.
+    fn admit(&mut self, process: Process, incarnation: u16) -> Result<(), CallError>
         ensures { OnOk result (vec_len self.new.waiting.calls < vec_capacity self.new.waiting.calls) }
     {
-        if process.incarnation != self.seat.incarnation() {
+        if process.incarnation != incarnation {
             return Err(CallError::Fenced);
         }
         if let Some(why) = self.over {
@@ -184,10 +215,11 @@ impl<J: Name, W: Weather> Worker<J, W> {
     }
 
     // The node does the call of a question.
-    fn take_question<G: Gate, R: Wait>(
+    fn take_question<J: Name, G: Gate, R: Wait>(
         &mut self,
         rt: &R,
         shared: &Shared<'_, J, G>,
+        seat: &mut Seat<J>,
         question: Question,
     ) {
         let Question {
@@ -199,11 +231,11 @@ impl<J: Name, W: Weather> Worker<J, W> {
         if !self.paths.learn(rt, process, back) {
             return;
         }
-        match self.begin(rt, shared, process, op, seen.as_ref()) {
+        match self.begin(rt, shared, seat, process, op, seen.as_ref()) {
             Ok(stamp) => {
                 self.open(rt, process, stamp);
                 if may_release(&op) {
-                    self.retry_all(rt, shared, process.node, Cause::Release);
+                    self.retry_all(rt, shared, seat, process.node, Cause::Release);
                 }
             }
             Err(why) => self.paths.answer(rt, process, Err(why)),
@@ -211,23 +243,24 @@ impl<J: Name, W: Weather> Worker<J, W> {
     }
 
     // The node takes a call of the process, for which there is room then, and its messages are sent.
-    fn begin<G: Gate, R: Wait>(
+    fn begin<J: Name, G: Gate, R: Wait>(
         &mut self,
         rt: &R,
         shared: &Shared<'_, J, G>,
+        seat: &mut Seat<J>,
         process: Process,
         op: Op,
         seen: Option<&Mark>,
     ) -> Result<Stamp, CallError>
         ensures { OnOk result (vec_len self.new.waiting.calls < vec_capacity self.new.waiting.calls) }
     {
-        self.admit(process)?;
+        self.admit(process, seat.incarnation())?;
         let event = Event::Call {
             node: process.node,
             pid: process.pid,
             op,
         };
-        let stamp = commit_step(rt, shared, &mut self.seat, event, seen)?;
+        let stamp = commit_step(rt, shared, seat, event, seen)?;
         self.outgoing.send_all(rt, shared, &stamp);
         Ok(stamp)
     }
@@ -248,14 +281,15 @@ impl<J: Name, W: Weather> Worker<J, W> {
     }
 
     // The server learns of a declaration. One that is refused for want of memory comes again.
-    fn learn<G: Gate, R: Wait>(
+    fn learn<J: Name, G: Gate, R: Wait>(
         &mut self,
         rt: &R,
         shared: &Shared<'_, J, G>,
+        seat: &mut Seat<J>,
         node: u8,
         incarnation: u16,
     ) {
-        let Actor::Server(file) = self.seat.actor() else {
+        let Actor::Server(file) = self.actor else {
             return;
         };
         let event = Event::Learn {
@@ -263,9 +297,9 @@ impl<J: Name, W: Weather> Worker<J, W> {
             node,
             incarnation,
         };
-        let learned = self.step(rt, shared, event);
+        let learned = self.step(rt, shared, seat, event);
         if learned == Err(CallError::NoMemory) {
-            if let Some(mailbox) = shared.mailbox(self.seat.actor()) {
+            if let Some(mailbox) = shared.mailbox(self.actor) {
                 mailbox.send_surely(rt, Letter::Learn { node, incarnation }, shared.halt);
             }
         }
@@ -273,20 +307,26 @@ impl<J: Name, W: Weather> Worker<J, W> {
 
     // A turn has passed: messages that were held back go, a node tries open calls again, and a server
     // sends again what has no answer, as far as it is time.
-    fn take_tick<G: Gate, R: Wait>(&mut self, rt: &R, shared: &Shared<'_, J, G>) {
+    fn take_tick<J: Name, G: Gate, R: Wait>(
+        &mut self,
+        rt: &R,
+        shared: &Shared<'_, J, G>,
+        seat: &mut Seat<J>,
+    ) {
         self.has_tick = true;
         self.outgoing.pass_tick(rt, shared);
-        match self.seat.actor() {
-            Actor::Node(node) => self.retry_all(rt, shared, node, Cause::Tick),
-            Actor::Server(file) => self.resend(rt, shared, file),
+        match self.actor {
+            Actor::Node(node) => self.retry_all(rt, shared, seat, node, Cause::Tick),
+            Actor::Server(file) => self.resend(rt, shared, seat, file),
         }
     }
 
     // The node tries open calls again, in the order in which it took them.
-    fn retry_all<G: Gate, R: Wait>(
+    fn retry_all<J: Name, G: Gate, R: Wait>(
         &mut self,
         rt: &R,
         shared: &Shared<'_, J, G>,
+        seat: &mut Seat<J>,
         node: u8,
         cause: Cause,
     ) {
@@ -300,7 +340,7 @@ impl<J: Name, W: Weather> Worker<J, W> {
                 Cause::Release => self.waiting.is_blocked_here(index),
             };
             if due {
-                self.retry(rt, shared, node, pid);
+                self.retry(rt, shared, seat, node, pid);
             }
             if self.waiting.pid_at(index) == Some(pid) {
                 index = index.saturating_add(1);
@@ -309,8 +349,15 @@ impl<J: Name, W: Weather> Worker<J, W> {
     }
 
     // The node tries an open call again. Where no step of this incarnation is taken any more, all end.
-    fn retry<G: Gate, R: Wait>(&mut self, rt: &R, shared: &Shared<'_, J, G>, node: u8, pid: u16) {
-        match self.step(rt, shared, Event::Retry { node, pid }) {
+    fn retry<J: Name, G: Gate, R: Wait>(
+        &mut self,
+        rt: &R,
+        shared: &Shared<'_, J, G>,
+        seat: &mut Seat<J>,
+        node: u8,
+        pid: u16,
+    ) {
+        match self.step(rt, shared, seat, Event::Retry { node, pid }) {
             Ok(()) => {}
             Err(CallError::NoMemory) => self.waiting.wait_anew(pid),
             Err(why) => self.end_at(rt, shared.alloc, why),
@@ -318,31 +365,38 @@ impl<J: Name, W: Weather> Worker<J, W> {
     }
 
     // The server sends again what has no answer, if there is any and it is time.
-    fn resend<G: Gate, R: Wait>(&mut self, rt: &R, shared: &Shared<'_, J, G>, file: u16) {
+    fn resend<J: Name, G: Gate, R: Wait>(
+        &mut self,
+        rt: &R,
+        shared: &Shared<'_, J, G>,
+        seat: &mut Seat<J>,
+        file: u16,
+    ) {
         if !self.resends.pass_tick() {
             return;
         }
-        match self.seat.prepare(shared.alloc, Event::Resend { file }) {
-            Ok(prepared) => self.send_again(rt, shared, prepared),
+        match seat.prepare(shared.alloc, Event::Resend { file }) {
+            Ok(prepared) => self.send_again(rt, shared, seat, prepared),
             Err(StepError::NoMemory) => self.lack_memory(shared),
             Err(_) => {}
         }
     }
 
     // The server sends what it prepared, if that is anything.
-    fn send_again<G: Gate, R: Wait>(
+    fn send_again<J: Name, G: Gate, R: Wait>(
         &mut self,
         rt: &R,
         shared: &Shared<'_, J, G>,
+        seat: &mut Seat<J>,
         prepared: Prepared,
     )
-        requires { Names prepared self.old.seat → IsStepFrom self.old.seat prepared }
+        requires { Names prepared seat.old → IsStepFrom seat.old prepared }
     {
         if prepared.outcome().sends.is_empty() {
             self.resends.end();
             return;
         }
-        match commit(rt, shared, &mut self.seat, prepared, None) {
+        match commit(rt, shared, seat, prepared, None) {
             Ok(stamp) => self.outgoing.send_all(rt, shared, &stamp),
             Err(CallError::Fenced) => self.resends.end(),
             Err(CallError::NoMemory) => self.lack_memory(shared),
@@ -351,22 +405,23 @@ impl<J: Name, W: Weather> Worker<J, W> {
     }
 
     // The server was refused memory as it would have sent again.
-    fn lack_memory<G>(&mut self, shared: &Shared<'_, J, G>) {
+    fn lack_memory<J: Name, G>(&mut self, shared: &Shared<'_, J, G>) {
         shared.halt.note_refused();
         self.resends.wait_anew();
     }
 
     // The actor does a step; its messages are sent, and the call that it answers gets its receipt.
-    fn step<G: Gate, R: Wait>(
+    fn step<J: Name, G: Gate, R: Wait>(
         &mut self,
         rt: &R,
         shared: &Shared<'_, J, G>,
+        seat: &mut Seat<J>,
         event: Event,
     ) -> Result<(), CallError> {
-        let stamp = commit_step(rt, shared, &mut self.seat, event, None)?;
+        let stamp = commit_step(rt, shared, seat, event, None)?;
         self.outgoing.send_all(rt, shared, &stamp);
         self.answer_by(rt, &stamp);
-        match self.seat.actor() {
+        match self.actor {
             Actor::Node(_) => self.waiting.note(&stamp),
             Actor::Server(_) => self.resends.note(stamp.event()),
         }
@@ -413,16 +468,7 @@ impl<J: Name, W: Weather> Worker<J, W> {
     }
 }
 
-// Whether a call that asks this may give up a lock.
-fn may_release(op: &Op) -> bool {
-    match op {
-        Op::Unlock { .. } | Op::Close { .. } | Op::Exit => true,
-        Op::Set { mode, .. } | Op::Wait { mode, .. } => *mode == Mode::Read,
-        _ => false,
-    }
-}
-
-// Prepares a step of the seat with no lock, and commits it. That memory is refused for it is noted.
+// Prepares a step of the seat without the book's lock, and commits it. That memory is refused for it is noted.
 fn commit_step<J: Name, G: Gate, R: Wait>(
     rt: &R,
     shared: &Shared<'_, J, G>,
@@ -437,7 +483,7 @@ fn commit_step<J: Name, G: Gate, R: Wait>(
     made
 }
 
-// Prepares a step of the seat with no lock, and commits it.
+// Prepares a step of the seat without the book's lock, and commits it.
 fn try_step<J: Name, G: Gate, R: Wait>(
     rt: &R,
     shared: &Shared<'_, J, G>,
@@ -461,9 +507,7 @@ fn commit<J: Name, G: Gate, R: Wait>(
 {
     let actor = seat.actor();
     shared.gate.at(Point::Prepared(actor));
-    let committed = shared
-        .lock_book(rt)
-        .commit(shared.alloc, seat, prepared, seen);
+    let committed = lock(rt, shared.book).commit(shared.alloc, seat, prepared, seen);
     let stamp = committed?;
     shared.halt.note_step();
     shared.gate.at(Point::Committed(actor, stamp.position()));

@@ -18,6 +18,34 @@ pub fn wait_for<R: Clock>(rt: &R, word: &AtomicU64) -> bool {
     false
 }
 
+/// Holds nobody, says that it is open or that it isn't, and counts the steps that it is told of.
+#[derive(Drop)]
+pub struct Counter {
+    pub is_open: bool,
+    pub committed: AtomicU64,
+}
+
+impl Counter {
+    pub fn new(is_open: bool) -> Counter {
+        Counter {
+            is_open,
+            committed: AtomicU64::new(0),
+        }
+    }
+}
+
+impl Gate for Counter {
+    fn at(&self, point: Point) {
+        if let Point::Committed(..) = point {
+            self.committed.fetch_add(1, Ordering::SeqCst);
+        }
+    }
+
+    fn is_open(&self) -> bool {
+        self.is_open
+    }
+}
+
 /// Once armed, holds the next step that node 1 prepares until it is let go. A step that node 2 commits
 /// meanwhile lets it go.
 #[derive(Drop)]

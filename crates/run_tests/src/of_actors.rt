@@ -1,5 +1,5 @@
 //! Clusters on threads, where a gate holds an actor or a node is declared failed meanwhile.
-use crate::gates::{Holder, wait_for};
+use crate::gates::{Counter, Holder, wait_for};
 use actors::call_error::CallError;
 use actors::client::Client;
 use actors::cluster::with_cluster;
@@ -20,10 +20,14 @@ use model::op::Op;
 use model::owner::Kind;
 use model::policy::Policy;
 use model::reply::Reply;
+use std::alloc::Global;
+use std::marker::Brand;
 use std::sync::Wait;
 use std::sync::atomic::Ordering;
 use std::test::Fail;
 use std::thread;
+use std::thread::Threads;
+use std::time::Clock;
 
 // A lock of a process on descriptor 0.
 fn set(start: i64, len: i64) -> Op {
@@ -56,7 +60,7 @@ const WAIT: Op = Op::Wait {
 };
 
 // The process begins, opens file 1 and sets a lock.
-fn begin<R: Wait>(rt: &R, client: &mut Client<'_>, op: Op) -> Option<Receipt> {
+fn begin<R: Wait>(rt: &R, client: &mut Client<'_, Brand>, op: Op) -> Option<Receipt> {
     client.call(rt, Op::Spawn).ok()?;
     let open = Op::Open {
         file: 1,
@@ -98,6 +102,35 @@ fn a_node_commits_while_another_is_held(rt: HostRuntime) -> Result<(), Fail> {
     Ok(())
 }
 
+// A run in which a process sets ten bytes and unlocks them: how many steps its gate is told of, and how many entries there are.
+fn counted<R: Threads + Wait + Clock + Sync>(
+    rt: &R,
+    alloc: Global,
+    is_open: bool,
+) -> Result<(u64, u64), Fail> {
+    let gate = Counter::new(is_open);
+    let shape = Shape::new(1, 1, Policy::Wide)?;
+    let weathers = vec![in alloc; Fair, Fair]?;
+    let (made, journal) = with_cluster(rt, alloc, shape, &gate, weathers, |cluster| {
+        let mut client = cluster.client(rt, 1, 1).ok()?;
+        begin(rt, &mut client, set(0, 10))?;
+        client.call(rt, unlock(0, 10)).ok()
+    })?;
+    made.filter(|receipt| journal.holds(receipt))
+        .ok_or("a receipt that is held")?;
+    let told = gate.committed.load(Ordering::SeqCst);
+    Ok((told, journal.entries().len() as u64))
+}
+
+#[test]
+fn a_client_makes_calls_itself_where_the_gate_is_open(rt: HostRuntime) -> Result<(), Fail> {
+    let (told, steps) = counted(&rt, rt.alloc(), true)?;
+    assert!(rt; told < steps);
+    let (told, steps) = counted(&rt, rt.alloc(), false)?;
+    assert_eq!(rt; told, steps);
+    Ok(())
+}
+
 #[test]
 fn a_step_of_a_declared_node_is_not_taken(rt: HostRuntime) -> Result<(), Fail> {
     let alloc = rt.alloc();
@@ -123,6 +156,59 @@ fn a_step_of_a_declared_node_is_not_taken(rt: HostRuntime) -> Result<(), Fail> {
     let events = journal.entries();
     assert!(rt; events.iter().any(|entry| matches!(entry.event(), Event::Declare { node: 1 })));
     assert!(rt; events.iter().all(|entry| entry.call().is_none()));
+    Ok(())
+}
+
+// Makes calls that the node's token covers until one fails: the last receipt, and why the next call had none.
+fn call_on<R: Wait>(
+    rt: &R,
+    client: &mut Client<'_, Brand>,
+    op: Op,
+) -> (Option<Receipt>, Option<CallError>) {
+    let mut last = None;
+    for _ in 0..400_000 {
+        match client.call(rt, op) {
+            Ok(receipt) => last = Some(receipt),
+            Err(why) => return (last, Some(why)),
+        }
+    }
+    (last, None)
+}
+
+#[test]
+fn a_node_is_declared_while_its_clients_call(rt: HostRuntime) -> Result<(), Fail> {
+    let alloc = rt.alloc();
+    let shape = Shape::new(1, 1, Policy::Wide)?;
+    let weathers = vec![in alloc; Fair, Fair]?;
+    let (made, journal) = with_cluster(&rt, alloc, shape, &OpenGate, weathers, |cluster| {
+        let mut one = cluster.client(&rt, 1, 1).ok()?;
+        let mut two = cluster.client(&rt, 1, 2).ok()?;
+        begin(&rt, &mut one, set(0, 10))?;
+        begin(&rt, &mut two, set(20, 10))?;
+        let (first, (second, again)) = thread::join(
+            &rt,
+            || call_on(&rt, &mut one, set(0, 5)),
+            || {
+                thread::join(
+                    &rt,
+                    || call_on(&rt, &mut two, set(20, 5)),
+                    || {
+                        thread::sleep(&rt, std::time::Duration::from_millis(5));
+                        cluster.declare(&rt, 1).ok()?;
+                        cluster.restart(&rt, 1).ok()?;
+                        cluster.client(&rt, 1, 1).ok()?.call(&rt, Op::Spawn).ok()
+                    },
+                )
+            },
+        );
+        Some(([first, second], again?))
+    })?;
+    let (last, again) = made.ok_or("receipts")?;
+    assert!(rt; journal.holds(&again));
+    for (receipt, why) in last.iter() {
+        assert!(rt; *why == Some(CallError::Fenced));
+        assert!(rt; receipt.is_some_and(|receipt| journal.holds(&receipt)));
+    }
     Ok(())
 }
 

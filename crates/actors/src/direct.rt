@@ -1,0 +1,97 @@
+//! Calls that a client makes at its node's desk.
+ghost use Rattle.std.specs.Prelude.{◌≡◌, IfSome};
+ghost use Rattle.messages.specs.declared.event.Event.TheVariants.{Call};
+
+use crate::desk::Desk;
+use crate::halt::Halt;
+use crate::locks::lock;
+use crate::open_calls::may_release;
+use book::book::Book;
+use book::mark::Mark;
+use book::seat::Seat;
+use book::stamp::Stamp;
+use messages::event::Event;
+use model::op::Op;
+use model::process::Process;
+use std::alloc::Global;
+use std::sync::{Mutex, Wait};
+use trail::name::Name;
+
+/// What a client needs to do its calls at its node's desk, on its own thread: the desk, the book, and whether the workers
+/// are to end.
+#[derive(Drop)]
+pub(crate) struct Direct<'a, J: Name> {
+    alloc: Global,
+    desk: &'a Desk<J>,
+    book: &'a Mutex<Book<J>>,
+    halt: &'a Halt,
+}
+
+impl<'a, J: Name> Direct<'a, J> {
+    /// The calls at that desk.
+    pub(crate) fn new(
+        alloc: Global,
+        desk: &'a Desk<J>,
+        book: &'a Mutex<Book<J>>,
+        halt: &'a Halt,
+    ) -> Direct<'a, J> {
+        Direct {
+            alloc,
+            desk,
+            book,
+            halt,
+        }
+    }
+
+    /// Makes a call of the process with what its client has seen, if the step answers it and sends no message, and the
+    /// node has no open call that it may help. None where it isn't made, for whatever reason: the worker makes it then, or
+    /// tells why not.
+    pub(crate) fn make<R: Wait>(
+        &self,
+        rt: &R,
+        process: Process,
+        op: Op,
+        seen: Option<&Mark>,
+    ) -> Option<Stamp>
+        ensures { IfSome result (λ stamp. stamp.event ≡ Call process.node process.pid op) }
+    {
+        if self.halt.is_set() {
+            return None;
+        }
+        let mut work = lock(rt, self.desk);
+        if work.seat.incarnation() != process.incarnation {
+            return None;
+        }
+        if work.has_open && may_release(&op) {
+            return None;
+        }
+        let event = Event::Call {
+            node: process.node,
+            pid: process.pid,
+            op,
+        };
+        self.step(rt, &mut work.seat, event, seen)
+    }
+
+    // The step of the seat at the call, prepared without the book's lock and committed, if it answers the call and sends no
+    // message.
+    fn step<R: Wait>(
+        &self,
+        rt: &R,
+        seat: &mut Seat<J>,
+        call: Event,
+        seen: Option<&Mark>,
+    ) -> Option<Stamp>
+        ensures { IfSome result (λ stamp. stamp.event ≡ call) }
+    {
+        let prepared = seat.prepare(self.alloc, call).ok()?;
+        let outcome = prepared.outcome();
+        if outcome.reply.is_none() || !outcome.sends.is_empty() {
+            return None;
+        }
+        let committed = lock(rt, self.book).commit(self.alloc, seat, prepared, seen);
+        let stamp = committed.ok()?;
+        self.halt.note_step();
+        Some(stamp)
+    }
+}
