@@ -1,6 +1,6 @@
-// What a call on threads costs at least, in the form that a cluster on threads has: a client of each node puts a letter
+// What a call on threads costs at least where it goes through a mailbox: a client of each node puts a letter
 // into the mailbox of its node's thread and waits for the answer; that thread takes the letter, counts it under the one
-// mutex that all nodes share, and answers. Prints how many calls a second all of them make.
+// mutex that all nodes share, and answers. (A call that its token covers a client makes on its own thread.) Prints how many calls a second all of them make.
 // usage: limit NODES CALLS   (CALLS of each client)
 #include <pthread.h>
 #include <stdio.h>

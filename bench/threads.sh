@@ -1,11 +1,11 @@
 #!/bin/sh
 # Times `threads`: a client on each of 1, 2, 4 and 8 nodes locks and unlocks ten bytes of a file of its own, which its node's
 # token covers from the first lock on; alone, and where 100 other processes of its node have 100 regions each in that file.
-# Prints, each of the fastest of three runs, how many calls a second are answered while the clients call (`bench/pace`), beside
-# those of fcntl(F_SETLK) on a file of this machine by one process, and beside what the form of such a cluster allows
-# (bench/limit.c: a mailbox, a thread for each node, one mutex, an answer, and no locks), both in the same minute; how many times
-# longer than in that form a call takes; and the calls a second of the whole command, those that set the regions among them. It
-# also reads the script, looks at what came of it, and prints the listing.
+# Prints, each of the fastest of three runs, how many calls a second are answered while the cluster runs (`bench/pace`), without
+# the time of a run that sets the regions alone; beside those of fcntl(F_SETLK) on a file of this machine by one process, and
+# beside what calls through mailboxes come to at most (bench/limit.c: a mailbox, a thread for each node, one mutex, an answer, and
+# no locks), both in the same minute; how many times longer than in that form a call takes; and the calls a second of the whole
+# command, which also reads the script, looks at what came of it, and prints the listing.
 # usage: bench/threads.sh [CALLS]   (of all clients together; some 960,000)
 here=$(dirname -- "$(readlink -f -- "$0")") || exit 1
 calls=${1:-960000}
@@ -41,11 +41,17 @@ greater() {
     if [ "$1" -gt "$2" ]; then echo "$1"; else echo "$2"; fi
 }
 
+# So many in so many seconds, but for those of the beginning: how many a second.
+each_second() {
+    echo "$1 $2 $3" | awk '{ printf "%.0f", $1 / ($2 - $3) }'
+}
+
 echo "nodes  owners  calls/s  fcntl calls/s  limit calls/s  times the limit  calls/s of the command"
 for owners in 0 100; do
     for nodes in 1 2 4 8; do
         each=$((calls / nodes))
         script "$nodes" "$each" "$owners" >"$folder/run.lock"
+        script "$nodes" 0 "$owners" >"$folder/begun.lock"
         all=$(grep -c '^call' "$folder/run.lock")
         best=0
         whole=0
@@ -54,8 +60,9 @@ for owners in 0 100; do
         for _ in 1 2 3; do
             paced=$("$here/pace" "$folder/listing" "$program" threads "$folder/run.lock") || exit 1
             tail -n 1 "$folder/listing" | grep -q '^audit yes$' || exit 1
-            best=$(greater "$best" "${paced% *}")
-            whole=$(greater "$whole" "$(echo "$all ${paced#* }" | awk '{ printf "%.0f", $1 / $2 }')")
+            begun=$("$here/pace" "$folder/listing" "$program" threads "$folder/begun.lock") || exit 1
+            best=$(greater "$best" "$(each_second $((nodes * each)) "${paced% *}" "${begun% *}")")
+            whole=$(greater "$whole" "$(each_second "$all" "${paced#* }" 0)")
             form=$("$folder/limit" "$nodes" 100000) || exit 1
             limit=$(greater "$limit" "$form")
             kernel=$("$folder/fcntl" "$folder/file" 2000000) || exit 1
