@@ -34,7 +34,6 @@ use crate::tests_of::{accepts, seen_of};
 use cluster_core::journal::Journal;
 use cluster_core::run::Run;
 use cluster_core::world::World;
-use intervals::span_map::NoMemory;
 use messages::actor::Actor;
 use messages::entry::Entry;
 use messages::event::Event;
@@ -69,7 +68,7 @@ impl<J: Name> Model for Book<J> {
 }
 
 // The run goes on by an event that is known to lead on: only memory can be refused.
-fn take_next(run: &mut Run, alloc: Global, event: Event) -> Result<(), NoMemory>
+fn take_next(run: &mut Run, alloc: Global, event: Event) -> Result<(), AllocError>
     requires room { length run.old.entries < journal_limit }
     requires leads_on { (made : WorldState × Entry) × (next (world_state run.old.world) event ≡ Ok made) }
     ensures ok { OnOk result (GoesOn run.old event run.new) }
@@ -86,7 +85,7 @@ fn take_next(run: &mut Run, alloc: Global, event: Event) -> Result<(), NoMemory>
 }
 
 // The state of a node that begins.
-fn first_node_state(alloc: Global, shape: Shape, number: u8) -> Result<State, NoMemory>
+fn first_node_state(alloc: Global, shape: Shape, number: u8) -> Result<State, AllocError>
     requires { IsNumber shape.nodes number }
     ensures { IfOk result (λ state. HasState (first_world shape) state × (actor_of state ≡ ANode number)) }
 {
@@ -96,7 +95,7 @@ fn first_node_state(alloc: Global, shape: Shape, number: u8) -> Result<State, No
 }
 
 // The state of a server that begins.
-fn first_server_state(alloc: Global, shape: Shape, file: u16) -> Result<State, NoMemory>
+fn first_server_state(alloc: Global, shape: Shape, file: u16) -> Result<State, AllocError>
     requires { IsNumber shape.files file }
     ensures { IfOk result (λ state. HasState (first_world shape) state × (actor_of state ≡ AServer file)) }
 {
@@ -106,7 +105,7 @@ fn first_server_state(alloc: Global, shape: Shape, file: u16) -> Result<State, N
 }
 
 // The seats of the nodes.
-fn node_seats<J: Name>(alloc: Global, shape: Shape) -> Result<Vec<Seat<J>>, NoMemory>
+fn node_seats<J: Name>(alloc: Global, shape: Shape) -> Result<Vec<Seat<J>>, AllocError>
     ensures seats { IfOk result (λ seats. AreFirst shape seats.items) }
     ensures count { IfOk result (λ seats. length seats.items ≡ shape.nodes) }
 {
@@ -123,7 +122,7 @@ fn push_servers<J: Name>(
     alloc: Global,
     shape: Shape,
     seats: &mut Vec<Seat<J>>,
-) -> Result<(), NoMemory>
+) -> Result<(), AllocError>
     requires first { AreFirst shape seats.old.items }
     requires nodes { length seats.old.items ≡ shape.nodes }
     ensures seats { OnOk result (AreFirst shape seats.new.items) }
@@ -143,12 +142,12 @@ impl<J: Name> Book<J> {
     /// actor.
     ///
     /// # Errors
-    /// `NoMemory` where a request for memory was refused.
+    /// `AllocError` where a request for memory was refused.
     pub fn new(
         alloc: Global,
         shape: Shape,
         trail: Option<NewTrail>,
-    ) -> Result<(Book<J>, Vec<Seat<J>>), NoMemory>
+    ) -> Result<(Book<J>, Vec<Seat<J>>), AllocError>
         requires trail { IfSome trail (λ trail. trail ≡ J.trail) }
         ensures world { IfOk result (λ r. world_state r.0.world ≡ first_world shape) }
         ensures entries { IfOk result (λ r. r.0.entries ≡ []) }

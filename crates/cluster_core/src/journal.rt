@@ -16,7 +16,6 @@ ghost use Rattle.cluster_core.specs.Evidence.{DenialsHaveEvidence};
 use crate::check_error::CheckError;
 use crate::run::Run;
 use crate::world::{JOURNAL_LIMIT, World};
-use intervals::span_map::NoMemory as NoRoom;
 use messages::entry::Entry;
 use messages::event::Event;
 use messages::refusal::Refused;
@@ -121,8 +120,8 @@ impl Journal {
 /// where the world has as many as a journal may have.
 ///
 /// # Errors
-/// `NoMemory` where a request for memory was refused.
-pub fn comes_next(world: &mut World, alloc: Global, entry: &Entry) -> Result<bool, NoRoom>
+/// `AllocError` where a request for memory was refused.
+pub fn comes_next(world: &mut World, alloc: Global, entry: &Entry) -> Result<bool, AllocError>
     ensures made { IfOk result (λ same. same ≡ true → next (world_state world.old) entry.now.event ≡ Ok (world_state world.new, entry.now)) }
     ensures room { IfOk result (λ same. same ≡ true → world.old.length < journal_limit) }
     ensures other { IfOk result (λ same. same ≡ false → world.old.length < journal_limit → (v : WorldState) → next (world_state world.old) entry.now.event ≢ Ok (v, entry.now)) }

@@ -17,12 +17,11 @@ ghost use Rattle.cluster_core.specs.Evidence.{DenialsHaveEvidence};
 
 use crate::journal::Journal;
 use crate::world::World;
-use intervals::span_map::NoMemory as NoRoom;
 use messages::entry::Entry;
 use messages::event::Event;
 use messages::refusal::Refused;
 use messages::shape::Shape;
-use std::alloc::Global;
+use std::alloc::{AllocError, Global};
 use std::marker::Model;
 
 mod states;
@@ -48,8 +47,8 @@ impl Run {
     /// The run of a cluster that begins: no entry yet.
     ///
     /// # Errors
-    /// `NoMemory` where a request for memory was refused.
-    pub fn new(alloc: Global, shape: Shape) -> Result<Run, NoRoom>
+    /// `AllocError` where a request for memory was refused.
+    pub fn new(alloc: Global, shape: Shape) -> Result<Run, AllocError>
         ensures world { IfOk result (λ run. world_state run.world ≡ first_world shape) }
         ensures entries { IfOk result (λ run. run.entries ≡ []) }
     {
@@ -62,8 +61,8 @@ impl Run {
     /// The run of a journal, which goes on behind it.
     ///
     /// # Errors
-    /// `NoMemory` where a request for memory was refused.
-    pub fn after(alloc: Global, journal: Journal) -> Result<Run, NoRoom>
+    /// `AllocError` where a request for memory was refused.
+    pub fn after(alloc: Global, journal: Journal) -> Result<Run, AllocError>
         ensures leads { IfOk result (λ run. Leads (first_world journal.shape) journal.entries (world_state run.world)) }
         ensures entries { IfOk result (λ run. run.entries ≡ journal.entries) }
     {

@@ -30,7 +30,6 @@ ghost use Rattle.token_server.specs.State.{first_server};
 use crate::journal::Journal;
 use crate::sent::Sent;
 use crate::world::change::Change;
-use intervals::span_map::NoMemory as NoRoom;
 use members::members::Members;
 use messages::actor::Actor;
 use messages::entry::Entry;
@@ -99,7 +98,7 @@ fn is_of_shape(shape: Shape, op: &Op) -> bool
 }
 
 // The nodes of a cluster that begins.
-fn first_nodes(alloc: Global, shape: Shape) -> Result<Vec<Node>, NoRoom>
+fn first_nodes(alloc: Global, shape: Shape) -> Result<Vec<Node>, AllocError>
     ensures there { IfOk result (λ nodes. length nodes.items ≡ shape.nodes) }
     ensures within { OnOk result (IsNumber most_nodes shape.nodes) }
     ensures first { IfOk result (λ nodes. IsRest node_state (λ n. first_node shape n 1) nodes.items) }
@@ -113,7 +112,7 @@ fn first_nodes(alloc: Global, shape: Shape) -> Result<Vec<Node>, NoRoom>
 }
 
 // The servers of a cluster that begins.
-fn first_servers(alloc: Global, shape: Shape) -> Result<Vec<Server>, NoRoom>
+fn first_servers(alloc: Global, shape: Shape) -> Result<Vec<Server>, AllocError>
     ensures there { IfOk result (λ servers. length servers.items ≡ shape.files) }
     ensures within { OnOk result (IsNumber most_files shape.files) }
     ensures first { IfOk result (λ servers. IsRest server_state (first_server shape) servers.items) }
@@ -127,7 +126,7 @@ fn first_servers(alloc: Global, shape: Shape) -> Result<Vec<Server>, NoRoom>
 }
 
 // One more item at the end.
-fn add<T: Drop>(items: &mut Vec<T>, item: T) -> Result<(), NoRoom>
+fn add<T: Drop>(items: &mut Vec<T>, item: T) -> Result<(), AllocError>
     ensures { OnOk result (items.new.items ≡ items.old.items ++ item ∷ []) }
 {
     items.push(item)?;
@@ -138,8 +137,8 @@ impl World {
     /// A cluster that begins: every node in its first incarnation, with no process.
     ///
     /// # Errors
-    /// `NoMemory` where a request for memory was refused.
-    pub fn new(alloc: Global, shape: Shape) -> Result<World, NoRoom>
+    /// `AllocError` where a request for memory was refused.
+    pub fn new(alloc: Global, shape: Shape) -> Result<World, AllocError>
         ensures first { IfOk result (λ world. world_state world ≡ first_world shape) }
         ensures within { OnOk result (IsShape shape) }
     {
@@ -510,7 +509,7 @@ impl World {
         node: u8,
         incarnation: u16,
         change: NodeChange,
-    ) -> Result<Entry, NoRoom>
+    ) -> Result<Entry, AllocError>
         requires room { self.old.length < journal_limit }
         requires made { IsNodeChange self.old event node incarnation change (next (world_state self.old) event) }
         ensures ok { IfOk result (λ entry. next (world_state self.old) event ≡ Ok (world_state self.new, entry)) }
@@ -535,7 +534,7 @@ impl World {
         event: Event,
         file: u16,
         change: ServerChange,
-    ) -> Result<Entry, NoRoom>
+    ) -> Result<Entry, AllocError>
         requires room { self.old.length < journal_limit }
         requires made { IsServerChange self.old event file change (next (world_state self.old) event) }
         ensures ok { IfOk result (λ entry. next (world_state self.old) event ≡ Ok (world_state self.new, entry)) }
@@ -587,13 +586,13 @@ impl World {
     /// all that may take memory.
     ///
     /// # Errors
-    /// `NoMemory` where a request for memory was refused. The world is then as it was.
+    /// `AllocError` where a request for memory was refused. The world is then as it was.
     pub(crate) fn settle(
         &mut self,
         alloc: Global,
         event: Event,
         change: Change,
-    ) -> Result<Entry, NoRoom>
+    ) -> Result<Entry, AllocError>
         requires { Plans self.old event change }
         ensures ok { IfOk result (λ entry. next (world_state self.old) event ≡ Ok (world_state self.new, entry)) }
         ensures err { OnErr result ((e : Refused) → next (world_state self.old) event ≢ Err e) }
@@ -643,7 +642,7 @@ impl World {
     }
 
     // The event of an entry of a run happens again: only memory can be refused.
-    fn repeat(&mut self, alloc: Global, entry: &Entry) -> Result<(), NoRoom>
+    fn repeat(&mut self, alloc: Global, entry: &Entry) -> Result<(), AllocError>
         requires room { self.old.length < journal_limit }
         requires made { (v : WorldState) × (next (world_state self.old) entry.now.event ≡ Ok (v, entry.now)) }
         ensures { OnOk result (next (world_state self.old) entry.now.event ≡ Ok (world_state self.new, entry.now)) }
@@ -662,8 +661,8 @@ impl World {
     /// locks are covered by tokens.
     ///
     /// # Errors
-    /// `NoMemory` where a request for memory was refused.
-    pub fn after(alloc: Global, journal: &Journal) -> Result<World, NoRoom>
+    /// `AllocError` where a request for memory was refused.
+    pub fn after(alloc: Global, journal: &Journal) -> Result<World, AllocError>
         ensures leads { IfOk result (λ world. Leads (first_world journal.now.shape) journal.now.entries (world_state world)) }
         ensures safe { IfOk result (λ world. IsSafe (world_state world)) }
     {
@@ -682,7 +681,7 @@ fn settle_node(
     index: usize,
     change: NodeChange,
     sent: &mut Sent,
-) -> Result<Outcome, NoRoom>
+) -> Result<Outcome, AllocError>
     requires within { index < length nodes.old.items }
     requires fits { (p : NodeParts) → p ≡ slice_index_or nodes.old.items index p → Fits p change.edit }
     ensures nodes { OnOk result ((p : NodeParts) → p ≡ slice_index_or nodes.old.items index p → (next : NodeParts) × (nodes.new.items ≡ slice_set nodes.old.items index next) × (node_state next ≡ reached p change.edit)) }
@@ -702,7 +701,7 @@ fn settle_server(
     index: usize,
     change: ServerChange,
     sent: &mut Sent,
-) -> Result<Outcome, NoRoom>
+) -> Result<Outcome, AllocError>
     requires within { index < length servers.old.items }
     requires fits { (p : ServerParts) → p ≡ slice_index_or servers.old.items index p → ServerFits p change.edit }
     ensures servers { OnOk result ((p : ServerParts) → p ≡ slice_index_or servers.old.items index p → (next : ServerParts) × (servers.new.items ≡ slice_set servers.old.items index next) × (server_state next ≡ planned p change.edit)) }

@@ -14,13 +14,12 @@ use descriptors::edit::ProcessEdit;
 use descriptors::error::{FdError, ProcessError};
 use descriptors::processes::Processes;
 use indexmap::IndexMap;
-use intervals::span_map::NoMemory;
 use lock_table::lock_table::LockTable;
 use model::host::Host;
 use model::limits::MOST_NODES;
 use model::opened::Opened;
 use model::reply::Reply;
-use std::alloc::Global;
+use std::alloc::{AllocError, Global};
 use std::marker::Model;
 
 /// The processes of each host.
@@ -76,8 +75,8 @@ impl Hosts {
     /// something is kept already.
     ///
     /// # Errors
-    /// `NoMemory`.
-    pub(crate) fn admit(&mut self, host: Host) -> Result<(), NoMemory>
+    /// `AllocError`.
+    pub(crate) fn admit(&mut self, host: Host) -> Result<(), AllocError>
         ensures same { processes_of self.new ≡ processes_of self.old }
         ensures kept { OnOk result (IsKept self.new host) }
         ensures known { IsKept self.old host → IsOk result }

@@ -19,7 +19,6 @@ use crate::target::target_at;
 use descriptors::call::ProcessCall;
 use descriptors::error::ProcessError;
 use intervals::span::Span;
-use intervals::span_map::NoMemory;
 use lock_table::lock_table::LockTable;
 use model::host::Host;
 use model::lock_info::LockInfo;
@@ -28,7 +27,7 @@ use model::mode::Mode;
 use model::owner::Kind;
 use model::process::Process;
 use model::reply::Reply;
-use std::alloc::Global;
+use std::alloc::{AllocError, Global};
 
 mod exits;
 
@@ -53,7 +52,7 @@ fn host_of(process: Process) -> Host
 }
 
 // What a call that is refused so comes to.
-fn refused(error: ProcessError) -> Result<Planned, NoMemory>
+fn refused(error: ProcessError) -> Result<Planned, AllocError>
     ensures { MatchResult result (λ planned. (planned.edit ≡ Nothing) × ((answer : Result (Processes × Reply) Reply) → Refuses error answer → answer ≡ Err planned.reply)) (λ _. error ≡ ProcessError.NoMemory) }
 {
     Ok(Planned {
@@ -78,9 +77,9 @@ impl FcntlTable {
     /// it keeps them already.
     ///
     /// # Errors
-    /// `NoMemory`.
+    /// `AllocError`.
     #[tactic(auto, unfolding(crate::specs::Tables::table_of))]
-    pub fn admit(&mut self, host: Host) -> Result<(), NoMemory>
+    pub fn admit(&mut self, host: Host) -> Result<(), AllocError>
         ensures same { table_of self.new ≡ table_of self.old }
         ensures kept { OnOk result (Keeps self.new host) }
         ensures known { Keeps self.old host → IsOk result }
@@ -133,8 +132,8 @@ impl FcntlTable {
     /// where a process would begin.
     ///
     /// # Errors
-    /// `NoMemory`, never in place of a reply that refuses the call.
-    pub fn plan_call(&self, process: Process, call: ProcessCall) -> Result<Planned, NoMemory>
+    /// `AllocError`, never in place of a reply that refuses the call.
+    pub fn plan_call(&self, process: Process, call: ProcessCall) -> Result<Planned, AllocError>
         requires number { CanBegin process.pid call }
         requires kept { call ≡ ProcessCall.Spawn → Keeps self.now (record { node = process.node; incarnation = process.incarnation }) }
         ensures ok { IfOk result (λ planned. Is (beside (table_of self.now) process (after (around (table_of self.now) process) process.pid call)) planned.reply (edited (table_of self.now) planned.edit)) }
@@ -191,9 +190,9 @@ impl FcntlTable {
     /// regions in the file than the limit.
     ///
     /// # Errors
-    /// `NoMemory`, never in place of `NoLocks`.
+    /// `AllocError`, never in place of `NoLocks`.
     #[tactic(auto, unfolding(crate::specs::Tables::table_of))]
-    pub fn plan_lock(&self, call: LockTarget, mode: Option<Mode>) -> Result<Planned, NoMemory>
+    pub fn plan_lock(&self, call: LockTarget, mode: Option<Mode>) -> Result<Planned, AllocError>
         ensures ok { IfOk result (λ planned. Is (lock_within (table_of self.now) call mode) planned.reply (edited (table_of self.now) planned.edit)) }
         ensures refused { (table_of self.now).limit < regions_with (table_of self.now) call mode → result ≡ Ok (record { edit = Nothing; reply = Reply.NoLocks }) }
         ensures fits { IfOk result (λ planned. Fits self.now planned.edit) }
@@ -226,7 +225,7 @@ impl FcntlTable {
     }
 
     // Processes of the host are kept, where the call is `Spawn`.
-    fn make_room(&mut self, process: Process, call: ProcessCall) -> Result<(), NoMemory>
+    fn make_room(&mut self, process: Process, call: ProcessCall) -> Result<(), AllocError>
         ensures same { table_of self.new ≡ table_of self.old }
         ensures kept { OnOk result (call ≡ ProcessCall.Spawn → Keeps self.new (record { node = process.node; incarnation = process.incarnation })) }
         ensures known { Keeps self.old (record { node = process.node; incarnation = process.incarnation }) → IsOk result }
@@ -247,8 +246,8 @@ impl FcntlTable {
     /// a process would begin.
     ///
     /// # Errors
-    /// `NoMemory`, never in place of a reply that refuses the call.
-    pub fn call(&mut self, process: Process, call: ProcessCall) -> Result<Reply, NoMemory>
+    /// `AllocError`, never in place of a reply that refuses the call.
+    pub fn call(&mut self, process: Process, call: ProcessCall) -> Result<Reply, AllocError>
         requires { CanBegin process.pid call }
         ensures ok { IfOk result (λ reply. Is (beside (table_of self.old) process (after (around (table_of self.old) process) process.pid call)) reply (table_of self.new)) }
         ensures refused { (refusal : Reply) → after (around (table_of self.old) process) process.pid call ≡ Err refusal → result ≡ Ok refusal }
@@ -287,8 +286,8 @@ impl FcntlTable {
     /// would have more regions in the file than the limit (ENOLCK).
     ///
     /// # Errors
-    /// `NoMemory`, never in place of `NoLocks`.
-    pub fn lock_within(&mut self, call: LockTarget, mode: Option<Mode>) -> Result<Reply, NoMemory>
+    /// `AllocError`, never in place of `NoLocks`.
+    pub fn lock_within(&mut self, call: LockTarget, mode: Option<Mode>) -> Result<Reply, AllocError>
         ensures ok { IfOk result (λ reply. Is (lock_within (table_of self.old) call mode) reply (table_of self.new)) }
         ensures refused { (table_of self.old).limit < regions_with (table_of self.old) call mode → result ≡ Ok Reply.NoLocks }
         ensures unchanged { OnErr result (table_of self.new ≡ table_of self.old) }

@@ -6,8 +6,7 @@ ghost use Rattle.cluster_core.specs.Parts.{world_state};
 use cluster_core::held_lock::HeldLock;
 use cluster_core::token_run::TokenRun;
 use cluster_core::world::World;
-use intervals::span_map::NoMemory;
-use std::alloc::Global;
+use std::alloc::{AllocError, Global};
 use std::marker::Model;
 
 /// What the live nodes hold behind an entry.
@@ -33,8 +32,8 @@ impl Holdings {
     /// What the live nodes of a world hold, to which the entries up to this position lead.
     ///
     /// # Errors
-    /// `NoMemory` where a request for memory was refused.
-    pub(crate) fn of(alloc: Global, position: u64, world: &World) -> Result<Holdings, NoMemory>
+    /// `AllocError` where a request for memory was refused.
+    pub(crate) fn of(alloc: Global, position: u64, world: &World) -> Result<Holdings, AllocError>
         ensures position { IfOk result (λ held. held.position ≡ position) }
         ensures tokens { IfOk result (λ held. IsTokenListing (world_state world.now) held.tokens) }
         ensures locks { IfOk result (λ held. IsLockListing (world_state world.now) held.locks) }

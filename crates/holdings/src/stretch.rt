@@ -8,22 +8,21 @@ ghost use Rattle.holdings.specs.Holdings.{AreHeldBehind, positions_within};
 use crate::holdings::Holdings;
 use cluster_core::journal::{Journal, comes_next};
 use cluster_core::world::World;
-use intervals::span_map::NoMemory;
 use messages::entry::Entry;
-use std::alloc::Global;
+use std::alloc::{AllocError, Global};
 
 /// What the live nodes hold behind each entry of the journal from one position to another, with both of
 /// them, in the order of the entries; positions count from 1, and there is nothing for those at which the
 /// journal has no entry. The events happen once more, up to the last of these entries.
 ///
 /// # Errors
-/// `NoMemory` where a request for memory was refused.
+/// `AllocError` where a request for memory was refused.
 pub fn holdings(
     alloc: Global,
     journal: &Journal,
     from: u64,
     to: u64,
-) -> Result<Vec<Holdings>, NoMemory>
+) -> Result<Vec<Holdings>, AllocError>
     ensures positions { IfOk result (λ held. map (λ h. h.position) held.items ≡ positions_within from to journal.now.entries) }
     ensures held { IfOk result (λ held. All (AreHeldBehind journal.now) held.items) }
 {
@@ -49,7 +48,7 @@ fn up_to(entries: &[Entry], to: u64) -> &[Entry]
 }
 
 // The entry of a run happens again: only memory can be refused.
-fn repeat(world: &mut World, alloc: Global, entry: &Entry) -> Result<(), NoMemory>
+fn repeat(world: &mut World, alloc: Global, entry: &Entry) -> Result<(), AllocError>
     requires room { world.old.length < journal_limit }
     requires made { (v : WorldState) × (next (world_state world.old) entry.now.event ≡ Ok (v, entry.now)) }
     ensures { OnOk result (next (world_state world.old) entry.now.event ≡ Ok (world_state world.new, entry.now)) }

@@ -6,8 +6,8 @@ ghost use Rattle.intervals.specs.Runs.{begins_at, value_at, AreRuns, EndsBelow};
 
 use crate::run::{Run, append_all, write};
 use crate::span::Span;
-use crate::span_map::{Exact, NoMemory};
-use std::alloc::Global;
+use crate::span_map::Exact;
+use std::alloc::{AllocError, Global};
 use std::marker::Model;
 
 /// Some runs of a map from bytes to values, as a sorted vector, with the byte at which the first begins: a search in a
@@ -53,7 +53,7 @@ impl<V: Exact> Part<V> {
     }
 
     // A part of no runs, with room for so many.
-    pub(crate) fn with_capacity(alloc: Global, most: usize) -> Result<Part<V>, NoMemory>
+    pub(crate) fn with_capacity(alloc: Global, most: usize) -> Result<Part<V>, AllocError>
         ensures { IfOk result (λ part. part ≡ []) }
     {
         Ok(Part {
@@ -136,7 +136,7 @@ impl<V: Exact> Part<V> {
     }
 
     // An equal part, with room for so many runs at least.
-    pub(crate) fn copy(&self, alloc: Global, least: usize) -> Result<Part<V>, NoMemory>
+    pub(crate) fn copy(&self, alloc: Global, least: usize) -> Result<Part<V>, AllocError>
         ensures { IfOk result (λ copy. copy ≡ self.now) }
     {
         let most = self.runs.len().saturating_add(2).max(least);

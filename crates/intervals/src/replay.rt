@@ -4,8 +4,8 @@ ghost use Rattle.intervals.specs.Bytes.{put};
 ghost use Rattle.intervals.specs.Replays.{replayed};
 
 use crate::span::Span;
-use crate::span_map::{Exact, NoMemory, SpanMap};
-use std::alloc::Global;
+use crate::span_map::{Exact, SpanMap};
+use std::alloc::{AllocError, Global};
 
 /// A write of a map: the value at each byte of the span, or none there.
 #[derive(Clone, Copy, Debug, PartialEq, Eq)]
@@ -15,7 +15,7 @@ pub struct Command<V> {
 }
 
 // Makes one write.
-fn perform<V: Exact, S: SpanMap<V>>(map: &mut S, command: &Command<V>) -> Result<(), NoMemory>
+fn perform<V: Exact, S: SpanMap<V>>(map: &mut S, command: &Command<V>) -> Result<(), AllocError>
     ensures { OnOk result (S.at map.new ≡ put (S.at map.old) command.now.span command.now.value) }
 {
     match command.value {
@@ -27,11 +27,11 @@ fn perform<V: Exact, S: SpanMap<V>>(map: &mut S, command: &Command<V>) -> Result
 /// The map in which no byte has a value, after the commands.
 ///
 /// # Errors
-/// `NoMemory` where a request for memory was refused.
+/// `AllocError` where a request for memory was refused.
 pub fn replay<V: Exact, S: SpanMap<V>>(
     alloc: Global,
     commands: &[Command<V>],
-) -> Result<S, NoMemory>
+) -> Result<S, AllocError>
     ensures { IfOk result (λ map. S.at map ≡ replayed commands.now) }
 {
     let mut map = S::new(alloc);

@@ -9,8 +9,8 @@ ghost use Rattle.intervals.specs.Parts.{all_runs, AreSome, BeginsTo, row_runs, r
 use crate::part::Part;
 use crate::run::{Run, begin_below, splice};
 use crate::span::Span;
-use crate::span_map::{Exact, NoMemory};
-use std::alloc::Global;
+use crate::span_map::Exact;
+use std::alloc::{AllocError, Global};
 
 // A part of more runs is cut in two.
 pub(crate) const MOST: usize = 64;
@@ -132,7 +132,7 @@ impl<V: Exact> Row<V> {
     }
 
     // An equal row.
-    pub(crate) fn copy(&self) -> Result<Row<V>, NoMemory>
+    pub(crate) fn copy(&self) -> Result<Row<V>, AllocError>
         ensures first { IfOk result (λ copy. copy.first ≡ self.now.first) }
         ensures rest { IfOk result (λ copy. copy.rest.items ≡ self.now.rest.items) }
     {
@@ -268,7 +268,7 @@ impl<V: Exact> Row<V> {
     }
 
     // Memory for one more part, if a write of the span may leave more runs in one than it is to have.
-    pub(crate) fn spare_for(&self, span: Span) -> Result<Option<Box<Spare<V>>>, NoMemory>
+    pub(crate) fn spare_for(&self, span: Span) -> Result<Option<Box<Spare<V>>>, AllocError>
         requires runs { AreRuns (row_runs self.now) }
         requires some { AreSome self.now.rest.items }
     {
@@ -288,7 +288,7 @@ impl<V: Exact> Row<V> {
     }
 
     // Memory for one more part, of at least as many runs.
-    fn spare(&self, least: usize) -> Result<Box<Spare<V>>, NoMemory> {
+    fn spare(&self, least: usize) -> Result<Box<Spare<V>>, AllocError> {
         let alloc = *self.rest.allocator();
         let mut places = Vec::new(alloc);
         if self.rest.len() == self.rest.capacity() {

@@ -5,16 +5,13 @@ ghost use Rattle.intervals.specs.Bytes.{greatest, put, nothing, AllAre, IsBarred
 use crate::span::Span;
 use std::alloc::{AllocError, Global};
 
-/// What a call answers where a request for memory was refused; refusal 3.
-pub type NoMemory = AllocError;
-
 /// Values that are one and the same wherever `==` says so.
 pub trait Exact: Copy + Eq {
     ghost exact: { (a b : Self) → Self.PartialEq.eq a b ≡ true → a ≡ b };
 }
 
 /// A map from the bytes of a file to values, however it is kept. No byte past the greatest offset
-/// has a value. A call that answers `NoMemory` leaves the map as it was.
+/// has a value. A call that answers `AllocError` leaves the map as it was.
 pub trait SpanMap<V: Exact>: Drop {
     /// The value of each byte.
     ghost at: { Self → ℕ → Option V };
@@ -24,12 +21,12 @@ pub trait SpanMap<V: Exact>: Drop {
         ensures { at result ≡ nothing };
 
     /// Gives each byte of the span the value, and leaves the others.
-    fn set(&mut self, span: Span, value: V) -> Result<(), NoMemory>
+    fn set(&mut self, span: Span, value: V) -> Result<(), AllocError>
         ensures ok { OnOk result (at self.new ≡ put (at self.old) span (Some value)) }
         ensures err { OnErr result (self.new ≡ self.old) };
 
     /// Takes away the value of each byte of the span, and leaves the others.
-    fn clear(&mut self, span: Span) -> Result<(), NoMemory>
+    fn clear(&mut self, span: Span) -> Result<(), AllocError>
         ensures ok { OnOk result (at self.new ≡ put (at self.old) span None) }
         ensures err { OnErr result (self.new ≡ self.old) };
 
@@ -67,7 +64,7 @@ pub trait SpanMap<V: Exact>: Drop {
         ensures { IsLargest (IsBarred (at self.now) bar) required within result };
 
     /// An equal map.
-    fn copy(&self) -> Result<Self, NoMemory>
+    fn copy(&self) -> Result<Self, AllocError>
         ensures { IfOk result (λ copy. copy ≡ self.now) };
 
     /// Whether both have the same value at each byte.

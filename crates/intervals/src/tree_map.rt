@@ -9,8 +9,8 @@ use crate::row::{Row, next_of};
 use crate::run::{Run, begin_after, is_barred, last_to, split_before};
 use crate::span::Span;
 use crate::span_edit::SpanEdit;
-use crate::span_map::{Exact, NoMemory, SpanMap};
-use std::alloc::Global;
+use crate::span_map::{Exact, SpanMap};
+use std::alloc::{AllocError, Global};
 use std::marker::Model;
 
 // Memory for a write of more runs than this is asked for by the thousand.
@@ -55,8 +55,8 @@ impl<V: Exact> TreeMap<V> {
     /// made as long as the map has no more runs than now.
     ///
     /// # Errors
-    /// `NoMemory` where a request for memory was refused.
-    pub fn plan(&self, span: Span, value: Option<V>) -> Result<SpanEdit<V>, NoMemory>
+    /// `AllocError` where a request for memory was refused.
+    pub fn plan(&self, span: Span, value: Option<V>) -> Result<SpanEdit<V>, AllocError>
         ensures written { IfOk result (λ edit. written edit self.now ≡ put (value_at self.now) span value) }
         ensures span { IfOk result (λ edit. edit.span ≡ span) }
         ensures value { IfOk result (λ edit. edit.value ≡ value) }
@@ -210,13 +210,13 @@ impl<V: Exact> SpanMap<V> for TreeMap<V> {
         }
     }
 
-    fn set(&mut self, span: Span, value: V) -> Result<(), NoMemory> {
+    fn set(&mut self, span: Span, value: V) -> Result<(), AllocError> {
         let edit = self.plan(span, Some(value))?;
         self.apply(edit);
         Ok(())
     }
 
-    fn clear(&mut self, span: Span) -> Result<(), NoMemory> {
+    fn clear(&mut self, span: Span) -> Result<(), AllocError> {
         let edit = self.plan(span, None)?;
         self.apply(edit);
         Ok(())
@@ -283,7 +283,7 @@ impl<V: Exact> SpanMap<V> for TreeMap<V> {
         }
     }
 
-    fn copy(&self) -> Result<Self, NoMemory> {
+    fn copy(&self) -> Result<Self, AllocError> {
         Ok(TreeMap {
             row: self.row.copy()?,
             starts: self.starts,

@@ -9,8 +9,8 @@ use crate::run::{
 };
 use crate::span::Span;
 use crate::span_edit::SpanEdit;
-use crate::span_map::{Exact, NoMemory, SpanMap};
-use std::alloc::Global;
+use crate::span_map::{Exact, SpanMap};
+use std::alloc::{AllocError, Global};
 use std::marker::Model;
 
 /// A map from bytes to values, as a sorted vector of longest runs. A look-up halves the runs until it
@@ -40,8 +40,8 @@ impl<V: Exact> VecMap<V> {
     /// made as long as the map has no more runs than now.
     ///
     /// # Errors
-    /// `NoMemory` where a request for memory was refused.
-    pub fn plan(&self, span: Span, value: Option<V>) -> Result<SpanEdit<V>, NoMemory>
+    /// `AllocError` where a request for memory was refused.
+    pub fn plan(&self, span: Span, value: Option<V>) -> Result<SpanEdit<V>, AllocError>
         ensures written { IfOk result (λ edit. written edit self.now ≡ put (value_at self.now) span value) }
         ensures span { IfOk result (λ edit. edit.span ≡ span) }
         ensures value { IfOk result (λ edit. edit.value ≡ value) }
@@ -137,13 +137,13 @@ impl<V: Exact> SpanMap<V> for VecMap<V> {
         }
     }
 
-    fn set(&mut self, span: Span, value: V) -> Result<(), NoMemory> {
+    fn set(&mut self, span: Span, value: V) -> Result<(), AllocError> {
         let edit = self.plan(span, Some(value))?;
         self.apply(edit);
         Ok(())
     }
 
-    fn clear(&mut self, span: Span) -> Result<(), NoMemory> {
+    fn clear(&mut self, span: Span) -> Result<(), AllocError> {
         let edit = self.plan(span, None)?;
         self.apply(edit);
         Ok(())
@@ -209,7 +209,7 @@ impl<V: Exact> SpanMap<V> for VecMap<V> {
     }
 
     // It has room for the two runs more that a write can make.
-    fn copy(&self) -> Result<Self, NoMemory> {
+    fn copy(&self) -> Result<Self, AllocError> {
         let most = self.runs.len().saturating_add(2);
         let mut runs = Vec::with_capacity(*self.runs.allocator(), most)?;
         runs.extend_from_slice(&self.runs)?;

@@ -19,11 +19,10 @@ use crate::owner_spans::OwnerSpans;
 use crate::page_index::PageIndex;
 use intervals::span::Span;
 use intervals::span_edit::SpanEdit;
-use intervals::span_map::NoMemory;
 use model::lock_info::LockInfo;
 use model::mode::Mode;
 use model::owner::Owner;
-use std::alloc::Global;
+use std::alloc::{AllocError, Global};
 use std::marker::Model;
 
 // A table of fewer rows keeps no index.
@@ -137,8 +136,8 @@ impl LockTable {
     /// An equal table.
     ///
     /// # Errors
-    /// `NoMemory`.
-    pub fn copy(&self) -> Result<Self, NoMemory>
+    /// `AllocError`.
+    pub fn copy(&self) -> Result<Self, AllocError>
         ensures { IfOk result (λ copy. copy ≡ self.now) }
     {
         let alloc = *self.rows.allocator();
@@ -213,7 +212,7 @@ impl LockTable {
     }
 
     // An empty list with room for all rows and one more, where the owner has no row in the file.
-    fn room_for(&self, file: u16, owner: Owner) -> Result<Vec<OwnerLocks>, NoMemory>
+    fn room_for(&self, file: u16, owner: Owner) -> Result<Vec<OwnerLocks>, AllocError>
         ensures empty { IfOk result (λ room. room.items ≡ []) }
         ensures room { IfOk result (λ room. HasRoom self.now.rows file owner (vec_capacity room)) }
     {
@@ -225,7 +224,7 @@ impl LockTable {
     }
 
     // Memory for an index, where the table is to keep one and has none.
-    fn index_for(&self) -> Result<PageIndex, NoMemory>
+    fn index_for(&self) -> Result<PageIndex, AllocError>
         ensures { IfOk result (λ index. IsKept index → 64 ≤ length self.now.rows) }
     {
         let alloc = *self.rows.allocator();
@@ -242,7 +241,7 @@ impl LockTable {
         owner: Owner,
         span: Span,
         mode: Option<Mode>,
-    ) -> Result<SpanEdit<Mode>, NoMemory>
+    ) -> Result<SpanEdit<Mode>, AllocError>
         ensures span { IfOk result (λ write. write.span ≡ span) }
         ensures mode { IfOk result (λ write. write.value ≡ mode) }
         ensures runs { IfOk result (λ write. HasRuns self.now.rows file owner write.runs) }
@@ -514,8 +513,8 @@ impl LockTable {
     /// The regions of a file, by first byte and then by owner.
     ///
     /// # Errors
-    /// `NoMemory`.
-    pub fn locks(&self, file: u16) -> Result<Vec<LockInfo>, NoMemory>
+    /// `AllocError`.
+    pub fn locks(&self, file: u16) -> Result<Vec<LockInfo>, AllocError>
         ensures { IfOk result (λ locks. IsListing (held self.now file) locks.items) }
     {
         let mut locks = Vec::new(*self.rows.allocator());

@@ -11,10 +11,10 @@ ghost use Rattle.lock_table.specs.Listing.{ListsRegions};
 use crate::owner_set::OwnerSet;
 use crate::owner_spans::OwnerSpans;
 use intervals::span::{GREATEST, Span};
-use intervals::span_map::NoMemory;
 use model::lock_info::LockInfo;
 use model::mode::Mode;
 use model::owner::Owner;
+use std::alloc::AllocError;
 use std::cmp::Ordering;
 
 /// What one owner holds in one file.
@@ -50,8 +50,8 @@ impl OwnerLocks {
     /// An equal row.
     ///
     /// # Errors
-    /// `NoMemory`.
-    pub(crate) fn copy(&self) -> Result<Self, NoMemory>
+    /// `AllocError`.
+    pub(crate) fn copy(&self) -> Result<Self, AllocError>
         ensures { IfOk result (λ copy. copy ≡ self.now) }
     {
         Ok(OwnerLocks {
@@ -126,8 +126,8 @@ impl OwnerLocks {
     /// Adds each region, from the lowest on.
     ///
     /// # Errors
-    /// `NoMemory`, and then some regions may have been added.
-    pub(crate) fn push_regions(&self, locks: &mut Vec<LockInfo>) -> Result<(), NoMemory>
+    /// `AllocError`, and then some regions may have been added.
+    pub(crate) fn push_regions(&self, locks: &mut Vec<LockInfo>) -> Result<(), AllocError>
         requires { IsBounded (value_at self.now.spans) }
         ensures { OnOk result ((more : List LockInfo) × (locks.new.items ≡ locks.old.items ++ more) × ListsRegions (locks_of self.now) more) }
     {

@@ -9,10 +9,10 @@ ghost use Rattle.model.specs.Locks.{regions};
 use intervals::run::Run;
 use intervals::span::Span;
 use intervals::span_edit::SpanEdit;
-use intervals::span_map::{NoMemory, SpanMap};
+use intervals::span_map::SpanMap;
 use intervals::tree_map::TreeMap;
 use model::mode::Mode;
-use std::alloc::Global;
+use std::alloc::{AllocError, Global};
 use std::marker::Model;
 
 /// The bytes that one owner holds in one file, each with its mode. What is only asked for exclusive bytes reads
@@ -53,8 +53,8 @@ impl OwnerSpans {
     /// An equal value.
     ///
     /// # Errors
-    /// `NoMemory`.
-    pub(crate) fn copy(&self) -> Result<Self, NoMemory>
+    /// `AllocError`.
+    pub(crate) fn copy(&self) -> Result<Self, AllocError>
         ensures { IfOk result (λ copy. copy ≡ self.now) }
     {
         Ok(OwnerSpans {
@@ -134,8 +134,8 @@ impl OwnerSpans {
     /// as there are no more runs than now.
     ///
     /// # Errors
-    /// `NoMemory`.
-    pub(crate) fn plan(&self, span: Span, mode: Option<Mode>) -> Result<SpanEdit<Mode>, NoMemory>
+    /// `AllocError`.
+    pub(crate) fn plan(&self, span: Span, mode: Option<Mode>) -> Result<SpanEdit<Mode>, AllocError>
         ensures span { IfOk result (λ edit. edit.span ≡ span) }
         ensures value { IfOk result (λ edit. edit.value ≡ mode) }
         ensures enough { IfOk result (λ edit. length self.now ≤ edit.runs) }

@@ -12,10 +12,9 @@ use crate::owner_locks::OwnerLocks;
 use crate::owner_set::{OwnerSet, flag_of};
 use intervals::span::Span;
 use intervals::span_edit::SpanEdit;
-use intervals::span_map::NoMemory;
 use model::mode::Mode;
 use model::owner::Owner;
-use std::alloc::Global;
+use std::alloc::{AllocError, Global};
 
 // How many bytes a page has.
 const PAGE: u64 = 8192;
@@ -74,8 +73,8 @@ impl PageIndex {
     /// An index that is kept, with no owner in its sets.
     ///
     /// # Errors
-    /// `NoMemory`.
-    pub(crate) fn with_memory(alloc: Global) -> Result<Self, NoMemory>
+    /// `AllocError`.
+    pub(crate) fn with_memory(alloc: Global) -> Result<Self, AllocError>
         ensures { IfOk result IsKept }
     {
         let mut sets = Vec::with_capacity(alloc, SETS)?;

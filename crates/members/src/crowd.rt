@@ -5,9 +5,8 @@ ghost use Rattle.model.specs.Limits.{IsNumber};
 ghost use Rattle.members.specs.Members.{most_incarnations, first_members, live_incarnation, was_declared, with_restarted, declared_failed, restarted};
 ghost use Rattle.members.specs.Parts.{members_state};
 
-use intervals::span_map::NoMemory;
 use messages::refusal::Refused;
-use std::alloc::Global;
+use std::alloc::{AllocError, Global};
 use std::marker::Model;
 
 /// The most incarnations of a node; they are numbered from 1.
@@ -52,8 +51,8 @@ impl Crowd {
     /// The members of a cluster that begins: every node is alive, in its first incarnation.
     ///
     /// # Errors
-    /// `NoMemory` where a request for memory was refused.
-    pub fn new(alloc: Global, count: u16) -> Result<Crowd, NoMemory>
+    /// `AllocError` where a request for memory was refused.
+    pub fn new(alloc: Global, count: u16) -> Result<Crowd, AllocError>
         ensures { IfOk result (λ members. members_state members ≡ first_members count) }
     {
         let mut nodes = Vec::new(alloc);

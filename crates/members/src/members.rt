@@ -5,10 +5,9 @@ ghost use Rattle.members.specs.Members.{most_incarnations, first_members, live_i
 ghost use Rattle.members.specs.Parts.{members_state};
 
 use crate::crowd::Crowd;
-use intervals::span_map::NoMemory;
 use messages::refusal::Refused;
 use messages::shape::Shape;
-use std::alloc::Global;
+use std::alloc::{AllocError, Global};
 use std::marker::Model;
 
 /// Which nodes and token servers of a cluster are alive, and in which incarnation, or epoch. One that
@@ -31,8 +30,8 @@ impl Members {
     /// The members of a cluster that begins: all are alive, in the first incarnation.
     ///
     /// # Errors
-    /// `NoMemory` where a request for memory was refused.
-    pub fn new(alloc: Global, shape: Shape) -> Result<Members, NoMemory>
+    /// `AllocError` where a request for memory was refused.
+    pub fn new(alloc: Global, shape: Shape) -> Result<Members, AllocError>
         ensures nodes { IfOk result (λ members. members_state members.nodes ≡ first_members shape.nodes) }
         ensures servers { IfOk result (λ members. members_state members.servers ≡ first_members shape.files) }
     {

@@ -5,11 +5,11 @@ ghost use Rattle.intervals.specs.Bytes.{greatest};
 
 use intervals::replay::{Command, replay};
 use intervals::span::{GREATEST, Span};
-use intervals::span_map::{NoMemory, SpanMap};
+use intervals::span_map::SpanMap;
 use intervals::tree_map::TreeMap;
 use intervals::vec_map::VecMap;
 use model::mode::Mode;
-use std::alloc::Global;
+use std::alloc::{AllocError, Global};
 use std::test::Fail;
 
 const A: Option<Mode> = Some(Mode::Read);
@@ -55,7 +55,7 @@ fn write<S: SpanMap<Mode>>(
     lo: u64,
     hi: u64,
     value: Option<Mode>,
-) -> Result<(), NoMemory>
+) -> Result<(), AllocError>
     requires ordered { lo ≤ hi }
     requires ends { hi ≤ greatest }
 {
@@ -66,7 +66,7 @@ fn write<S: SpanMap<Mode>>(
 }
 
 // Whether the map has those runs behind the step.
-fn takes<S: SpanMap<Mode>>(map: &mut S, step: &Step) -> Result<bool, NoMemory> {
+fn takes<S: SpanMap<Mode>>(map: &mut S, step: &Step) -> Result<bool, AllocError> {
     let (lo, hi, value, starts, byte, run) = *step;
     if lo > hi || hi > GREATEST {
         return Ok(false);
@@ -76,7 +76,7 @@ fn takes<S: SpanMap<Mode>>(map: &mut S, step: &Step) -> Result<bool, NoMemory> {
 }
 
 // Whether the map has them behind each step.
-fn takes_each<S: SpanMap<Mode>>(map: &mut S, steps: &[Step]) -> Result<bool, NoMemory> {
+fn takes_each<S: SpanMap<Mode>>(map: &mut S, steps: &[Step]) -> Result<bool, AllocError> {
     for step in steps {
         if !takes(map, step)? {
             return Ok(false);
@@ -86,7 +86,7 @@ fn takes_each<S: SpanMap<Mode>>(map: &mut S, steps: &[Step]) -> Result<bool, NoM
 }
 
 // (A list is the only one in its function, since each statement there is proved beside it.)
-fn takes_all<S: SpanMap<Mode>>(map: &mut S) -> Result<bool, NoMemory> {
+fn takes_all<S: SpanMap<Mode>>(map: &mut S) -> Result<bool, AllocError> {
     takes_each(map, &STEPS)
 }
 
@@ -119,7 +119,7 @@ fn covers<S: SpanMap<Mode>>(map: &S) -> bool {
 }
 
 // Whether a copy is the same, until it changes.
-fn copies<S: SpanMap<Mode>>(map: &S) -> Result<bool, NoMemory> {
+fn copies<S: SpanMap<Mode>>(map: &S) -> Result<bool, AllocError> {
     let mut copy = map.copy()?;
     let was_same = map.same(&copy);
     let is_set = copy.set(Span { lo: 3, hi: 3 }, Mode::Write).is_ok();
@@ -142,17 +142,17 @@ const WRITES: [Command<Mode>; 3] = [
 ];
 
 // Whether the map of a list of writes takes the steps, and is then told by its bytes.
-fn goes_on<S: SpanMap<Mode>>(map: &mut S) -> Result<bool, NoMemory> {
+fn goes_on<S: SpanMap<Mode>>(map: &mut S) -> Result<bool, AllocError> {
     let is_made = has(map, 3, 6, Some((6, 9, Mode::Read)));
     Ok(is_made && takes_all(map)? && has_firsts(map) && covers(map) && copies(map)?)
 }
 
 // The map of the writes. (In a box, since that is dropped in fewer steps, each of which the check proves.)
-fn made<S: SpanMap<Mode>>(alloc: Global) -> Result<Box<S>, NoMemory> {
+fn made<S: SpanMap<Mode>>(alloc: Global) -> Result<Box<S>, AllocError> {
     Ok(Box::new(alloc, replay(alloc, &WRITES)?)?)
 }
 
-fn is_right<S: SpanMap<Mode>>(alloc: Global) -> Result<bool, NoMemory> {
+fn is_right<S: SpanMap<Mode>>(alloc: Global) -> Result<bool, AllocError> {
     let mut map: Box<S> = made(alloc)?;
     goes_on(&mut *map)
 }
@@ -165,7 +165,7 @@ fn each_map_takes_steps(rt: HostRuntime) -> Result<(), Fail> {
 }
 
 // Whether a write that was planned for fewer runs changes nothing.
-fn is_stale(map: &mut TreeMap<Mode>) -> Result<bool, NoMemory> {
+fn is_stale(map: &mut TreeMap<Mode>) -> Result<bool, AllocError> {
     write(map, 10, 14, A)?;
     let edit = map.plan(Span { lo: 0, hi: 4 }, A)?;
     let did_fit = map.fits(&edit);
@@ -182,7 +182,7 @@ fn a_write_that_was_planned_for_fewer_runs_changes_nothing(rt: HostRuntime) -> R
     Ok(())
 }
 
-fn copy_again<S: SpanMap<Mode>>(map: &S) -> Result<S, NoMemory> {
+fn copy_again<S: SpanMap<Mode>>(map: &S) -> Result<S, AllocError> {
     match map.copy() {
         Ok(copy) => Ok(copy),
         Err(_) => map.copy(),
@@ -195,7 +195,7 @@ fn writes_over<S: SpanMap<Mode>>(
     before: &S,
     lo: u64,
     value: Option<Mode>,
-) -> Result<bool, NoMemory>
+) -> Result<bool, AllocError>
     requires { lo ≤ 100 }
 {
     if write(map, lo, lo + 5, value).is_ok() {
@@ -211,7 +211,7 @@ fn writes_again<S: SpanMap<Mode>>(
     map: &mut S,
     lo: u64,
     value: Option<Mode>,
-) -> Result<bool, NoMemory>
+) -> Result<bool, AllocError>
     requires { lo ≤ 100 }
 {
     let before = copy_again(map)?;
@@ -220,7 +220,7 @@ fn writes_again<S: SpanMap<Mode>>(
 
 // Whether a new map is as it was where a request for memory is refused, and the same call then goes through. `scripts/refused-memory`
 // refuses the Nth request of the test, which passes at each N, so it keeps no map in a box.
-fn keeps<S: SpanMap<Mode>>(alloc: Global) -> Result<bool, NoMemory> {
+fn keeps<S: SpanMap<Mode>>(alloc: Global) -> Result<bool, AllocError> {
     let mut map = S::new(alloc);
     for place in 0..4 {
         if !writes_again(&mut map, 10 * place, B)? {

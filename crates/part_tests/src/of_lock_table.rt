@@ -1,10 +1,10 @@
 //! What the lock table does that no node asks of it: locks that are set and freed at once, and owners of two incarnations in one
 //! table.
 use intervals::span::Span;
-use intervals::span_map::NoMemory;
 use lock_table::error::LockError;
 use lock_table::lock_table::LockTable;
 use lock_table::{Kind, LockInfo, Mode, Owner};
+use std::alloc::AllocError;
 use std::test::Fail;
 
 const FILE: u16 = 1;
@@ -47,7 +47,7 @@ const LOW: LockInfo = LockInfo {
     span: Span { lo: 10, hi: 29 },
 };
 
-fn copy_again(table: &LockTable) -> Result<LockTable, NoMemory> {
+fn copy_again(table: &LockTable) -> Result<LockTable, AllocError> {
     match table.copy() {
         Ok(copy) => Ok(copy),
         Err(_) => table.copy(),
@@ -90,7 +90,7 @@ fn all_change(table: &mut LockTable, changes: &[(LockInfo, bool)]) -> Result<boo
 }
 
 // Whether the file has just these locks.
-fn has_locks(table: &LockTable, locks: &[LockInfo]) -> Result<bool, NoMemory> {
+fn has_locks(table: &LockTable, locks: &[LockInfo]) -> Result<bool, AllocError> {
     match table.locks(FILE) {
         Ok(found) => Ok(found.as_slice() == locks),
         Err(_) => Ok(table.locks(FILE)?.as_slice() == locks),
@@ -126,11 +126,11 @@ fn unlocks(table: &mut LockTable) -> Result<bool, LockError> {
     all_change(table, &UNLOCKS)
 }
 
-fn has_all(table: &LockTable) -> Result<bool, NoMemory> {
+fn has_all(table: &LockTable) -> Result<bool, AllocError> {
     has_locks(table, &[LOW, MIDDLE, LAST])
 }
 
-fn has_rest(table: &LockTable) -> Result<bool, NoMemory> {
+fn has_rest(table: &LockTable) -> Result<bool, AllocError> {
     has_locks(table, &[MIDDLE, REST])
 }
 

@@ -1,13 +1,12 @@
 //! What a token gives up at once. (A node plans what it gives up.)
 use intervals::span::{GREATEST, Span};
-use intervals::span_map::NoMemory;
 use lock_table::error::LockError;
 use lock_table::lock_table::LockTable;
 use model::level::Level;
 use model::lock_info::LockInfo;
 use model::mode::Mode;
 use model::owner::{Kind, Owner};
-use std::alloc::Global;
+use std::alloc::{AllocError, Global};
 use std::test::Fail;
 use token_set::gave_up::GaveUp;
 use token_set::set::TokenSet;
@@ -52,7 +51,7 @@ fn both_locks(alloc: Global) -> Result<Box<LockTable>, LockError> {
 }
 
 // The node's token: of every byte.
-fn of_all(alloc: Global) -> Result<Box<TokenSet>, NoMemory> {
+fn of_all(alloc: Global) -> Result<Box<TokenSet>, AllocError> {
     let mut token = Box::new(alloc, TokenSet::new(alloc))?;
     token.grant(WHOLE, Mode::Write)?;
     Ok(token)
@@ -101,7 +100,11 @@ const LEFT: [(Span, Level); 2] = [
 ];
 
 // Whether the token answers each of these so.
-fn gives_up(locks: &LockTable, token: &mut TokenSet, revokes: &[Revoke]) -> Result<bool, NoMemory> {
+fn gives_up(
+    locks: &LockTable,
+    token: &mut TokenSet,
+    revokes: &[Revoke],
+) -> Result<bool, AllocError> {
     for (mode, required, gives) in revokes {
         let _ = &required.lo; // tells the proof where the span ends
         if token.give_up(*mode, *required, WHOLE, locks, FILE)? != *gives {
@@ -111,16 +114,16 @@ fn gives_up(locks: &LockTable, token: &mut TokenSet, revokes: &[Revoke]) -> Resu
     Ok(true)
 }
 
-fn gives_all_up(locks: &LockTable, token: &mut TokenSet) -> Result<bool, NoMemory> {
+fn gives_all_up(locks: &LockTable, token: &mut TokenSet) -> Result<bool, AllocError> {
     gives_up(locks, token, &REVOKES)
 }
 
-fn is_left(alloc: Global, token: &TokenSet) -> Result<bool, NoMemory> {
+fn is_left(alloc: Global, token: &TokenSet) -> Result<bool, AllocError> {
     Ok(token.runs(alloc)?.as_slice() == LEFT.as_slice())
 }
 
 // Whether the token answers so, and that is left of it.
-fn is_right(alloc: Global, locks: &LockTable, token: &mut TokenSet) -> Result<bool, NoMemory> {
+fn is_right(alloc: Global, locks: &LockTable, token: &mut TokenSet) -> Result<bool, AllocError> {
     Ok(gives_all_up(locks, token)? && is_left(alloc, token)?)
 }
 

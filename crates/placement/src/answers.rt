@@ -9,7 +9,6 @@ ghost use Rattle.placement.specs.Waits.{GoesOn};
 
 use descriptors::call::ProcessCall;
 use fcntl_table::table::FcntlTable;
-use intervals::span_map::NoMemory;
 use model::limits::MOST_PROCESSES;
 use model::lock_info::LockInfo;
 use model::lock_target::LockTarget;
@@ -18,6 +17,7 @@ use model::op::Op;
 use model::owner::Kind;
 use model::process::Process;
 use model::reply::Reply;
+use std::alloc::AllocError;
 
 // Whether both are one reply.
 fn is_same(one: &Reply, other: &Reply) -> bool
@@ -30,13 +30,13 @@ fn is_same(one: &Reply, other: &Reply) -> bool
 /// several locks that block a call, the reply may name each.
 ///
 /// # Errors
-/// `NoMemory` where a request for memory was refused.
+/// `AllocError` where a request for memory was refused.
 pub(crate) fn take(
     table: &mut FcntlTable,
     process: Process,
     op: Op,
     reply: Reply,
-) -> Result<bool, NoMemory>
+) -> Result<bool, AllocError>
     ensures taken { IfOk result (λ yes. yes ≡ true → Step (table_of table.old) process op reply (table_of table.new)) }
     ensures never { IfOk result (λ yes. yes ≡ false → NeverAnswers (table_of table.old) process op reply) }
 {
@@ -54,7 +54,7 @@ fn take_answer(
     process: Process,
     op: Op,
     reply: Reply,
-) -> Result<bool, NoMemory>
+) -> Result<bool, AllocError>
     requires names_none { NamesNoLock reply }
     requires is_own { Interrupted ≢ reply }
     ensures taken { IfOk result (λ yes. yes ≡ true → Step (table_of table.old) process op reply (table_of table.new)) }
@@ -154,7 +154,7 @@ fn is_blocked_by(table: &FcntlTable, call: LockTarget, mode: Mode, lock: &LockIn
 
 // Answers a call of the process. A segment is tested before the open mode of its descriptor; where
 // locks of several owners block, one of them is named, and a call that waits is interrupted.
-fn step(table: &mut FcntlTable, process: Process, op: Op) -> Result<Reply, NoMemory>
+fn step(table: &mut FcntlTable, process: Process, op: Op) -> Result<Reply, AllocError>
     requires { IsPossible op }
     ensures step { IfOk result (λ reply. Step (table_of table.old) process op reply (table_of table.new)) }
     ensures goes_on { IfOk result (GoesOn (table_of table.old) process op) }
@@ -205,7 +205,7 @@ fn set(
     mode: Mode,
     start: i64,
     len: i64,
-) -> Result<Reply, NoMemory>
+) -> Result<Reply, AllocError>
     ensures { IfOk result (λ reply.
         Step (table_of table.old) process (Set fd kind mode start len) reply (table_of table.new)) }
 {
@@ -228,7 +228,7 @@ fn wait(
     mode: Mode,
     start: i64,
     len: i64,
-) -> Result<Reply, NoMemory>
+) -> Result<Reply, AllocError>
     ensures step { IfOk result (λ reply.
         Step (table_of table.old) process (Wait fd kind mode start len) reply (table_of table.new)) }
     ensures goes_on { IfOk result (GoesOn (table_of table.old) process (Wait fd kind mode start len)) }
@@ -251,7 +251,7 @@ fn unlock(
     kind: Kind,
     start: i64,
     len: i64,
-) -> Result<Reply, NoMemory>
+) -> Result<Reply, AllocError>
     ensures { IfOk result (λ reply.
         Step (table_of table.old) process (Unlock fd kind start len) reply (table_of table.new)) }
 {

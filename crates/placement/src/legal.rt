@@ -9,19 +9,18 @@ use crate::answers::take;
 use crate::history::History;
 use cluster_core::item::Item;
 use fcntl_table::table::FcntlTable;
-use intervals::span_map::NoMemory;
 use model::call::CallId;
 use model::limits::MOST_PROCESSES;
 use model::process::Process;
-use std::alloc::Global;
+use std::alloc::{AllocError, Global};
 
 /// Whether a single machine's table, empty at first and with the limit of regions of the history's
 /// version, may answer each call of the history as it is answered there, item by item (POSIX.1-2017
 /// `fcntl()`, `open()`, `_exit()`).
 ///
 /// # Errors
-/// `NoMemory` where a request for memory was refused.
-pub fn legal(alloc: Global, history: &History) -> Result<bool, NoMemory>
+/// `AllocError` where a request for memory was refused.
+pub fn legal(alloc: Global, history: &History) -> Result<bool, AllocError>
     ensures { IfOk result (λ yes. IsTrue yes ↔ IsLegal history.now.version history.now.items) }
 {
     let mut table = FcntlTable::new(alloc, history.version().most_regions());
@@ -34,7 +33,7 @@ pub fn legal(alloc: Global, history: &History) -> Result<bool, NoMemory>
 }
 
 // The item leads the table on, if it may.
-fn follow(table: &mut FcntlTable, item: &Item) -> Result<bool, NoMemory>
+fn follow(table: &mut FcntlTable, item: &Item) -> Result<bool, AllocError>
     ensures leads { IfOk result (λ yes. yes ≡ true → ItemStep (table_of table.old) item.now (table_of table.new)) }
     ensures stuck { IfOk result (λ yes. yes ≡ false → (new : Table) → ItemStep (table_of table.old) item.now new → ⊥) }
 {

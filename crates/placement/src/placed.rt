@@ -15,12 +15,11 @@ use crate::revoke_id::RevokeId;
 use crate::slot::Slot;
 use cluster_core::item::Item;
 use cluster_core::journal::Journal;
-use intervals::span_map::NoMemory;
 use messages::entry::Entry;
 use messages::event::Event;
 use messages::message::Message;
 use model::call::CallId;
-use std::alloc::Global;
+use std::alloc::{AllocError, Global};
 use std::collections::HashMap;
 
 // By the name of a call: the index of the entry that makes it.
@@ -36,8 +35,8 @@ type Conflicts = HashMap<RevokeId, usize>;
 /// it from the first item to the last, and ends as what the live nodes hold.
 ///
 /// # Errors
-/// `NoMemory` where a request for memory was refused.
-pub fn placed(alloc: Global, journal: &Journal) -> Result<History, NoMemory>
+/// `AllocError` where a request for memory was refused.
+pub fn placed(alloc: Global, journal: &Journal) -> Result<History, AllocError>
     ensures version { IfOk result (λ history. history.version ≡ journal.now.shape.version) }
     ensures history { IfOk result (λ history. HasHistory journal.now.shape journal.now.entries history.items) }
     ensures at_places { IfOk result (λ history. EachAtItsPlace journal.now.entries history.items) }
@@ -51,7 +50,7 @@ pub fn placed(alloc: Global, journal: &Journal) -> Result<History, NoMemory>
 }
 
 // The items of the history that the entries make.
-fn items_of(alloc: Global, entries: &[Entry]) -> Result<Vec<Item>, NoMemory>
+fn items_of(alloc: Global, entries: &[Entry]) -> Result<Vec<Item>, AllocError>
     requires { length entries.now ≤ journal_limit }
     ensures { IfOk result (λ items. items.items ≡ history_of entries.now) }
 {
@@ -60,7 +59,7 @@ fn items_of(alloc: Global, entries: &[Entry]) -> Result<Vec<Item>, NoMemory>
 }
 
 // The slots of the history, one for each entry, in one pass over them.
-fn slots_of(alloc: Global, entries: &[Entry]) -> Result<Vec<Slot>, NoMemory>
+fn slots_of(alloc: Global, entries: &[Entry]) -> Result<Vec<Slot>, AllocError>
     requires { length entries.now ≤ journal_limit }
     ensures { IfOk result (λ slots. standing entries.now slots.items ≡ slots_of entries.now) }
 {
@@ -77,7 +76,7 @@ fn slots_of(alloc: Global, entries: &[Entry]) -> Result<Vec<Slot>, NoMemory>
 
 // Takes the entry into the index: its call, where it makes one and none of that name came before.
 // `index` entries came before it.
-fn note_call(calls: &mut Calls, index: usize, entry: &Entry) -> Result<(), NoMemory>
+fn note_call(calls: &mut Calls, index: usize, entry: &Entry) -> Result<(), AllocError>
     requires room { index < journal_limit }
     ensures { OnOk result ((all es : List Entry) → slice_get all index ≡ Some entry.now → Indexes all calls.old es → Indexes all calls.new (es ++ entry.now ∷ [])) }
 {
@@ -95,7 +94,7 @@ fn note_call(calls: &mut Calls, index: usize, entry: &Entry) -> Result<(), NoMem
 
 // Takes the entry into the index: each conflict that it tells of, where none of that name came before.
 // `index` entries came before it.
-fn note_conflicts(conflicts: &mut Conflicts, index: usize, entry: &Entry) -> Result<(), NoMemory>
+fn note_conflicts(conflicts: &mut Conflicts, index: usize, entry: &Entry) -> Result<(), AllocError>
     ensures { OnOk result ((es : List Entry) → length es ≡ index → Locates conflicts.old es → Locates conflicts.new (es ++ entry.now ∷ [])) }
 {
     for message in entry.sends() {
@@ -105,7 +104,11 @@ fn note_conflicts(conflicts: &mut Conflicts, index: usize, entry: &Entry) -> Res
 }
 
 // Takes a message into the index, which the entry with that index sends.
-fn note_conflict(conflicts: &mut Conflicts, index: usize, message: &Message) -> Result<(), NoMemory>
+fn note_conflict(
+    conflicts: &mut Conflicts,
+    index: usize,
+    message: &Message,
+) -> Result<(), AllocError>
     ensures { OnOk result (Notes conflicts.old index message.now conflicts.new) }
 {
     let Message::Conflict {
@@ -135,7 +138,7 @@ fn answer(
     calls: &Calls,
     conflicts: &Conflicts,
     entry: &Entry,
-) -> Result<(), NoMemory>
+) -> Result<(), AllocError>
     requires room { length slots.now.items < journal_limit }
     requires before { AreBefore conflicts.now (length slots.now.items) }
     ensures { OnOk result ((all es : List Entry) → slice_get all (length slots.old.items) ≡ Some entry.now → length es ≡ length slots.old.items → Indexes all calls.now (es ++ entry.now ∷ []) → Locates conflicts.now es → standing all slots.new.items ≡ slots_after es (standing all slots.old.items) entry.now entry.now.reply) }
@@ -197,7 +200,7 @@ fn slot_at(calls: &Calls, position: u32, id: CallId, reply: u32) -> Slot
 }
 
 // What stands in the slots, in their order.
-fn items_in(alloc: Global, entries: &[Entry], slots: &[Slot]) -> Result<Vec<Item>, NoMemory>
+fn items_in(alloc: Global, entries: &[Entry], slots: &[Slot]) -> Result<Vec<Item>, AllocError>
     ensures { IfOk result (λ items. items.items ≡ items_in (standing entries.now slots.now)) }
 {
     let mut items = Vec::new(alloc);

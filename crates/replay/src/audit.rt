@@ -19,14 +19,13 @@ use crate::store::Store;
 use cluster_core::check_error::CheckError;
 use cluster_core::journal::Journal;
 use cluster_core::world::JOURNAL_LIMIT;
-use intervals::span_map::NoMemory;
 use journal_text::parse::{is_old, measure, read_each, shape_of};
 use lockscript::listing::push_history;
 use messages::entry::Entry;
 use messages::shape::Shape;
 use placement::placed::placed;
 use player::watcher::Watcher;
-use std::alloc::Global;
+use std::alloc::{AllocError, Global};
 
 // What an audit of the entries of a journal comes to.
 #[derive(Drop)]
@@ -258,7 +257,7 @@ fn entries_read<'a>(alloc: Global, text: &str) -> Result<(Shape, Vec<Entry>), Fa
 }
 
 // The history of a run as text.
-fn history_of(alloc: Global, journal: Journal) -> Result<String, NoMemory>
+fn history_of(alloc: Global, journal: Journal) -> Result<String, AllocError>
     ensures { IfOk result (λ text. IsHistoryText journal (string_bytes text)) }
 {
     let history = placed(alloc, &journal)?;

@@ -6,7 +6,6 @@ ghost use Rattle.replay.specs.Audits.{Knows};
 
 use cluster_core::journal::comes_next;
 use cluster_core::world::{JOURNAL_LIMIT, World};
-use intervals::span_map::NoMemory;
 use journal_text::sink::Sink;
 use messages::entry::Entry;
 use messages::shape::Shape;
@@ -43,7 +42,7 @@ impl<'a, V: Watcher> Auditor<'a, V> {
         alloc: Global,
         shape: Shape,
         watcher: &'a mut V,
-    ) -> Result<Auditor<'a, V>, NoMemory>
+    ) -> Result<Auditor<'a, V>, AllocError>
         ensures { IfOk result (λ auditor. Knows shape (world_state auditor.world) auditor.taken auditor.wrong []) }
     {
         Ok(Auditor {

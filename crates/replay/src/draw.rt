@@ -17,7 +17,6 @@ use command_line::format::Format;
 use diagrams::mermaid::sequence;
 use diagrams::trace::trace;
 use holdings::stretch::holdings;
-use intervals::span_map::NoMemory;
 use message_text::names::call_of;
 use pictures::around::around;
 use pictures::picture::picture;
@@ -72,7 +71,7 @@ fn drawn(
     name: Option<&str>,
     asked: &Window,
     format: Format,
-) -> Result<Shown, NoMemory>
+) -> Result<Shown, AllocError>
     ensures { IfOk result (IsDrawn journal.now (option_map (λ call. call.now) name.entry) asked.now.from asked.now.to format) }
 {
     let _ = journal.entries(); // tells the proof that they are a run
@@ -201,7 +200,7 @@ fn picture_in(
     journal: &Journal,
     window: &Window,
     format: Format,
-) -> Result<String, NoMemory>
+) -> Result<String, AllocError>
     ensures { IfOk result (λ text. IsPictureOf journal.now window.now format (string_bytes text)) }
 {
     let history = placed(alloc, journal)?;
@@ -220,7 +219,7 @@ fn svg_of(
     journal: &Journal,
     history: &[Item],
     window: &Window,
-) -> Result<String, NoMemory>
+) -> Result<String, AllocError>
     ensures { IfOk result (λ text. Draws journal.now history.now window.now Svg (string_bytes text)) }
 {
     let held = holdings(alloc, journal, window.from, window.to)?;

@@ -11,7 +11,6 @@ use crate::fault::Fault;
 use crate::shown::Shown;
 use crate::store::Store;
 use cluster_core::journal::Journal;
-use intervals::span_map::NoMemory;
 use message_text::names::call_of;
 use placement::placed::placed;
 use std::alloc::{AllocError, Global};
@@ -38,7 +37,7 @@ pub(crate) fn explain<'a, S: Store>(
 }
 
 // The story of the call of this name, or that there is none, by the journal of a run.
-fn explained(alloc: Global, journal: &Journal, name: &str) -> Result<Shown, NoMemory>
+fn explained(alloc: Global, journal: &Journal, name: &str) -> Result<Shown, AllocError>
     ensures { IfOk result (IsExplained journal.now name.now) }
 {
     let _ = journal.entries(); // tells the proof that they are a run
@@ -49,7 +48,7 @@ fn explained(alloc: Global, journal: &Journal, name: &str) -> Result<Shown, NoMe
 }
 
 // The story of the call of this name, by the journal of a run.
-fn story_of(alloc: Global, journal: &Journal, name: &str) -> Result<Option<String>, NoMemory>
+fn story_of(alloc: Global, journal: &Journal, name: &str) -> Result<Option<String>, AllocError>
     ensures { IfOk result (λ told. MatchOption told (HasNoCall journal.now name.now) (λ text. IsStoryOf journal.now name.now (string_bytes text))) }
 {
     let Some(call) = call_of(name) else {
@@ -88,7 +87,7 @@ pub(crate) fn open_calls<'a, S: Store>(
 }
 
 // The calls without a reply, by a journal.
-pub(crate) fn open_in(alloc: Global, journal: &Journal) -> Result<String, NoMemory>
+pub(crate) fn open_in(alloc: Global, journal: &Journal) -> Result<String, AllocError>
     ensures { IfOk result (λ text. string_bytes text ≡ open_text journal.now.shape.version journal.now.entries) }
 {
     calls::open_calls(alloc, journal.shape().version(), journal.entries())

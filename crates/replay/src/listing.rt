@@ -12,24 +12,23 @@ ghost use Rattle.replay.specs.Scripts.{IsListing, Lists};
 
 use cluster_core::journal::Journal;
 use cluster_core::world::World;
-use intervals::span_map::NoMemory;
 use lockscript::listing::{listing_start, push_history};
 use lockscript::refused_line::RefusedLine;
 use placement::history::History;
 use placement::placed::placed;
-use std::alloc::Global;
+use std::alloc::{AllocError, Global};
 
 /// The listing of the run of a journal that ends in this world, in which these lines were refused.
 ///
 /// # Errors
-/// `NoMemory` where a request for memory was refused.
+/// `AllocError` where a request for memory was refused.
 #[tactic(auto, using(crate::proofs::Sections::whole_listing))]
 pub(crate) fn listing_of_journal(
     alloc: Global,
     journal: &Journal,
     world: World,
     refused: &[RefusedLine],
-) -> Result<String, NoMemory>
+) -> Result<String, AllocError>
     requires { EndsIn journal.now (world_state world) }
     ensures { IfOk result (λ text. IsListing (state_of (record { journal = journal.now; world = world; refused = refused.now })) (string_bytes text)) }
 {
@@ -42,13 +41,13 @@ pub(crate) fn listing_of_journal(
 /// and locks are listed.
 ///
 /// # Errors
-/// `NoMemory` where a request for memory was refused.
+/// `AllocError` where a request for memory was refused.
 pub(crate) fn listing_begun(
     alloc: Global,
     journal: &Journal,
     world: World,
     refused: &[RefusedLine],
-) -> Result<(String, History), NoMemory>
+) -> Result<(String, History), AllocError>
     requires { EndsIn journal.now (world_state world) }
     ensures { IfOk result (λ begun. (tokens : List TokenRun) × (locks : List HeldLock)
         × Lists (state_of (record { journal = journal.now; world = world; refused = refused.now })) tokens locks begun.1.items

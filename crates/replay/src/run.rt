@@ -22,7 +22,6 @@ use crate::listing::listing_begun;
 use crate::store::Store;
 use crate::wanted::Wanted;
 use cluster_core::journal::Journal;
-use intervals::span_map::NoMemory;
 use journal_text::journal::into_text;
 use journal_text::laws::each_journal_is_read;
 use lockscript::listing::push_history;
@@ -31,7 +30,7 @@ use placement::history::History;
 use player::play::play;
 use player::played::Played;
 use player::watcher::Watcher;
-use std::alloc::Global;
+use std::alloc::{AllocError, Global};
 
 // What is shown of what the script of a file comes to.
 pub(crate) fn run_script<'a, S: Store, V: Watcher>(
@@ -99,7 +98,7 @@ fn script_of<'a, S: Store>(alloc: Global, store: &mut S, path: &'a str) -> Resul
 }
 
 // What is shown of a run.
-pub(crate) fn text_of(alloc: Global, played: Played, wanted: Wanted) -> Result<String, NoMemory>
+pub(crate) fn text_of(alloc: Global, played: Played, wanted: Wanted) -> Result<String, AllocError>
     ensures { IfOk result (λ text. IsRunText (state_of played) wanted.open wanted.quiet (string_bytes text)) }
 {
     if wanted.quiet {
@@ -114,7 +113,7 @@ pub(crate) fn text_and_journal(
     alloc: Global,
     played: Played,
     wanted: Wanted,
-) -> Result<(String, String), NoMemory>
+) -> Result<(String, String), AllocError>
     ensures shown { IfOk result (λ texts. IsRunText (state_of played) wanted.open wanted.quiet (string_bytes texts.0)) }
     ensures journal { IfOk result (λ texts. string_bytes texts.1 ≡ journal_text played.journal.shape played.journal.entries) }
     ensures read { IfOk result (λ texts. WritesJournal (journal_text played.journal.shape played.journal.entries) played.journal.shape played.journal.entries) }
@@ -128,7 +127,7 @@ pub(crate) fn text_and_journal(
 
 // The listing of a run, with the calls without a reply behind it, if that is asked for. What is no longer needed
 // goes as soon as it can: the journal before the history is written.
-fn listing_of(alloc: Global, played: Played, with_open: bool) -> Result<String, NoMemory>
+fn listing_of(alloc: Global, played: Played, with_open: bool) -> Result<String, AllocError>
     ensures { IfOk result (λ text. IsRunText (state_of played) with_open false (string_bytes text)) }
 {
     let (mut text, journal, history) = listing_of_played(alloc, played)?;
@@ -144,7 +143,7 @@ fn listing_and_journal(
     alloc: Global,
     played: Played,
     with_open: bool,
-) -> Result<(String, String), NoMemory>
+) -> Result<(String, String), AllocError>
     ensures listing { IfOk result (λ texts. IsRunText (state_of played) with_open false (string_bytes texts.0)) }
     ensures journal { IfOk result (λ texts. string_bytes texts.1 ≡ journal_text played.journal.shape played.journal.entries) }
     ensures read { IfOk result (λ texts. WritesJournal (journal_text played.journal.shape played.journal.entries) played.journal.shape played.journal.entries) }
@@ -159,7 +158,7 @@ fn listing_and_journal(
 }
 
 // What is shown of a run without its listing: the calls without a reply, if that is asked for.
-fn open_of(alloc: Global, played: Played, with_open: bool) -> Result<String, NoMemory>
+fn open_of(alloc: Global, played: Played, with_open: bool) -> Result<String, AllocError>
     ensures { IfOk result (λ text. IsRunText (state_of played) with_open true (string_bytes text)) }
 {
     let journal = journal_of(played);
@@ -171,7 +170,7 @@ fn open_and_journal(
     alloc: Global,
     played: Played,
     with_open: bool,
-) -> Result<(String, String), NoMemory>
+) -> Result<(String, String), AllocError>
     ensures open { IfOk result (λ texts. IsRunText (state_of played) with_open true (string_bytes texts.0)) }
     ensures journal { IfOk result (λ texts. string_bytes texts.1 ≡ journal_text played.journal.shape played.journal.entries) }
     ensures read { IfOk result (λ texts. WritesJournal (journal_text played.journal.shape played.journal.entries) played.journal.shape played.journal.entries) }
@@ -192,7 +191,7 @@ fn journal_of(played: Played) -> Journal
 }
 
 // The calls without a reply, in a section of their own, if that is asked for.
-fn open_section(alloc: Global, journal: &Journal, with_open: bool) -> Result<String, NoMemory>
+fn open_section(alloc: Global, journal: &Journal, with_open: bool) -> Result<String, AllocError>
     ensures { IfOk result (λ text. string_bytes text ≡ open_section with_open journal.now) }
 {
     let mut text = String::new(alloc);
@@ -204,7 +203,10 @@ fn open_section(alloc: Global, journal: &Journal, with_open: bool) -> Result<Str
 }
 
 // The listing of a run up to its history, its journal, and the history.
-fn listing_of_played(alloc: Global, played: Played) -> Result<(String, Journal, History), NoMemory>
+fn listing_of_played(
+    alloc: Global,
+    played: Played,
+) -> Result<(String, Journal, History), AllocError>
     ensures journal { IfOk result (λ begun. begun.1 ≡ played.journal) }
     ensures listing { IfOk result (λ begun. (tokens : List TokenRun) × (locks : List HeldLock) × Lists (state_of played) tokens locks begun.2.items
         × (string_bytes begun.0 ≡ listing_start played.refused played.journal.entries tokens locks)) }

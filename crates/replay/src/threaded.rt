@@ -11,7 +11,6 @@ use crate::shown::Shown;
 use actors::thread_run::ThreadRun;
 use cluster_core::journal::Journal;
 use cluster_core::world::World;
-use intervals::span_map::NoMemory;
 use journal_text::laws::each_journal_is_read;
 use message_text::names::push_call;
 use model::call::CallId;
@@ -47,8 +46,8 @@ impl Threaded {
     /// What is told of the run, which ends in this world.
     ///
     /// # Errors
-    /// `NoMemory` where a request for memory was refused.
-    pub fn new(alloc: Global, run: ThreadRun, world: World) -> Result<Threaded, NoMemory>
+    /// `AllocError` where a request for memory was refused.
+    pub fn new(alloc: Global, run: ThreadRun, world: World) -> Result<Threaded, AllocError>
         requires { EndsIn run.journal (world_state world) }
         ensures { IfOk result (Tells run) }
     {

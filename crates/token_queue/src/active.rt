@@ -8,16 +8,15 @@ ghost use Rattle.token_queue.specs.Actives.{requests_of, waiting_for};
 
 use crate::held::Held;
 use crate::token_request::TokenRequest;
-use intervals::span_map::NoMemory;
 use model::call::CallId;
-use std::alloc::Global;
+use std::alloc::{AllocError, Global};
 use std::marker::Model;
 
 // A spare list has at least this much room, so that few are made where few requests are served.
 const LEAST_ROOM: usize = 8;
 
 /// Requests that are served, in order, each with the node whose row it waits for. A call that is not to
-/// answer `NoMemory` takes no memory: a request comes in where there is room for it.
+/// answer `AllocError` takes no memory: a request comes in where there is room for it.
 #[derive(Drop)]
 pub struct Active {
     held: Vec<Held>,
@@ -74,8 +73,8 @@ impl Active {
     /// An equal list: the same requests in the same order, and the same room.
     ///
     /// # Errors
-    /// `NoMemory` where a request for memory was refused.
-    pub fn copy(&self) -> Result<Active, NoMemory>
+    /// `AllocError` where a request for memory was refused.
+    pub fn copy(&self) -> Result<Active, AllocError>
         ensures { IfOk result (λ copy. copy ≡ self.now) }
     {
         let many = self.held.len() + self.room;
@@ -134,8 +133,8 @@ impl Active {
     /// An empty list with room for these and so many more, and for as many again and a few: `refill` takes it.
     ///
     /// # Errors
-    /// `NoMemory` where a request for memory was refused.
-    pub fn spare_for(&self, more: usize) -> Result<Vec<Held>, NoMemory>
+    /// `AllocError` where a request for memory was refused.
+    pub fn spare_for(&self, more: usize) -> Result<Vec<Held>, AllocError>
         ensures empty { IfOk result (λ spare. spare.items ≡ []) }
         ensures room { IfOk result (λ spare. length self.now.held + more ≤ vec_capacity spare) }
     {

@@ -5,7 +5,6 @@ ghost use Rattle.token_queue.specs.Requests.{is_of_call, is_up_to, requests_in, 
 use crate::slots::Slots;
 use crate::token_request::TokenRequest;
 use crate::walk::{first_from, same_requests};
-use intervals::span_map::NoMemory;
 use model::call::CallId;
 use std::alloc::{AllocError, Global};
 use std::marker::Model;
@@ -13,7 +12,7 @@ use std::marker::Model;
 // A spare line has at least this much room, so that few are made where few requests wait.
 const LEAST_ROOM: usize = 16;
 
-/// Requests in order, each found by its call. No two are of one call. A call that is not to answer `NoMemory`
+/// Requests in order, each found by its call. No two are of one call. A call that is not to answer `AllocError`
 /// takes no memory: a request comes in where there is room for it.
 #[derive(Drop)]
 pub struct Line {
@@ -46,8 +45,8 @@ impl Line {
     /// No requests, and room for as many.
     ///
     /// # Errors
-    /// `NoMemory` where a request for memory was refused.
-    pub fn with_room(alloc: Global, room: usize) -> Result<Line, NoMemory>
+    /// `AllocError` where a request for memory was refused.
+    pub fn with_room(alloc: Global, room: usize) -> Result<Line, AllocError>
         ensures { IfOk result (λ line. line ≡ record { requests = []; room = room }) }
     {
         Ok(Line {
@@ -178,8 +177,8 @@ impl Line {
     /// An equal line: the same requests in the same order, and the same room.
     ///
     /// # Errors
-    /// `NoMemory` where a request for memory was refused.
-    pub fn copy(&self) -> Result<Line, NoMemory>
+    /// `AllocError` where a request for memory was refused.
+    pub fn copy(&self) -> Result<Line, AllocError>
         ensures { IfOk result (λ copy. copy ≡ self.now) }
     {
         let mut copy = Line::with_room(self.allocator(), self.len() + self.room())?;
@@ -205,8 +204,8 @@ impl Line {
     /// takes it.
     ///
     /// # Errors
-    /// `NoMemory` where a request for memory was refused.
-    pub fn spare_for(&self, more: usize) -> Result<Line, NoMemory>
+    /// `AllocError` where a request for memory was refused.
+    pub fn spare_for(&self, more: usize) -> Result<Line, AllocError>
         ensures empty { IfOk result (λ spare. spare.requests ≡ []) }
         ensures room { IfOk result (λ spare. length self.now.requests + more ≤ spare.room) }
     {

@@ -5,9 +5,8 @@ ghost use Rattle.token_queue.specs.Places.{unless};
 
 use crate::token_request::TokenRequest;
 use indexmap::IndexMap;
-use intervals::span_map::NoMemory;
 use model::call::CallId;
-use std::alloc::Global;
+use std::alloc::{AllocError, Global};
 use std::marker::Model;
 
 /// Slots in order, each of which holds a request or none. No two requests are of one call.
@@ -46,8 +45,8 @@ impl Slots {
     /// No slots, and room for as many requests.
     ///
     /// # Errors
-    /// `NoMemory` where a request for memory was refused.
-    pub fn with_room(alloc: Global, room: usize) -> Result<Slots, NoMemory>
+    /// `AllocError` where a request for memory was refused.
+    pub fn with_room(alloc: Global, room: usize) -> Result<Slots, AllocError>
         ensures { IfOk result (λ slots. slots ≡ record { slots = []; room = room }) }
     {
         Ok(Slots {

@@ -4,9 +4,8 @@ ghost use Rattle.std.specs.Prelude.{◌≡◌, IfOk};
 use crate::commands::Commands;
 use crate::lists::{Lists, Spares};
 use crate::row_edit::RowEdit;
-use intervals::span_map::NoMemory;
 use messages::outcome::Outcome;
-use std::alloc::Global;
+use std::alloc::{AllocError, Global};
 use token_set::edit::TokenEdit;
 
 /// What an event changes of a server before it serves: the node that changes, if one does, and the requests that are
@@ -48,7 +47,7 @@ impl Edit {
         draft: Draft,
         given: Vec<Given>,
         spares: Spares,
-    ) -> Result<Edit, NoMemory>
+    ) -> Result<Edit, AllocError>
         ensures { IfOk result (λ edit. edit.parts.value ≡ record { draft = draft; given = given; spares = spares }) }
     {
         let parts = Parts {

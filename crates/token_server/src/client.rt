@@ -18,7 +18,6 @@ use crate::reports::token_told;
 use crate::row_edit::{RowAfter, RowEdit};
 use crate::token_holder::{RowView, TokenHolder, excludes};
 use intervals::span::Span;
-use intervals::span_map::NoMemory;
 use members::members::Members;
 use messages::epoch_number::EpochNumber;
 use messages::file_number::FileNumber;
@@ -26,7 +25,7 @@ use messages::message::Message;
 use messages::token_run::TokenRuns;
 use model::host::Host;
 use model::mode::Mode;
-use std::alloc::Global;
+use std::alloc::{AllocError, Global};
 use token_set::edit::TokenEdit;
 use token_set::set::TokenSet;
 
@@ -99,12 +98,12 @@ impl Client {
     /// Its row once it changes so.
     ///
     /// # Errors
-    /// `NoMemory` where a request for memory was refused.
+    /// `AllocError` where a request for memory was refused.
     pub fn row_after(
         &self,
         alloc: Global,
         change: &NodeChange,
-    ) -> Result<Option<RowAfter>, NoMemory>
+    ) -> Result<Option<RowAfter>, AllocError>
         ensures { IfOk result (λ row. row_seen (row_kept row self.now.row) ≡ row_after change.now (row_seen self.now.row)) }
     {
         match change {
@@ -160,7 +159,7 @@ impl Client {
     }
 
     // Its row once the command to it is answered and it gave up the span for the mode.
-    fn relieved_row(&self, span: Span, mode: Mode) -> Result<Option<RowAfter>, NoMemory>
+    fn relieved_row(&self, span: Span, mode: Mode) -> Result<Option<RowAfter>, AllocError>
         ensures { IfOk result (λ after. row_seen (row_kept after self.now.row) ≡ option_map (relieved span mode) (row_seen self.now.row)) }
     {
         let Some(row) = &self.row else {
@@ -175,7 +174,7 @@ impl Client {
     }
 
     // Its row once it has told its token, which has these runs.
-    fn reporting_row(&self, alloc: Global, runs: &TokenRuns) -> Result<Option<RowAfter>, NoMemory>
+    fn reporting_row(&self, alloc: Global, runs: &TokenRuns) -> Result<Option<RowAfter>, AllocError>
         ensures { IfOk result (λ after. row_seen (row_kept after self.now.row) ≡ option_map (reporting runs.now) (row_seen self.now.row)) }
     {
         let Some(row) = &self.row else {
@@ -245,8 +244,8 @@ impl Client {
     /// An equal client.
     ///
     /// # Errors
-    /// `NoMemory` where a request for memory was refused.
-    pub fn copy(&self) -> Result<Client, NoMemory>
+    /// `AllocError` where a request for memory was refused.
+    pub fn copy(&self) -> Result<Client, AllocError>
         ensures { IfOk result (λ copy. copy ≡ self.now) }
     {
         let row = match &self.row {

@@ -19,7 +19,6 @@ use crate::client::Client;
 use crate::row_edit::RowEdit;
 use crate::sketch::Changed;
 use crate::token_holder::{RowView, TokenHolder};
-use intervals::span_map::NoMemory;
 use members::members::Members;
 use messages::epoch_number::EpochNumber;
 use messages::file_number::FileNumber;
@@ -27,7 +26,7 @@ use messages::items::Items;
 use messages::message::Message;
 use messages::shape::Shape;
 use model::host::Host;
-use std::alloc::Global;
+use std::alloc::{AllocError, Global};
 use std::marker::Model;
 
 /// Each node of a cluster, from node 1 on, as the server of a file knows it.
@@ -54,7 +53,7 @@ impl Model for Clients {
 }
 
 // So many nodes of which nothing is known yet.
-fn unknown(alloc: Global, nodes: u8) -> Result<Vec<Client>, NoMemory>
+fn unknown(alloc: Global, nodes: u8) -> Result<Vec<Client>, AllocError>
     ensures unknown { IfOk result (λ clients. All (λ client. client ≡ record { dead = 0; row = None }) clients.items) }
     ensures len { IfOk result (λ clients. length clients.items ≡ nodes) }
 {
@@ -72,7 +71,7 @@ fn rebuilt(
     file: FileNumber,
     number: EpochNumber,
     members: &Members,
-) -> Result<Vec<Client>, NoMemory>
+) -> Result<Vec<Client>, AllocError>
     requires few { nodes ≤ most_nodes }
     requires of_shape { (members_state members.now.nodes).nodes ≡ nodes }
     ensures rebuilt { IfOk result (λ clients. AreRebuilt file number members.now nodes clients.items) }
@@ -86,7 +85,7 @@ fn rebuilt(
 }
 
 // Equal clients.
-fn copies(alloc: Global, clients: &[Client]) -> Result<Vec<Client>, NoMemory>
+fn copies(alloc: Global, clients: &[Client]) -> Result<Vec<Client>, AllocError>
     ensures { IfOk result (λ copies. copies.items ≡ clients.now) }
 {
     let mut copies = Vec::new(alloc);
@@ -113,8 +112,8 @@ impl Clients {
     /// So many nodes of which nothing is known yet.
     ///
     /// # Errors
-    /// `NoMemory` where a request for memory was refused.
-    pub fn new(alloc: Global, nodes: u8) -> Result<Clients, NoMemory>
+    /// `AllocError` where a request for memory was refused.
+    pub fn new(alloc: Global, nodes: u8) -> Result<Clients, AllocError>
         ensures rows { IfOk result (λ clients. rows_of clients ≡ (λ node. None)) }
         ensures deaths { IfOk result (λ clients. deaths_of clients ≡ (λ node. 0)) }
         ensures len { IfOk result (λ clients. length clients ≡ nodes) }
@@ -129,14 +128,14 @@ impl Clients {
     /// alive is asked for its token.
     ///
     /// # Errors
-    /// `NoMemory` where a request for memory was refused.
+    /// `AllocError` where a request for memory was refused.
     pub fn rebuilt(
         alloc: Global,
         shape: Shape,
         file: FileNumber,
         epoch: u16,
         members: &Members,
-    ) -> Result<Clients, NoMemory>
+    ) -> Result<Clients, AllocError>
         requires later { 2 ≤ epoch }
         requires of_shape { (members_state members.now.nodes).nodes ≡ shape.nodes }
         ensures rows { IfOk result (λ clients. rows_of clients ≡ (rebuilt_by shape file epoch members.now).rows) }
@@ -198,12 +197,12 @@ impl Clients {
     /// The edit by which the node changes so, if one does. There is none where it stays as it is.
     ///
     /// # Errors
-    /// `NoMemory` where a request for memory was refused.
+    /// `AllocError` where a request for memory was refused.
     pub fn edit(
         &self,
         alloc: Global,
         changed: &Option<Changed>,
-    ) -> Result<Option<RowEdit>, NoMemory>
+    ) -> Result<Option<RowEdit>, AllocError>
         requires { IfSome changed.now (λ c. IsNumber (length self.now) c.node) }
         ensures rows { IfOk result (λ edit. rows_of (overlaid self.now edit) ≡ rows_after changed.now (rows_of self.now)) }
         ensures deaths { IfOk result (λ edit. deaths_of (overlaid self.now edit) ≡ deaths_after changed.now (deaths_of self.now)) }
@@ -306,8 +305,8 @@ impl Clients {
     /// The commands that have no answer yet, by rising node.
     ///
     /// # Errors
-    /// `NoMemory` where a request for memory was refused.
-    pub fn outstanding(&self, alloc: Global) -> Result<Items<Message>, NoMemory>
+    /// `AllocError` where a request for memory was refused.
+    pub fn outstanding(&self, alloc: Global) -> Result<Items<Message>, AllocError>
         ensures { IfOk result (λ commands. commands ≡ outstanding_to (rows_of self.now) (length self.now)) }
     {
         let mut commands = Items::new(alloc);
@@ -363,8 +362,8 @@ impl Clients {
     /// Equal clients.
     ///
     /// # Errors
-    /// `NoMemory` where a request for memory was refused.
-    pub fn copy(&self) -> Result<Clients, NoMemory>
+    /// `AllocError` where a request for memory was refused.
+    pub fn copy(&self) -> Result<Clients, AllocError>
         ensures { IfOk result (λ copy. copy ≡ self.now) }
     {
         Ok(Clients {

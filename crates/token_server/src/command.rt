@@ -8,7 +8,6 @@ ghost use Rattle.token_server.specs.Server.{is_grant, revoked_mode, asks_token};
 ghost use Rattle.token_server.specs.Told.{promised, bars};
 
 use intervals::span::Span;
-use intervals::span_map::NoMemory;
 use messages::command_number::CommandNumber;
 use messages::epoch_number::EpochNumber;
 use messages::file_number::FileNumber;
@@ -17,6 +16,7 @@ use messages::wanted::Wanted;
 use model::call::CallId;
 use model::host::Host;
 use model::mode::Mode;
+use std::alloc::AllocError;
 use std::marker::Model;
 use token_set::edit::TokenEdit;
 use token_set::set::TokenSet;
@@ -153,8 +153,8 @@ impl Command {
     /// How it changes the token that its node has.
     ///
     /// # Errors
-    /// `NoMemory` where a request for memory was refused.
-    pub fn promised(&self, token: &TokenSet) -> Result<TokenEdit, NoMemory>
+    /// `AllocError` where a request for memory was refused.
+    pub fn promised(&self, token: &TokenSet) -> Result<TokenEdit, AllocError>
         ensures { IfOk result (λ edit. edited_token edit token.now ≡ promised self.now (token_of token.now)) }
     {
         match &self.order {

@@ -4,11 +4,10 @@ ghost use Rattle.token_set.specs.Sets.{token_of};
 ghost use Rattle.messages.specs.Reports.{reported};
 ghost use Rattle.token_server.specs.Rebuilds.{mode_of};
 
-use intervals::span_map::NoMemory;
 use messages::token_run::TokenRuns;
 use model::level::Level;
 use model::mode::Mode;
-use std::alloc::Global;
+use std::alloc::{AllocError, Global};
 use token_set::set::TokenSet;
 
 // The mode that a byte at the level is granted for.
@@ -24,8 +23,8 @@ fn mode_of(level: Level) -> Mode
 /// The token with these runs.
 ///
 /// # Errors
-/// `NoMemory` where a request for memory was refused.
-pub fn token_told(alloc: Global, runs: &TokenRuns) -> Result<TokenSet, NoMemory>
+/// `AllocError` where a request for memory was refused.
+pub fn token_told(alloc: Global, runs: &TokenRuns) -> Result<TokenSet, AllocError>
     ensures { IfOk result (λ token. token_of token ≡ reported runs.now) }
 {
     let mut token = TokenSet::new(alloc);

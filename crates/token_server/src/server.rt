@@ -27,7 +27,6 @@ use crate::row_edit::RowEdit;
 use crate::sketch::{Moved, Sketch};
 use crate::told::Told;
 use intervals::span::Span;
-use intervals::span_map::NoMemory;
 use members::members::Members;
 use messages::actor::Actor;
 use messages::command_number::CommandNumber;
@@ -42,7 +41,7 @@ use model::call::CallId;
 use model::host::Host;
 use model::lock_info::LockInfo;
 use model::mode::Mode;
-use std::alloc::Global;
+use std::alloc::{AllocError, Global};
 use std::marker::Model;
 use token_queue::active::Active;
 use token_queue::held::Held;
@@ -87,8 +86,8 @@ impl Server {
     /// The server of a file of the shape that no node has asked for.
     ///
     /// # Errors
-    /// `NoMemory` where a request for memory was refused.
-    pub fn new(alloc: Global, shape: Shape, file: u16) -> Result<Server, NoMemory>
+    /// `AllocError` where a request for memory was refused.
+    pub fn new(alloc: Global, shape: Shape, file: u16) -> Result<Server, AllocError>
         requires { IsNumber shape.files file }
         ensures { IfOk result (λ server. server_state server ≡ first_server shape file) }
     {
@@ -109,14 +108,14 @@ impl Server {
     /// is alive for its token. What it sends, by rising node.
     ///
     /// # Errors
-    /// `NoMemory` where a request for memory was refused.
+    /// `AllocError` where a request for memory was refused.
     pub fn rebuild(
         alloc: Global,
         shape: Shape,
         file: u16,
         epoch: u16,
         members: &Members,
-    ) -> Result<(Server, Outcome), NoMemory>
+    ) -> Result<(Server, Outcome), AllocError>
         requires file_in { IsNumber shape.files file }
         requires later { 2 ≤ epoch }
         requires of_shape { (members_state members.now.nodes).nodes ≡ shape.nodes }
@@ -143,8 +142,8 @@ impl Server {
     /// An equal server.
     ///
     /// # Errors
-    /// `NoMemory` where a request for memory was refused.
-    pub fn copy(&self) -> Result<Server, NoMemory>
+    /// `AllocError` where a request for memory was refused.
+    pub fn copy(&self) -> Result<Server, AllocError>
         ensures { IfOk result (λ copy. copy ≡ self.now) }
     {
         Ok(Server {
@@ -305,7 +304,7 @@ impl Server {
         number: u64,
         holder: Host,
         runs: &TokenRuns,
-    ) -> Result<Option<Sketch>, NoMemory>
+    ) -> Result<Option<Sketch>, AllocError>
         requires { IsNumber self.now.shape.nodes holder.node }
         ensures state { IfOk result (λ r. heard (server_state self.now) number holder runs.now (row_of_host (server_state self.now) holder) ≡ option_map (λ k. (sketched self.now k, [])) r) }
         ensures in_cluster { IfOk result (λ r. IfSome r (λ k. IfSome k.changed (λ c. IsNumber self.now.shape.nodes c.node))) }
@@ -362,7 +361,7 @@ impl Server {
         rows: &Option<RowEdit>,
         awaiting: bool,
         sketch: &Sketch,
-    ) -> Result<Lists, NoMemory>
+    ) -> Result<Lists, AllocError>
         requires rows { rows_of (overlaid self.now.clients rows.now) ≡ rows_after sketch.now.changed (rows_of self.now.clients) }
         requires awaited { awaiting ≡ awaits (reached self.now rows.now) }
         requires in_cluster { IfSome sketch.now.changed (λ c. IsNumber self.now.shape.nodes c.node) }
@@ -381,7 +380,7 @@ impl Server {
     }
 
     // The memory for a change of the requests.
-    fn spares(&self, lists: &Lists) -> Result<Spares, NoMemory>
+    fn spares(&self, lists: &Lists) -> Result<Spares, AllocError>
         ensures active { IfOk result (λ spares. HeldHasRoom self.now.active spares.active (length lists.now.fresh.items)) }
         ensures queue { IfOk result (λ spares. HasRoom self.now.queue spares.queue (many_moved lists.now.moved (without lists.now.dropped self.now.waiting.requests))) }
         ensures waiting { IfOk result (λ spares. HasRoom self.now.waiting spares.waiting (many_put_off lists.now.moved)) }
@@ -464,7 +463,7 @@ impl Server {
         &self,
         alloc: Global,
         message: &Message,
-    ) -> Result<Option<(Sketch, Option<Message>)>, NoMemory>
+    ) -> Result<Option<(Sketch, Option<Message>)>, AllocError>
         requires { IsNumber self.now.shape.nodes (host_of message.now).node }
         ensures state { IfOk result (λ r. delivered (server_state self.now) message.now ≡ option_map (λ d. (sketched self.now d.0, option_to_list d.1)) r) }
         ensures in_cluster { IfOk result (λ r. IfSome r (λ d. IfSome d.0.changed (λ c. IsNumber self.now.shape.nodes c.node))) }
@@ -526,7 +525,7 @@ impl Server {
     }
 
     // Nothing changes, nothing is sent.
-    fn no_change(&self, alloc: Global) -> Result<Change, NoMemory>
+    fn no_change(&self, alloc: Global) -> Result<Change, AllocError>
         ensures state { IfOk result (λ change. planned self.now change.edit ≡ server_state self.now) }
         ensures fits { IfOk result (λ change. Fits self.now change.edit) }
         ensures outcome { IfOk result (λ change. change.outcome ≡ sending []) }
@@ -691,7 +690,7 @@ fn silent(sketch: Option<Sketch>) -> Option<(Sketch, Option<Message>)>
 }
 
 // What an edit changes, where those messages are sent and then what serving sends.
-fn sending(edit: Edit, first: Items<Message>, served: Items<Message>) -> Result<Change, NoMemory>
+fn sending(edit: Edit, first: Items<Message>, served: Items<Message>) -> Result<Change, AllocError>
     ensures edit { IfOk result (λ change. change.edit ≡ edit) }
     ensures outcome { IfOk result (λ change. change.outcome ≡ sending (first ++ served)) }
 {
@@ -704,7 +703,7 @@ fn sending(edit: Edit, first: Items<Message>, served: Items<Message>) -> Result<
 }
 
 // The commands, in order.
-fn commands_told(alloc: Global, told: &[Told]) -> Result<Items<Message>, NoMemory>
+fn commands_told(alloc: Global, told: &[Told]) -> Result<Items<Message>, AllocError>
     ensures { IfOk result (λ commands. commands ≡ commands_told told.now) }
 {
     let mut commands = Items::new(alloc);
@@ -715,7 +714,7 @@ fn commands_told(alloc: Global, told: &[Told]) -> Result<Items<Message>, NoMemor
 }
 
 // Room for so many more requests that are served, where the list has less.
-fn spare_active(active: &Active, more: usize) -> Result<Option<Vec<Held>>, NoMemory>
+fn spare_active(active: &Active, more: usize) -> Result<Option<Vec<Held>>, AllocError>
     ensures { IfOk result (λ spare. HeldHasRoom active.now spare more) }
 {
     if more <= active.room() {
@@ -725,7 +724,7 @@ fn spare_active(active: &Active, more: usize) -> Result<Option<Vec<Held>>, NoMem
 }
 
 // Room for so many more requests in a line, where it has less.
-fn spare_line(line: &Line, more: usize) -> Result<Option<Line>, NoMemory>
+fn spare_line(line: &Line, more: usize) -> Result<Option<Line>, AllocError>
     ensures { IfOk result (λ spare. HasRoom line.now spare more) }
 {
     if more <= line.room() {

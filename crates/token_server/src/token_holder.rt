@@ -8,8 +8,8 @@ ghost use Rattle.token_server.specs.Edits.{given_row};
 
 use crate::commands::Commands;
 use intervals::span::{GREATEST, Span};
-use intervals::span_map::NoMemory;
 use model::mode::Mode;
+use std::alloc::AllocError;
 use token_set::edit::TokenEdit;
 use token_set::set::TokenSet;
 
@@ -50,8 +50,8 @@ impl TokenHolder {
     /// An equal row.
     ///
     /// # Errors
-    /// `NoMemory` where a request for memory was refused.
-    pub fn copy(&self) -> Result<TokenHolder, NoMemory>
+    /// `AllocError` where a request for memory was refused.
+    pub fn copy(&self) -> Result<TokenHolder, AllocError>
         ensures { IfOk result (λ copy. copy ≡ self.now) }
     {
         Ok(TokenHolder {

@@ -14,19 +14,19 @@ use crate::edit::TokenEdit;
 use crate::gave_up::GaveUp;
 use intervals::span::{GREATEST, Span};
 use intervals::span_edit::SpanEdit;
-use intervals::span_map::{NoMemory, SpanMap};
+use intervals::span_map::SpanMap;
 use intervals::tree_map::TreeMap;
 use lock_table::lock_table::LockTable;
 use model::level::Level;
 use model::mode::Mode;
-use std::alloc::Global;
+use std::alloc::{AllocError, Global};
 use std::marker::Model;
 
 // The level of each byte.
 type Levels = TreeMap<Level>;
 
 /// The token of one node for one file: the level of each byte, or none where the node may lock
-/// nothing without asking. A call that answers `NoMemory` leaves the token as it was. (Byte-range
+/// nothing without asking. A call that answers `AllocError` leaves the token as it was. (Byte-range
 /// tokens: Schmuck and Haskin, FAST 2002.)
 #[derive(Drop)]
 pub struct TokenSet {
@@ -87,7 +87,7 @@ fn set_exclusive(
     levels: &Levels,
     span: Span,
     level: Level,
-) -> Result<(), NoMemory>
+) -> Result<(), AllocError>
     ensures { OnOk result (token_of new.new ≡ at_exclusive (token_of levels.now) span level (token_of new.old)) }
 {
     let mut lo = span.lo;
@@ -103,7 +103,7 @@ fn set_exclusive(
 }
 
 // The levels with each byte of the span that has none raised to shared.
-fn shared(levels: &Levels, span: Span) -> Result<Levels, NoMemory>
+fn shared(levels: &Levels, span: Span) -> Result<Levels, AllocError>
     ensures { IfOk result (λ new. token_of new ≡ raised (token_of levels.now) span Mode.Read) }
 {
     let mut new = levels.copy()?;
@@ -113,7 +113,7 @@ fn shared(levels: &Levels, span: Span) -> Result<Levels, NoMemory>
 }
 
 // The levels with each exclusive byte of the span lowered to shared.
-fn unexclusive(levels: &Levels, span: Span) -> Result<Levels, NoMemory>
+fn unexclusive(levels: &Levels, span: Span) -> Result<Levels, AllocError>
     ensures { IfOk result (λ new. token_of new ≡ lowered (token_of levels.now) span Mode.Read) }
 {
     let mut new = levels.copy()?;
@@ -208,7 +208,7 @@ impl TokenSet {
 
     // The levels with each byte of the span that has none raised to shared. Where no byte of it is
     // exclusive the span is written, else the levels are made anew.
-    fn plan_shared(&self, span: Span) -> Result<TokenEdit, NoMemory>
+    fn plan_shared(&self, span: Span) -> Result<TokenEdit, AllocError>
         ensures { IfOk result (λ edit. edited edit self.now ≡ raised (token_of self.now) span Mode.Read) }
     {
         if self.conflicts(span, Mode::Read) {
@@ -220,7 +220,7 @@ impl TokenSet {
 
     // The levels with each exclusive byte of the span lowered to shared. Where they are exclusive
     // throughout the span is written, else the levels are made anew, if some byte is exclusive.
-    fn plan_unexclusive(&self, span: Span) -> Result<TokenEdit, NoMemory>
+    fn plan_unexclusive(&self, span: Span) -> Result<TokenEdit, AllocError>
         ensures { IfOk result (λ edit. edited edit self.now ≡ lowered (token_of self.now) span Mode.Read) }
     {
         if self.levels.covers(span, Level::Exclusive) {
@@ -236,8 +236,8 @@ impl TokenSet {
     /// The edit that `grant` makes.
     ///
     /// # Errors
-    /// `NoMemory` where a request for memory was refused.
-    pub fn plan_grant(&self, span: Span, mode: Mode) -> Result<TokenEdit, NoMemory>
+    /// `AllocError` where a request for memory was refused.
+    pub fn plan_grant(&self, span: Span, mode: Mode) -> Result<TokenEdit, AllocError>
         ensures { IfOk result (λ edit. edited edit self.now ≡ raised (token_of self.now) span mode) }
     {
         match mode {
@@ -249,8 +249,8 @@ impl TokenSet {
     /// The edit that `lower` makes.
     ///
     /// # Errors
-    /// `NoMemory` where a request for memory was refused.
-    pub fn plan_lower(&self, span: Span, mode: Mode) -> Result<TokenEdit, NoMemory>
+    /// `AllocError` where a request for memory was refused.
+    pub fn plan_lower(&self, span: Span, mode: Mode) -> Result<TokenEdit, AllocError>
         ensures { IfOk result (λ edit. edited edit self.now ≡ lowered (token_of self.now) span mode) }
     {
         match mode {
@@ -262,8 +262,8 @@ impl TokenSet {
     /// The edit that `give_up` makes where it answers that.
     ///
     /// # Errors
-    /// `NoMemory` where a request for memory was refused.
-    pub fn plan_give_up(&self, mode: Mode, gives: &GaveUp) -> Result<TokenEdit, NoMemory>
+    /// `AllocError` where a request for memory was refused.
+    pub fn plan_give_up(&self, mode: Mode, gives: &GaveUp) -> Result<TokenEdit, AllocError>
         ensures { IfOk result (λ edit. edited edit self.now ≡ after_giving_up (token_of self.now) mode gives.now) }
     {
         match *gives {
@@ -292,7 +292,7 @@ impl TokenSet {
     }
 
     // The token once the write is made, as one of its own.
-    fn written(&self, write: &SpanEdit<Level>) -> Result<TokenSet, NoMemory>
+    fn written(&self, write: &SpanEdit<Level>) -> Result<TokenSet, AllocError>
         ensures { IfOk result (λ token. token_of token ≡ written write.now self.now) }
     {
         let mut levels = self.levels.copy()?;
@@ -308,8 +308,8 @@ impl TokenSet {
     /// The token once the edit is made, as one of its own; the token itself stays as it is.
     ///
     /// # Errors
-    /// `NoMemory` where a request for memory was refused.
-    pub fn after(&self, edit: &TokenEdit) -> Result<TokenSet, NoMemory>
+    /// `AllocError` where a request for memory was refused.
+    pub fn after(&self, edit: &TokenEdit) -> Result<TokenSet, AllocError>
         ensures { IfOk result (λ token. token_of token ≡ edited edit.now self.now) }
     {
         match edit {
@@ -323,8 +323,8 @@ impl TokenSet {
     /// that serves the mode, it takes no memory and no time.
     ///
     /// # Errors
-    /// `NoMemory` where a request for memory was refused.
-    pub fn covers_after(&self, edit: &TokenEdit, span: Span, mode: Mode) -> Result<bool, NoMemory>
+    /// `AllocError` where a request for memory was refused.
+    pub fn covers_after(&self, edit: &TokenEdit, span: Span, mode: Mode) -> Result<bool, AllocError>
         ensures { IfOk result (λ yes. yes ≡ covers (edited edit.now self.now) span mode) }
     {
         match edit {
@@ -343,8 +343,8 @@ impl TokenSet {
     /// level, so that an exclusive byte stays exclusive.
     ///
     /// # Errors
-    /// `NoMemory` where a request for memory was refused.
-    pub fn grant(&mut self, span: Span, mode: Mode) -> Result<(), NoMemory>
+    /// `AllocError` where a request for memory was refused.
+    pub fn grant(&mut self, span: Span, mode: Mode) -> Result<(), AllocError>
         ensures ok { OnOk result (token_of self.new ≡ raised (token_of self.old) span mode) }
         ensures err { OnErr result (self.new ≡ self.old) }
     {
@@ -357,8 +357,8 @@ impl TokenSet {
     /// byte that has no level stays so.
     ///
     /// # Errors
-    /// `NoMemory` where a request for memory was refused.
-    pub fn lower(&mut self, span: Span, mode: Mode) -> Result<(), NoMemory>
+    /// `AllocError` where a request for memory was refused.
+    pub fn lower(&mut self, span: Span, mode: Mode) -> Result<(), AllocError>
         ensures ok { OnOk result (token_of self.new ≡ lowered (token_of self.old) span mode) }
         ensures err { OnErr result (self.new ≡ self.old) }
     {
@@ -376,7 +376,7 @@ impl TokenSet {
     /// ranges: Schmuck and Haskin, FAST 2002.)
     ///
     /// # Errors
-    /// `NoMemory` where a request for memory was refused.
+    /// `AllocError` where a request for memory was refused.
     pub fn give_up(
         &mut self,
         mode: Mode,
@@ -384,7 +384,7 @@ impl TokenSet {
         desired: Span,
         locks: &LockTable,
         file: u16,
-    ) -> Result<GaveUp, NoMemory>
+    ) -> Result<GaveUp, AllocError>
         requires starts_within { desired.lo ≤ required.lo }
         requires ends_within { required.hi ≤ desired.hi }
         ensures answer { IfOk result (λ answer. IsGivenUp (IsRegion (held locks.now file)) mode required desired answer) }
@@ -445,8 +445,8 @@ impl TokenSet {
     /// The longest runs of bytes at one level, each with its level, by first byte.
     ///
     /// # Errors
-    /// `NoMemory` where a request for memory was refused.
-    pub fn runs(&self, alloc: Global) -> Result<Vec<(Span, Level)>, NoMemory>
+    /// `AllocError` where a request for memory was refused.
+    pub fn runs(&self, alloc: Global) -> Result<Vec<(Span, Level)>, AllocError>
         ensures listed { IfOk result (λ runs. ListsRuns (token_of self.now) runs.items) }
         ensures bounded { IfOk result (λ runs. (b : ℕ) → greatest < b → token_of self.now b ≡ None) }
     {
@@ -463,8 +463,8 @@ impl TokenSet {
     /// An equal token set.
     ///
     /// # Errors
-    /// `NoMemory` where a request for memory was refused.
-    pub fn copy(&self) -> Result<Self, NoMemory>
+    /// `AllocError` where a request for memory was refused.
+    pub fn copy(&self) -> Result<Self, AllocError>
         ensures { IfOk result (λ copy. copy ≡ self.now) }
     {
         Ok(TokenSet {

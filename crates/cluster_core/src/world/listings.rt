@@ -11,12 +11,11 @@ use super::World;
 use crate::held_lock::HeldLock;
 use crate::token_run::TokenRun;
 use intervals::span::Span;
-use intervals::span_map::NoMemory;
 use lock_table::order::cmp_regions;
 use model::level::Level;
 use model::lock_info::LockInfo;
 use node_core::node::Node;
-use std::alloc::Global;
+use std::alloc::{AllocError, Global};
 
 // Adds the runs, with whose and of which file they are.
 fn push_runs(
@@ -25,7 +24,7 @@ fn push_runs(
     incarnation: u16,
     file: u16,
     runs: &[(Span, Level)],
-) -> Result<(), NoMemory>
+) -> Result<(), AllocError>
     ensures { OnOk result (tokens.new.items ≡ tokens.old.items ++ map (token_run node incarnation file) runs.now) }
 {
     for run in runs {
@@ -41,7 +40,11 @@ fn push_runs(
 }
 
 // Adds the regions, with their file.
-fn push_regions(locks: &mut Vec<HeldLock>, file: u16, regions: &[LockInfo]) -> Result<(), NoMemory>
+fn push_regions(
+    locks: &mut Vec<HeldLock>,
+    file: u16,
+    regions: &[LockInfo],
+) -> Result<(), AllocError>
     ensures { OnOk result (locks.new.items ≡ locks.old.items ++ map (held_lock file) regions.now) }
 {
     for lock in regions {
@@ -58,7 +61,7 @@ impl World {
         tokens: &mut Vec<TokenRun>,
         node: u8,
         file: u16,
-    ) -> Result<(), NoMemory>
+    ) -> Result<(), AllocError>
         requires node { is_within self.now.shape.nodes node ≡ true }
         requires alive { (world_state self.now).alive node ≡ true }
         requires file { is_within self.now.shape.files file ≡ true }
@@ -75,7 +78,7 @@ impl World {
         alloc: Global,
         tokens: &mut Vec<TokenRun>,
         node: u8,
-    ) -> Result<(), NoMemory>
+    ) -> Result<(), AllocError>
         requires { is_within self.now.shape.nodes node ≡ true }
         ensures { OnOk result (Adds (IsTokenOf (world_state self.now) node) IsTokenBefore tokens.old.items tokens.new.items) }
     {
@@ -92,8 +95,8 @@ impl World {
     /// file, then by first byte.
     ///
     /// # Errors
-    /// `NoMemory` where a request for memory was refused.
-    pub fn tokens(&self, alloc: Global) -> Result<Vec<TokenRun>, NoMemory>
+    /// `AllocError` where a request for memory was refused.
+    pub fn tokens(&self, alloc: Global) -> Result<Vec<TokenRun>, AllocError>
         ensures { IfOk result (λ tokens. IsTokenListing (world_state self.now) tokens.items) }
     {
         let mut tokens = Vec::new(alloc);
@@ -104,7 +107,7 @@ impl World {
     }
 
     // The regions of a file that the live nodes' owners hold, by first byte and then by owner.
-    fn file_locks(&self, alloc: Global, file: u16) -> Result<Vec<LockInfo>, NoMemory>
+    fn file_locks(&self, alloc: Global, file: u16) -> Result<Vec<LockInfo>, AllocError>
         ensures { IfOk result (λ locks. IsListing ((union (world_state self.now)).locks file) locks.items) }
     {
         let mut locks = Vec::new(alloc);
@@ -123,8 +126,8 @@ impl World {
     /// owner.
     ///
     /// # Errors
-    /// `NoMemory` where a request for memory was refused.
-    pub fn locks(&self, alloc: Global) -> Result<Vec<HeldLock>, NoMemory>
+    /// `AllocError` where a request for memory was refused.
+    pub fn locks(&self, alloc: Global) -> Result<Vec<HeldLock>, AllocError>
         ensures { IfOk result (λ locks. IsLockListing (world_state self.now) locks.items) }
     {
         let mut locks = Vec::new(alloc);

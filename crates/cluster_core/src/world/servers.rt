@@ -11,14 +11,13 @@ ghost use Rattle.cluster_core.specs.Changes.{IsStart, Makes};
 
 use super::World;
 use super::change::Change;
-use intervals::span_map::NoMemory as NoRoom;
 use messages::entry::Entry;
 use messages::event::Event;
 use messages::items::Items;
 use messages::message::Message;
 use messages::outcome::Outcome;
 use messages::refusal::Refused;
-use std::alloc::Global;
+use std::alloc::{AllocError, Global};
 use token_server::server::Server;
 
 impl World {
@@ -92,7 +91,7 @@ impl World {
         file: u16,
         begun: Box<Server>,
         sends: Items<Message>,
-    ) -> Result<Entry, NoRoom>
+    ) -> Result<Entry, AllocError>
         requires room { self.old.length < journal_limit }
         requires made { IsStart self.old file begun.value sends }
         ensures ok { IfOk result (λ entry. start_rule (world_state self.old) file ≡ Ok (world_state self.new, entry)) }

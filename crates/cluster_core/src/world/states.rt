@@ -14,14 +14,13 @@ ghost use Rattle.cluster_core.specs.Parts.{world_state};
 ghost use Rattle.cluster_core.specs.Actors.{HasNode, HasServer};
 
 use super::{JOURNAL_LIMIT, World, is_number};
-use intervals::span_map::NoMemory as NoRoom;
 use messages::entry::Entry;
 use messages::event::Event;
 use messages::items::Items;
 use messages::message::Message;
 use messages::refusal::Refused;
 use node_core::node::Node;
-use std::alloc::Global;
+use std::alloc::{AllocError, Global};
 use token_server::server::Server;
 
 impl World {
@@ -109,8 +108,8 @@ impl World {
     /// The node as it begins again: one that was declared failed, and may restart.
     ///
     /// # Errors
-    /// `NoMemory` where a request for memory was refused.
-    pub(crate) fn begun(&self, alloc: Global, node: u8) -> Result<Box<Node>, NoRoom>
+    /// `AllocError` where a request for memory was refused.
+    pub(crate) fn begun(&self, alloc: Global, node: u8) -> Result<Box<Node>, AllocError>
         requires node { is_within self.now.shape.nodes node ≡ true }
         requires may { (made : WorldState × Entry) × (restart_rule (world_state self.now) node ≡ Ok made) }
         ensures { IfOk result (λ begun. node_state begun.value ≡ (world_state self.now).nodes node) }

@@ -12,9 +12,8 @@ use super::Server;
 use crate::gone::Gone;
 use crate::sketch::{Moved, Sketch};
 use intervals::span::Span;
-use intervals::span_map::NoMemory;
 use model::call::CallId;
-use std::alloc::Global;
+use std::alloc::{AllocError, Global};
 use token_queue::active::Active;
 use token_queue::held::Held;
 use token_queue::line::Line;
@@ -29,7 +28,7 @@ impl Server {
         awaiting: bool,
         dropped: Option<(u8, u16)>,
         sketch: &Sketch,
-    ) -> Result<Vec<TokenRequest>, NoMemory>
+    ) -> Result<Vec<TokenRequest>, AllocError>
         requires { AreDistinct (queue_moved sketch.now.moved (without dropped self.now.queue.requests) (without dropped self.now.waiting.requests)) }
         ensures comes { IfOk result (λ fresh. awaiting ≡ false → IsAdmitted (still_active sketch.now.ended (without dropped (requests_of self.now.active.held))) (queue_moved sketch.now.moved (without dropped self.now.queue.requests) (without dropped self.now.waiting.requests)) fresh.items) }
         ensures rests { IfOk result (λ fresh. awaiting ≡ true → fresh.items ≡ []) }
@@ -103,7 +102,7 @@ fn admit_slot(
     front: &[Option<TokenRequest>],
     slots: &[Option<TokenRequest>],
     place: usize,
-) -> Result<(), NoMemory>
+) -> Result<(), AllocError>
     requires place_in { place < length slots.now }
     requires distinct { AreDistinct (left_in gone.now front.now ++ left_in gone.now slots.now) }
     requires so_far { IsAdmitted (served_on gone.now held.now) (left_in gone.now front.now ++ left_in gone.now (take place slots.now)) fresh.old.items }
@@ -126,7 +125,7 @@ fn admit_each(
     gone: &Gone,
     front: &[Option<TokenRequest>],
     slots: &[Option<TokenRequest>],
-) -> Result<(), NoMemory>
+) -> Result<(), AllocError>
     requires distinct { AreDistinct (left_in gone.now front.now ++ left_in gone.now slots.now) }
     requires so_far { IsAdmitted (served_on gone.now held.now) (left_in gone.now front.now) fresh.old.items }
     ensures { IfOk result (λ done. IsAdmitted (served_on gone.now held.now) (left_in gone.now front.now ++ left_in gone.now slots.now) fresh.new.items) }
@@ -146,7 +145,7 @@ fn admit_next(
     ended: &TokenRequest,
     slots: &[Option<TokenRequest>],
     place: usize,
-) -> Result<bool, NoMemory>
+) -> Result<bool, AllocError>
     requires place_in { place < length slots.now }
     requires ended { HasEnded (requests_of held.now) (requests_in slots.now) call ended.now }
     requires so_far { IsAdmitted (still_active (Some call) (requests_of held.now)) (requests_in (take place slots.now)) fresh.old.items }
@@ -175,7 +174,7 @@ fn admit_freed(
     call: CallId,
     ended: &TokenRequest,
     slots: &[Option<TokenRequest>],
-) -> Result<(), NoMemory>
+) -> Result<(), AllocError>
     requires empty { fresh.old.items ≡ [] }
     requires ended { HasEnded (requests_of held.now) (requests_in slots.now) call ended.now }
     ensures { IfOk result (λ done. IsAdmitted (still_active (Some call) (requests_of held.now)) (requests_in slots.now) fresh.new.items) }
@@ -195,7 +194,7 @@ fn admit_queued(
     settled: bool,
     active: &Active,
     queue: &Line,
-) -> Result<(), NoMemory>
+) -> Result<(), AllocError>
     requires empty { fresh.old.items ≡ [] }
     requires settled { settled ≡ true → all_stay (requests_of active.now.held) [] queue.now.requests ≡ true }
     requires served { AreDistinct (requests_of active.now.held) }
@@ -221,7 +220,7 @@ fn admit_last(
     active: &Active,
     queue: &Line,
     request: &TokenRequest,
-) -> Result<(), NoMemory>
+) -> Result<(), AllocError>
     requires distinct { AreDistinct (without gone.now.dropped queue.now.requests ++ request.now ∷ []) }
     requires so_far { IsAdmitted (served_on gone.now active.now.held) (without gone.now.dropped queue.now.requests) fresh.old.items }
     ensures { IfOk result (λ done. IsAdmitted (served_on gone.now active.now.held) (without gone.now.dropped queue.now.requests ++ request.now ∷ []) fresh.new.items) }
@@ -241,7 +240,7 @@ fn admit_moved(
     queue: &Line,
     waiting: &Line,
     moved: &Moved,
-) -> Result<(), NoMemory>
+) -> Result<(), AllocError>
     requires distinct { AreDistinct (queue_moved moved.now (without gone.now.dropped queue.now.requests) (without gone.now.dropped waiting.now.requests)) }
     requires so_far { IsAdmitted (served_on gone.now active.now.held) (without gone.now.dropped queue.now.requests) fresh.old.items }
     ensures { IfOk result (λ done. IsAdmitted (served_on gone.now active.now.held) (queue_moved moved.now (without gone.now.dropped queue.now.requests) (without gone.now.dropped waiting.now.requests)) fresh.new.items) }

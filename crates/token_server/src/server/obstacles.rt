@@ -17,9 +17,8 @@ use super::admitting::needs_all_of;
 use crate::node_change::NodeChange;
 use crate::row_edit::RowEdit;
 use crate::sketch::Changed;
-use intervals::span_map::NoMemory;
 use model::mode::Mode;
-use std::alloc::Global;
+use std::alloc::{AllocError, Global};
 use token_queue::held::Held;
 use token_queue::token_request::TokenRequest;
 
@@ -120,7 +119,7 @@ impl Server {
         alloc: Global,
         rows: &Option<RowEdit>,
         changed: &Option<Changed>,
-    ) -> Result<Vec<u8>, NoMemory>
+    ) -> Result<Vec<u8>, AllocError>
         requires rows { rows_of (overlaid self.now.clients rows.now) ≡ rows_after changed.now (rows_of self.now.clients) }
         requires in_cluster { IfSome changed.now (λ c. IsNumber self.now.shape.nodes c.node) }
         ensures { IfOk result (λ ats. All (λ h. obstacle (reached self.now rows.now) h.request ≡ h.at) (waiting_for ats.items self.now.active.held)) }
@@ -159,7 +158,7 @@ impl Server {
         alloc: Global,
         rows: &Option<RowEdit>,
         requests: &[TokenRequest],
-    ) -> Result<Vec<Held>, NoMemory>
+    ) -> Result<Vec<Held>, AllocError>
         ensures requests { IfOk result (λ fresh. requests_of fresh.items ≡ requests.now) }
         ensures waits { IfOk result (λ fresh. All (λ h. obstacle (reached self.now rows.now) h.request ≡ h.at) fresh.items) }
     {

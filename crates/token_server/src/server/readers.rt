@@ -11,9 +11,8 @@ ghost use Rattle.token_server.specs.Readers.{nodes_where, Shows, IsRow};
 use super::Server;
 use crate::shown_row::ShownRow;
 use crate::token_holder::TokenHolder;
-use intervals::span_map::NoMemory;
 use messages::message::Message;
-use std::alloc::Global;
+use std::alloc::{AllocError, Global};
 use token_queue::held::Held;
 use token_queue::token_request::TokenRequest;
 
@@ -33,8 +32,8 @@ impl Server {
     /// The requests that are queued, in the order in which they are to be served.
     ///
     /// # Errors
-    /// `NoMemory` where a request for memory was refused.
-    pub fn queued(&self, alloc: Global) -> Result<Vec<TokenRequest>, NoMemory>
+    /// `AllocError` where a request for memory was refused.
+    pub fn queued(&self, alloc: Global) -> Result<Vec<TokenRequest>, AllocError>
         ensures { IfOk result (λ requests. requests.items ≡ (server_state self.now).queue) }
     {
         listed(alloc, self.queue.slots())
@@ -44,8 +43,8 @@ impl Server {
     /// again.
     ///
     /// # Errors
-    /// `NoMemory` where a request for memory was refused.
-    pub fn waiting(&self, alloc: Global) -> Result<Vec<TokenRequest>, NoMemory>
+    /// `AllocError` where a request for memory was refused.
+    pub fn waiting(&self, alloc: Global) -> Result<Vec<TokenRequest>, AllocError>
         ensures { IfOk result (λ requests. requests.items ≡ (server_state self.now).waiting) }
     {
         listed(alloc, self.waiting.slots())
@@ -65,8 +64,8 @@ impl Server {
     /// What the server knows of the node, if that asked it in an incarnation that is not known as dead.
     ///
     /// # Errors
-    /// `NoMemory` where a request for memory was refused.
-    pub fn row(&self, alloc: Global, node: u8) -> Result<Option<ShownRow>, NoMemory>
+    /// `AllocError` where a request for memory was refused.
+    pub fn row(&self, alloc: Global, node: u8) -> Result<Option<ShownRow>, AllocError>
         ensures { IfOk result (λ shown. MatchOption shown ((server_state self.now).rows node ≡ None) (λ r. IsRow (server_state self.now) r × (r.node ≡ node))) }
     {
         match self.row_at(node) {
@@ -78,8 +77,8 @@ impl Server {
     /// What the server knows of each node that asked it, by rising node.
     ///
     /// # Errors
-    /// `NoMemory` where a request for memory was refused.
-    pub fn rows(&self, alloc: Global) -> Result<Vec<ShownRow>, NoMemory>
+    /// `AllocError` where a request for memory was refused.
+    pub fn rows(&self, alloc: Global) -> Result<Vec<ShownRow>, AllocError>
         ensures nodes { let s = server_state self.now in IfOk result (λ rows. map (λ r. r.node) rows.items ≡ nodes_where (λ n. is_some (s.rows n)) s.shape.nodes) }
         ensures each { IfOk result (λ rows. All (IsRow (server_state self.now)) rows.items) }
     {
@@ -116,8 +115,8 @@ impl Server {
     /// and is not known as dead. While there is one, no request is served.
     ///
     /// # Errors
-    /// `NoMemory` where a request for memory was refused.
-    pub fn awaited_nodes(&self, alloc: Global) -> Result<Vec<u8>, NoMemory>
+    /// `AllocError` where a request for memory was refused.
+    pub fn awaited_nodes(&self, alloc: Global) -> Result<Vec<u8>, AllocError>
         ensures { let s = server_state self.now in IfOk result (λ nodes. nodes.items ≡ nodes_where (λ n. is_awaited (s.rows n)) s.shape.nodes) }
     {
         let mut nodes = Vec::new(alloc);
@@ -131,7 +130,7 @@ impl Server {
 }
 
 // The requests in the slots of a line, in their order.
-fn listed(alloc: Global, slots: &[Option<TokenRequest>]) -> Result<Vec<TokenRequest>, NoMemory>
+fn listed(alloc: Global, slots: &[Option<TokenRequest>]) -> Result<Vec<TokenRequest>, AllocError>
     ensures { IfOk result (λ requests. requests.items ≡ requests_in slots.now) }
 {
     let mut requests = Vec::new(alloc);
@@ -151,7 +150,7 @@ fn command_of(row: &TokenHolder) -> Option<Message>
 }
 
 // The row of a node as it is shown.
-fn shown(alloc: Global, node: u8, row: &TokenHolder) -> Result<ShownRow, NoMemory>
+fn shown(alloc: Global, node: u8, row: &TokenHolder) -> Result<ShownRow, AllocError>
     ensures shows { IfOk result (λ shown. Shows (row_state row.now) shown) }
     ensures node { IfOk result (λ shown. shown.node ≡ node) }
 {

@@ -25,12 +25,11 @@ use crate::lists::Lists;
 use crate::token_holder::RowView;
 use crate::told::{Told, cut, told_to};
 use intervals::span::Span;
-use intervals::span_map::NoMemory;
 use messages::refusal::StepError;
 use messages::wanted::Wanted;
 use model::host::Host;
 use model::mode::Mode;
-use std::alloc::Global;
+use std::alloc::{AllocError, Global};
 use token_queue::held::Held;
 use token_queue::token_request::TokenRequest;
 use token_set::edit::TokenEdit;
@@ -282,7 +281,7 @@ impl Server {
         draft: &Draft,
         alloc: Global,
         told: &[Told],
-    ) -> Result<Vec<Given>, NoMemory>
+    ) -> Result<Vec<Given>, AllocError>
         requires { All (λ t. 1 ≤ t.node) told.now }
         ensures { IfOk result (λ given. with_given given.items (overlaid self.now.clients draft.now.rows) (drafted self.now draft.now) ≡ with_told told.now (drafted self.now draft.now)) }
     {
@@ -295,7 +294,7 @@ impl Server {
     }
 
     // What one is given.
-    fn given_one(&self, draft: &Draft, told: &Told) -> Result<Given, NoMemory>
+    fn given_one(&self, draft: &Draft, told: &Told) -> Result<Given, AllocError>
         requires { 1 ≤ told.now.node }
         ensures place { IfOk result (λ given. given.place + 1 ≡ told.now.node) }
         ensures row { IfOk result (λ given. given_to_client given (client_at (overlaid self.now.clients draft.now.rows) told.now.node) ≡ row_told (Some told.now) (rows_of (overlaid self.now.clients draft.now.rows) told.now.node)) }
