@@ -2,8 +2,8 @@
 use crate::call_error::CallError;
 use crate::client::Client;
 use crate::line_outcome::LineOutcome;
-use crate::stop::Stop;
 use book::receipt::Receipt;
+use lockscript::play_error::PlayError;
 use model::op::Op;
 use std::alloc::{AllocError, Global};
 use std::collections::VecDeque;
@@ -28,7 +28,7 @@ pub(crate) struct CallQueue<'a, J: Name> {
     needs_client: bool,
     has_thread: bool,
     outcomes: Vec<(usize, LineOutcome)>,
-    stopped: Option<Stop>,
+    stopped: Option<PlayError>,
 }
 
 impl<'a, J: Name> CallQueue<'a, J> {
@@ -107,11 +107,11 @@ impl<'a, J: Name> CallQueue<'a, J> {
 
     // Keeps what the call of the line at the index came to, unless that ends the run. Whether the next may be
     // made.
-    fn keep(&mut self, index: usize, made: Result<Receipt, CallError>) -> Result<bool, Stop> {
+    fn keep(&mut self, index: usize, made: Result<Receipt, CallError>) -> Result<bool, PlayError> {
         let outcome = match made {
             Ok(receipt) => LineOutcome::Answered(receipt),
-            Err(CallError::NoMemory) => return Err(Stop::NoMemory),
-            Err(CallError::JournalFull) => return Err(Stop::JournalFull),
+            Err(CallError::NoMemory) => return Err(PlayError::NoMemory),
+            Err(CallError::JournalFull) => return Err(PlayError::JournalFull),
             Err(CallError::Unanswered { call_at }) => LineOutcome::Open(call_at),
             Err(why) => LineOutcome::Denied(why),
         };
@@ -127,7 +127,7 @@ impl<'a, J: Name> CallQueue<'a, J> {
     /// What the calls came to, each with the index of its line, and the client for later calls, if there is one.
     pub(crate) fn into_outcomes(
         self,
-    ) -> Result<(Vec<(usize, LineOutcome)>, Option<Client<'a, J>>), Stop> {
+    ) -> Result<(Vec<(usize, LineOutcome)>, Option<Client<'a, J>>), PlayError> {
         let CallQueue {
             client,
             needs_client,

@@ -34,7 +34,6 @@ pub mod run_watcher;
 pub mod seeded;
 mod shared;
 mod stage;
-mod stop;
 mod stuck;
 pub mod thread_run;
 pub mod threads;

@@ -2,7 +2,7 @@
 use crate::call_queue::{CallQueue, NextCall};
 use crate::client::Client;
 use crate::line_outcome::LineOutcome;
-use crate::stop::Stop;
+use lockscript::play_error::PlayError;
 use model::op::Op;
 use std::alloc::{AllocError, Global};
 use std::sync::{Mutex, Wait};
@@ -69,7 +69,7 @@ impl<'a, J: Name> Part<'a, J> {
     /// What the calls came to, each with the index of its line, and the client for later calls, if there is one.
     pub(crate) fn into_outcomes(
         self,
-    ) -> Result<(Vec<(usize, LineOutcome)>, Option<Client<'a, J>>), Stop> {
+    ) -> Result<(Vec<(usize, LineOutcome)>, Option<Client<'a, J>>), PlayError> {
         let Part { queue, .. } = self;
         queue.into_inner().into_outcomes()
     }

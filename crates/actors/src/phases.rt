@@ -9,8 +9,8 @@ use crate::part::Part;
 use crate::played_line::PlayedLine;
 use crate::run_watcher::RunWatcher;
 use crate::stage::Stage;
-use crate::stop::Stop;
 use book::receipt::Receipt;
+use lockscript::play_error::PlayError;
 use lockscript::script_line::{Command, ScriptLine};
 use messages::refusal::Refused;
 use model::op::Op;
@@ -72,7 +72,7 @@ impl<'a, 'b, J: Name + Send + Sync> Phases<'a, 'b, J> {
         rt: &R,
         line: &ScriptLine,
         watcher: &mut V,
-    ) -> Result<(), Stop> {
+    ) -> Result<(), PlayError> {
         let played = PlayedLine::new(*line);
         let parts = played.parts(self.manner.no_join);
         if parts {
@@ -92,7 +92,7 @@ impl<'a, 'b, J: Name + Send + Sync> Phases<'a, 'b, J> {
     }
 
     // The process of a line in the phase has a part in it.
-    fn add(&mut self, command: Command) -> Result<(), Stop> {
+    fn add(&mut self, command: Command) -> Result<(), PlayError> {
         let Command::Call { node, pid, .. } = command else {
             return Ok(());
         };
@@ -100,7 +100,7 @@ impl<'a, 'b, J: Name + Send + Sync> Phases<'a, 'b, J> {
             return Ok(());
         }
         if self.places.insert((node, pid), self.parts.len()).is_err() {
-            return Err(Stop::NoMemory);
+            return Err(PlayError::NoMemory);
         }
         self.parts.push(Part::new(self.alloc, node))?;
         Ok(())
@@ -120,7 +120,7 @@ impl<'a, 'b, J: Name + Send + Sync> Phases<'a, 'b, J> {
         index: usize,
         command: Command,
         parts: &[Part<'a, J>],
-    ) -> Result<(), Stop> {
+    ) -> Result<(), PlayError> {
         let outcome = self.change(rt, command, parts)?;
         self.note(index, outcome);
         Ok(())
@@ -132,7 +132,7 @@ impl<'a, 'b, J: Name + Send + Sync> Phases<'a, 'b, J> {
         rt: &R,
         command: Command,
         parts: &[Part<'a, J>],
-    ) -> Result<LineOutcome, Stop> {
+    ) -> Result<LineOutcome, PlayError> {
         let made = match command {
             Command::Declare { node } => self.declare(rt, node),
             Command::Restart { node } => self.restart(rt, node, parts),
@@ -142,8 +142,8 @@ impl<'a, 'b, J: Name + Send + Sync> Phases<'a, 'b, J> {
         };
         match made {
             Ok(position) => Ok(LineOutcome::Made(position)),
-            Err(Refused::NoMemory) => Err(Stop::NoMemory),
-            Err(Refused::JournalFull) => Err(Stop::JournalFull),
+            Err(Refused::NoMemory) => Err(PlayError::NoMemory),
+            Err(Refused::JournalFull) => Err(PlayError::JournalFull),
             Err(why) => Ok(LineOutcome::Refused(why)),
         }
     }
@@ -206,7 +206,7 @@ impl<'a, 'b, J: Name + Send + Sync> Phases<'a, 'b, J> {
         &mut self,
         rt: &R,
         watcher: &mut V,
-    ) -> Result<(), Stop> {
+    ) -> Result<(), PlayError> {
         if self.is_over {
             return Ok(());
         }
@@ -218,7 +218,7 @@ impl<'a, 'b, J: Name + Send + Sync> Phases<'a, 'b, J> {
         }
         played?;
         if self.cluster.is_short() {
-            return Err(Stop::NoMemory);
+            return Err(PlayError::NoMemory);
         }
         Ok(())
     }
@@ -229,7 +229,7 @@ impl<'a, 'b, J: Name + Send + Sync> Phases<'a, 'b, J> {
         rt: &R,
         parts: &[Part<'a, J>],
         watcher: &mut V,
-    ) -> Result<(), Stop> {
+    ) -> Result<(), PlayError> {
         let cluster = self.cluster;
         let playing = AtomicU64::new(0);
         let playing = &playing;
@@ -256,7 +256,7 @@ impl<'a, 'b, J: Name + Send + Sync> Phases<'a, 'b, J> {
         scope: &Scope<'s, E>,
         stage: &Stage<'s, 'a, J, R>,
         watcher: &mut V,
-    ) -> Result<(), Stop> {
+    ) -> Result<(), PlayError> {
         for index in self.first..self.lines.len() {
             let Some(played) = self.lines.get(index) else {
                 break;
@@ -288,14 +288,14 @@ impl<'a, 'b, J: Name + Send + Sync> Phases<'a, 'b, J> {
         node: u8,
         pid: u16,
         op: Op,
-    ) -> Result<(), Stop> {
+    ) -> Result<(), PlayError> {
         let Some(part) = self.part_of(stage.parts, node, pid) else {
             return Ok(());
         };
         let client = if part.needs_client(stage.rt) {
             match self.client(stage.rt, node, pid) {
                 Ok(client) => Some(client),
-                Err(CallError::NoMemory) => return Err(Stop::NoMemory),
+                Err(CallError::NoMemory) => return Err(PlayError::NoMemory),
                 Err(why) => {
                     self.note(index, LineOutcome::Denied(why));
                     return Ok(());
@@ -314,16 +314,16 @@ impl<'a, 'b, J: Name + Send + Sync> Phases<'a, 'b, J> {
     }
 
     // Keeps the client of a process that makes no call now.
-    fn keep(&mut self, client: Client<'a, J>) -> Result<(), Stop> {
+    fn keep(&mut self, client: Client<'a, J>) -> Result<(), PlayError> {
         let process = client.process();
         match self.idle.insert((process.node, process.pid), client) {
             Ok(_) => Ok(()),
-            Err(_) => Err(Stop::NoMemory),
+            Err(_) => Err(PlayError::NoMemory),
         }
     }
 
     // Takes in a part that was played.
-    fn end(&mut self, part: Part<'a, J>) -> Result<(), Stop> {
+    fn end(&mut self, part: Part<'a, J>) -> Result<(), PlayError> {
         let (outcomes, client) = part.into_outcomes()?;
         for (index, outcome) in outcomes.iter() {
             self.note(*index, *outcome);

@@ -2,7 +2,7 @@
 use crate::cluster::Cluster;
 use crate::part::Part;
 use crate::run_watcher::RunWatcher;
-use crate::stop::Stop;
+use lockscript::play_error::PlayError;
 use std::sync::Wait;
 use std::sync::atomic::{AtomicU64, Ordering};
 use std::thread;
@@ -24,7 +24,7 @@ pub(crate) struct Stage<'s, 'a, J: Name, R> {
 
 impl<'s, 'a: 's, J: Name + Send + Sync, R: Threads + Wait + Clock + Sync> Stage<'s, 'a, J, R> {
     /// Starts a thread for each part that has calls to make, and no thread.
-    pub(crate) fn start<E>(&self, scope: &Scope<'s, E>) -> Result<(), Stop> {
+    pub(crate) fn start<E>(&self, scope: &Scope<'s, E>) -> Result<(), PlayError> {
         let (rt, cluster, playing) = (self.rt, self.cluster, self.playing);
         for part in self.parts {
             if !part.begin(rt) {
@@ -33,7 +33,7 @@ impl<'s, 'a: 's, J: Name + Send + Sync, R: Threads + Wait + Clock + Sync> Stage<
             playing.fetch_add(1, Ordering::SeqCst);
             let started = scope.spawn(move || play(rt, cluster, part, playing));
             if started.is_err() {
-                return Err(Stop::NoMemory);
+                return Err(PlayError::NoMemory);
             }
         }
         Ok(())

@@ -19,13 +19,13 @@ use crate::played_line::PlayedLine;
 use crate::run_error::RunError;
 use crate::run_watcher::RunWatcher;
 use crate::seeded::Seeded;
-use crate::stop::Stop;
 use crate::thread_run::ThreadRun;
 use crate::worker::Worker;
 use book::book::Book;
 use book::new_trail::NewTrail;
 use cluster_core::journal::Journal;
 use cluster_core::world::World;
+use lockscript::play_error::PlayError;
 use lockscript::script::Script;
 use lockscript::script_line::ScriptLine;
 use messages::shape::Shape;
@@ -103,7 +103,7 @@ pub fn run_threads<G: Gate + Sync, R: Threads + Wait + Clock + Sync, V: RunWatch
             let run = ThreadRun::new(alloc, script, manner, lines, journal)?;
             Ok((run, world))
         }
-        Err(Stop::JournalFull) if is_full(alloc, script, &journal) => {
+        Err(PlayError::JournalFull) if is_full(alloc, script, &journal) => {
             Err(RunError::JournalFull(journal))
         }
         Err(_) => Err(RunError::NoMemory),
@@ -113,7 +113,7 @@ pub fn run_threads<G: Gate + Sync, R: Threads + Wait + Clock + Sync, V: RunWatch
 // The lines of a script with what they came to, the journal, and the world at its end.
 #[derive(Drop)]
 struct Ended {
-    lines: Result<Vec<PlayedLine>, Stop>,
+    lines: Result<Vec<PlayedLine>, PlayError>,
     journal: Journal,
     world: World,
 }
@@ -124,7 +124,7 @@ impl Ended {
     fn of<J: Name>(
         book: Book<J>,
         shape: Shape,
-        lines: Result<Vec<PlayedLine>, Stop>,
+        lines: Result<Vec<PlayedLine>, PlayError>,
     ) -> Result<Ended, AllocError>
         ensures shape { IfOk result (λ run. run.journal.shape ≡ shape) }
         ensures one_table { IfOk result (λ run. HasOneHistory run.journal.shape run.journal.entries) }
@@ -195,7 +195,7 @@ fn run_begun<
     lines: &[ScriptLine],
     manner: Manner,
     watcher: &mut V,
-) -> Option<Result<Vec<PlayedLine>, Stop>> {
+) -> Option<Result<Vec<PlayedLine>, PlayError>> {
     let shared = begun.shared(book, gate);
     let cluster = begun.cluster(book, gate);
     thread::scope(thread::scope_env(), rt, |scope| {
@@ -235,7 +235,7 @@ fn run_lines<J: Name + Send + Sync, R: Threads + Wait + Clock + Sync, V: RunWatc
     lines: &[ScriptLine],
     manner: Manner,
     watcher: &mut V,
-) -> Result<Vec<PlayedLine>, Stop> {
+) -> Result<Vec<PlayedLine>, PlayError> {
     let mut phases = Phases::new(cluster, manner);
     for line in lines {
         phases.take(rt, line, watcher)?;

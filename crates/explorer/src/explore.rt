@@ -2,7 +2,7 @@
 ghost use Rattle.std.specs.Prelude.{◌≡◌, ◌≢◌, ◌+◌, ◌<◌, ◌∷◌, ◌++◌, ◌↔◌, [], ℕ, All, Bool, HoldsAt, List, MatchOption, length, slice_index_or, slice_set, IfErr, IfOk, IsTrue, OnOk};
 ghost use Rattle.std.specs.List.{list_any};
 ghost use Rattle.std.specs.List.Sorted.{IsPermutation};
-ghost use Rattle.player.specs.declared.play.PlayError.TheVariants.{JournalFull, NoMemory};
+ghost use Rattle.lockscript.specs.declared.play_error.PlayError.TheVariants.{JournalFull, NoMemory};
 ghost use Rattle.player.specs.Parts.{state_of};
 ghost use Rattle.explorer.specs.declared.answer.Answer.{Answer};
 ghost use Rattle.explorer.specs.Answers.{answers_in};
@@ -19,8 +19,8 @@ use crate::outcome::Outcome;
 use crate::report::report;
 use crate::schedule::schedule;
 use crate::scheduled::Scheduled;
+use lockscript::play_error::PlayError;
 use lockscript::script::Script;
-use player::play::PlayError;
 use player::watcher::Watcher;
 use std::alloc::{AllocError, Global};
 

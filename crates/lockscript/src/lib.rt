@@ -9,6 +9,7 @@ pub mod laws;
 pub mod lines;
 pub mod listing;
 pub mod operations;
+pub mod play_error;
 pub mod refused_line;
 pub mod replies;
 pub mod script;

@@ -6,7 +6,7 @@ ghost use Rattle.cluster_core.specs.Runs.{Leads};
 ghost use Rattle.cluster_core.specs.Safe.{IsSafe};
 ghost use Rattle.cluster_core.specs.World.{first_world};
 ghost use Rattle.messages.specs.declared.version.Version.TheVariants.{Second};
-ghost use Rattle.player.specs.declared.play.PlayError.TheVariants.{NoMemory, JournalFull};
+ghost use Rattle.lockscript.specs.declared.play_error.PlayError.TheVariants.{JournalFull};
 ghost use Rattle.player.specs.Parts.{progress, state_of};
 ghost use Rattle.player.specs.Played.{ComesFrom, ComesTo, FillsBehind, FillsJournal, GoesOnTo};
 ghost use Rattle.player.specs.Progress.{RunsTo};
@@ -15,38 +15,11 @@ use crate::played::Played;
 use crate::player::Player;
 use crate::watcher::Watcher;
 use cluster_core::journal::Journal;
+use lockscript::play_error::PlayError;
 use lockscript::script::Script;
 use lockscript::script_line::ScriptLine;
 use messages::shape::Shape;
-use std::alloc::{AllocError, AllocFailed, Global};
-use thiserror::Error;
-
-/// Why a script was not run to its end.
-#[derive(Clone, Copy, Debug, PartialEq, Eq, Error)]
-pub enum PlayError {
-    /// A request for memory was refused.
-    #[error("no memory")]
-    NoMemory,
-    /// The run needs more entries than a journal may have.
-    #[error("journal full")]
-    JournalFull,
-}
-
-impl From<AllocError> for PlayError {
-    ghost from_gives = { λ error made. made ≡ NoMemory };
-
-    fn from(_error: AllocError) -> PlayError {
-        PlayError::NoMemory
-    }
-}
-
-impl<T: Drop> From<AllocFailed<T>> for PlayError {
-    ghost from_gives = { λ error made. made ≡ NoMemory };
-
-    fn from(_error: AllocFailed<T>) -> PlayError {
-        PlayError::NoMemory
-    }
-}
+use std::alloc::Global;
 
 /// Runs the lines of a script in order. A line whose event is refused, but for want of memory or of
 /// room in the journal, is listed and the run goes on. Of each line that is done the watcher is told.

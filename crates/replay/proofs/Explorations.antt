@@ -5,8 +5,8 @@ use Rattle.command_line.specs.Tasks.{Task}
 use Rattle.explorer.specs.Schedules.{HasFullSchedule}
 use Rattle.lockscript.specs.Scripts.{ScriptFields}
 use Rattle.lockscript.specs.ThreadLines.{IsForThreads}
-use Rattle.player.specs.declared.play.PlayError.{PlayError}
-use Rattle.player.specs.declared.play.PlayError.TheVariants as play
+use Rattle.lockscript.specs.declared.play_error.PlayError.{PlayError}
+use Rattle.lockscript.specs.declared.play_error.PlayError.TheVariants as play
 use Rattle.replay.specs.declared.fault.Fault.{Fault}
 use Rattle.replay.specs.declared.fault.Fault.TheVariants.{BadLine, CannotRead, CannotWrite, CannotWriteOutput, NoMemory, JournalFull, OldJournal, Faulty}
 use Rattle.replay.specs.Commands.{IsFault, IsInputFault}

@@ -10,8 +10,8 @@ use Rattle.lockscript.specs.Scripts.{ScriptFields}
 use Rattle.lockscript.specs.ShapedScripts.{IsForShape, IsRefusedForShape}
 use Rattle.lockscript.specs.declared.error.ParseError.{ParseError}
 use Rattle.lockscript.specs.declared.error.ParseError.TheVariants as parse
-use Rattle.player.specs.declared.play.PlayError.{PlayError}
-use Rattle.player.specs.declared.play.PlayError.TheVariants as play
+use Rattle.lockscript.specs.declared.play_error.PlayError.{PlayError}
+use Rattle.lockscript.specs.declared.play_error.PlayError.TheVariants as play
 use Rattle.replay.specs.declared.fault.Fault.{Fault}
 use Rattle.replay.specs.declared.fault.Fault.TheVariants.{BadLine, CannotRead, CannotWrite, CannotWriteOutput, NoMemory, JournalFull, OldJournal, Faulty}
 use Rattle.cluster_core.specs.Runs.{IsRun}

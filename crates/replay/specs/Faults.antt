@@ -12,8 +12,8 @@ use Rattle.lockscript.specs.Scripts as scripts
 use Rattle.lockscript.specs.ShapedScripts.{IsBadForShape}
 use Rattle.lockscript.specs.ThreadLines.{IsBadOnThreads}
 use Rattle.messages.specs.declared.version.Version.TheVariants.{Second}
-use Rattle.player.specs.declared.play.PlayError.{PlayError}
-use Rattle.player.specs.declared.play.PlayError.TheVariants as play
+use Rattle.lockscript.specs.declared.play_error.PlayError.{PlayError}
+use Rattle.lockscript.specs.declared.play_error.PlayError.TheVariants as play
 use Rattle.replay.specs.declared.fault.Fault.{Fault}
 use Rattle.replay.specs.declared.fault.Fault.TheVariants.{BadLine, CannotRead, CannotWrite, CannotWriteOutput, NoMemory, JournalFull, OldJournal, Faulty}
 use Rattle.replay.specs.Audits.{HasEntries, HasJournal, HasNewJournal, WritesFew}

@@ -8,7 +8,7 @@ ghost use Rattle.replay.specs.Statuses.{status_of};
 use crate::output::{Output, WriteFailed, put_line};
 use itoa::Buffer;
 use lockscript::error::ParseError;
-use player::play::PlayError;
+use lockscript::play_error::PlayError;
 use std::alloc::{AllocError, AllocFailed};
 
 /// Why a command was not done.

@@ -1,7 +1,7 @@
 //! Scripts on threads.
 ghost use Rattle.std.specs.Prelude.{◌≡◌, None, IfErr, IfOk};
 ghost use Rattle.lockscript.specs.ThreadLines.{bad_line};
-ghost use Rattle.player.specs.declared.play.PlayError.TheVariants.{JournalFull};
+ghost use Rattle.lockscript.specs.declared.play_error.PlayError.TheVariants.{JournalFull};
 ghost use Rattle.replay.specs.Threads.{HasFullJournal, IsToldOf};
 
 use crate::threaded::Threaded;
@@ -10,8 +10,8 @@ use actors::manner::Manner;
 use actors::run_error::RunError;
 use actors::run_watcher::RunWatcher;
 use actors::threads::run_threads;
+use lockscript::play_error::PlayError;
 use lockscript::script::Script;
-use player::play::PlayError;
 use std::alloc::Global;
 use std::sync::Wait;
 use std::thread::Threads;
