@@ -99,12 +99,12 @@ rest-apart c row held i h there apart kept =
         (each ks (All-tail Clear k.request (requests_of ks) all))
 
 -- one that can't turn to another row waits as before
-pub unfreed-waits : (p : ServerParts) (edit : Option RowEdit) (c : Changed) (h : Held) → rows_of (overlaid p.clients edit) ≡ rows_after (Some c) (rows_of p.clients) → obstacle (server_state p) h.request ≡ h.at → may_turn c (rows_of p.clients c.node) h ≡ false → obstacle (reached p edit) h.request ≡ h.at
+pub unfreed-waits : (p : ServerParts) (edit : Option RowEdit) (c : Changed) (h : Held) → rows_of (overlaid p.known_nodes edit) ≡ rows_after (Some c) (rows_of p.known_nodes) → obstacle (server_state p) h.request ≡ h.at → may_turn c (rows_of p.known_nodes c.node) h ≡ false → obstacle (reached p edit) h.request ≡ h.at
 unfreed-waits p edit c h rows waits kept = obstacle-changed (server_state p) (reached p edit) h c refl rows waits kept
 
-pub unfreed-all : (p : ServerParts) (edit : Option RowEdit) (c : Changed) (held : List Held) → rows_of (overlaid p.clients edit) ≡ rows_after (Some c) (rows_of p.clients) → All (λ h. obstacle (server_state p) h.request ≡ h.at) held → All (λ h. may_turn c (rows_of p.clients c.node) h ≡ false) held → All (λ h. obstacle (reached p edit) h.request ≡ h.at) held
+pub unfreed-all : (p : ServerParts) (edit : Option RowEdit) (c : Changed) (held : List Held) → rows_of (overlaid p.known_nodes edit) ≡ rows_after (Some c) (rows_of p.known_nodes) → All (λ h. obstacle (server_state p) h.request ≡ h.at) held → All (λ h. may_turn c (rows_of p.known_nodes c.node) h ≡ false) held → All (λ h. obstacle (reached p edit) h.request ≡ h.at) held
 unfreed-all p edit c [] rows waits kept = All-nil (λ h. obstacle (reached p edit) h.request ≡ h.at)
 unfreed-all p edit c (h ∷ held) rows waits kept =
     All-cons (λ h. obstacle (reached p edit) h.request ≡ h.at) h held
-    (unfreed-waits p edit c h rows (All-head (λ h. obstacle (server_state p) h.request ≡ h.at) h held waits) (All-head (λ h. may_turn c (rows_of p.clients c.node) h ≡ false) h held kept))
-    (unfreed-all p edit c held rows (All-tail (λ h. obstacle (server_state p) h.request ≡ h.at) h held waits) (All-tail (λ h. may_turn c (rows_of p.clients c.node) h ≡ false) h held kept))
+    (unfreed-waits p edit c h rows (All-head (λ h. obstacle (server_state p) h.request ≡ h.at) h held waits) (All-head (λ h. may_turn c (rows_of p.known_nodes c.node) h ≡ false) h held kept))
+    (unfreed-all p edit c held rows (All-tail (λ h. obstacle (server_state p) h.request ≡ h.at) h held waits) (All-tail (λ h. may_turn c (rows_of p.known_nodes c.node) h ≡ false) h held kept))

@@ -5,68 +5,68 @@ use Rattle.std.proofs.Common.{inl, inr, sym, refl, ap, ◌∙◌, arith}
 use Rattle.std.proofs.lemmas.List.{length-set}
 use Rattle.std.proofs.lemmas.Option.{slice_get_past}
 use Rattle.model.specs.Limits.{IsNumber}
-use Rattle.token_server.specs.declared.client.Client.{Client}
+use Rattle.token_server.specs.declared.known_node.KnownNode.{KnownNode}
 use Rattle.token_server.specs.declared.row_edit.RowEdit.{RowEdit}
 use Rattle.token_server.specs.declared.token_holder.RowView.{RowView}
 use Rattle.token_server.specs.declared.sketch.Changed.{Changed}
-use Rattle.token_server.specs.Parts.{row_state, row_seen, row_of, dead_of, client_at, rows_of, deaths_of}
+use Rattle.token_server.specs.Parts.{row_state, row_seen, row_of, dead_of, known_node_at, rows_of, deaths_of}
 use Rattle.token_server.specs.Sketches.{row_after, dead_after, rows_after, deaths_after}
 use Rattle.token_server.specs.declared.change.Given.{Given}
-use Rattle.token_server.specs.Edits.{seen, seen_row, row_kept, IsReadAs, client_after, with_client, overlaid, given_to_row, given_to_client, with_given_row}
-use Rattle.token_server.proofs.ClientLaws.{client_at-read, client_at-place, client_at-set_same, slice_get-set_other, changed_at}
+use Rattle.token_server.specs.Edits.{seen, seen_row, row_kept, IsReadAs, known_node_after, with_known_node, overlaid, given_to_row, given_to_known_node, with_given_row}
+use Rattle.token_server.proofs.KnownNodeLaws.{known_node_at-read, known_node_at-place, known_node_at-set_same, slice_get-set_other, changed_at}
 
--- the edit is of the node that changes so, which is this client before
-pub record Changes (client : Client) (c : Changed) (e : RowEdit) : Type 0 where
+-- the edit is of the node that changes so, which was known so before
+pub record Changes (known_node : KnownNode) (c : Changed) (e : RowEdit) : Type 0 where
   pub place_is : e.place ≡ c.node - 1
-  pub row_is : row_seen (row_kept e.row client.row) ≡ row_after c.change (row_seen client.row)
-  pub dead_is : e.dead ≡ dead_after c.change client.dead
+  pub row_is : row_seen (row_kept e.row known_node.row) ≡ row_after c.change (row_seen known_node.row)
+  pub dead_is : e.dead ≡ dead_after c.change known_node.dead
 
-with_client-length : (clients : List Client) (e : RowEdit) (o : Option Client) → length (with_client clients e o) ≡ length clients
-with_client-length clients e None = refl
-with_client-length clients e (Some client) = length-set clients e.place (client_after e client)
+with_known_node-length : (known_nodes : List KnownNode) (e : RowEdit) (o : Option KnownNode) → length (with_known_node known_nodes e o) ≡ length known_nodes
+with_known_node-length known_nodes e None = refl
+with_known_node-length known_nodes e (Some known_node) = length-set known_nodes e.place (known_node_after e known_node)
 
 -- there are as many nodes as before
-pub overlaid-length : (clients : List Client) (o : Option RowEdit) → length (overlaid clients o) ≡ length clients
-overlaid-length clients None = refl
-overlaid-length clients (Some e) = with_client-length clients e (slice_get clients e.place)
+pub overlaid-length : (known_nodes : List KnownNode) (o : Option RowEdit) → length (overlaid known_nodes o) ≡ length known_nodes
+overlaid-length known_nodes None = refl
+overlaid-length known_nodes (Some e) = with_known_node-length known_nodes e (slice_get known_nodes e.place)
 
--- the edit is of that client
-overlaid-set : (clients : List Client) (e : RowEdit) (node : ℕ) (client : Client) → IsNumber (length clients) node → e.place ≡ node - 1 → client_at clients node ≡ Some client → overlaid clients (Some e) ≡ slice_set clients e.place (client_after e client)
-overlaid-set clients e node client within at there =
+-- the edit is of that node
+overlaid-set : (known_nodes : List KnownNode) (e : RowEdit) (node : ℕ) (known_node : KnownNode) → IsNumber (length known_nodes) node → e.place ≡ node - 1 → known_node_at known_nodes node ≡ Some known_node → overlaid known_nodes (Some e) ≡ slice_set known_nodes e.place (known_node_after e known_node)
+overlaid-set known_nodes e node known_node within at there =
     let next : e.place + 1 ≡ node = omega arith in
-    ap (with_client clients e) (sym (client_at-place clients node e.place next) ∙ there)
+    ap (with_known_node known_nodes e) (sym (known_node_at-place known_nodes node e.place next) ∙ there)
 
 -- the node that is edited
-pub overlaid-here : (clients : List Client) (e : RowEdit) (node : ℕ) (client : Client) → IsNumber (length clients) node → e.place ≡ node - 1 → client_at clients node ≡ Some client → client_at (overlaid clients (Some e)) node ≡ Some (client_after e client)
-overlaid-here clients e node client within at there =
-    rw (overlaid-set clients e node client within at there) (client_at-set_same clients node e.place (client_after e client) within at)
+pub overlaid-here : (known_nodes : List KnownNode) (e : RowEdit) (node : ℕ) (known_node : KnownNode) → IsNumber (length known_nodes) node → e.place ≡ node - 1 → known_node_at known_nodes node ≡ Some known_node → known_node_at (overlaid known_nodes (Some e)) node ≡ Some (known_node_after e known_node)
+overlaid-here known_nodes e node known_node within at there =
+    rw (overlaid-set known_nodes e node known_node within at there) (known_node_at-set_same known_nodes node e.place (known_node_after e known_node) within at)
 
 -- a write elsewhere keeps the node
-client_at-set_apart : (clients : List Client) (node place : ℕ) (new : Client) → place + 1 ≢ node → client_at (slice_set clients place new) node ≡ client_at clients node
-client_at-set_apart clients zero place new apart = refl
-client_at-set_apart clients (suc k) place new apart = slice_get-set_other clients place k new (λ e. apart (omega arith))
+known_node_at-set_apart : (known_nodes : List KnownNode) (node place : ℕ) (new : KnownNode) → place + 1 ≢ node → known_node_at (slice_set known_nodes place new) node ≡ known_node_at known_nodes node
+known_node_at-set_apart known_nodes zero place new apart = refl
+known_node_at-set_apart known_nodes (suc k) place new apart = slice_get-set_other known_nodes place k new (λ e. apart (omega arith))
 
-with_client-apart : (clients : List Client) (e : RowEdit) (o : Option Client) (node : ℕ) → e.place + 1 ≢ node → client_at (with_client clients e o) node ≡ client_at clients node
-with_client-apart clients e None node apart = refl
-with_client-apart clients e (Some client) node apart = client_at-set_apart clients node e.place (client_after e client) apart
+with_known_node-apart : (known_nodes : List KnownNode) (e : RowEdit) (o : Option KnownNode) (node : ℕ) → e.place + 1 ≢ node → known_node_at (with_known_node known_nodes e o) node ≡ known_node_at known_nodes node
+with_known_node-apart known_nodes e None node apart = refl
+with_known_node-apart known_nodes e (Some known_node) node apart = known_node_at-set_apart known_nodes node e.place (known_node_after e known_node) apart
 
 -- and one that is not
-pub overlaid-elsewhere : (clients : List Client) (e : RowEdit) (node : ℕ) → e.place + 1 ≢ node → client_at (overlaid clients (Some e)) node ≡ client_at clients node
-overlaid-elsewhere clients e node apart = with_client-apart clients e (slice_get clients e.place) node apart
+pub overlaid-elsewhere : (known_nodes : List KnownNode) (e : RowEdit) (node : ℕ) → e.place + 1 ≢ node → known_node_at (overlaid known_nodes (Some e)) node ≡ known_node_at known_nodes node
+overlaid-elsewhere known_nodes e node apart = with_known_node-apart known_nodes e (slice_get known_nodes e.place) node apart
 
 -- what is known after the edit of a node that changes so
-module _ (clients : List Client) (c : Changed) (client : Client) (e : RowEdit) (within : IsNumber (length clients) c.node) (there : client_at clients c.node ≡ Some client) (x : Changes client c e) where
-  pub rows_of-edit : rows_of (overlaid clients (Some e)) ≡ rows_after (Some c) (rows_of clients)
+module _ (known_nodes : List KnownNode) (c : Changed) (known_node : KnownNode) (e : RowEdit) (within : IsNumber (length known_nodes) c.node) (there : known_node_at known_nodes c.node ≡ Some known_node) (x : Changes known_node c e) where
+  pub rows_of-edit : rows_of (overlaid known_nodes (Some e)) ≡ rows_after (Some c) (rows_of known_nodes)
   unfolding rows_of
   rows_of-edit =
-      ap (λ l n. row_of (client_at l n)) (overlaid-set clients e c.node client within x.place_is there)
-      ∙ (λ i n. changed_at row_of (row_after c.change) clients c.node e.place client (client_after e client) within x.place_is there x.row_is n i)
+      ap (λ l n. row_of (known_node_at l n)) (overlaid-set known_nodes e c.node known_node within x.place_is there)
+      ∙ (λ i n. changed_at row_of (row_after c.change) known_nodes c.node e.place known_node (known_node_after e known_node) within x.place_is there x.row_is n i)
 
-  pub deaths_of-edit : deaths_of (overlaid clients (Some e)) ≡ deaths_after (Some c) (deaths_of clients)
+  pub deaths_of-edit : deaths_of (overlaid known_nodes (Some e)) ≡ deaths_after (Some c) (deaths_of known_nodes)
   unfolding deaths_of
   deaths_of-edit =
-      ap (λ l n. dead_of (client_at l n)) (overlaid-set clients e c.node client within x.place_is there)
-      ∙ (λ i n. changed_at dead_of (dead_after c.change) clients c.node e.place client (client_after e client) within x.place_is there x.dead_is n i)
+      ap (λ l n. dead_of (known_node_at l n)) (overlaid-set known_nodes e c.node known_node within x.place_is there)
+      ∙ (λ i n. changed_at dead_of (dead_after c.change) known_nodes c.node e.place known_node (known_node_after e known_node) within x.place_is there x.dead_is n i)
 
 -- where a node stays as it is, what is known of all does
 pub stays-at : {A : Type 0} (node : ℕ) (g : A → A) (known : ℕ → A) → g (known node) ≡ known node → known ≡ (λ n. if n == node then g (known n) else known n)
@@ -79,62 +79,62 @@ stays-at {A} node g known same = λ i n. at n i
     ]
 
 -- what is known of a node
-pub rows_of-there : (clients : List Client) (node : ℕ) (client : Client) → client_at clients node ≡ Some client → rows_of clients node ≡ row_seen client.row
+pub rows_of-there : (known_nodes : List KnownNode) (node : ℕ) (known_node : KnownNode) → known_node_at known_nodes node ≡ Some known_node → rows_of known_nodes node ≡ row_seen known_node.row
 unfolding rows_of
-rows_of-there clients node client there = ap row_of there
+rows_of-there known_nodes node known_node there = ap row_of there
 
-pub deaths_of-there : (clients : List Client) (node : ℕ) (client : Client) → client_at clients node ≡ Some client → deaths_of clients node ≡ client.dead
+pub deaths_of-there : (known_nodes : List KnownNode) (node : ℕ) (known_node : KnownNode) → known_node_at known_nodes node ≡ Some known_node → deaths_of known_nodes node ≡ known_node.dead
 unfolding deaths_of
-deaths_of-there clients node client there = ap dead_of there
+deaths_of-there known_nodes node known_node there = ap dead_of there
 
 -- and what is read of it
-pub row_matches : (o : Option RowView) (clients : List Client) (node : ℕ) → IsReadAs (client_at clients node) (seen_row o) → MatchOption o (rows_of clients node ≡ None) (λ r. rows_of clients node ≡ Some (row_state (seen r)))
-row_matches None clients node there = rows_of-there clients node _ there.1
-row_matches (Some r) clients node there = rows_of-there clients node _ there.1
+pub row_matches : (o : Option RowView) (known_nodes : List KnownNode) (node : ℕ) → IsReadAs (known_node_at known_nodes node) (seen_row o) → MatchOption o (rows_of known_nodes node ≡ None) (λ r. rows_of known_nodes node ≡ Some (row_state (seen r)))
+row_matches None known_nodes node there = rows_of-there known_nodes node _ there.1
+row_matches (Some r) known_nodes node there = rows_of-there known_nodes node _ there.1
 
-pub client_matches : (o : Option RowView) (clients : List Client) (node : ℕ) → IsReadAs (client_at clients node) (seen_row o) → MatchOption o (rows_of clients node ≡ None) (λ r. (dead : ℕ) × (client_at clients node ≡ Some (record { dead = dead; row = Some (seen r) })))
-client_matches None clients node there = rows_of-there clients node _ there.1
-client_matches (Some r) clients node there = there
+pub known_node_matches : (o : Option RowView) (known_nodes : List KnownNode) (node : ℕ) → IsReadAs (known_node_at known_nodes node) (seen_row o) → MatchOption o (rows_of known_nodes node ≡ None) (λ r. (dead : ℕ) × (known_node_at known_nodes node ≡ Some (record { dead = dead; row = Some (seen r) })))
+known_node_matches None known_nodes node there = rows_of-there known_nodes node _ there.1
+known_node_matches (Some r) known_nodes node there = there
 
 -- the rows once one is given something, in the list
-pub given-set : (clients : List Client) (place : ℕ) (client new : Client) (g : Given) → place < length clients → g.place ≡ place → client ≡ slice_index_or clients place client → row_seen new.row ≡ given_to_row g.commands g.token client.row → rows_of (slice_set clients place new) ≡ with_given_row g clients
+pub given-set : (known_nodes : List KnownNode) (place : ℕ) (known_node new : KnownNode) (g : Given) → place < length known_nodes → g.place ≡ place → known_node ≡ slice_index_or known_nodes place known_node → row_seen new.row ≡ given_to_row g.commands g.token known_node.row → rows_of (slice_set known_nodes place new) ≡ with_given_row g known_nodes
 unfolding rows_of
-given-set clients place client new g within at read made = λ i n. each n i
+given-set known_nodes place known_node new g within at read made = λ i n. each n i
   where
-    there : client_at clients (place + 1) ≡ Some client
-    there = client_at-read clients (place + 1) place client (omega arith, omega arith) (omega arith) read
+    there : known_node_at known_nodes (place + 1) ≡ Some known_node
+    there = known_node_at-read known_nodes (place + 1) place known_node (omega arith, omega arith) (omega arith) read
 
-    same : (n : ℕ) → (if n == place + 1 then given_to_row g.commands g.token client.row else row_of (client_at clients n)) ≡ (if n == place + 1 then given_to_client g (client_at clients n) else row_of (client_at clients n))
+    same : (n : ℕ) → (if n == place + 1 then given_to_row g.commands g.token known_node.row else row_of (known_node_at known_nodes n)) ≡ (if n == place + 1 then given_to_known_node g (known_node_at known_nodes n) else row_of (known_node_at known_nodes n))
     same n = elim (eqb_tells n (place + 1)) [
       | inl here ↦
-          let x = given_to_row g.commands g.token client.row in
-          let y = given_to_client g (client_at clients n) in
-          let z = row_of (client_at clients n) in
-          ap (λ (b : Bool). cond b x z) here.0 ∙ sym (ap (λ (k : ℕ). given_to_client g (client_at clients k)) here.1 ∙ ap (given_to_client g) there) ∙ sym (ap (λ (b : Bool). cond b y z) here.0)
+          let x = given_to_row g.commands g.token known_node.row in
+          let y = given_to_known_node g (known_node_at known_nodes n) in
+          let z = row_of (known_node_at known_nodes n) in
+          ap (λ (b : Bool). cond b x z) here.0 ∙ sym (ap (λ (k : ℕ). given_to_known_node g (known_node_at known_nodes k)) here.1 ∙ ap (given_to_known_node g) there) ∙ sym (ap (λ (b : Bool). cond b y z) here.0)
       | inr apart ↦
-          let x = given_to_row g.commands g.token client.row in
-          let y = given_to_client g (client_at clients n) in
-          let z = row_of (client_at clients n) in
+          let x = given_to_row g.commands g.token known_node.row in
+          let y = given_to_known_node g (known_node_at known_nodes n) in
+          let z = row_of (known_node_at known_nodes n) in
           ap (λ (b : Bool). cond b x z) apart.0 ∙ sym (ap (λ (b : Bool). cond b y z) apart.0)
     ]
 
-    each : (n : ℕ) → row_of (client_at (slice_set clients place new) n) ≡ with_given_row g clients n
-    each n = changed_at row_of (λ row. given_to_row g.commands g.token client.row) clients (place + 1) place client new (omega arith, omega arith) (omega arith) there made n ∙ same n ∙ ap (λ (k : ℕ). if n == k + 1 then given_to_client g (client_at clients n) else row_of (client_at clients n)) (sym at)
+    each : (n : ℕ) → row_of (known_node_at (slice_set known_nodes place new) n) ≡ with_given_row g known_nodes n
+    each n = changed_at row_of (λ row. given_to_row g.commands g.token known_node.row) known_nodes (place + 1) place known_node new (omega arith, omega arith) (omega arith) there made n ∙ same n ∙ ap (λ (k : ℕ). if n == k + 1 then given_to_known_node g (known_node_at known_nodes n) else row_of (known_node_at known_nodes n)) (sym at)
 
 -- nobody stands there
-pub given-past : (clients : List Client) (g : Given) → length clients ≤ g.place → rows_of clients ≡ with_given_row g clients
+pub given-past : (known_nodes : List KnownNode) (g : Given) → length known_nodes ≤ g.place → rows_of known_nodes ≡ with_given_row g known_nodes
 unfolding rows_of
-given-past clients g past = λ i n. each n i
+given-past known_nodes g past = λ i n. each n i
   where
-    each : (n : ℕ) → row_of (client_at clients n) ≡ with_given_row g clients n
+    each : (n : ℕ) → row_of (known_node_at known_nodes n) ≡ with_given_row g known_nodes n
     each n = elim (eqb_tells n (g.place + 1)) [
       | inl here ↦
-          let none : client_at clients n ≡ None = ap (client_at clients) here.1 ∙ client_at-place clients (g.place + 1) g.place refl ∙ slice_get_past clients g.place past in
-          let y = given_to_client g (client_at clients n) in
-          let z = row_of (client_at clients n) in
-          ap row_of none ∙ sym (ap (given_to_client g) none) ∙ sym (ap (λ (b : Bool). cond b y z) here.0)
+          let none : known_node_at known_nodes n ≡ None = ap (known_node_at known_nodes) here.1 ∙ known_node_at-place known_nodes (g.place + 1) g.place refl ∙ slice_get_past known_nodes g.place past in
+          let y = given_to_known_node g (known_node_at known_nodes n) in
+          let z = row_of (known_node_at known_nodes n) in
+          ap row_of none ∙ sym (ap (given_to_known_node g) none) ∙ sym (ap (λ (b : Bool). cond b y z) here.0)
       | inr apart ↦
-          let y = given_to_client g (client_at clients n) in
-          let z = row_of (client_at clients n) in
+          let y = given_to_known_node g (known_node_at known_nodes n) in
+          let z = row_of (known_node_at known_nodes n) in
           sym (ap (λ (b : Bool). cond b y z) apart.0)
     ]

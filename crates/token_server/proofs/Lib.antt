@@ -1,4 +1,4 @@
-pub mod ClientLaws
+pub mod KnownNodeLaws
 pub mod RequestLaws
 pub mod SketchLaws
 pub mod GrantLaws

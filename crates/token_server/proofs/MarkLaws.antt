@@ -6,21 +6,21 @@ use Rattle.std.proofs.lemmas.Bool.{both_ways, false_from_ne_true}
 use Rattle.intervals.specs.Bytes.{Range, greatest, whole}
 use Rattle.model.specs.declared.mode.Mode.TheVariants.{Read}
 use Rattle.token_set.proofs.TokenLaws.{conflicts-none}
-use Rattle.token_server.specs.declared.client.Client.{Client}
+use Rattle.token_server.specs.declared.known_node.KnownNode.{KnownNode}
 use Rattle.token_server.specs.declared.row_edit.RowEdit.{RowEdit}
 use Rattle.token_server.specs.declared.token_holder.TokenHolder.{TokenHolder}
 use Rattle.token_queue.specs.declared.token_request.TokenRequest.{TokenRequest}
 use Rattle.token_server.specs.State.{Row, ServerState}
 use Rattle.token_server.specs.Serve.{row_conflicts, row_conflicts_at, conflicting_node}
-use Rattle.token_server.specs.Parts.{row_seen, row_of, client_at, rows_of}
+use Rattle.token_server.specs.Parts.{row_seen, row_of, known_node_at, rows_of}
 use Rattle.token_server.specs.Marks.{NoneExclusive}
-use Rattle.token_server.specs.Edits.{row_kept, client_after, with_client, overlaid}
-use Rattle.token_server.proofs.ClientLaws.{client_at-read, client_at-set_same}
+use Rattle.token_server.specs.Edits.{row_kept, known_node_after, with_known_node, overlaid}
+use Rattle.token_server.proofs.KnownNodeLaws.{known_node_at-read, known_node_at-set_same}
 use Rattle.token_server.proofs.GrantLaws.{conflicts_at, first-none, row_free}
 use Rattle.token_server.proofs.AdmittingLaws.{neither}
 
 -- what holds of the new one and of each before holds after a write
-set-either : (P : Option Client → Type 0) (xs : List Client) (i k : ℕ) (x : Client) → P (Some x) → P (slice_get xs k) → P (slice_get (slice_set xs i x) k)
+set-either : (P : Option KnownNode → Type 0) (xs : List KnownNode) (i k : ℕ) (x : KnownNode) → P (Some x) → P (slice_get xs k) → P (slice_get (slice_set xs i x) k)
 set-either P [] i k x new old = old
 set-either P (y ∷ ys) zero zero x new old = new
 set-either P (y ∷ ys) zero (suc k) x new old = old
@@ -28,11 +28,11 @@ set-either P (y ∷ ys) (suc i) zero x new old = old
 set-either P (y ∷ ys) (suc i) (suc k) x new old = set-either P ys i k x new old
 
 -- one row is another, which has no exclusive byte either
-pub exclusive-set : (clients : List Client) (place : ℕ) (new : Client) → NoneExclusive (rows_of clients) → row_conflicts (row_seen new.row) whole Read ≡ false → NoneExclusive (rows_of (slice_set clients place new))
+pub exclusive-set : (known_nodes : List KnownNode) (place : ℕ) (new : KnownNode) → NoneExclusive (rows_of known_nodes) → row_conflicts (row_seen new.row) whole Read ≡ false → NoneExclusive (rows_of (slice_set known_nodes place new))
 unfolding rows_of
-exclusive-set clients place new before own zero b within = refl
-exclusive-set clients place new before own (suc k) b within =
-    set-either (λ c. row_conflicts_at (row_of c) b Read ≡ false) clients place k new
+exclusive-set known_nodes place new before own zero b within = refl
+exclusive-set known_nodes place new before own (suc k) b within =
+    set-either (λ c. row_conflicts_at (row_of c) b Read ≡ false) known_nodes place k new
     (false_from_ne_true _ (row_free (row_seen new.row) whole Read own b (omega arith) within))
     (before (suc k) b within)
 
@@ -45,13 +45,13 @@ pub exclusive-readable : (rows : ℕ → Option Row) (s : Range) → NoneExclusi
 exclusive-readable rows s none within node = readable (rows node) s within (none node)
 
 -- nor has one after an edit that gives none an exclusive byte
-pub exclusive-edited : (clients : List Client) (e : RowEdit) → ((row : Option TokenHolder) → row_conflicts (row_seen row) whole Read ≡ false → row_conflicts (row_seen (row_kept e.row row)) whole Read ≡ false) → NoneExclusive (rows_of clients) → NoneExclusive (rows_of (overlaid clients (Some e)))
+pub exclusive-edited : (known_nodes : List KnownNode) (e : RowEdit) → ((row : Option TokenHolder) → row_conflicts (row_seen row) whole Read ≡ false → row_conflicts (row_seen (row_kept e.row row)) whole Read ≡ false) → NoneExclusive (rows_of known_nodes) → NoneExclusive (rows_of (overlaid known_nodes (Some e)))
 unfolding rows_of
-exclusive-edited clients e gives none = at (slice_get clients e.place) refl
+exclusive-edited known_nodes e gives none = at (slice_get known_nodes e.place) refl
   where
-    at : (o : Option Client) → slice_get clients e.place ≡ o → NoneExclusive (rows_of (with_client clients e o))
+    at : (o : Option KnownNode) → slice_get known_nodes e.place ≡ o → NoneExclusive (rows_of (with_known_node known_nodes e o))
     at None is = none
-    at (Some client) is = exclusive-set clients e.place (client_after e client) none (gives client.row (readable (row_seen client.row) whole (omega arith) (λ b within. ap (λ (o : Option Client). row_conflicts_at (row_of o) b Read) (sym is) ∙ none (suc e.place) b within)))
+    at (Some known_node) is = exclusive-set known_nodes e.place (known_node_after e known_node) none (gives known_node.row (readable (row_seen known_node.row) whole (omega arith) (λ b within. ap (λ (o : Option KnownNode). row_conflicts_at (row_of o) b Read) (sym is) ∙ none (suc e.place) b within)))
 
 -- where no row conflicts with what the request needs, no node is found
 pub unopposed-none : (s : ServerState) (r : TokenRequest) → ((node : ℕ) → row_conflicts (s.rows node) r.wanted.required r.mode ≡ false) → s.shape.nodes < conflicting_node s r
@@ -62,14 +62,14 @@ unopposed-none s r free = first-none (conflicts_at s r) s.shape.nodes s.shape.no
     other false e = refl
 
 -- the mark, once a row is another: it is set where it was, and where the row has an exclusive byte
-pub exclusive-noted : (clients : List Client) (place : ℕ) (new read : Client) (noted mark : Bool) → place < length clients → (noted ≡ false → NoneExclusive (rows_of clients)) → read ≡ slice_index_or (slice_set clients place new) place read → mark ≡ (noted || row_conflicts (row_seen read.row) whole Read) → mark ≡ false → NoneExclusive (rows_of (slice_set clients place new))
-exclusive-noted clients place new read noted mark within before at made unmarked =
-    let there : client_at (slice_set clients place new) (place + 1) ≡ Some read = client_at-read (slice_set clients place new) (place + 1) place read (omega arith, omega (arith, length-set clients place new)) (omega arith) at in
-    let here : client_at (slice_set clients place new) (place + 1) ≡ Some new = client_at-set_same clients (place + 1) place new (omega arith, omega arith) (omega arith) in
+pub exclusive-noted : (known_nodes : List KnownNode) (place : ℕ) (new read : KnownNode) (noted mark : Bool) → place < length known_nodes → (noted ≡ false → NoneExclusive (rows_of known_nodes)) → read ≡ slice_index_or (slice_set known_nodes place new) place read → mark ≡ (noted || row_conflicts (row_seen read.row) whole Read) → mark ≡ false → NoneExclusive (rows_of (slice_set known_nodes place new))
+exclusive-noted known_nodes place new read noted mark within before at made unmarked =
+    let there : known_node_at (slice_set known_nodes place new) (place + 1) ≡ Some read = known_node_at-read (slice_set known_nodes place new) (place + 1) place read (omega arith, omega (arith, length-set known_nodes place new)) (omega arith) at in
+    let here : known_node_at (slice_set known_nodes place new) (place + 1) ≡ Some new = known_node_at-set_same known_nodes (place + 1) place new (omega arith, omega arith) (omega arith) in
     let same : read ≡ new = cc in
     let unset = neither noted _ (sym made ∙ unmarked) in
-    exclusive-set clients place new (before unset.0) (ap (λ (client : Client). row_conflicts (row_seen client.row) whole Read) (sym same) ∙ unset.1)
+    exclusive-set known_nodes place new (before unset.0) (ap (λ (known_node : KnownNode). row_conflicts (row_seen known_node.row) whole Read) (sym same) ∙ unset.1)
 
 -- without a row none has an exclusive byte
-pub exclusive-new : (clients : List Client) → rows_of clients ≡ (λ node. None) → NoneExclusive (rows_of clients)
-exclusive-new clients none node b within = ap (λ (rows : ℕ → Option Row). row_conflicts_at (rows node) b Read) none
+pub exclusive-new : (known_nodes : List KnownNode) → rows_of known_nodes ≡ (λ node. None) → NoneExclusive (rows_of known_nodes)
+exclusive-new known_nodes none node b within = ap (λ (rows : ℕ → Option Row). row_conflicts_at (rows node) b Read) none

@@ -6,7 +6,7 @@ use Rattle.std.proofs.lemmas.List.{map-id, map_push}
 use Rattle.std.proofs.lemmas.List.Elements.{filter-append}
 use Rattle.std.proofs.lemmas.List.FromFn.{map-range_with_len_more}
 use Rattle.std.proofs.lemmas.Option.{slice_get_past}
-use Rattle.token_server.specs.declared.client.Client.{Client}
+use Rattle.token_server.specs.declared.known_node.KnownNode.{KnownNode}
 use Rattle.token_server.specs.Parts.{dead_of, deaths_of}
 use Rattle.token_server.specs.declared.shown_row.ShownRow.{ShownRow}
 use Rattle.token_server.specs.State.{ServerState}
@@ -40,12 +40,12 @@ pub shown-same : (s : ServerState) (n node : ℕ) (rows : List ShownRow) → 1 +
 shown-same s n node rows e none so_far = so_far ∙ sym (nodes_where-missing (λ k. is_some (s.rows k)) n node e (ap is_some none))
 
 -- of no other node an incarnation is known as dead
-pub deaths_of-zero : (clients : List Client) (node : ℕ) → node ≡ 0 → deaths_of clients node ≡ 0
+pub deaths_of-zero : (known_nodes : List KnownNode) (node : ℕ) → node ≡ 0 → deaths_of known_nodes node ≡ 0
 unfolding deaths_of
-deaths_of-zero clients zero e = refl
-deaths_of-zero clients (suc k) e = absurd (omega arith)
+deaths_of-zero known_nodes zero e = refl
+deaths_of-zero known_nodes (suc k) e = absurd (omega arith)
 
-pub deaths_of-past : (clients : List Client) (node : ℕ) → length clients < node → deaths_of clients node ≡ 0
+pub deaths_of-past : (known_nodes : List KnownNode) (node : ℕ) → length known_nodes < node → deaths_of known_nodes node ≡ 0
 unfolding deaths_of
-deaths_of-past clients zero past = refl
-deaths_of-past clients (suc k) past = ap dead_of (slice_get_past clients k (omega arith))
+deaths_of-past known_nodes zero past = refl
+deaths_of-past known_nodes (suc k) past = ap dead_of (slice_get_past known_nodes k (omega arith))

@@ -14,7 +14,7 @@ use Rattle.token_queue.specs.declared.held.Held.{Held}
 use Rattle.token_queue.specs.Requests.{LineParts, is_of_call, is_up_to, AreOfDistinctCalls}
 use Rattle.token_queue.specs.Actives.{ActiveParts, requests_of, waiting_for}
 use Rattle.token_queue.proofs.CallLaws.{same_call-refl}
-use Rattle.token_server.specs.declared.client.Client.{Client}
+use Rattle.token_server.specs.declared.known_node.KnownNode.{KnownNode}
 use Rattle.token_server.specs.declared.change.Draft.{Draft}
 use Rattle.token_server.specs.declared.change.Parts.{Parts}
 use Rattle.token_server.specs.declared.change.Edit.{Edit}
@@ -133,7 +133,7 @@ abbrev Answer : Type 0
 Answer = Result (ServerState × List Message) StepError
 
 -- a step whose rows and requests change as the sketch has it
-module _ (p : ServerParts) (k : Sketch) (d : Draft) (listed : AreListed p k d.rows d.lists) (rows : rows_of (overlaid p.clients d.rows) ≡ rows_after k.changed (rows_of p.clients)) (deaths : deaths_of (overlaid p.clients d.rows) ≡ deaths_after k.changed (deaths_of p.clients)) (before : IsReady (server_state p) p.active.held) where
+module _ (p : ServerParts) (k : Sketch) (d : Draft) (listed : AreListed p k d.rows d.lists) (rows : rows_of (overlaid p.known_nodes d.rows) ≡ rows_after k.changed (rows_of p.known_nodes)) (deaths : deaths_of (overlaid p.known_nodes d.rows) ≡ deaths_after k.changed (deaths_of p.known_nodes)) (before : IsReady (server_state p) p.active.held) where
   active-is : requests_of (held_after d.lists p.active.held) ≡ (sketched p k).active ++ requests_of d.lists.fresh.items
   active-is = held_after-requests d.lists p.active.held ∙ ap (λ (xs : List TokenRequest). xs ++ requests_of d.lists.fresh.items) listed.served
 
@@ -146,7 +146,7 @@ module _ (p : ServerParts) (k : Sketch) (d : Draft) (listed : AreListed p k d.ro
     where
       by : (b : Bool) → awaits (server_state p) ≡ b → (sketched p k).active ≡ []
       by true is = ap (λ (rs : List TokenRequest). still_active k.ended (without (dropped k.changed) rs)) (before.resting is) ∙ none-left k.ended (dropped k.changed)
-      by false is = absurd (both_ways (awaits (sketched p k)) (none-after k.changed (rows_of p.clients) p.shape.nodes is) awaited)
+      by false is = absurd (both_ways (awaits (sketched p k)) (none-after k.changed (rows_of p.known_nodes) p.shape.nodes is) awaited)
 
   -- is the sketched state, with requests from the queue unless it awaits a token
   drafted-awaiting : awaits (sketched p k) ≡ true → drafted p d ≡ sketched p k
@@ -258,16 +258,16 @@ pub distinct-waiting : (s : ServerState) → IsOrderly s → AreDistinct s.waiti
 distinct-waiting s o c = let a = calls-kinds c s in let few = o.distinct c in omega arith
 
 -- what a planned step makes of a server holds all that a server has to
-pub applied : (p : ServerParts) (awaiting : Bool) (e : Edit) (v : Parts) (clients : List Client) (active : ActiveParts) (queue waiting : LineParts) → v ≡ e.parts.value → IsServer p awaiting → Fits p e → ((n : ℕ) → rows_of clients n ≡ given_rows v.given.items (overlaid p.clients v.draft.rows) n) → deaths_of clients ≡ deaths_of (overlaid p.clients v.draft.rows) → length clients ≡ length (overlaid p.clients v.draft.rows) → active.held ≡ held_after v.draft.lists p.active.held → queue.requests ≡ queue_after v.draft.lists p.queue.requests p.waiting.requests → waiting.requests ≡ waiting_after v.draft.lists p.waiting.requests → IsServer (record { shape = p.shape; file = p.file; epoch = p.epoch; clients = clients; active = active; queue = queue; waiting = waiting }) v.draft.awaits
-applied p awaiting e v clients active queue waiting is server fits rows deaths many held queued put_off = record {
-  each_node = many ∙ overlaid-length p.clients v.draft.rows ∙ server.each_node;
+pub applied : (p : ServerParts) (awaiting : Bool) (e : Edit) (v : Parts) (known_nodes : List KnownNode) (active : ActiveParts) (queue waiting : LineParts) → v ≡ e.parts.value → IsServer p awaiting → Fits p e → ((n : ℕ) → rows_of known_nodes n ≡ given_rows v.given.items (overlaid p.known_nodes v.draft.rows) n) → deaths_of known_nodes ≡ deaths_of (overlaid p.known_nodes v.draft.rows) → length known_nodes ≡ length (overlaid p.known_nodes v.draft.rows) → active.held ≡ held_after v.draft.lists p.active.held → queue.requests ≡ queue_after v.draft.lists p.queue.requests p.waiting.requests → waiting.requests ≡ waiting_after v.draft.lists p.waiting.requests → IsServer (record { shape = p.shape; file = p.file; epoch = p.epoch; known_nodes = known_nodes; active = active; queue = queue; waiting = waiting }) v.draft.awaits
+applied p awaiting e v known_nodes active queue waiting is server fits rows deaths many held queued put_off = record {
+  each_node = many ∙ overlaid-length p.known_nodes v.draft.rows ∙ server.each_node;
   file_in = server.file_in;
   epoch_in = server.epoch_in;
   awaited = subst (λ (w : Parts). w.draft.awaits ≡ awaits (made p w)) (sym is) fits.awaited ∙ ap (λ (x : ServerState × List Held). awaits x.0) whole;
   ready = subst (λ (x : ServerState × List Held). IsReady x.0 x.1) whole (subst (λ (w : Parts). IsReady (made p w) (held_after w.draft.lists p.active.held)) (sym is) fits.ready);
 }
   where
-    whole : ◌≡◌ {A = ServerState × List Held} (made p v, held_after v.draft.lists p.active.held) (server_state (record { shape = p.shape; file = p.file; epoch = p.epoch; clients = clients; active = active; queue = queue; waiting = waiting }), active.held)
+    whole : ◌≡◌ {A = ServerState × List Held} (made p v, held_after v.draft.lists p.active.held) (server_state (record { shape = p.shape; file = p.file; epoch = p.epoch; known_nodes = known_nodes; active = active; queue = queue; waiting = waiting }), active.held)
     whole = λ i. (record { shape = p.shape; file = p.file; epoch = p.epoch; rows = λ n. sym (rows n) i; dead = sym deaths i; queue = sym queued i; active = requests_of (sym held i); waiting = sym put_off i }, sym held i)
 
 -- lists by which nothing changes
@@ -293,14 +293,14 @@ module _ (p : ServerParts) (l : Lists) (awaiting : Bool) (given : Vec Given Glob
   waiting-same = λ i. waiting_moved (same.moved i) (without (same.dropped i) p.waiting.requests)
 
   -- leave a server as it is
-  pub same-state : with_given given.items p.clients (drafted p (record { rows = None; lists = l; awaits = awaiting })) ≡ server_state p
+  pub same-state : with_given given.items p.known_nodes (drafted p (record { rows = None; lists = l; awaits = awaiting })) ≡ server_state p
   same-state =
       λ i. record {
         shape = p.shape;
         file = p.file;
         epoch = p.epoch;
-        rows = given_rows (nothing i) p.clients;
-        dead = deaths_of p.clients;
+        rows = given_rows (nothing i) p.known_nodes;
+        dead = deaths_of p.known_nodes;
         queue = queue-same i;
         active = requests_of (held-same i);
         waiting = waiting-same i;

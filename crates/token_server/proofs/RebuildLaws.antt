@@ -14,11 +14,11 @@ use Rattle.members.specs.Parts.{MembersParts, incarnation_of, members_state}
 use Rattle.members.proofs.Numbered.{numbered-outside}
 use Rattle.token_queue.specs.Requests.{LineParts}
 use Rattle.token_queue.specs.Actives.{ActiveParts}
-use Rattle.token_server.specs.declared.client.Client.{Client}
+use Rattle.token_server.specs.declared.known_node.KnownNode.{KnownNode}
 use Rattle.token_server.specs.State.{Row, ServerState, is_awaited, awaited_row}
 use Rattle.token_server.specs.Serve.{row_conflicts_at}
 use Rattle.token_server.specs.Obstacles.{obstacle, is_idle}
-use Rattle.token_server.specs.Parts.{server_state, row_of, dead_of, client_at, rows_of, deaths_of}
+use Rattle.token_server.specs.Parts.{server_state, row_of, dead_of, known_node_at, rows_of, deaths_of}
 use Rattle.token_server.specs.Ready.{IsServer}
 use Rattle.token_server.specs.Marks.{NoneExclusive}
 use Rattle.token_server.specs.Rebuilds.{rebuilt_row, rebuilt_dead, AreRebuilt, rebuilt_by}
@@ -33,9 +33,9 @@ past-cluster nodes k past = ap (λ (b : Bool). nat_le 1 (suc k) && b) (lt-leb (s
     none true = refl
     none false = refl
 
-module _ (shape : ShapeFields) (file epoch : ℕ) (members : MembersParts) (clients : List Client) (many : length clients ≡ shape.nodes) (of_shape : (members_state members.nodes).nodes ≡ shape.nodes) (each : AreRebuilt file (before_epoch epoch) members shape.nodes clients) where
+module _ (shape : ShapeFields) (file epoch : ℕ) (members : MembersParts) (known_nodes : List KnownNode) (many : length known_nodes ≡ shape.nodes) (of_shape : (members_state members.nodes).nodes ≡ shape.nodes) (each : AreRebuilt file (before_epoch epoch) members shape.nodes known_nodes) where
   -- the rows of the nodes that are alive
-  pub rebuilt-rows : rows_of clients ≡ (rebuilt_by shape file epoch members).rows
+  pub rebuilt-rows : rows_of known_nodes ≡ (rebuilt_by shape file epoch members).rows
   unfolding rows_of
   rebuilt-rows = λ i node. at node i
     where
@@ -45,36 +45,36 @@ module _ (shape : ShapeFields) (file epoch : ℕ) (members : MembersParts) (clie
       alive : ℕ → Bool
       alive node = (members_state members.nodes).alive node
 
-      at : (node : ℕ) → row_of (client_at clients node) ≡ cond (is_within shape.nodes node && alive node) (row node) None
+      at : (node : ℕ) → row_of (known_node_at known_nodes node) ≡ cond (is_within shape.nodes node && alive node) (row node) None
       at zero = refl
       at (suc k) = elim (cases_lt k shape.nodes) [
         | inl below ↦ (each k below).0 ∙ ap (rebuilt_row file (before_epoch epoch) members) next ∙ sym (ap (λ (b : Bool). cond (b && alive (suc k)) (row (suc k)) None) (within-cluster shape.nodes k below))
-        | inr past ↦ ap row_of (slice_get_past clients k (omega arith)) ∙ sym (ap (λ (b : Bool). cond (b && alive (suc k)) (row (suc k)) None) (past-cluster shape.nodes k past))
+        | inr past ↦ ap row_of (slice_get_past known_nodes k (omega arith)) ∙ sym (ap (λ (b : Bool). cond (b && alive (suc k)) (row (suc k)) None) (past-cluster shape.nodes k past))
       ]
         where
           next : k + 1 ≡ suc k
           next = omega arith
 
   -- and the incarnations that were declared failed
-  pub rebuilt-deaths : deaths_of clients ≡ (rebuilt_by shape file epoch members).dead
+  pub rebuilt-deaths : deaths_of known_nodes ≡ (rebuilt_by shape file epoch members).dead
   unfolding deaths_of
   rebuilt-deaths = λ i node. at node i
     where
       outside : (node : ℕ) → (1 ≤ node → 1 + (members_state members.nodes).nodes ≤ node) → 0 ≡ rebuilt_dead members node
       outside node out = sym (ap (λ (k : ℕ). k - 1) (numbered-outside (λ y. incarnation_of y.alive y.last) (λ k. 1) 1 members.nodes node out))
 
-      at : (node : ℕ) → dead_of (client_at clients node) ≡ rebuilt_dead members node
+      at : (node : ℕ) → dead_of (known_node_at known_nodes node) ≡ rebuilt_dead members node
       at zero = outside zero (λ least. absurd (omega arith))
       at (suc k) = elim (cases_lt k shape.nodes) [
         | inl below ↦ (each k below).1 ∙ ap (rebuilt_dead members) next
-        | inr past ↦ ap dead_of (slice_get_past clients k (omega arith)) ∙ outside (suc k) (λ least. omega arith)
+        | inr past ↦ ap dead_of (slice_get_past known_nodes k (omega arith)) ∙ outside (suc k) (λ least. omega arith)
       ]
         where
           next : k + 1 ≡ suc k
           next = omega arith
 
   -- no row has an exclusive byte
-  pub rebuilt-free : NoneExclusive (rows_of clients)
+  pub rebuilt-free : NoneExclusive (rows_of known_nodes)
   rebuilt-free node b within = ap (λ (rows : ℕ → Option Row). row_conflicts_at (rows node) b Read) rebuilt-rows ∙ free (is_within shape.nodes node && (members_state members.nodes).alive node)
     where
       free : (t : Bool) → row_conflicts_at (cond t (Some (awaited_row file (before_epoch epoch) node ((members_state members.nodes).incarnation node))) None) b Read ≡ false
@@ -82,9 +82,9 @@ module _ (shape : ShapeFields) (file epoch : ℕ) (members : MembersParts) (clie
       free false = refl
 
 -- a server that has no request holds all that a server has to
-pub idle-server : (shape : ShapeFields) (file epoch : ℕ) (clients : List Client) (awaiting : Bool) (active : ActiveParts) (queue waiting : LineParts) → length clients ≡ shape.nodes → IsNumber shape.files file → IsEpoch epoch → awaiting ≡ some_passes (λ n. is_awaited (rows_of clients n)) 1 shape.nodes → ((n : ℕ) → IfSome (rows_of clients n) (λ row. before_epoch epoch ≤ row.number)) → active ≡ record { held = []; room = 0 } → queue ≡ record { requests = []; room = 0 } → waiting ≡ record { requests = []; room = 0 } → IsServer (record { shape = shape; file = file; epoch = epoch; clients = clients; active = active; queue = queue; waiting = waiting }) awaiting
-idle-server shape file epoch clients awaiting active queue waiting many file_in epoch_in awaited counted no_active no_queue no_waiting =
-    subst (λ (x : ActiveParts × LineParts × LineParts). IsServer (record { shape = shape; file = file; epoch = epoch; clients = clients; active = x.0; queue = x.1; waiting = x.2 }) awaiting)
+pub idle-server : (shape : ShapeFields) (file epoch : ℕ) (known_nodes : List KnownNode) (awaiting : Bool) (active : ActiveParts) (queue waiting : LineParts) → length known_nodes ≡ shape.nodes → IsNumber shape.files file → IsEpoch epoch → awaiting ≡ some_passes (λ n. is_awaited (rows_of known_nodes n)) 1 shape.nodes → ((n : ℕ) → IfSome (rows_of known_nodes n) (λ row. before_epoch epoch ≤ row.number)) → active ≡ record { held = []; room = 0 } → queue ≡ record { requests = []; room = 0 } → waiting ≡ record { requests = []; room = 0 } → IsServer (record { shape = shape; file = file; epoch = epoch; known_nodes = known_nodes; active = active; queue = queue; waiting = waiting }) awaiting
+idle-server shape file epoch known_nodes awaiting active queue waiting many file_in epoch_in awaited counted no_active no_queue no_waiting =
+    subst (λ (x : ActiveParts × LineParts × LineParts). IsServer (record { shape = shape; file = file; epoch = epoch; known_nodes = known_nodes; active = x.0; queue = x.1; waiting = x.2 }) awaiting)
     (λ i. (sym no_active i, sym no_queue i, sym no_waiting i))
     (record {
       each_node = many;
@@ -102,37 +102,37 @@ idle-server shape file epoch clients awaiting active queue waiting many file_in 
     })
   where
     s : ServerState
-    s = server_state (record { shape = shape; file = file; epoch = epoch; clients = clients; active = record { held = []; room = 0 }; queue = record { requests = []; room = 0 }; waiting = record { requests = []; room = 0 } })
+    s = server_state (record { shape = shape; file = file; epoch = epoch; known_nodes = known_nodes; active = record { held = []; room = 0 }; queue = record { requests = []; room = 0 }; waiting = record { requests = []; room = 0 } })
 
 -- and no number of an earlier epoch
-pub rebuilt-counted : (shape : ShapeFields) (file epoch : ℕ) (members : MembersParts) (clients : List Client) → rows_of clients ≡ (rebuilt_by shape file epoch members).rows → (n : ℕ) → IfSome (rows_of clients n) (λ row. before_epoch epoch ≤ row.number)
-rebuilt-counted shape file epoch members clients rows n =
+pub rebuilt-counted : (shape : ShapeFields) (file epoch : ℕ) (members : MembersParts) (known_nodes : List KnownNode) → rows_of known_nodes ≡ (rebuilt_by shape file epoch members).rows → (n : ℕ) → IfSome (rows_of known_nodes n) (λ row. before_epoch epoch ≤ row.number)
+rebuilt-counted shape file epoch members known_nodes rows n =
     subst (λ (f : ℕ → Option Row). IfSome (f n) (λ row. before_epoch epoch ≤ row.number)) (sym rows) (by (is_within shape.nodes n && (members_state members.nodes).alive n))
   where
     by : (b : Bool) → IfSome (cond b (Some (awaited_row file (before_epoch epoch) n ((members_state members.nodes).incarnation n))) None) (λ row. before_epoch epoch ≤ row.number)
     by true = omega arith
     by false = tt
 
--- one more client that was rebuilt
-pub rebuilt-push : (file number : ℕ) (members : MembersParts) (n : ℕ) (clients : List Client) (client : Client) → length clients ≡ n → row_of (Some client) ≡ rebuilt_row file number members (n + 1) → dead_of (Some client) ≡ rebuilt_dead members (n + 1) → AreRebuilt file number members n clients → AreRebuilt file number members (n + 1) (clients ++ client ∷ [])
-rebuilt-push file number members n clients client len row dead all = λ k below. elim (cases_lt k n) [
+-- one more node that was rebuilt
+pub rebuilt-push : (file number : ℕ) (members : MembersParts) (n : ℕ) (known_nodes : List KnownNode) (known_node : KnownNode) → length known_nodes ≡ n → row_of (Some known_node) ≡ rebuilt_row file number members (n + 1) → dead_of (Some known_node) ≡ rebuilt_dead members (n + 1) → AreRebuilt file number members n known_nodes → AreRebuilt file number members (n + 1) (known_nodes ++ known_node ∷ [])
+rebuilt-push file number members n known_nodes known_node len row dead all = λ k below. elim (cases_lt k n) [
   | inl before ↦
-      let there : slice_get (clients ++ client ∷ []) k ≡ slice_get clients k = before-push clients k (omega (arith, len, before)) in
+      let there : slice_get (known_nodes ++ known_node ∷ []) k ≡ slice_get known_nodes k = before-push known_nodes k (omega (arith, len, before)) in
       (ap row_of there ∙ (all k before).0, ap dead_of there ∙ (all k before).1)
   | inr from ↦
       let same : n ≡ k = omega (arith, from, below) in
-      subst (λ (m : ℕ). (row_of (slice_get (clients ++ client ∷ []) m) ≡ rebuilt_row file number members (m + 1)) × (dead_of (slice_get (clients ++ client ∷ []) m) ≡ rebuilt_dead members (m + 1))) same
+      subst (λ (m : ℕ). (row_of (slice_get (known_nodes ++ known_node ∷ []) m) ≡ rebuilt_row file number members (m + 1)) × (dead_of (slice_get (known_nodes ++ known_node ∷ []) m) ≡ rebuilt_dead members (m + 1))) same
       (ap row_of last ∙ row, ap dead_of last ∙ dead)
 ]
   where
-    before-push : (cs : List Client) (k : ℕ) → k < length cs → slice_get (cs ++ client ∷ []) k ≡ slice_get cs k
+    before-push : (cs : List KnownNode) (k : ℕ) → k < length cs → slice_get (cs ++ known_node ∷ []) k ≡ slice_get cs k
     before-push [] k within = absurd (omega arith)
     before-push (c ∷ cs) zero within = refl
     before-push (c ∷ cs) (suc k) within = before-push cs k (omega arith)
 
-    at-end : (cs : List Client) → slice_get (cs ++ client ∷ []) (length cs) ≡ Some client
+    at-end : (cs : List KnownNode) → slice_get (cs ++ known_node ∷ []) (length cs) ≡ Some known_node
     at-end [] = refl
     at-end (c ∷ cs) = at-end cs
 
-    last : slice_get (clients ++ client ∷ []) n ≡ Some client
-    last = ap (slice_get (clients ++ client ∷ [])) (sym len) ∙ at-end clients
+    last : slice_get (known_nodes ++ known_node ∷ []) n ≡ Some known_node
+    last = ap (slice_get (known_nodes ++ known_node ∷ [])) (sym len) ∙ at-end known_nodes

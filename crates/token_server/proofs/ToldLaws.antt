@@ -22,10 +22,10 @@ use Rattle.token_server.specs.declared.token_holder.TokenHolder.{TokenHolder}
 use Rattle.token_queue.specs.declared.token_request.TokenRequest.{TokenRequest}
 use Rattle.token_server.specs.declared.told.Told.{Told}
 use Rattle.token_server.specs.State.{Commands, Row, ServerState, with_row, begin}
-use Rattle.token_server.specs.declared.client.Client.{Client}
+use Rattle.token_server.specs.declared.known_node.KnownNode.{KnownNode}
 use Rattle.token_server.specs.declared.change.Given.{Given}
-use Rattle.token_server.specs.Parts.{next_number, told_commands, client_at, row_in, row_of, row_seen, row_state, rows_of}
-use Rattle.token_server.specs.Edits.{given_to_row, given_to_client, with_given_row, given_rows, with_given}
+use Rattle.token_server.specs.Parts.{next_number, told_commands, known_node_at, row_in, row_of, row_seen, row_state, rows_of}
+use Rattle.token_server.specs.Edits.{given_to_row, given_to_known_node, with_given_row, given_rows, with_given}
 use Rattle.token_server.proofs.ServeLaws.{each_served-append}
 use Rattle.token_server.specs.Serve.{narrowed, granted_span, commanded, granted_to, revoked_from, served, with_more, and_then, each_served}
 use Rattle.token_server.specs.Sketches.{commands_of}
@@ -224,37 +224,37 @@ module _ (s : ServerState) (xs : List TokenRequest) (ts : List Told) (r : TokenR
       ∙ ap (λ (x : Answer). with_more (commands_told ts) (and_then x (each_served rest))) is
 
 -- what a node is given is what it is told
-pub record GivesTold (clients : List Client) (t : Told) (g : Given) : Type 0 where
+pub record GivesTold (known_nodes : List KnownNode) (t : Told) (g : Given) : Type 0 where
   pub place : g.place + 1 ≡ t.node
-  pub row : given_to_client g (client_at clients t.node) ≡ row_told (Some t) (rows_of clients t.node)
+  pub row : given_to_known_node g (known_node_at known_nodes t.node) ≡ row_told (Some t) (rows_of known_nodes t.node)
 
-abbrev pub GiveTold : List Client → List Told → List Given → Type 0
-GiveTold clients [] [] = Unit {0}
-GiveTold clients (t ∷ ts) (g ∷ gs) = GivesTold clients t g × GiveTold clients ts gs
-GiveTold clients _ _ = ⊥
+abbrev pub GiveTold : List KnownNode → List Told → List Given → Type 0
+GiveTold known_nodes [] [] = Unit {0}
+GiveTold known_nodes (t ∷ ts) (g ∷ gs) = GivesTold known_nodes t g × GiveTold known_nodes ts gs
+GiveTold known_nodes _ _ = ⊥
 
-pub give_told-more : (clients : List Client) (ts : List Told) (gs : List Given) (t : Told) (g : Given) → GiveTold clients ts gs → GivesTold clients t g → GiveTold clients (ts ++ t ∷ []) (gs ++ g ∷ [])
-give_told-more clients [] [] t g all one = (one, tt)
-give_told-more clients (x ∷ ts) (y ∷ gs) t g all one = (all.0, give_told-more clients ts gs t g all.1 one)
-give_told-more clients [] (y ∷ gs) t g all one = absurd all
-give_told-more clients (x ∷ ts) [] t g all one = absurd all
+pub give_told-more : (known_nodes : List KnownNode) (ts : List Told) (gs : List Given) (t : Told) (g : Given) → GiveTold known_nodes ts gs → GivesTold known_nodes t g → GiveTold known_nodes (ts ++ t ∷ []) (gs ++ g ∷ [])
+give_told-more known_nodes [] [] t g all one = (one, tt)
+give_told-more known_nodes (x ∷ ts) (y ∷ gs) t g all one = (all.0, give_told-more known_nodes ts gs t g all.1 one)
+give_told-more known_nodes [] (y ∷ gs) t g all one = absurd all
+give_told-more known_nodes (x ∷ ts) [] t g all one = absurd all
 
-given_rows-told : (clients : List Client) (ts : List Told) (gs : List Given) (n : ℕ) → GiveTold clients ts gs → given_rows gs clients n ≡ row_told (told_to ts n) (rows_of clients n)
-given_rows-told clients [] [] n all = refl
-given_rows-told clients (t ∷ ts) (g ∷ gs) n all = elim (eqb_tells n (g.place + 1)) [
+given_rows-told : (known_nodes : List KnownNode) (ts : List Told) (gs : List Given) (n : ℕ) → GiveTold known_nodes ts gs → given_rows gs known_nodes n ≡ row_told (told_to ts n) (rows_of known_nodes n)
+given_rows-told known_nodes [] [] n all = refl
+given_rows-told known_nodes (t ∷ ts) (g ∷ gs) n all = elim (eqb_tells n (g.place + 1)) [
   | inl same ↦
       let at : n ≡ t.node = same.1 ∙ all.0.place in
       let own : t.node == n ≡ true = ap (λ (k : ℕ). t.node == k) at ∙ here t.node in
-      ap (λ (b : Bool). cond b (given_to_client g (client_at clients n)) (given_rows gs clients n)) same.0
-      ∙ ap (λ (k : ℕ). given_to_client g (client_at clients k)) at
+      ap (λ (b : Bool). cond b (given_to_known_node g (known_node_at known_nodes n)) (given_rows gs known_nodes n)) same.0
+      ∙ ap (λ (k : ℕ). given_to_known_node g (known_node_at known_nodes k)) at
       ∙ all.0.row
-      ∙ ap (λ (k : ℕ). row_told (Some t) (rows_of clients k)) (sym at)
-      ∙ sym (ap (λ (b : Bool). let o : Option Told = cond b (Some t) (told_to ts n) in row_told o (rows_of clients n)) own)
+      ∙ ap (λ (k : ℕ). row_told (Some t) (rows_of known_nodes k)) (sym at)
+      ∙ sym (ap (λ (b : Bool). let o : Option Told = cond b (Some t) (told_to ts n) in row_told o (rows_of known_nodes n)) own)
   | inr other ↦
       let apart : t.node == n ≡ false = elsewhere other.1 in
-      ap (λ (b : Bool). cond b (given_to_client g (client_at clients n)) (given_rows gs clients n)) other.0
-      ∙ given_rows-told clients ts gs n all.1
-      ∙ sym (ap (λ (b : Bool). let o : Option Told = cond b (Some t) (told_to ts n) in row_told o (rows_of clients n)) apart)
+      ap (λ (b : Bool). cond b (given_to_known_node g (known_node_at known_nodes n)) (given_rows gs known_nodes n)) other.0
+      ∙ given_rows-told known_nodes ts gs n all.1
+      ∙ sym (ap (λ (b : Bool). let o : Option Told = cond b (Some t) (told_to ts n) in row_told o (rows_of known_nodes n)) apart)
 ]
   where
     here : (k : ℕ) → k == k ≡ true
@@ -262,28 +262,28 @@ given_rows-told clients (t ∷ ts) (g ∷ gs) n all = elim (eqb_tells n (g.place
 
     elsewhere : (n ≡ g.place + 1 → ⊥) → t.node == n ≡ false
     elsewhere other = elim (eqb_tells t.node n) [ inl same ↦ absurd (other (sym same.1 ∙ sym all.0.place)) | inr apart ↦ apart.0 ]
-given_rows-told clients [] (g ∷ gs) n all = absurd all
-given_rows-told clients (t ∷ ts) [] n all = absurd all
+given_rows-told known_nodes [] (g ∷ gs) n all = absurd all
+given_rows-told known_nodes (t ∷ ts) [] n all = absurd all
 
-pub with_given-told : (s : ServerState) (clients : List Client) (ts : List Told) (gs : List Given) → rows_of clients ≡ s.rows → GiveTold clients ts gs → with_given gs clients s ≡ with_told ts s
-with_given-told s clients ts gs same all = λ i. record s { rows = λ n. (given_rows-told clients ts gs n all ∙ ap (λ (f : ℕ → Option Row). row_told (told_to ts n) (f n)) same) i }
+pub with_given-told : (s : ServerState) (known_nodes : List KnownNode) (ts : List Told) (gs : List Given) → rows_of known_nodes ≡ s.rows → GiveTold known_nodes ts gs → with_given gs known_nodes s ≡ with_told ts s
+with_given-told s known_nodes ts gs same all = λ i. record s { rows = λ n. (given_rows-told known_nodes ts gs n all ∙ ap (λ (f : ℕ → Option Row). row_told (told_to ts n) (f n)) same) i }
 
 -- the last is given, unless one of the others is of its node
-pub given_rows-last : (clients after : List Client) (gs : List Given) (g : Given) → (n : ℕ) → rows_of after n ≡ with_given_row g clients n → ((m : ℕ) → (m ≡ g.place + 1 → ⊥) → client_at after m ≡ client_at clients m) → list_any (λ x. x.place == g.place) gs ≡ false → given_rows gs after n ≡ given_rows (gs ++ g ∷ []) clients n
-given_rows-last clients after [] g n is others none = is
-given_rows-last clients after (x ∷ gs) g n is others none =
+pub given_rows-last : (known_nodes after : List KnownNode) (gs : List Given) (g : Given) → (n : ℕ) → rows_of after n ≡ with_given_row g known_nodes n → ((m : ℕ) → (m ≡ g.place + 1 → ⊥) → known_node_at after m ≡ known_node_at known_nodes m) → list_any (λ x. x.place == g.place) gs ≡ false → given_rows gs after n ≡ given_rows (gs ++ g ∷ []) known_nodes n
+given_rows-last known_nodes after [] g n is others none = is
+given_rows-last known_nodes after (x ∷ gs) g n is others none =
     let parts = or_neither (x.place == g.place) (list_any (λ y. y.place == g.place) gs) none in
-    let rest = given_rows-last clients after gs g n is others parts.1 in
+    let rest = given_rows-last known_nodes after gs g n is others parts.1 in
     elim (eqb_tells n (x.place + 1)) [
       | inl same ↦
           let apart : n ≡ g.place + 1 → ⊥ = λ h. both_ways (x.place == g.place) parts.0 (eq-eqb x.place g.place (same_place (sym same.1 ∙ h))) in
-          ap (λ (b : Bool). cond b (given_to_client x (client_at after n)) (given_rows gs after n)) same.0
-          ∙ ap (given_to_client x) (others n apart)
-          ∙ sym (ap (λ (b : Bool). cond b (given_to_client x (client_at clients n)) (given_rows (gs ++ g ∷ []) clients n)) same.0)
+          ap (λ (b : Bool). cond b (given_to_known_node x (known_node_at after n)) (given_rows gs after n)) same.0
+          ∙ ap (given_to_known_node x) (others n apart)
+          ∙ sym (ap (λ (b : Bool). cond b (given_to_known_node x (known_node_at known_nodes n)) (given_rows (gs ++ g ∷ []) known_nodes n)) same.0)
       | inr other ↦
-          ap (λ (b : Bool). cond b (given_to_client x (client_at after n)) (given_rows gs after n)) other.0
+          ap (λ (b : Bool). cond b (given_to_known_node x (known_node_at after n)) (given_rows gs after n)) other.0
           ∙ rest
-          ∙ sym (ap (λ (b : Bool). cond b (given_to_client x (client_at clients n)) (given_rows (gs ++ g ∷ []) clients n)) other.0)
+          ∙ sym (ap (λ (b : Bool). cond b (given_to_known_node x (known_node_at known_nodes n)) (given_rows (gs ++ g ∷ []) known_nodes n)) other.0)
     ]
   where
     or_neither : (a b : Bool) → (a || b) ≡ false → (a ≡ false) × (b ≡ false)
@@ -293,29 +293,29 @@ given_rows-last clients after (x ∷ gs) g n is others none =
     same_place : x.place + 1 ≡ g.place + 1 → x.place ≡ g.place
     same_place h = omega arith
 
-pub given_rows-passed : (clients : List Client) (gs : List Given) (g : Given) (n : ℕ) → list_any (λ x. x.place == g.place) gs ≡ true → given_rows gs clients n ≡ given_rows (gs ++ g ∷ []) clients n
-given_rows-passed clients [] g n some = absurd (cc)
-given_rows-passed clients (x ∷ gs) g n some = elim (eqb_tells n (x.place + 1)) [
+pub given_rows-passed : (known_nodes : List KnownNode) (gs : List Given) (g : Given) (n : ℕ) → list_any (λ x. x.place == g.place) gs ≡ true → given_rows gs known_nodes n ≡ given_rows (gs ++ g ∷ []) known_nodes n
+given_rows-passed known_nodes [] g n some = absurd (cc)
+given_rows-passed known_nodes (x ∷ gs) g n some = elim (eqb_tells n (x.place + 1)) [
   | inl same ↦
-      ap (λ (b : Bool). cond b (given_to_client x (client_at clients n)) (given_rows gs clients n)) same.0
-      ∙ sym (ap (λ (b : Bool). cond b (given_to_client x (client_at clients n)) (given_rows (gs ++ g ∷ []) clients n)) same.0)
+      ap (λ (b : Bool). cond b (given_to_known_node x (known_node_at known_nodes n)) (given_rows gs known_nodes n)) same.0
+      ∙ sym (ap (λ (b : Bool). cond b (given_to_known_node x (known_node_at known_nodes n)) (given_rows (gs ++ g ∷ []) known_nodes n)) same.0)
   | inr other ↦
-      ap (λ (b : Bool). cond b (given_to_client x (client_at clients n)) (given_rows gs clients n)) other.0
-      ∙ elsewhere other.1 (given_rows-passed clients gs g n)
-      ∙ sym (ap (λ (b : Bool). cond b (given_to_client x (client_at clients n)) (given_rows (gs ++ g ∷ []) clients n)) other.0)
+      ap (λ (b : Bool). cond b (given_to_known_node x (known_node_at known_nodes n)) (given_rows gs known_nodes n)) other.0
+      ∙ elsewhere other.1 (given_rows-passed known_nodes gs g n)
+      ∙ sym (ap (λ (b : Bool). cond b (given_to_known_node x (known_node_at known_nodes n)) (given_rows (gs ++ g ∷ []) known_nodes n)) other.0)
 ]
   where
-    own : (n ≡ x.place + 1 → ⊥) → x.place ≡ g.place → given_rows gs clients n ≡ given_rows (gs ++ g ∷ []) clients n
+    own : (n ≡ x.place + 1 → ⊥) → x.place ≡ g.place → given_rows gs known_nodes n ≡ given_rows (gs ++ g ∷ []) known_nodes n
     own other h = skip gs
       where
         not_here : (n == g.place + 1) ≡ false
         not_here = elim (eqb_tells n (g.place + 1)) [ inl same ↦ absurd (other (same.1 ∙ ap (λ (k : ℕ). k + 1) (sym h))) | inr apart ↦ apart.0 ]
 
-        skip : (ys : List Given) → given_rows ys clients n ≡ given_rows (ys ++ g ∷ []) clients n
-        skip [] = sym (ap (λ (b : Bool). cond b (given_to_client g (client_at clients n)) (rows_of clients n)) not_here)
-        skip (y ∷ ys) = ap (λ (o : Option Row). cond (n == y.place + 1) (given_to_client y (client_at clients n)) o) (skip ys)
+        skip : (ys : List Given) → given_rows ys known_nodes n ≡ given_rows (ys ++ g ∷ []) known_nodes n
+        skip [] = sym (ap (λ (b : Bool). cond b (given_to_known_node g (known_node_at known_nodes n)) (rows_of known_nodes n)) not_here)
+        skip (y ∷ ys) = ap (λ (o : Option Row). cond (n == y.place + 1) (given_to_known_node y (known_node_at known_nodes n)) o) (skip ys)
 
-    elsewhere : (n ≡ x.place + 1 → ⊥) → (list_any (λ y. y.place == g.place) gs ≡ true → given_rows gs clients n ≡ given_rows (gs ++ g ∷ []) clients n) → given_rows gs clients n ≡ given_rows (gs ++ g ∷ []) clients n
+    elsewhere : (n ≡ x.place + 1 → ⊥) → (list_any (λ y. y.place == g.place) gs ≡ true → given_rows gs known_nodes n ≡ given_rows (gs ++ g ∷ []) known_nodes n) → given_rows gs known_nodes n ≡ given_rows (gs ++ g ∷ []) known_nodes n
     elsewhere other rest = elim (eqb_tells x.place g.place) [
       | inl same ↦ own other same.1
       | inr apart ↦ rest (sym (ap (λ (b : Bool). b || list_any (λ y. y.place == g.place) gs) apart.0) ∙ some)
@@ -326,15 +326,15 @@ pub list-at : {X : Type 0} (xs : List X) (i : ℕ) (x : X) → take (i + 1) xs �
 list-at xs i x next = sym (take-append-drop (i + 1) xs) ∙ ap (λ ys. ys ++ drop (i + 1) xs) next ∙ append_assoc (take i xs) (x ∷ []) (drop (i + 1) xs)
 
 -- what one is given where its node has a row, and where it has none
-pub gives-told : (g : Given) (t : Told) (client : Option Client) (x : Client) (holder : TokenHolder) → client ≡ Some x → x.row ≡ Some holder → g.commands ≡ awaiting t.command t.commands → edited_token g.token holder.token ≡ promised t.command (token_of holder.token) → given_to_client g client ≡ row_told (Some t) (row_of client)
-gives-told g t client x holder there row commands token =
-    ap (given_to_client g) there
+pub gives-told : (g : Given) (t : Told) (known_node : Option KnownNode) (x : KnownNode) (holder : TokenHolder) → known_node ≡ Some x → x.row ≡ Some holder → g.commands ≡ awaiting t.command t.commands → edited_token g.token holder.token ≡ promised t.command (token_of holder.token) → given_to_known_node g known_node ≡ row_told (Some t) (row_of known_node)
+gives-told g t known_node x holder there row commands token =
+    ap (given_to_known_node g) there
     ∙ ap (given_to_row g.commands g.token) row
     ∙ (λ i. Some (row_in (commands i) (token i)))
     ∙ sym (ap (λ (o : Option TokenHolder). row_told (Some t) (row_seen o)) row)
-    ∙ sym (ap (λ (o : Option Client). row_told (Some t) (row_of o)) there)
+    ∙ sym (ap (λ (o : Option KnownNode). row_told (Some t) (row_of o)) there)
 
-pub gives-nothing : (g : Given) (t : Told) (client : Option Client) → row_of client ≡ None → given_to_client g client ≡ row_told (Some t) (row_of client)
+pub gives-nothing : (g : Given) (t : Told) (known_node : Option KnownNode) → row_of known_node ≡ None → given_to_known_node g known_node ≡ row_told (Some t) (row_of known_node)
 gives-nothing g t None none = refl
 gives-nothing g t (Some x) none = by x.row none
   where

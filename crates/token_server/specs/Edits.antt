@@ -13,7 +13,7 @@ use Rattle.token_queue.specs.Requests.{LineParts, is_of_call, is_up_to, AreOfDis
 use Rattle.token_queue.specs.Actives.{ActiveParts, requests_of, waiting_for}
 use Rattle.token_server.specs.declared.token_holder.TokenHolder.{TokenHolder}
 use Rattle.token_server.specs.declared.token_holder.RowView.{RowView}
-use Rattle.token_server.specs.declared.client.Client.{Client}
+use Rattle.token_server.specs.declared.known_node.KnownNode.{KnownNode}
 use Rattle.token_server.specs.declared.row_edit.RowAfter.{RowAfter}
 use Rattle.token_server.specs.declared.row_edit.RowEdit.{RowEdit}
 use Rattle.token_server.specs.declared.change.Draft.{Draft}
@@ -28,7 +28,7 @@ use Rattle.token_server.specs.Admitting.{all_but, IsAdmitted}
 use Rattle.token_server.specs.declared.sketch.Sketch.{Sketch}
 use Rattle.token_server.specs.Obstacles.{obstacle}
 use Rattle.token_server.specs.Sketches.{without, still_active, queue_moved, waiting_moved, sketched}
-use Rattle.token_server.specs.Parts.{ServerParts, row_in, rows_of, deaths_of, client_at}
+use Rattle.token_server.specs.Parts.{ServerParts, row_in, rows_of, deaths_of, known_node_at}
 use Rattle.token_server.specs.Ready.{IsReady}
 
 -- a row that is read, as a value
@@ -50,21 +50,21 @@ abbrev pub row_kept : Option RowAfter → Option TokenHolder → Option TokenHol
 row_kept None row = None
 row_kept (Some after) row = row_with after.commands after.token row
 
-abbrev pub client_after : RowEdit → Client → Client
-client_after e client = record { dead = e.dead; row = row_kept e.row client.row }
+abbrev pub known_node_after : RowEdit → KnownNode → KnownNode
+known_node_after e known_node = record { dead = e.dead; row = row_kept e.row known_node.row }
 
 -- the nodes after the edit of the one that stands at its place, if one does
-abbrev pub with_client : List Client → RowEdit → Option Client → List Client
-with_client clients e None = clients
-with_client clients e (Some client) = slice_set clients e.place (client_after e client)
+abbrev pub with_known_node : List KnownNode → RowEdit → Option KnownNode → List KnownNode
+with_known_node known_nodes e None = known_nodes
+with_known_node known_nodes e (Some known_node) = slice_set known_nodes e.place (known_node_after e known_node)
 
 -- the nodes after the edit, if there is one
-abbrev pub overlaid : List Client → Option RowEdit → List Client
-overlaid clients None = clients
-overlaid clients (Some e) = with_client clients e (slice_get clients e.place)
+abbrev pub overlaid : List KnownNode → Option RowEdit → List KnownNode
+overlaid known_nodes None = known_nodes
+overlaid known_nodes (Some e) = with_known_node known_nodes e (slice_get known_nodes e.place)
 
--- the client is there, with that row
-abbrev pub IsReadAs : Option Client → Option TokenHolder → Type 0
+-- the node is known, with that row
+abbrev pub IsReadAs : Option KnownNode → Option TokenHolder → Type 0
 IsReadAs there row = (dead : ℕ) × (there ≡ Some (record { dead = dead; row = row }))
 
 -- those that are served, once the call's request is served no longer
@@ -103,7 +103,7 @@ waiting_after l waiting = waiting_moved l.moved (without l.dropped waiting)
 
 -- the state once a row is edited, where no request moves
 abbrev pub reached : ServerParts → Option RowEdit → ServerState
-reached p rows = record { shape = p.shape; file = p.file; epoch = p.epoch; rows = rows_of (overlaid p.clients rows); dead = deaths_of (overlaid p.clients rows); queue = p.queue.requests; active = requests_of p.active.held; waiting = p.waiting.requests }
+reached p rows = record { shape = p.shape; file = p.file; epoch = p.epoch; rows = rows_of (overlaid p.known_nodes rows); dead = deaths_of (overlaid p.known_nodes rows); queue = p.queue.requests; active = requests_of p.active.held; waiting = p.waiting.requests }
 
 -- the requests change as the sketch has it; then, unless a node has not told its token, these come from the queue, and each that is served is known with the node whose row it waits for
 pub record AreListed (p : ServerParts) (k : Sketch) (rows : Option RowEdit) (l : Lists) : Type 0 where
@@ -120,8 +120,8 @@ drafted p d = record {
   shape = p.shape;
   file = p.file;
   epoch = p.epoch;
-  rows = rows_of (overlaid p.clients d.rows);
-  dead = deaths_of (overlaid p.clients d.rows);
+  rows = rows_of (overlaid p.known_nodes d.rows);
+  dead = deaths_of (overlaid p.known_nodes d.rows);
   queue = queue_after d.lists p.queue.requests p.waiting.requests;
   active = requests_of (held_after d.lists p.active.held);
   waiting = waiting_after d.lists p.waiting.requests;
@@ -135,25 +135,25 @@ abbrev pub given_to_row : Commands → TokenEdit → Option TokenHolder → Opti
 given_to_row commands token None = None
 given_to_row commands token (Some row) = Some (given_row commands token row)
 
-abbrev pub given_to_client : Given → Option Client → Option Row
-given_to_client g None = None
-given_to_client g (Some client) = given_to_row g.commands g.token client.row
+abbrev pub given_to_known_node : Given → Option KnownNode → Option Row
+given_to_known_node g None = None
+given_to_known_node g (Some known_node) = given_to_row g.commands g.token known_node.row
 
 -- the row of each node once one is given that
-abbrev pub with_given_row : Given → List Client → ℕ → Option Row
-with_given_row g clients n = if n == g.place + 1 then given_to_client g (client_at clients n) else rows_of clients n
+abbrev pub with_given_row : Given → List KnownNode → ℕ → Option Row
+with_given_row g known_nodes n = if n == g.place + 1 then given_to_known_node g (known_node_at known_nodes n) else rows_of known_nodes n
 
 -- once these are given, of which the first counts for a node
-abbrev pub given_rows : List Given → List Client → ℕ → Option Row
-given_rows [] clients n = rows_of clients n
-given_rows (g ∷ gs) clients n = if n == g.place + 1 then given_to_client g (client_at clients n) else given_rows gs clients n
+abbrev pub given_rows : List Given → List KnownNode → ℕ → Option Row
+given_rows [] known_nodes n = rows_of known_nodes n
+given_rows (g ∷ gs) known_nodes n = if n == g.place + 1 then given_to_known_node g (known_node_at known_nodes n) else given_rows gs known_nodes n
 
-abbrev pub with_given : List Given → List Client → ServerState → ServerState
-with_given gs clients s = record s { rows = given_rows gs clients }
+abbrev pub with_given : List Given → List KnownNode → ServerState → ServerState
+with_given gs known_nodes s = record s { rows = given_rows gs known_nodes }
 
 -- the state of a server once these parts of an edit are made
 abbrev pub made : ServerParts → Parts → ServerState
-made p v = with_given v.given.items (overlaid p.clients v.draft.rows) (drafted p v.draft)
+made p v = with_given v.given.items (overlaid p.known_nodes v.draft.rows) (drafted p v.draft)
 
 -- and once an edit is
 abbrev pub planned : ServerParts → Edit → ServerState
@@ -191,7 +191,7 @@ pub record PartsFit (p : ServerParts) (v : Parts) : Type 0 where
   pub served : HeldHasRoom p.active v.spares.active (length v.draft.lists.fresh.items)
   pub queued : HasRoom p.queue v.spares.queue (many_moved v.draft.lists.moved (without v.draft.lists.dropped p.waiting.requests))
   pub put_off : HasRoom p.waiting v.spares.waiting (many_put_off v.draft.lists.moved)
-  pub nodes : length (overlaid p.clients v.draft.rows) ≡ length p.clients
+  pub nodes : length (overlaid p.known_nodes v.draft.rows) ≡ length p.known_nodes
   pub awaited : v.draft.awaits ≡ awaits (made p v)
   pub ready : IsReady (made p v) (held_after v.draft.lists p.active.held)
 

@@ -15,7 +15,7 @@ use Rattle.messages.specs.Shapes.{ShapeFields}
 use Rattle.token_queue.specs.Requests.{LineParts}
 use Rattle.token_queue.specs.Actives.{ActiveParts, requests_of}
 use Rattle.token_server.specs.declared.token_holder.TokenHolder.{TokenHolder}
-use Rattle.token_server.specs.declared.client.Client.{Client}
+use Rattle.token_server.specs.declared.known_node.KnownNode.{KnownNode}
 use Rattle.token_server.specs.State.{Commands, Row, ServerState}
 
 -- the row in the rules of a node that had those commands, with that token
@@ -34,34 +34,34 @@ row_seen (Some row) = Some (row_state row)
 abbrev pub SameRow : TokenHolder → TokenHolder → Type 0
 SameRow a b = (a.commands ≡ b.commands) × (token_of a.token ≡ token_of b.token)
 
-abbrev pub row_of : Option Client → Option Row
+abbrev pub row_of : Option KnownNode → Option Row
 row_of None = None
-row_of (Some client) = row_seen client.row
+row_of (Some known_node) = row_seen known_node.row
 
-abbrev pub dead_of : Option Client → ℕ
+abbrev pub dead_of : Option KnownNode → ℕ
 dead_of None = 0
-dead_of (Some client) = client.dead
+dead_of (Some known_node) = known_node.dead
 
 -- the same is known of both
-abbrev pub SameKnown : Option Client → Option Client → Type 0
+abbrev pub SameKnown : Option KnownNode → Option KnownNode → Type 0
 SameKnown a b = (row_of a ≡ row_of b) × (dead_of a ≡ dead_of b)
 
 -- the same is known of each two
-abbrev pub SameClients : List Client → List Client → Type 0
-SameClients clients others = (k : ℕ) → k < length clients → SameKnown (slice_get clients k) (slice_get others k)
+abbrev pub SameKnownNodes : List KnownNode → List KnownNode → Type 0
+SameKnownNodes known_nodes others = (k : ℕ) → k < length known_nodes → SameKnown (slice_get known_nodes k) (slice_get others k)
 
 -- nodes are numbered from 1
-abbrev pub client_at : List Client → ℕ → Option Client
-client_at clients zero = None
-client_at clients (suc k) = slice_get clients k
+abbrev pub known_node_at : List KnownNode → ℕ → Option KnownNode
+known_node_at known_nodes zero = None
+known_node_at known_nodes (suc k) = slice_get known_nodes k
 
 -- the row of each node
-unfoldable pub rows_of : List Client → ℕ → Option Row
-rows_of clients node = row_of (client_at clients node)
+unfoldable pub rows_of : List KnownNode → ℕ → Option Row
+rows_of known_nodes node = row_of (known_node_at known_nodes node)
 
 -- the greatest incarnation of each node known to be dead
-unfoldable pub deaths_of : List Client → ℕ → ℕ
-deaths_of clients node = dead_of (client_at clients node)
+unfoldable pub deaths_of : List KnownNode → ℕ → ℕ
+deaths_of known_nodes node = dead_of (known_node_at known_nodes node)
 
 -- the number of the next command of an epoch whose commands begin after that number, unless one is under way
 abbrev pub next_number : ℕ → Commands → Result (Option ℕ) StepError
@@ -96,11 +96,11 @@ pub record ServerParts : Type 0 where
   pub shape : ShapeFields
   pub file : ℕ
   pub epoch : ℕ
-  pub clients : List Client
+  pub known_nodes : List KnownNode
   pub active : ActiveParts
   pub queue : LineParts
   pub waiting : LineParts
 
 -- the state that the parts stand for
 abbrev pub server_state : ServerParts → ServerState
-server_state p = record { shape = p.shape; file = p.file; epoch = p.epoch; rows = rows_of p.clients; dead = deaths_of p.clients; queue = p.queue.requests; active = requests_of p.active.held; waiting = p.waiting.requests }
+server_state p = record { shape = p.shape; file = p.file; epoch = p.epoch; rows = rows_of p.known_nodes; dead = deaths_of p.known_nodes; queue = p.queue.requests; active = requests_of p.active.held; waiting = p.waiting.requests }

@@ -34,9 +34,9 @@ pub record IsReady (s : ServerState) (held : List Held) : Type 0 where
   pub settled : awaits s ≡ false → all_stay s.active [] s.queue ≡ true
   pub orderly : IsOrderly s
 
--- there is a client for each node, the file is one of the cluster's, and it is known whether a node has not told its token
+-- each node is known, the file is one of the cluster's, and it is known whether a node has not told its token
 pub record IsServer (p : ServerParts) (awaiting : Bool) : Type 0 where
-  pub each_node : length p.clients ≡ p.shape.nodes
+  pub each_node : length p.known_nodes ≡ p.shape.nodes
   pub file_in : IsNumber p.shape.files p.file
   pub epoch_in : IsEpoch p.epoch
   pub awaited : awaiting ≡ awaits (server_state p)

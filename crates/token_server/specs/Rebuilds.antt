@@ -6,7 +6,7 @@ use Rattle.model.specs.declared.mode.Mode.{Mode}
 use Rattle.model.specs.declared.mode.Mode.TheVariants.{Read, Write}
 use Rattle.messages.specs.Shapes.{ShapeFields}
 use Rattle.members.specs.Parts.{MembersParts, members_state}
-use Rattle.token_server.specs.declared.client.Client.{Client}
+use Rattle.token_server.specs.declared.known_node.KnownNode.{KnownNode}
 use Rattle.token_server.specs.State.{Row, ServerState, awaited_row, rebuilt}
 use Rattle.token_server.specs.Parts.{row_of, dead_of}
 
@@ -25,10 +25,10 @@ rebuilt_row file number members node =
 abbrev pub rebuilt_dead : MembersParts → ℕ → ℕ
 rebuilt_dead members node = (members_state members.nodes).incarnation node - 1
 
--- the first n clients are those of nodes 1 to n
-abbrev pub AreRebuilt : ℕ → ℕ → MembersParts → ℕ → List Client → Type 0
-AreRebuilt file number members n clients =
-    (k : ℕ) → k < n → (row_of (slice_get clients k) ≡ rebuilt_row file number members (k + 1)) × (dead_of (slice_get clients k) ≡ rebuilt_dead members (k + 1))
+-- the first n known nodes are those of nodes 1 to n
+abbrev pub AreRebuilt : ℕ → ℕ → MembersParts → ℕ → List KnownNode → Type 0
+AreRebuilt file number members n known_nodes =
+    (k : ℕ) → k < n → (row_of (slice_get known_nodes k) ≡ rebuilt_row file number members (k + 1)) × (dead_of (slice_get known_nodes k) ≡ rebuilt_dead members (k + 1))
 
 -- the server of a file of a cluster with those members
 abbrev pub rebuilt_by : ShapeFields → ℕ → ℕ → MembersParts → ServerState

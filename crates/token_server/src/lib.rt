@@ -2,12 +2,12 @@
 #![tactic(auto)]
 
 pub mod change;
-mod client;
-mod clients;
 mod command;
 mod commands;
 pub mod event;
 mod gone;
+mod known_node;
+mod known_nodes;
 pub mod laws;
 pub mod lists;
 mod moves;

@@ -7,8 +7,8 @@ ghost use Rattle.token_server.specs.Parts.{row_seen};
 ghost use Rattle.token_server.specs.declared.token_holder.TokenHolder.{TokenHolder};
 ghost use Rattle.token_server.specs.Edits.{seen_row, row_kept};
 
-use crate::client::Client;
 use crate::commands::Commands;
+use crate::known_node::KnownNode;
 use crate::token_holder::{RowView, excludes};
 use token_set::set::TokenSet;
 
@@ -29,13 +29,13 @@ pub struct RowEdit {
 }
 
 impl RowEdit {
-    /// The row of the node, which was this client before.
-    pub fn row_over<'a>(&'a self, client: &'a Client) -> Option<RowView<'a>>
-        ensures { seen_row result ≡ row_kept self.now.row client.now.row }
+    /// The row of the node, which was known so before.
+    pub fn row_over<'a>(&'a self, known_node: &'a KnownNode) -> Option<RowView<'a>>
+        ensures { seen_row result ≡ row_kept self.now.row known_node.now.row }
     {
         let after = self.row.as_ref()?;
         let commands = &after.commands;
-        match (&after.token, &client.row) {
+        match (&after.token, &known_node.row) {
             (Some(token), _) => Some(RowView { commands, token }),
             (None, Some(row)) => Some(RowView {
                 commands,

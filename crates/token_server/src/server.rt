@@ -17,9 +17,9 @@ ghost use Rattle.token_server.specs.Sketches.{is_answer, dropped, without, moved
 ghost use Rattle.token_server.specs.Edits.{overlaid, reached, planned, AreListed, Fits, HasRoom, HeldHasRoom, many_moved, many_put_off};
 
 use crate::change::{Change, Draft, Edit, Parts};
-use crate::clients::Clients;
 use crate::commands::before_epoch;
 use crate::event::ServerEvent;
+use crate::known_nodes::KnownNodes;
 use crate::lists::{Lists, Spares};
 use crate::moves;
 use crate::node_change::NodeChange;
@@ -63,7 +63,7 @@ pub struct Server {
     file: u16,
     // 1 until it was rebuilt.
     epoch: u16,
-    clients: Clients,
+    known_nodes: KnownNodes,
     active: Active,
     queue: Line,
     waiting: Line,
@@ -77,9 +77,9 @@ impl Model for Server {
 
     ghost Value = { ServerParts };
 
-    ghost view = { λ s. record { shape = s.shape; file = s.file; epoch = s.epoch; clients = s.clients; active = s.active; queue = s.queue; waiting = s.waiting } };
+    ghost view = { λ s. record { shape = s.shape; file = s.file; epoch = s.epoch; known_nodes = s.known_nodes; active = s.active; queue = s.queue; waiting = s.waiting } };
 
-    ghost invariant = { λ s. IsServer (record { shape = s.shape; file = s.file; epoch = s.epoch; clients = s.clients; active = s.active; queue = s.queue; waiting = s.waiting }) s.awaits };
+    ghost invariant = { λ s. IsServer (record { shape = s.shape; file = s.file; epoch = s.epoch; known_nodes = s.known_nodes; active = s.active; queue = s.queue; waiting = s.waiting }) s.awaits };
 }
 
 impl Server {
@@ -95,7 +95,7 @@ impl Server {
             shape,
             file,
             epoch: 1,
-            clients: Clients::new(alloc, shape.nodes())?,
+            known_nodes: KnownNodes::new(alloc, shape.nodes())?,
             active: Active::new(alloc),
             queue: Line::new(alloc),
             waiting: Line::new(alloc),
@@ -123,14 +123,14 @@ impl Server {
         ensures outcome { let nodes = members_state members.now.nodes in IfOk result (λ r. r.1 ≡ sending (outstanding (rebuilt shape file epoch nodes.alive nodes.incarnation))) }
     {
         let _ = shape.files(); // tells the proof how many files there may be
-        let clients = Clients::rebuilt(alloc, shape, FileNumber::of(file), epoch, members)?;
-        let hellos = clients.outstanding(alloc)?;
-        let awaits = clients.awaits(&None, shape.nodes());
+        let known_nodes = KnownNodes::rebuilt(alloc, shape, FileNumber::of(file), epoch, members)?;
+        let hellos = known_nodes.outstanding(alloc)?;
+        let awaits = known_nodes.awaits(&None, shape.nodes());
         let server = Server {
             shape,
             file,
             epoch,
-            clients,
+            known_nodes,
             active: Active::new(alloc),
             queue: Line::new(alloc),
             waiting: Line::new(alloc),
@@ -150,7 +150,7 @@ impl Server {
             shape: self.shape,
             file: self.file,
             epoch: self.epoch,
-            clients: self.clients.copy()?,
+            known_nodes: self.known_nodes.copy()?,
             active: self.active.copy()?,
             queue: self.queue.copy()?,
             waiting: self.waiting.copy()?,
@@ -169,7 +169,7 @@ impl Server {
         if !self.queue.same(&other.queue) || !self.active.same(&other.active) {
             return false;
         }
-        self.waiting.same(&other.waiting) && self.clients.same(&other.clients)
+        self.waiting.same(&other.waiting) && self.known_nodes.same(&other.known_nodes)
     }
 
     /// The epoch in which the server is: 1 until it was rebuilt.
@@ -225,7 +225,10 @@ impl Server {
     fn revoked_mode(&self, number: u64, holder: Host) -> Option<Mode>
         ensures { MatchOption (row_of_host (server_state self.now) holder) (result ≡ None) (λ row. result ≡ revoked_mode number row.outstanding) }
     {
-        self.clients.row_of(holder)?.commands.revoked_mode(number)
+        self.known_nodes
+            .row_of(holder)?
+            .commands
+            .revoked_mode(number)
     }
 
     // Takes a node's answer to a Grant: the call's request is served no longer. `None` where the answer
@@ -235,7 +238,7 @@ impl Server {
         ensures state { taken (server_state self.now) number call (row_of_host (server_state self.now) (host_of_call call)) ≡ option_map (λ k. (sketched self.now k, [])) result }
         ensures in_cluster { IfSome result (λ k. IfSome k.changed (λ c. IsNumber self.now.shape.nodes c.node)) }
     {
-        match self.clients.row_of(call.host()) {
+        match self.known_nodes.row_of(call.host()) {
             Some(row) if row.commands.grants(number) => {}
             _ => return None,
         }
@@ -309,7 +312,7 @@ impl Server {
         ensures state { IfOk result (λ r. heard (server_state self.now) number holder runs.now (row_of_host (server_state self.now) holder) ≡ option_map (λ k. (sketched self.now k, [])) r) }
         ensures in_cluster { IfOk result (λ r. IfSome r (λ k. IfSome k.changed (λ c. IsNumber self.now.shape.nodes c.node))) }
     {
-        match self.clients.row_of(holder) {
+        match self.known_nodes.row_of(holder) {
             Some(row) if row.commands.asks_token(number) => {}
             _ => return Ok(None),
         }
@@ -325,7 +328,7 @@ impl Server {
         ensures state { sketched self.now result ≡ freed (server_state self.now) (row_of_host (server_state self.now) holder) }
         ensures in_cluster { IfSome result.changed (λ c. IsNumber self.now.shape.nodes c.node) }
     {
-        match self.clients.row_of(holder) {
+        match self.known_nodes.row_of(holder) {
             Some(_) => Sketch::moving(Moved::Waiting),
             None => Sketch::moving(Moved::Nothing),
         }
@@ -339,7 +342,7 @@ impl Server {
         ensures waiting { without result self.now.waiting.requests ≡ without (dropped sketch.now.changed) self.now.waiting.requests }
     {
         match sketch.dropped() {
-            Some((node, incarnation)) if incarnation > self.clients.dead(node) => {
+            Some((node, incarnation)) if incarnation > self.known_nodes.dead(node) => {
                 Some((node, incarnation))
             }
             _ => None,
@@ -351,7 +354,7 @@ impl Server {
         requires { awaits (server_state self.now) ≡ false → awaits (reached self.now rows.now) ≡ false }
         ensures { result ≡ awaits (reached self.now rows.now) }
     {
-        self.awaits && self.clients.awaits(rows, self.shape.nodes())
+        self.awaits && self.known_nodes.awaits(rows, self.shape.nodes())
     }
 
     // How the requests change.
@@ -362,7 +365,7 @@ impl Server {
         awaiting: bool,
         sketch: &Sketch,
     ) -> Result<Lists, AllocError>
-        requires rows { rows_of (overlaid self.now.clients rows.now) ≡ rows_after sketch.now.changed (rows_of self.now.clients) }
+        requires rows { rows_of (overlaid self.now.known_nodes rows.now) ≡ rows_after sketch.now.changed (rows_of self.now.known_nodes) }
         requires awaited { awaiting ≡ awaits (reached self.now rows.now) }
         requires in_cluster { IfSome sketch.now.changed (λ c. IsNumber self.now.shape.nodes c.node) }
         requires orderly { IsOrderly (sketched self.now sketch.now) }
@@ -394,8 +397,8 @@ impl Server {
 
     // The node whose row is edited, if one is.
     fn touched(&self, rows: &Option<RowEdit>, sketch: &Sketch) -> Option<u8>
-        requires { rows_of (overlaid self.now.clients rows.now) ≡ rows_after sketch.now.changed (rows_of self.now.clients) }
-        ensures { (n : ℕ) → result ≢ Some n → rows_of (overlaid self.now.clients rows.now) n ≡ rows_of self.now.clients n }
+        requires { rows_of (overlaid self.now.known_nodes rows.now) ≡ rows_after sketch.now.changed (rows_of self.now.known_nodes) }
+        ensures { (n : ℕ) → result ≢ Some n → rows_of (overlaid self.now.known_nodes rows.now) n ≡ rows_of self.now.known_nodes n }
     {
         if rows.is_none() {
             return None;
@@ -412,7 +415,7 @@ impl Server {
         ensures fits { IfOk result (λ r. Fits self.now r.0) }
         ensures err { IfErr result (λ e. e ≢ StepError.NoMemory → serve (sketched self.now sketch.now) ≡ Err e) }
     {
-        let rows = self.clients.edit(alloc, &sketch.changed)?;
+        let rows = self.known_nodes.edit(alloc, &sketch.changed)?;
         let awaits = self.awaits_after(&rows);
         let lists = self.lists(alloc, &rows, awaits, sketch)?;
         let spares = self.spares(&lists)?;
@@ -568,7 +571,7 @@ impl Server {
             return Err(StepError::Stranger);
         }
         let host = message.host();
-        if host.incarnation <= self.clients.dead(host.node) {
+        if host.incarnation <= self.known_nodes.dead(host.node) {
             return Ok(self.no_change(alloc)?);
         }
         match self.deliver(alloc, message)? {
@@ -586,7 +589,7 @@ impl Server {
     {
         let _ = &self.shape; // tells the proof what holds between two steps
         let (edit, served) = self.serve(&Sketch::moving(Moved::Waiting), alloc)?;
-        let commands = self.clients.outstanding(alloc)?;
+        let commands = self.known_nodes.outstanding(alloc)?;
         Ok(sending(edit, commands, served)?)
     }
 
@@ -641,8 +644,8 @@ impl Server {
             awaits,
         } = draft;
         self.awaits = awaits;
-        self.clients.apply(rows);
-        self.clients.give_each(given);
+        self.known_nodes.apply(rows);
+        self.known_nodes.give_each(given);
         moves::change(
             &mut self.active,
             &mut self.queue,

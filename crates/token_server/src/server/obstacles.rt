@@ -31,7 +31,7 @@ impl Server {
         if request.is_of_node(node) {
             return false;
         }
-        match self.clients.row_after(rows, node) {
+        match self.known_nodes.row_after(rows, node) {
             Some(row) => row.token.conflicts(request.required(), request.mode),
             None => false,
         }
@@ -68,9 +68,9 @@ impl Server {
     // Whether the row of the node is of that incarnation or an older one.
     fn is_dropped(&self, node: u8, incarnation: u16) -> bool
         requires { IsNumber self.now.shape.nodes node }
-        ensures { result ≡ is_dropped incarnation (rows_of self.now.clients node) }
+        ensures { result ≡ is_dropped incarnation (rows_of self.now.known_nodes node) }
     {
-        match self.clients.row(node) {
+        match self.known_nodes.row(node) {
             Some(row) => row.commands.incarnation() <= incarnation,
             None => false,
         }
@@ -79,7 +79,7 @@ impl Server {
     // Whether it is known at once that no request waits for another row than before.
     fn frees_none(&self, changed: &Changed) -> bool
         requires { IsNumber self.now.shape.nodes changed.now.node }
-        ensures { result ≡ true → (s : Range) → frees changed.now.change (rows_of self.now.clients changed.now.node) s ≡ false }
+        ensures { result ≡ true → (s : Range) → frees changed.now.change (rows_of self.now.known_nodes changed.now.node) s ≡ false }
     {
         match &changed.change {
             NodeChange::Forgotten { incarnation } => !self.is_dropped(changed.node, *incarnation),
@@ -93,7 +93,7 @@ impl Server {
     fn freed_up_to(&self, changed: &Changed) -> usize
         requires { IsNumber self.now.shape.nodes changed.now.node }
         ensures within { result ≤ length self.now.active.held }
-        ensures rest { All (λ h. may_turn changed.now (rows_of self.now.clients changed.now.node) h ≡ false) (drop result self.now.active.held) }
+        ensures rest { All (λ h. may_turn changed.now (rows_of self.now.known_nodes changed.now.node) h ≡ false) (drop result self.now.active.held) }
     {
         if self.frees_none(changed) {
             return 0;
@@ -120,7 +120,7 @@ impl Server {
         rows: &Option<RowEdit>,
         changed: &Option<Changed>,
     ) -> Result<Vec<u8>, AllocError>
-        requires rows { rows_of (overlaid self.now.clients rows.now) ≡ rows_after changed.now (rows_of self.now.clients) }
+        requires rows { rows_of (overlaid self.now.known_nodes rows.now) ≡ rows_after changed.now (rows_of self.now.known_nodes) }
         requires in_cluster { IfSome changed.now (λ c. IsNumber self.now.shape.nodes c.node) }
         ensures { IfOk result (λ ats. All (λ h. obstacle (reached self.now rows.now) h.request ≡ h.at) (waiting_for ats.items self.now.active.held)) }
     {
@@ -131,7 +131,7 @@ impl Server {
         let many = self.freed_up_to(changed);
         let mut ats = Vec::with_capacity(alloc, many)?;
         let active = self.active.as_slice();
-        let readable = self.clients.excludes_none(rows);
+        let readable = self.known_nodes.excludes_none(rows);
         for place in 0..many {
             ats.push(self.at_after(rows, readable, changed, &active[place]))?;
         }
@@ -141,7 +141,7 @@ impl Server {
     // The node whose row a request that is served waits for once rows changed.
     fn at_after(&self, rows: &Option<RowEdit>, readable: bool, changed: &Changed, held: &Held) -> u8
         requires readable { readable ≡ true → NoneExclusive (reached self.now rows.now).rows }
-        requires rows { rows_of (overlaid self.now.clients rows.now) ≡ rows_after (Some changed.now) (rows_of self.now.clients) }
+        requires rows { rows_of (overlaid self.now.known_nodes rows.now) ≡ rows_after (Some changed.now) (rows_of self.now.known_nodes) }
         requires in_cluster { IsNumber self.now.shape.nodes changed.now.node }
         requires waits { obstacle (server_state self.now) held.now.request ≡ held.now.at }
         ensures { obstacle (reached self.now rows.now) held.now.request ≡ result }
@@ -163,7 +163,7 @@ impl Server {
         ensures waits { IfOk result (λ fresh. All (λ h. obstacle (reached self.now rows.now) h.request ≡ h.at) fresh.items) }
     {
         let mut fresh = Vec::new(alloc);
-        let readable = self.clients.excludes_none(rows);
+        let readable = self.known_nodes.excludes_none(rows);
         for request in requests {
             let at = self.obstacle(rows, readable, request);
             fresh.push(Held {

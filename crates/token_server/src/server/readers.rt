@@ -58,7 +58,7 @@ impl Server {
         if node == 0 {
             return None;
         }
-        self.clients.row(node)
+        self.known_nodes.row(node)
     }
 
     /// What the server knows of the node, if that asked it in an incarnation that is not known as dead.
@@ -95,10 +95,10 @@ impl Server {
     pub fn dead(&self, node: u8) -> u16
         ensures { result ≡ (server_state self.now).dead node }
     {
-        if node == 0 || usize::from(node) > self.clients.len() {
+        if node == 0 || usize::from(node) > self.known_nodes.len() {
             return 0;
         }
-        self.clients.dead(node)
+        self.known_nodes.dead(node)
     }
 
     // Whether the node is asked for its token, and has not told it.

@@ -9,10 +9,10 @@ ghost use Rattle.token_queue.specs.Actives.{requests_of};
 ghost use Rattle.token_server.specs.Serve.{narrowed, row_conflicts, row_conflicts_at, granted_span, conflicting_node, granted_to, revoked_from, served, each_served};
 ghost use Rattle.token_server.specs.Told.{promised, row_told, with_told, commands_told, cut, cut_all};
 ghost use Rattle.token_server.specs.Obstacles.{obstacle, are_apart, is_idle};
-ghost use Rattle.token_server.specs.Parts.{server_state, row_state, client_at, rows_of};
+ghost use Rattle.token_server.specs.Parts.{server_state, row_state, known_node_at, rows_of};
 ghost use Rattle.token_server.specs.Ready.{AreOfEpoch};
 ghost use Rattle.token_server.specs.Sketches.{commands_of, without, still_active};
-ghost use Rattle.token_server.specs.Edits.{overlaid, keeps, held_after, drafted, seen, given_to_client, with_given};
+ghost use Rattle.token_server.specs.Edits.{overlaid, keeps, held_after, drafted, seen, given_to_known_node, with_given};
 ghost use Rattle.token_server.specs.Turns.{kept_of, IsTurn, AreServed};
 ghost use Rattle.token_set.specs.Sets.{token_of};
 ghost use Rattle.token_set.specs.Edits.{edited as edited_token};
@@ -86,7 +86,7 @@ impl Server {
         ensures { result ≡ largest_around (λ b. row_conflicts_at ((with_told told.now (drafted self.now draft.now)).rows node) b mode) required within }
     {
         let _ = &required.lo; // tells the proof that the span has a byte
-        let Some(row) = self.clients.row_after(&draft.rows, node) else {
+        let Some(row) = self.known_nodes.row_after(&draft.rows, node) else {
             return within;
         };
         match told_to(told, node) {
@@ -102,7 +102,7 @@ impl Server {
         ensures value { result ≡ option_map commands_of ((with_told told.now (drafted self.now draft.now)).rows node) }
         ensures counted { IfSome result (λ c. c.outstanding ≡ None → before_epoch self.now.epoch ≤ c.number) }
     {
-        let row = self.clients.row_after(&draft.rows, node)?;
+        let row = self.known_nodes.row_after(&draft.rows, node)?;
         match told_to(told, node) {
             Some(told) => Some(told.commands.awaiting(told.command)),
             None => Some(*row.commands),
@@ -283,7 +283,7 @@ impl Server {
         told: &[Told],
     ) -> Result<Vec<Given>, AllocError>
         requires { All (λ t. 1 ≤ t.node) told.now }
-        ensures { IfOk result (λ given. with_given given.items (overlaid self.now.clients draft.now.rows) (drafted self.now draft.now) ≡ with_told told.now (drafted self.now draft.now)) }
+        ensures { IfOk result (λ given. with_given given.items (overlaid self.now.known_nodes draft.now.rows) (drafted self.now draft.now) ≡ with_told told.now (drafted self.now draft.now)) }
     {
         let mut given = Vec::new(alloc);
         for next in told {
@@ -297,9 +297,9 @@ impl Server {
     fn given_one(&self, draft: &Draft, told: &Told) -> Result<Given, AllocError>
         requires { 1 ≤ told.now.node }
         ensures place { IfOk result (λ given. given.place + 1 ≡ told.now.node) }
-        ensures row { IfOk result (λ given. given_to_client given (client_at (overlaid self.now.clients draft.now.rows) told.now.node) ≡ row_told (Some told.now) (rows_of (overlaid self.now.clients draft.now.rows) told.now.node)) }
+        ensures row { IfOk result (λ given. given_to_known_node given (known_node_at (overlaid self.now.known_nodes draft.now.rows) told.now.node) ≡ row_told (Some told.now) (rows_of (overlaid self.now.known_nodes draft.now.rows) told.now.node)) }
     {
-        let token = match self.clients.row_after(&draft.rows, told.node) {
+        let token = match self.known_nodes.row_after(&draft.rows, told.node) {
             Some(row) => told.command.promised(row.token)?,
             None => TokenEdit::Same,
         };

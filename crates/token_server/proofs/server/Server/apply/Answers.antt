@@ -1,7 +1,7 @@
 use Rattle.std.specs.Prelude.{◌++◌, List, length}
 use Rattle.std.proofs.Common.{sym, ap, subst, ◌∙◌}
 use Rattle.token_queue.specs.Actives.{requests_of}
-use Rattle.token_server.specs.declared.client.Client.{Client}
+use Rattle.token_server.specs.declared.known_node.KnownNode.{KnownNode}
 use Rattle.token_server.specs.Parts.{ServerParts, deaths_of}
 use Rattle.token_server.specs.Edits.{given_rows, Fits}
 use Rattle.token_server.proofs.ComesLaws.{distinct-first}
@@ -10,13 +10,13 @@ use Rattle.token_server.proofs.server.Server.apply.Goals as goal
 
 pub invariant_of-self : goal.invariant_of-self
 invariant_of-self c =
-    let p : ServerParts = record { shape = c.self.inside.shape; file = c.self.inside.file; epoch = c.self.inside.epoch; clients = c.self.inside.clients; active = c.self.inside.active; queue = c.self.inside.queue; waiting = c.self.inside.waiting } in
+    let p : ServerParts = record { shape = c.self.inside.shape; file = c.self.inside.file; epoch = c.self.inside.epoch; known_nodes = c.self.inside.known_nodes; active = c.self.inside.active; queue = c.self.inside.queue; waiting = c.self.inside.waiting } in
     let v = c.into_inner-draft.result in
     let fits : Fits p c.args.change.edit = subst (λ (x : ServerParts). Fits x c.args.change.edit) (sym c.self.view_is) c.requires in
     applied p c.self.inside.awaits c.args.change.edit v c.give_each.new.self c.change.new.active c.change.new.queue c.change.new.waiting c.into_inner-draft.ensures c.self.invariant fits
-    (λ n. c.give_each.ensures.rows n ∙ ap (λ (cs : List Client). given_rows v.given.items cs n) c.apply.ensures)
+    (λ n. c.give_each.ensures.rows n ∙ ap (λ (cs : List KnownNode). given_rows v.given.items cs n) c.apply.ensures)
     (c.give_each.ensures.deaths ∙ ap deaths_of c.apply.ensures)
-    (c.give_each.ensures.len ∙ ap (λ (cs : List Client). length cs) c.apply.ensures)
+    (c.give_each.ensures.len ∙ ap (λ (cs : List KnownNode). length cs) c.apply.ensures)
     c.change.ensures.active c.change.ensures.queue c.change.ensures.waiting
 
 pub change-requires-clause-distinct : goal.change-requires-clause-distinct

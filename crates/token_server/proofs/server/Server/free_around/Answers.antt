@@ -1,7 +1,7 @@
 use Rattle.std.specs.Prelude.{◌≡◌, ◌≤◌, List, Option, Some, None}
 use Rattle.std.proofs.Common.{sym, ap, ◌∙◌, arith}
 use Rattle.intervals.specs.Bytes.{Range}
-use Rattle.token_server.specs.declared.client.Client.{Client}
+use Rattle.token_server.specs.declared.known_node.KnownNode.{KnownNode}
 use Rattle.token_server.specs.State.{Row}
 use Rattle.token_server.specs.Parts.{ServerParts, row_state, rows_of}
 use Rattle.token_server.specs.Serve.{row_conflicts}
@@ -17,17 +17,17 @@ returns-in_default c =
     let hi = ap (λ (s : Range). s.hi) c.required.view_is in
     let inside = c.required.invariant.0 in
     let order : c.args.required.lo ≤ c.args.required.hi = omega (arith, lo, hi, inside) in
-    let row : Option Row = rows_of (overlaid c.args.self.now.clients c.args.draft.now.rows) c.args.node in
-    let clients : c.args.self.now.clients ≡ c.self.inside.clients = ap (λ (p : ServerParts). p.clients) (sym c.self.view_is) in
-    let none : row ≡ None = ap (λ (cs : List Client). rows_of (overlaid cs c.args.draft.now.rows) c.args.node) clients ∙ c.in_default.ensures.row in
+    let row : Option Row = rows_of (overlaid c.args.self.now.known_nodes c.args.draft.now.rows) c.args.node in
+    let known_nodes : c.args.self.now.known_nodes ≡ c.self.inside.known_nodes = ap (λ (p : ServerParts). p.known_nodes) (sym c.self.view_is) in
+    let none : row ≡ None = ap (λ (cs : List KnownNode). rows_of (overlaid cs c.args.draft.now.rows) c.args.node) known_nodes ∙ c.in_default.ensures.row in
     free_around-none (row_told (told_to c.args.told.now c.args.node) row) c.args.required c.args.within c.args.mode order c.requires.starts_within c.requires.ends_within (told-nothing (told_to c.args.told.now c.args.node) row none)
 
 pub free_around-requires-clause-free : goal.free_around-requires-clause-free
 free_around-requires-clause-free c =
     let there : Row = row_state (seen c.in-Some.row) in
-    let row : Option Row = rows_of (overlaid c.args.self.now.clients c.args.draft.now.rows) c.args.node in
-    let clients : c.args.self.now.clients ≡ c.self.inside.clients = ap (λ (p : ServerParts). p.clients) (sym c.self.view_is) in
-    let is : row ≡ Some there = ap (λ (cs : List Client). rows_of (overlaid cs c.args.draft.now.rows) c.args.node) clients ∙ c.in-Some.ensures.row in
+    let row : Option Row = rows_of (overlaid c.args.self.now.known_nodes c.args.draft.now.rows) c.args.node in
+    let known_nodes : c.args.self.now.known_nodes ≡ c.self.inside.known_nodes = ap (λ (p : ServerParts). p.known_nodes) (sym c.self.view_is) in
+    let is : row ≡ Some there = ap (λ (cs : List KnownNode). rows_of (overlaid cs c.args.draft.now.rows) c.args.node) known_nodes ∙ c.in-Some.ensures.row in
     let untold : told_to c.args.told.now c.args.node ≡ None = sym c.told_to.ensures ∙ c.in-None.is in
     let same : row_told (told_to c.args.told.now c.args.node) row ≡ Some there = (λ i. row_told (untold i) (is i)) in
     row_free (Some there) c.args.required c.args.mode (ap (λ (o : Option Row). row_conflicts o c.args.required c.args.mode) (sym same) ∙ c.requires.free)

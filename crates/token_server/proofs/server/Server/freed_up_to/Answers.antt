@@ -15,14 +15,14 @@ loop-place-preserved c =
     let i = c.loop-place.place in
     let held : List Held = c.args.self.now.active.held in
     let item : Held = c.index-active-place.result in
-    let P : Held → Type 0 = λ h. may_turn c.args.changed.now (rows_of c.args.self.now.clients c.args.changed.now.node) h ≡ false in
+    let P : Held → Type 0 = λ h. may_turn c.args.changed.now (rows_of c.args.self.now.known_nodes c.args.changed.now.node) h ≡ false in
     let read : c.as_slice-active.result.now ≡ held = c.as_slice-active.ensures ∙ ap (λ (p : ServerParts). p.active.held) c.self.view_is in
     let many : length c.as_slice-active.result.now ≡ length held = ap (λ (hs : List Held). length hs) read in
     let there : slice_get held i ≡ Some item = read-place c.as_slice-active.result.now held i item read c.loop-place-test.true c.index-active-place.is in
     elim c.if-may_be_freed.branch [
       | then-may_be_freed+else-takes_all w ↦ rw w.many-is (omega arith, omega (arith, many, c.loop-place-test.true), rest-none P held (i + 1))
       | else-may_be_freed w ↦
-          rw w.many-is (omega (arith, c.loop-place.invariant.0), c.loop-place.invariant.1, rest-more P held c.loop-place.many i item c.loop-place.invariant.0 there (c.may_be_freed.ensures w.if-may_be_freed.false (rows_of c.args.self.now.clients c.args.changed.now.node)) c.loop-place.invariant.2)
+          rw w.many-is (omega (arith, c.loop-place.invariant.0), c.loop-place.invariant.1, rest-more P held c.loop-place.many i item c.loop-place.invariant.0 there (c.may_be_freed.ensures w.if-may_be_freed.false (rows_of c.args.self.now.known_nodes c.args.changed.now.node)) c.loop-place.invariant.2)
     ]
 
 pub returns-then-takes_all-clause-within : goal.returns-then-takes_all-clause-within
@@ -35,7 +35,7 @@ returns-then-takes_all-clause-rest c =
     let i = c.loop-place.place in
     let held : List Held = c.args.self.now.active.held in
     let item : Held = c.index-active-place.result in
-    let row = rows_of c.args.self.now.clients c.args.changed.now.node in
+    let row = rows_of c.args.self.now.known_nodes c.args.changed.now.node in
     let read : c.as_slice-active.result.now ≡ held = c.as_slice-active.ensures ∙ ap (λ (p : ServerParts). p.active.held) c.self.view_is in
     let there : slice_get held i ≡ Some item = read-place c.as_slice-active.result.now held i item read c.loop-place-test.true c.index-active-place.is in
     let apart : are_apart (requests_of held) ≡ true = subst (λ (p : ServerParts). are_apart (requests_of p.active.held) ≡ true) c.self.view_is c.self.invariant.ready.apart in
@@ -44,7 +44,7 @@ returns-then-takes_all-clause-rest c =
 pub returns-clause-rest : goal.returns-clause-rest
 returns-clause-rest c =
     let held : List Held = c.args.self.now.active.held in
-    let P : Held → Type 0 = λ h. may_turn c.args.changed.now (rows_of c.args.self.now.clients c.args.changed.now.node) h ≡ false in
+    let P : Held → Type 0 = λ h. may_turn c.args.changed.now (rows_of c.args.self.now.known_nodes c.args.changed.now.node) h ≡ false in
     let many : length c.as_slice-active.result.now ≡ length held = ap (λ (xs : List Held). length xs) (c.as_slice-active.ensures ∙ ap (λ (p : ServerParts). p.active.held) c.self.view_is) in
     let past : length held ≤ c.loop-place.place = omega (arith, c.loop-place-test.false, many) in
     subst (λ (xs : List Held). All P (drop c.loop-place.many xs)) (take_all c.loop-place.place held past) c.loop-place.invariant.2

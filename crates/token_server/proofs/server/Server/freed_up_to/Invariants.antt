@@ -8,4 +8,4 @@ abbrev pub invariant-loop-place : goal.invariant-loop-place
 invariant-loop-place l =
     (l.many ≤ l.place)
     × (l.many ≤ length l.self.active.held)
-    × All (λ h. may_turn l.changed (rows_of l.self.clients l.changed.node) h ≡ false) (drop l.many (take l.place l.self.active.held))
+    × All (λ h. may_turn l.changed (rows_of l.self.known_nodes l.changed.node) h ≡ false) (drop l.many (take l.place l.self.active.held))

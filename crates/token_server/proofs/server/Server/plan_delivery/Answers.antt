@@ -20,7 +20,7 @@ serve_after-requires-clause-orderly c =
     let node : c.host.inside.node ≡ (host_of m).node = ap (λ (h : HostFields). h.node) host in
     let incarnation : c.host.inside.incarnation ≡ (host_of m).incarnation = ap (λ (h : HostFields). h.incarnation) host in
     let counted : 1 ≤ (host_of m).incarnation = omega (arith, incarnation, c.host.invariant.incarnation_in) in
-    let known : c.dead.result ≡ s.dead (host_of m).node = c.dead.ensures ∙ (λ i. deaths_of (ap (λ (p : ServerParts). p.clients) c.self.view_is i) (node i)) in
+    let known : c.dead.result ≡ s.dead (host_of m).node = c.dead.ensures ∙ (λ i. deaths_of (ap (λ (p : ServerParts). p.known_nodes) c.self.view_is i) (node i)) in
     let living : s.dead (host_of m).node < (host_of m).incarnation = omega (arith, known, incarnation, c.if-host-dead.false) in
     orderly-delivered s m (sketched c.args.self.now c.in-Some.sketch, option_to_list c.in-Some.first) counted living (c.in_ok-sketch.ensures.state ∙ ap (λ (o : Option (Sketch × Option Message)). option_map (λ d. (sketched c.args.self.now d.0, option_to_list d.1)) o) c.in-Some.is) (subst (λ (p : ServerParts). IsOrderly (server_state p)) c.self.view_is c.self.invariant.ready.orderly)
 

@@ -7,8 +7,8 @@ use Rattle.token_server.proofs.server.Server.rebuild.Goals as goal
 
 pub invariant_of-server : goal.invariant_of-server
 invariant_of-server c =
-    idle-server c.args.shape c.args.file c.args.epoch c.in_ok-clients.clients c.awaits-awaits.result c.new.result c.new-2.result c.new-3.result
-    c.in_ok-clients.ensures.len c.requires.file_in (omega arith, omega arith)
-    (c.awaits-awaits.ensures ∙ ap (some_passes (λ n. is_awaited (rows_of c.in_ok-clients.clients n)) 1) c.nodes.ensures.value)
-    (rebuilt-counted c.args.shape c.of.result c.args.epoch c.args.members.now c.in_ok-clients.clients c.in_ok-clients.ensures.rows)
+    idle-server c.args.shape c.args.file c.args.epoch c.in_ok-known_nodes.known_nodes c.awaits-awaits.result c.new.result c.new-2.result c.new-3.result
+    c.in_ok-known_nodes.ensures.len c.requires.file_in (omega arith, omega arith)
+    (c.awaits-awaits.ensures ∙ ap (some_passes (λ n. is_awaited (rows_of c.in_ok-known_nodes.known_nodes n)) 1) c.nodes.ensures.value)
+    (rebuilt-counted c.args.shape c.of.result c.args.epoch c.args.members.now c.in_ok-known_nodes.known_nodes c.in_ok-known_nodes.ensures.rows)
     c.new.ensures c.new-2.ensures c.new-3.ensures

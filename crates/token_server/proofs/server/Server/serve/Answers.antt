@@ -25,11 +25,11 @@ use Rattle.token_server.proofs.server.Server.serve.Goals as goal
 abbrev Answer : Type 0
 Answer = Result (ServerState × List Message) StepError
 
-over : {p q : ServerParts} (edit : Option RowEdit) (o : Option Changed) → p ≡ q → rows_of (overlaid p.clients edit) ≡ rows_after o (rows_of p.clients) → rows_of (overlaid q.clients edit) ≡ rows_after o (rows_of q.clients)
-over edit o is h = subst (λ (x : ServerParts). rows_of (overlaid x.clients edit) ≡ rows_after o (rows_of x.clients)) is h
+over : {p q : ServerParts} (edit : Option RowEdit) (o : Option Changed) → p ≡ q → rows_of (overlaid p.known_nodes edit) ≡ rows_after o (rows_of p.known_nodes) → rows_of (overlaid q.known_nodes edit) ≡ rows_after o (rows_of q.known_nodes)
+over edit o is h = subst (λ (x : ServerParts). rows_of (overlaid x.known_nodes edit) ≡ rows_after o (rows_of x.known_nodes)) is h
 
-over-deaths : {p q : ServerParts} (edit : Option RowEdit) (o : Option Changed) → p ≡ q → deaths_of (overlaid p.clients edit) ≡ deaths_after o (deaths_of p.clients) → deaths_of (overlaid q.clients edit) ≡ deaths_after o (deaths_of q.clients)
-over-deaths edit o is h = subst (λ (x : ServerParts). deaths_of (overlaid x.clients edit) ≡ deaths_after o (deaths_of x.clients)) is h
+over-deaths : {p q : ServerParts} (edit : Option RowEdit) (o : Option Changed) → p ≡ q → deaths_of (overlaid p.known_nodes edit) ≡ deaths_after o (deaths_of p.known_nodes) → deaths_of (overlaid q.known_nodes edit) ≡ deaths_after o (deaths_of q.known_nodes)
+over-deaths edit o is h = subst (λ (x : ServerParts). deaths_of (overlaid x.known_nodes edit) ≡ deaths_after o (deaths_of x.known_nodes)) is h
 
 -- the server was ready before
 was : {p q : ServerParts} → p ≡ q → IsReady (server_state p) p.active.held → IsReady (server_state q) q.active.held
@@ -62,7 +62,7 @@ returns-clause-ok c =
     let told : List Told = c.in_ok-told.told.items in
     let serves = drafted-serves p k d c.in_ok-lists.ensures (over c.in_ok-rows.rows c.args.sketch.now.changed c.self.view_is c.in_ok-rows.ensures.rows) (over-deaths c.in_ok-rows.rows c.args.sketch.now.changed c.self.view_is c.in_ok-rows.ensures.deaths) (was c.self.view_is c.self.invariant.ready) in
     let v : Parts = record { draft = d; given = c.in_ok-given.given; spares = c.in_ok-spares.spares } in
-    let given : with_given c.in_ok-given.given.items (overlaid p.clients d.rows) (drafted p d) ≡ with_told told (drafted p d) = c.in_ok-given.ensures ∙ ap (λ (ts : List Told). with_told ts (drafted p d)) c.as_slice.ensures.value in
+    let given : with_given c.in_ok-given.given.items (overlaid p.known_nodes d.rows) (drafted p d) ≡ with_told told (drafted p d) = c.in_ok-given.ensures ∙ ap (λ (ts : List Told). with_told ts (drafted p d)) c.as_slice.ensures.value in
     let after : planned p c.in_ok-new.field-0 ≡ with_told told (drafted p d) = ap (made p) c.in_ok-new.ensures ∙ given in
     let sent : c.in_ok-commands_told.field-0 ≡ commands_told told = c.in_ok-commands_told.ensures ∙ ap commands_told c.as_slice-2.ensures.value in
     serves
@@ -80,14 +80,14 @@ returns-clause-fits c =
     let deaths = over-deaths c.in_ok-rows.rows c.args.sketch.now.changed c.self.view_is c.in_ok-rows.ensures.deaths in
     let ready = was c.self.view_is c.self.invariant.ready in
     let v : Parts = record { draft = d; given = c.in_ok-given.given; spares = c.in_ok-spares.spares } in
-    let given : with_given c.in_ok-given.given.items (overlaid p.clients d.rows) (drafted p d) ≡ with_told told (drafted p d) = c.in_ok-given.ensures ∙ ap (λ (ts : List Told). with_told ts (drafted p d)) c.as_slice.ensures.value in
+    let given : with_given c.in_ok-given.given.items (overlaid p.known_nodes d.rows) (drafted p d) ≡ with_told told (drafted p d) = c.in_ok-given.ensures ∙ ap (λ (ts : List Told). with_told ts (drafted p d)) c.as_slice.ensures.value in
     let known : c.awaits_after-awaits.result ≡ awaits (drafted p d) = c.awaits_after-awaits.ensures in
     subst (PartsFit p) (sym c.in_ok-new.ensures) (record {
       new = moved-new l.moved (without l.dropped p.queue.requests) (without l.dropped p.waiting.requests) (subst AreDistinct (sym c.in_ok-lists.ensures.queued) (distinct-queue (sketched p k) c.requires.orderly)) (subst AreDistinct (sym c.in_ok-lists.ensures.put_off) (distinct-waiting (sketched p k) c.requires.orderly));
       served = c.in_ok-spares.ensures.active;
       queued = c.in_ok-spares.ensures.queue;
       put_off = c.in_ok-spares.ensures.waiting;
-      nodes = overlaid-length p.clients c.in_ok-rows.rows;
+      nodes = overlaid-length p.known_nodes c.in_ok-rows.rows;
       awaited = known ∙ sym (told-awaits p k d c.in_ok-lists.ensures rows deaths ready told (commands_told told) c.in_ok-told.ensures.ok) ∙ sym (ap awaits given);
       ready = subst (λ (s : ServerState). IsReady s (held_after l p.active.held)) (sym given) (told-ready p k d c.in_ok-lists.ensures rows deaths ready told (commands_told told) c.in_ok-told.ensures.ok c.requires.orderly c.in_ok-told.ensures.waits c.in_ok-told.ensures.quiet);
     })
@@ -97,4 +97,4 @@ awaits_after-awaits-requires c = λ none.
     let p = c.args.self.now in
     let changed = c.args.sketch.now.changed in
     let rows = over c.in_ok-rows.rows changed c.self.view_is c.in_ok-rows.ensures.rows in
-    ap (λ (f : ℕ → Option Row). some_passes (λ n. is_awaited (f n)) 1 p.shape.nodes) rows ∙ none-after changed (rows_of p.clients) p.shape.nodes none
+    ap (λ (f : ℕ → Option Row). some_passes (λ n. is_awaited (f n)) 1 p.shape.nodes) rows ∙ none-after changed (rows_of p.known_nodes) p.shape.nodes none
