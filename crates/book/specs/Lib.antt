@@ -5,4 +5,3 @@ pub mod Commits
 pub mod Seats
 pub mod Turns
 pub mod LastSpots
-pub mod Numbers

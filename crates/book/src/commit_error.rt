@@ -41,20 +41,3 @@ impl<T: Drop> From<AllocFailed<T>> for CommitError {
         CommitError::NoMemory
     }
 }
-
-impl CommitError {
-    ghost use Rattle.book.specs.Numbers.{number_of};
-
-    /// The number by which listings know the refusal: 3, 14, 15, 16 or 20.
-    pub fn number(self) -> u16
-        ensures { result ≡ number_of self }
-    {
-        match self {
-            CommitError::NoMemory => 3,
-            CommitError::Stranger => 14,
-            CommitError::Fenced => 15,
-            CommitError::JournalFull => 16,
-            CommitError::Stale => 20,
-        }
-    }
-}
