@@ -6,7 +6,7 @@ ghost use Rattle.command_line.specs.Kinds.{IsFormatOf};
 use clap::ArgMatches;
 
 /// How a journal is drawn.
-#[derive(Clone, Copy, Debug, PartialEq, Eq)]
+#[derive(Clone, Copy)]
 pub enum Format {
     /// `svg`: a picture that browsers show.
     Svg,

@@ -17,7 +17,7 @@ use std::alloc::Global;
 use std::convert::AsStr;
 
 /// What the words of a command line ask for. Each text is a path, or the name of a call.
-#[derive(Clone, Copy, Debug, PartialEq, Eq)]
+#[derive(Clone, Copy)]
 pub enum Line<'a> {
     /// `run SCRIPT [--after JOURNAL] [--journal FILE] [--open] [--quiet]`: to run each line of the script in
     /// order, in a cluster that begins or behind the run of a journal, and print the listing, with the calls

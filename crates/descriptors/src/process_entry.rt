@@ -7,7 +7,7 @@ use model::limits::MOST_DESCRIPTORS;
 use model::opened::Opened;
 
 /// Whether a process runs, and what each of its descriptors refers to.
-#[derive(Clone, Copy, Debug, PartialEq, Eq)]
+#[derive(Clone, Copy)]
 pub struct ProcessEntry {
     pub runs: bool,
     pub opened: [Option<Opened>; 64],

@@ -14,7 +14,7 @@ use std::fmt::Write;
 
 /// What a row is about: a process of a node in one incarnation, what comes to such a node itself, or the
 /// server of a file.
-#[derive(Clone, Copy, Debug, PartialEq, Eq, Hash)]
+#[derive(Clone, Copy, PartialEq, Eq, Hash)]
 pub enum Track {
     Process {
         node: u8,

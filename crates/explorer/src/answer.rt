@@ -8,7 +8,7 @@ use std::alloc::AllocError;
 use std::fmt::Write;
 
 /// What a call of a script comes to in a schedule of it.
-#[derive(Clone, Copy, Debug, PartialEq, Eq)]
+#[derive(Clone, Copy, PartialEq, Eq)]
 pub enum Answer {
     /// It was not made.
     NotMade,

@@ -5,7 +5,7 @@ ghost use Rattle.pictures.specs.Outcomes.{answer_class, reply_class};
 use model::reply::Reply;
 
 /// A reply to a call, and the position of the entry that replies, from 1.
-#[derive(Clone, Copy, Debug, PartialEq, Eq)]
+#[derive(Clone, Copy)]
 pub struct Answer {
     pub position: u64,
     pub reply: Reply,

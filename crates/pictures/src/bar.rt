@@ -9,7 +9,7 @@ use stories::made_call::MadeCall;
 
 /// A call with its answer, and the position, from 1, of the first entry behind it at which its process exits
 /// or its node is declared failed. A call without an answer is over there.
-#[derive(Clone, Copy, Debug, PartialEq, Eq)]
+#[derive(Clone, Copy)]
 pub struct Bar {
     pub made: MadeCall,
     pub answer: Option<Answer>,

@@ -7,7 +7,7 @@ use model::mode::Mode;
 use model::owner::Owner;
 
 /// What a node holds: a token at one level, in one of its incarnations, or a lock of an owner.
-#[derive(Clone, Copy, Debug, PartialEq, Eq)]
+#[derive(Clone, Copy)]
 pub enum Held {
     Token {
         node: u8,

@@ -1,9 +1,12 @@
 //! The picture of a run.
 ghost use Rattle.std.specs.Prelude.{◌≡◌, ◌-◌, ◌++◌, flat_map, slice_get, string_bytes, take, IfOk, OnOk};
 ghost use Rattle.std.specs.Option.{option_copied};
+ghost use Rattle.pictures.specs.Pieces.{pieces};
+ghost use Rattle.pictures.specs.Sheets.{sheet_of};
 ghost use Rattle.pictures.specs.Pictures.{drawn, end_text, link_text, mark_text, outline_text, picture_text, place_text, sheet_text};
 
 use crate::actors::{actor_of, is_same_actor};
+use crate::bar::Bar;
 use crate::bars::{bars, push_bars};
 use crate::below::push_tracks;
 use crate::deliveries::Deliveries;
@@ -59,17 +62,59 @@ pub fn picture(
     let window = window.cut(entries.len() as u64);
     let part = stretch(alloc, &window, entries)?;
     let bars = bars(alloc, &window, entries)?;
-    let rows = rows(alloc, shape, part.as_slice(), bars.as_slice())?;
+    let sheet = sheet_of(
+        alloc,
+        shape,
+        window,
+        part.as_slice(),
+        bars.as_slice(),
+        holdings,
+    )?;
+    drawn_on(
+        alloc,
+        &sheet,
+        bars.as_slice(),
+        part.as_slice(),
+        entries,
+        history,
+    )
+}
+
+// The sheet for these entries and calls, and for what nodes hold.
+fn sheet_of(
+    alloc: Global,
+    shape: &Shape,
+    window: Window,
+    part: &[PlacedEntry<'_>],
+    bars: &[Bar],
+    holdings: &[Holdings],
+) -> Result<Sheet, AllocError>
+    ensures { IfOk result (λ sheet. sheet ≡ sheet_of shape.now window part.now bars.now (pieces holdings.now)) }
+{
+    let rows = rows(alloc, shape, part, bars)?;
     let below = pieces(alloc, holdings)?;
     let tracks = tracks(alloc, below.as_slice())?;
-    let sheet = Sheet::new(shape.version(), window, rows, tracks);
+    Ok(Sheet::new(shape.version(), window, rows, tracks))
+}
+
+// The picture on this sheet of these calls and entries.
+fn drawn_on<'a>(
+    alloc: Global,
+    sheet: &Sheet,
+    bars: &[Bar],
+    part: &[PlacedEntry<'a>],
+    entries: &'a [Entry],
+    history: &[Item],
+) -> Result<String, AllocError>
+    ensures { IfOk result (λ text. string_bytes text ≡ sheet_text sheet.now bars.now part.now entries.entry.now history.now) }
+{
     let mut out = String::new(alloc);
-    push_outline(&mut out, &sheet)?;
-    push_frames(&mut out, &sheet, part.as_slice())?;
-    push_bars(&mut out, alloc, &sheet, bars.as_slice())?;
-    push_part(&mut out, alloc, &sheet, entries, part.as_slice())?;
-    push_tracks(&mut out, &sheet)?;
-    push_end(&mut out, &sheet, entries, history)?;
+    push_outline(&mut out, sheet)?;
+    push_frames(&mut out, sheet, part)?;
+    push_bars(&mut out, alloc, sheet, bars)?;
+    push_part(&mut out, alloc, sheet, entries, part)?;
+    push_tracks(&mut out, sheet)?;
+    push_end(&mut out, sheet, entries, history)?;
     Ok(out)
 }
 

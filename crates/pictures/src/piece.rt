@@ -6,7 +6,7 @@ use crate::held::Held;
 use intervals::span::Span;
 
 /// Bytes of a file, counted from 1, and what a node holds there behind the entry at a position, from 1.
-#[derive(Clone, Copy, Debug, PartialEq, Eq)]
+#[derive(Clone, Copy)]
 pub struct Piece {
     pub position: u64,
     pub file: u64,

@@ -9,7 +9,7 @@ use messages::actor::Actor;
 use model::host::Host;
 
 /// What a row is about: a node or a server, or a process of a node in one incarnation.
-#[derive(Clone, Copy, Debug, PartialEq, Eq)]
+#[derive(Clone, Copy)]
 pub enum Row {
     Lane(Actor),
     Process { host: Host, pid: u16 },

@@ -6,7 +6,7 @@ use crate::held::Held;
 use crate::piece::Piece;
 
 /// What is held behind each entry from one position to another, with both of them; positions count from 1.
-#[derive(Clone, Copy, Debug, PartialEq, Eq)]
+#[derive(Clone, Copy)]
 pub struct Stay {
     pub held: Held,
     pub from: u64,

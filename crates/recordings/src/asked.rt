@@ -3,7 +3,7 @@ use model::mode::Mode;
 use model::owner::Kind;
 
 /// What a recorded lock call asks of the bytes of its segment.
-#[derive(Clone, Copy, Debug, PartialEq, Eq)]
+#[derive(Clone, Copy)]
 pub enum Wish {
     /// F_SETLK or F_OFD_SETLK: a lock, at once or not at all.
     Set(Mode),
@@ -17,7 +17,7 @@ pub enum Wish {
 
 /// A recorded lock call: whose lock it is, what is asked for, and the segment, as `struct flock` has it
 /// with SEEK_SET: the bytes from `start` on, `len` of them, or all where it is 0.
-#[derive(Clone, Copy, Debug, PartialEq, Eq)]
+#[derive(Clone, Copy)]
 pub struct Asked {
     pub kind: Kind,
     pub wish: Wish,

@@ -3,7 +3,7 @@ use crate::place::Place;
 
 /// An open descriptor: the process that has it, its number in the recording, the path of its file, by the number
 /// of the path in the recording, and its number in the script, 0 to 63, if it has one there.
-#[derive(Clone, Copy, Debug, PartialEq, Eq)]
+#[derive(Clone, Copy)]
 pub(crate) struct Held {
     pub(crate) place: Place,
     pub(crate) fd: u32,

@@ -3,7 +3,7 @@ use crate::place::Place;
 use crate::said::Said;
 
 /// A line of a script behind the files.
-#[derive(Clone, Copy, Debug, PartialEq, Eq)]
+#[derive(Clone, Copy)]
 pub(crate) enum Line {
     /// A comment: which recorded process, by its PID there, this one of the script is.
     Begins { place: Place, pid: u32 },

@@ -2,7 +2,7 @@
 use crate::reason::Reason;
 
 /// That something in a line of the recording is left out of the script, and why. Lines count from 1.
-#[derive(Clone, Copy, Debug, PartialEq, Eq)]
+#[derive(Clone, Copy)]
 pub(crate) struct Note {
     pub(crate) line: u64,
     pub(crate) reason: Reason,

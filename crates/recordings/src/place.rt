@@ -2,7 +2,7 @@
 use std::marker::Model;
 
 /// A process of a script: its node, 1 to 64, and its number there, 1 to 256.
-#[derive(Clone, Copy, Debug, PartialEq, Eq)]
+#[derive(Clone, Copy)]
 pub(crate) struct Place {
     node: u8,
     number: u16,

@@ -5,7 +5,7 @@ use model::access::Access;
 
 /// What is recorded of a process or thread. Descriptors and PIDs are those of the recording; paths have
 /// numbers, from 0.
-#[derive(Clone, Copy, Debug, PartialEq, Eq)]
+#[derive(Clone, Copy)]
 pub enum Happening {
     /// Nothing that matters.
     Nothing,
@@ -36,7 +36,7 @@ pub enum Happening {
 }
 
 /// An event of a recording: its line, from 1, the PID before it, and what happens.
-#[derive(Clone, Copy, Debug, PartialEq, Eq)]
+#[derive(Clone, Copy)]
 pub struct Recorded {
     pub line: u64,
     pub pid: u32,

@@ -2,7 +2,7 @@
 use crate::place::Place;
 
 /// A recorded process or thread that runs: its PID in the recording, and the process of the script.
-#[derive(Clone, Copy, Debug, PartialEq, Eq)]
+#[derive(Clone, Copy)]
 pub(crate) struct Running {
     pub(crate) pid: u32,
     pub(crate) place: Place,

@@ -5,7 +5,7 @@ use model::op::Op;
 use std::marker::Model;
 
 /// What a line asks for, within the limits of scripts.
-#[derive(Clone, Copy, Debug, PartialEq, Eq)]
+#[derive(Clone, Copy)]
 pub(crate) struct Said {
     command: Command,
 }

@@ -12,7 +12,7 @@ use lockscript::play_error::PlayError;
 use std::alloc::{AllocError, AllocFailed};
 
 /// Why a command was not done.
-#[derive(Debug, PartialEq, Eq, Drop)]
+#[derive(Drop)]
 pub enum Fault<'a> {
     /// The first line of the script or the journal that may not stand there, by its number, from 1.
     BadLine(u64),

@@ -6,7 +6,7 @@ ghost use Rattle.replay.specs.declared.store.StoreError.TheVariants.{Failed, NoM
 use std::alloc::Global;
 
 /// Why a file was not read, or not written.
-#[derive(Clone, Copy, Debug, PartialEq, Eq)]
+#[derive(Clone, Copy)]
 pub enum StoreError {
     /// A request for memory was refused.
     NoMemory,

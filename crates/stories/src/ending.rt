@@ -6,7 +6,7 @@ use model::op::Op;
 
 /// That a process of a node exits, by its number, or that the node is declared failed: both in one
 /// incarnation of the node.
-#[derive(Clone, Copy, Debug, PartialEq, Eq, Hash)]
+#[derive(Clone, Copy, PartialEq, Eq, Hash)]
 pub struct Ending {
     pub pid: Option<u16>,
     pub node: u8,

@@ -11,7 +11,7 @@ use model::op::Op;
 
 /// A call, the position of the entry that makes it, from 1, the process that makes it, and what it asks
 /// for.
-#[derive(Clone, Copy, Debug, PartialEq, Eq)]
+#[derive(Clone, Copy)]
 pub struct MadeCall {
     pub position: u64,
     pub call: CallId,

@@ -8,7 +8,7 @@ use model::call::CallId;
 use model::lock_info::LockInfo;
 
 /// Where a call without a reply stands, by what came last of what has to do with it.
-#[derive(Clone, Copy, Debug, PartialEq, Eq)]
+#[derive(Clone, Copy)]
 pub(crate) enum Standing {
     /// At its node, which asked no server for it, or none since it took a grant for it.
     AtNode,

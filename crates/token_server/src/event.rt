@@ -2,7 +2,7 @@
 use messages::message::Message;
 
 /// What may happen at a server.
-#[derive(Debug, PartialEq, Eq, Drop)]
+#[derive(Debug, Drop)]
 pub enum ServerEvent {
     /// A message comes.
     Deliver(Message),
