@@ -28,16 +28,6 @@ pub enum ProcessError {
     TooManyFiles,
 }
 
-impl From<AllocError> for ProcessError {
-    ghost use Rattle.descriptors.specs.declared.error.ProcessError.TheVariants.{NoMemory};
-
-    ghost from_gives = { λ error made. made ≡ NoMemory };
-
-    fn from(_error: AllocError) -> Self {
-        ProcessError::NoMemory
-    }
-}
-
 impl ProcessError {
     /// The reply that tells of the refusal.
     ///

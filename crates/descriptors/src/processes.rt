@@ -122,7 +122,7 @@ impl Processes {
         if self.is_running(pid) {
             return Err(ProcessError::Exists);
         }
-        let more = self.with_place(pid)?;
+        let more = self.with_place(pid).map_err(|_| ProcessError::NoMemory)?;
         Ok(ProcessEdit::Begins { pid, more })
     }
 
@@ -154,7 +154,7 @@ impl Processes {
         if self.is_running(child) {
             return Err(ProcessError::Exists);
         }
-        let more = self.with_place(child)?;
+        let more = self.with_place(child).map_err(|_| ProcessError::NoMemory)?;
         Ok(ProcessEdit::Forks { pid, child, more })
     }
 
