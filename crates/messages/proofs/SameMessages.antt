@@ -1,8 +1,9 @@
 -- When two messages are one, and two events.
 use Rattle.std.specs.Prelude.{true, ℕ, ◌&&◌, ◌==◌}
-use Rattle.std.proofs.Common.{◌≡◌, Bool, Decides, rules, arith, refl, sym, ap, subst, eq-eqb}
-use Rattle.std.proofs.lemmas.Bool.{and_parts, and_from, eqb-true, false≢true}
-use Rattle.std.proofs.lemmas.Bool.Decides.{Decides-at}
+use Rattle.std.proofs.Common.{◌≡◌, Bool, Decides, rules, arith, refl, sym, ap, subst}
+use Rattle.std.proofs.lemmas.Bool.{false≢true}
+use Rattle.std.proofs.lemmas.Bool.Decides.{Decides-and, Decides-at, Decides-eqb, Decides-like}
+use Rattle.intervals.specs.Bytes.{Range}
 use Rattle.std.proofs.lemmas.Grind.{common_steps}
 use Rattle.model.specs.declared.call.CallId.{CallId}
 use Rattle.model.specs.declared.host.Host.{Host}
@@ -12,7 +13,8 @@ use Rattle.model.specs.declared.lock_info.LockInfo.{LockInfo}
 use Rattle.model.specs.declared.op.Op.{Op}
 use Rattle.model.specs.declared.op.Op.TheVariants.{Spawn, Fork, Open, Dup, Close, Exit, Set, Wait, Unlock, Query}
 use Rattle.model.specs.contracts.op.OpPartialEq.TheImpl as derived_of_ops
-use Rattle.model.specs.Owners.{same_mode}
+use Rattle.model.specs.declared.owner.Owner.{Owner}
+use Rattle.model.specs.Owners.{same_mode, same_owner}
 use Rattle.model.proofs.OwnerLaws.{owner_exact, owner_refl}
 pub use Rattle.model.proofs.OwnerLaws.{host_refl}
 use Rattle.messages.specs.contracts.message.MessagePartialEq.TheImpl as derived
@@ -25,184 +27,102 @@ use Rattle.messages.specs.declared.message.Urgency.TheVariants.{Now, Waits}
 use Rattle.messages.specs.declared.message.Message.{Message}
 use Rattle.messages.specs.declared.message.Message.TheVariants.{Request, Grant, Revoke, Taken, Released, Conflict, Deny, Freed, Hello, Report}
 use Rattle.messages.proofs.RunEquality.{runs_eq}
-use Rattle.messages.proofs.SameRuns.{range_exact, range_refl, runs_exact, runs_refl}
+use Rattle.messages.proofs.SameRuns.{range_exact, range_refl, runs_decide}
+use Rattle.messages.specs.TokenRuns.{same_range}
 use Rattle.messages.specs.Messages.{same_call, same_wants, same_urgency, same_host, same_lock, same_message, SameMessageIsEquality}
 
--- parts of messages that test alike are one
-mode_exact : (a b : Mode) → same_mode a b ≡ true → a ≡ b
-mode_exact Read Read h = refl
-mode_exact Write Write h = refl
-mode_exact _ _ h = absurd (false≢true h)
+-- a test that passes equals alone, and each with itself, decides equality
+exact_Decides : {A : Type 0} (same : A → A → Bool) → ((a b : A) → same a b ≡ true → a ≡ b) → ((a : A) → same a a ≡ true) → (a b : A) → Decides (same a b) (a ≡ b)
+exact_Decides {A} same exact itself a b = (exact a b, λ e. subst (λ (x : A). same a x ≡ true) e (itself a))
 
-mode_refl : (a : Mode) → same_mode a a ≡ true
-mode_refl Read = refl
-mode_refl Write = refl
+-- two tests that decide decide both
+pub both : {P Q : Type 0} {x y : Bool} → Decides x P → Decides y Q → Decides (x && y) (P × Q)
+both d k = Decides-and _ _ d k
 
-urgency_exact : (a b : Urgency) → same_urgency a b ≡ true → a ≡ b
-urgency_exact Now Now h = refl
-urgency_exact Waits Waits h = refl
-urgency_exact _ _ h = absurd (false≢true h)
+-- the tests of a message's parts decide equality
+mode_Decides : (a b : Mode) → Decides (same_mode a b) (a ≡ b)
+mode_Decides Read Read = (λ h. refl, λ e. refl)
+mode_Decides Write Write = (λ h. refl, λ e. refl)
+mode_Decides _ _ = (λ h. absurd (false≢true h), λ e. cc)
 
-urgency_refl : (a : Urgency) → same_urgency a a ≡ true
-urgency_refl Now = refl
-urgency_refl Waits = refl
+urgency_Decides : (a b : Urgency) → Decides (same_urgency a b) (a ≡ b)
+urgency_Decides Now Now = (λ h. refl, λ e. refl)
+urgency_Decides Waits Waits = (λ h. refl, λ e. refl)
+urgency_Decides _ _ = (λ h. absurd (false≢true h), λ e. cc)
+
+range_Decides : (a b : Range) → Decides (same_range a b) (a ≡ b)
+range_Decides = exact_Decides same_range range_exact range_refl
+
+owner_Decides : (a b : Owner) → Decides (same_owner a b) (a ≡ b)
+owner_Decides = exact_Decides same_owner owner_exact owner_refl
+
+host_Decides : (a b : Host) → Decides (same_host a b) (a ≡ b)
+host_Decides a b =
+    Decides-like _ (λ (nodes, incarnations) i. record { node = nodes i; incarnation = incarnations i }) (λ e. (cc, cc))
+    (both (Decides-eqb a.node b.node) (Decides-eqb a.incarnation b.incarnation))
+
+call_Decides : (a b : CallId) → Decides (same_call a b) (a ≡ b)
+call_Decides a b =
+    Decides-like _ (λ (nodes, (incarnations, numbers)) i. record { node = nodes i; incarnation = incarnations i; number = numbers i }) (λ e. (cc, (cc, cc)))
+    (both (Decides-eqb a.node b.node) (both (Decides-eqb a.incarnation b.incarnation) (Decides-eqb a.number b.number)))
+
+wants_Decides : (a b : Wants) → Decides (same_wants a b) (a ≡ b)
+wants_Decides a b =
+    Decides-like _ (λ (needs, likes) i. record { required = needs i; desired = likes i }) (λ e. (cc, cc))
+    (both (range_Decides a.required b.required) (range_Decides a.desired b.desired))
+
+lock_Decides : (a b : LockInfo) → Decides (same_lock a b) (a ≡ b)
+lock_Decides a b =
+    Decides-like _ (λ (owners, (modes, spans)) i. record { owner = owners i; mode = modes i; span = spans i }) (λ e. (cc, (cc, cc)))
+    (both (owner_Decides a.owner b.owner) (both (mode_Decides a.mode b.mode) (range_Decides a.span b.span)))
+
+-- so hosts and calls that test alike are one
+pub host_exact : (a b : Host) → same_host a b ≡ true → a ≡ b
+host_exact a b = (host_Decides a b).0
 
 pub call_exact : (a b : CallId) → same_call a b ≡ true → a ≡ b
-call_exact a b h =
-    let first = and_parts _ _ h in
-    let second = and_parts _ _ first.1 in
-    let nodes = eqb-true _ _ first.0 in
-    let incarnations = eqb-true _ _ second.0 in
-    let numbers = eqb-true _ _ second.1 in
-    λ i. record { node = nodes i; incarnation = incarnations i; number = numbers i }
+call_exact a b = (call_Decides a b).0
 
 pub call_refl : (a : CallId) → same_call a a ≡ true
-call_refl a = and_from _ _ (eq-eqb a.node a.node refl) (and_from _ _ (eq-eqb a.incarnation a.incarnation refl) (eq-eqb a.number a.number refl))
+call_refl a = (call_Decides a a).1 refl
 
-pub host_exact : (a b : Host) → same_host a b ≡ true → a ≡ b
-host_exact a b h =
-    let parts = and_parts _ _ h in
-    let nodes = eqb-true _ _ parts.0 in
-    let incarnations = eqb-true _ _ parts.1 in
-    λ i. record { node = nodes i; incarnation = incarnations i }
-
-wants_exact : (a b : Wants) → same_wants a b ≡ true → a ≡ b
-wants_exact a b h =
-    let parts = and_parts _ _ h in
-    let needs = range_exact _ _ parts.0 in
-    let likes = range_exact _ _ parts.1 in
-    λ i. record { required = needs i; desired = likes i }
-
-wants_refl : (a : Wants) → same_wants a a ≡ true
-wants_refl a = and_from _ _ (range_refl a.required) (range_refl a.desired)
-
-lock_exact : (a b : LockInfo) → same_lock a b ≡ true → a ≡ b
-lock_exact a b h =
-    let first = and_parts _ _ h in
-    let second = and_parts _ _ first.1 in
-    let owners = owner_exact _ _ first.0 in
-    let modes = mode_exact _ _ second.0 in
-    let spans = range_exact _ _ second.1 in
-    λ i. record { owner = owners i; mode = modes i; span = spans i }
-
-lock_refl : (a : LockInfo) → same_lock a a ≡ true
-lock_refl a = and_from _ _ (owner_refl a.owner) (and_from _ _ (mode_refl a.mode) (range_refl a.span))
-
--- so are messages
-message_exact : (a b : Message) → same_message a b ≡ true → a ≡ b
-message_exact (Request f c u m w) (Request g d v n x) h =
-    let first = and_parts _ _ h in
-    let second = and_parts _ _ first.1 in
-    let third = and_parts _ _ second.1 in
-    let fourth = and_parts _ _ third.1 in
-    let files = eqb-true _ _ first.0 in
-    let calls = call_exact _ _ second.0 in
-    let urgencies = urgency_exact _ _ third.0 in
-    let modes = mode_exact _ _ fourth.0 in
-    let wants = wants_exact _ _ fourth.1 in
-    λ i. Request (files i) (calls i) (urgencies i) (modes i) (wants i)
-message_exact (Grant f k c m s) (Grant g l d n t) h =
-    let first = and_parts _ _ h in
-    let second = and_parts _ _ first.1 in
-    let third = and_parts _ _ second.1 in
-    let fourth = and_parts _ _ third.1 in
-    let files = eqb-true _ _ first.0 in
-    let numbers = eqb-true _ _ second.0 in
-    let calls = call_exact _ _ third.0 in
-    let modes = mode_exact _ _ fourth.0 in
-    let spans = range_exact _ _ fourth.1 in
-    λ i. Grant (files i) (numbers i) (calls i) (modes i) (spans i)
-message_exact (Revoke f k p c m w) (Revoke g l q d n x) h =
-    let first = and_parts _ _ h in
-    let second = and_parts _ _ first.1 in
-    let third = and_parts _ _ second.1 in
-    let fourth = and_parts _ _ third.1 in
-    let fifth = and_parts _ _ fourth.1 in
-    let files = eqb-true _ _ first.0 in
-    let numbers = eqb-true _ _ second.0 in
-    let holders = host_exact _ _ third.0 in
-    let calls = call_exact _ _ fourth.0 in
-    let modes = mode_exact _ _ fifth.0 in
-    let wants = wants_exact _ _ fifth.1 in
-    λ i. Revoke (files i) (numbers i) (holders i) (calls i) (modes i) (wants i)
-message_exact (Taken f k c) (Taken g l d) h =
-    let first = and_parts _ _ h in
-    let second = and_parts _ _ first.1 in
-    let files = eqb-true _ _ first.0 in
-    let numbers = eqb-true _ _ second.0 in
-    let calls = call_exact _ _ second.1 in
-    λ i. Taken (files i) (numbers i) (calls i)
-message_exact (Released f k p c s) (Released g l q d t) h =
-    let first = and_parts _ _ h in
-    let second = and_parts _ _ first.1 in
-    let third = and_parts _ _ second.1 in
-    let fourth = and_parts _ _ third.1 in
-    let files = eqb-true _ _ first.0 in
-    let numbers = eqb-true _ _ second.0 in
-    let holders = host_exact _ _ third.0 in
-    let calls = call_exact _ _ fourth.0 in
-    let spans = range_exact _ _ fourth.1 in
-    λ i. Released (files i) (numbers i) (holders i) (calls i) (spans i)
-message_exact (Conflict f k p c a) (Conflict g l q d b) h =
-    let first = and_parts _ _ h in
-    let second = and_parts _ _ first.1 in
-    let third = and_parts _ _ second.1 in
-    let fourth = and_parts _ _ third.1 in
-    let files = eqb-true _ _ first.0 in
-    let numbers = eqb-true _ _ second.0 in
-    let holders = host_exact _ _ third.0 in
-    let calls = call_exact _ _ fourth.0 in
-    let locks = lock_exact _ _ fourth.1 in
-    λ i. Conflict (files i) (numbers i) (holders i) (calls i) (locks i)
-message_exact (Deny f c p k a) (Deny g d q l b) h =
-    let first = and_parts _ _ h in
-    let second = and_parts _ _ first.1 in
-    let third = and_parts _ _ second.1 in
-    let fourth = and_parts _ _ third.1 in
-    let files = eqb-true _ _ first.0 in
-    let calls = call_exact _ _ second.0 in
-    let holders = host_exact _ _ third.0 in
-    let numbers = eqb-true _ _ fourth.0 in
-    let locks = lock_exact _ _ fourth.1 in
-    λ i. Deny (files i) (calls i) (holders i) (numbers i) (locks i)
-message_exact (Freed f p) (Freed g q) h =
-    let parts = and_parts _ _ h in
-    let files = eqb-true _ _ parts.0 in
-    let holders = host_exact _ _ parts.1 in
-    λ i. Freed (files i) (holders i)
-message_exact (Hello f k p) (Hello g l q) h =
-    let first = and_parts _ _ h in
-    let second = and_parts _ _ first.1 in
-    let files = eqb-true _ _ first.0 in
-    let numbers = eqb-true _ _ second.0 in
-    let holders = host_exact _ _ second.1 in
-    λ i. Hello (files i) (numbers i) (holders i)
-message_exact (Report f k p r) (Report g l q s) h =
-    let first = and_parts _ _ h in
-    let second = and_parts _ _ first.1 in
-    let third = and_parts _ _ second.1 in
-    let files = eqb-true _ _ first.0 in
-    let numbers = eqb-true _ _ second.0 in
-    let holders = host_exact _ _ third.0 in
-    let runs = runs_exact _ _ third.1 in
-    λ i. Report (files i) (numbers i) (holders i) (runs i)
-message_exact _ _ h = absurd (false≢true h)
-
-message_refl : (a : Message) → same_message a a ≡ true
-message_refl (Request f c u m w) = and_from _ _ (eq-eqb f f refl) (and_from _ _ (call_refl c) (and_from _ _ (urgency_refl u) (and_from _ _ (mode_refl m) (wants_refl w))))
-message_refl (Grant f k c m s) = and_from _ _ (eq-eqb f f refl) (and_from _ _ (eq-eqb k k refl) (and_from _ _ (call_refl c) (and_from _ _ (mode_refl m) (range_refl s))))
-message_refl (Revoke f k p c m w) = and_from _ _ (eq-eqb f f refl) (and_from _ _ (eq-eqb k k refl) (and_from _ _ (host_refl p) (and_from _ _ (call_refl c) (and_from _ _ (mode_refl m) (wants_refl w)))))
-message_refl (Taken f k c) = and_from _ _ (eq-eqb f f refl) (and_from _ _ (eq-eqb k k refl) (call_refl c))
-message_refl (Released f k p c s) = and_from _ _ (eq-eqb f f refl) (and_from _ _ (eq-eqb k k refl) (and_from _ _ (host_refl p) (and_from _ _ (call_refl c) (range_refl s))))
-message_refl (Conflict f k p c a) = and_from _ _ (eq-eqb f f refl) (and_from _ _ (eq-eqb k k refl) (and_from _ _ (host_refl p) (and_from _ _ (call_refl c) (lock_refl a))))
-message_refl (Deny f c p k a) = and_from _ _ (eq-eqb f f refl) (and_from _ _ (call_refl c) (and_from _ _ (host_refl p) (and_from _ _ (eq-eqb k k refl) (lock_refl a))))
-message_refl (Freed f p) = and_from _ _ (eq-eqb f f refl) (host_refl p)
-message_refl (Hello f k p) = and_from _ _ (eq-eqb f f refl) (and_from _ _ (eq-eqb k k refl) (host_refl p))
-message_refl (Report f k p r) = and_from _ _ (eq-eqb f f refl) (and_from _ _ (eq-eqb k k refl) (and_from _ _ (host_refl p) (runs_refl r)))
+-- and so does the test of messages
+message_Decides : (a b : Message) → Decides (same_message a b) (a ≡ b)
+message_Decides (Request f c u m w) (Request g d v n x) =
+    Decides-like _ (λ (files, (calls, (urgencies, (modes, wants)))) i. Request (files i) (calls i) (urgencies i) (modes i) (wants i)) (λ e. (cc, (cc, (cc, (cc, cc)))))
+    (both (Decides-eqb f g) (both (call_Decides c d) (both (urgency_Decides u v) (both (mode_Decides m n) (wants_Decides w x)))))
+message_Decides (Grant f k c m s) (Grant g l d n t) =
+    Decides-like _ (λ (files, (numbers, (calls, (modes, spans)))) i. Grant (files i) (numbers i) (calls i) (modes i) (spans i)) (λ e. (cc, (cc, (cc, (cc, cc)))))
+    (both (Decides-eqb f g) (both (Decides-eqb k l) (both (call_Decides c d) (both (mode_Decides m n) (range_Decides s t)))))
+message_Decides (Revoke f k p c m w) (Revoke g l q d n x) =
+    Decides-like _ (λ (files, (numbers, (holders, (calls, (modes, wants))))) i. Revoke (files i) (numbers i) (holders i) (calls i) (modes i) (wants i)) (λ e. (cc, (cc, (cc, (cc, (cc, cc))))))
+    (both (Decides-eqb f g) (both (Decides-eqb k l) (both (host_Decides p q) (both (call_Decides c d) (both (mode_Decides m n) (wants_Decides w x))))))
+message_Decides (Taken f k c) (Taken g l d) =
+    Decides-like _ (λ (files, (numbers, calls)) i. Taken (files i) (numbers i) (calls i)) (λ e. (cc, (cc, cc)))
+    (both (Decides-eqb f g) (both (Decides-eqb k l) (call_Decides c d)))
+message_Decides (Released f k p c s) (Released g l q d t) =
+    Decides-like _ (λ (files, (numbers, (holders, (calls, spans)))) i. Released (files i) (numbers i) (holders i) (calls i) (spans i)) (λ e. (cc, (cc, (cc, (cc, cc)))))
+    (both (Decides-eqb f g) (both (Decides-eqb k l) (both (host_Decides p q) (both (call_Decides c d) (range_Decides s t)))))
+message_Decides (Conflict f k p c a) (Conflict g l q d b) =
+    Decides-like _ (λ (files, (numbers, (holders, (calls, locks)))) i. Conflict (files i) (numbers i) (holders i) (calls i) (locks i)) (λ e. (cc, (cc, (cc, (cc, cc)))))
+    (both (Decides-eqb f g) (both (Decides-eqb k l) (both (host_Decides p q) (both (call_Decides c d) (lock_Decides a b)))))
+message_Decides (Deny f c p k a) (Deny g d q l b) =
+    Decides-like _ (λ (files, (calls, (holders, (numbers, locks)))) i. Deny (files i) (calls i) (holders i) (numbers i) (locks i)) (λ e. (cc, (cc, (cc, (cc, cc)))))
+    (both (Decides-eqb f g) (both (call_Decides c d) (both (host_Decides p q) (both (Decides-eqb k l) (lock_Decides a b)))))
+message_Decides (Freed f p) (Freed g q) =
+    Decides-like _ (λ (files, holders) i. Freed (files i) (holders i)) (λ e. (cc, cc))
+    (both (Decides-eqb f g) (host_Decides p q))
+message_Decides (Hello f k p) (Hello g l q) =
+    Decides-like _ (λ (files, (numbers, holders)) i. Hello (files i) (numbers i) (holders i)) (λ e. (cc, (cc, cc)))
+    (both (Decides-eqb f g) (both (Decides-eqb k l) (host_Decides p q)))
+message_Decides (Report f k p r) (Report g l q s) =
+    Decides-like _ (λ (files, (numbers, (holders, runs))) i. Report (files i) (numbers i) (holders i) (runs i)) (λ e. (cc, (cc, (cc, cc))))
+    (both (Decides-eqb f g) (both (Decides-eqb k l) (both (host_Decides p q) (runs_decide r s))))
+message_Decides _ _ = (λ h. absurd (false≢true h), λ e. cc)
 
 -- messages compared by value are equal
 pub same_message-is-equality : SameMessageIsEquality
-same_message-is-equality a b = (message_exact a b, λ e. subst (λ (x : Message). same_message a x ≡ true) e (message_refl a))
+same_message-is-equality a b = message_Decides a b
 
 -- the derived `==` of messages compares them by value
 pub message_eq : (a b : Message) → derived.ghosts.eq a b ≡ same_message a b
@@ -231,21 +151,11 @@ op_eq-Decides _ _ = (λ h. absurd (false≢true h), λ e. cc)
 call_events : (node pid n p : ℕ) (op o : Op) → derived_of_events.ghosts.eq (Call node pid op) (Call n p o) ≡ ((node == n) && ((pid == p) && derived_of_ops.ghosts.eq op o))
 call_events node pid n p op o = search rules
 
-calls_Decide : (node pid n p : ℕ) (op o : Op) (same : Bool) → Decides same (op ≡ o) → Decides ((node == n) && ((pid == p) && same)) (Call node pid op ≡ Call n p o)
-calls_Decide node pid n p op o same d = (
-  λ h.
-      let first = and_parts _ _ h in
-      let second = and_parts _ _ first.1 in
-      let nodes = eqb-true _ _ first.0 in
-      let pids = eqb-true _ _ second.0 in
-      let ops = d.0 second.1 in
-      λ i. Call (nodes i) (pids i) (ops i),
-  λ e. and_from _ _ (eq-eqb node n (cc)) (and_from _ _ (eq-eqb pid p (cc)) (d.1 (cc))),
-)
-
 -- and so is that of events
 pub event_eq-Decides : (a b : Event) → Decides (derived_of_events.ghosts.eq a b) (a ≡ b)
-event_eq-Decides (Call node pid op) (Call n p o) = Decides-at _ _ (call_events node pid n p op o) (calls_Decide node pid n p op o _ (op_eq-Decides op o))
+event_eq-Decides (Call node pid op) (Call n p o) = Decides-at _ _ (call_events node pid n p op o) (
+    Decides-like _ (λ (nodes, (pids, ops)) i. Call (nodes i) (pids i) (ops i)) (λ e. (cc, (cc, cc)))
+    (both (Decides-eqb node n) (both (Decides-eqb pid p) (op_eq-Decides op o))))
 event_eq-Decides (Deliver m) (Deliver n) = (λ h. ap Deliver ((message_eq-Decides m n).0 h), λ e. (message_eq-Decides m n).1 (cc))
 event_eq-Decides (Interrupt node pid) (Interrupt n p) = grind (arith, common_steps)
 event_eq-Decides (Retry node pid) (Retry n p) = grind (arith, common_steps)
