@@ -2,10 +2,11 @@
 use Rattle.std.proofs.Common.{◌≡◌, ◌≢◌, ℕ, ◌+◌, ◌-◌, ◌<◌, ◌≤◌, ◌⊎◌, true, false, ◌&&◌, eqb, eq-eqb, max, length, get_or, take, List, [], ◌∷◌, ◌++◌, Option, Some, None, IfSome, IsSomeAnd, MatchOption, refl, ap, sym, ◌∙◌, subst, inl, inr, arith}
 use Rattle.std.specs.List.{All}
 use Rattle.std.specs.declared.cmp.Ordering.TheVariants.{Less, Greater}
-use Rattle.std.proofs.lemmas.Bool.{cases_lt, cases_order, cases_Bool, and_from, and_right, both_ways, false≢true}
+use Rattle.std.proofs.lemmas.Bool.{cases_lt, cases_Bool, and_from, and_right, both_ways, false≢true}
 use Rattle.std.proofs.lemmas.List.{take_more}
 use Rattle.intervals.specs.Bytes.{Range, nothing, IsRun, IsBarred, NoneIn}
 use Rattle.intervals.specs.Runs.{value_at}
+use Rattle.intervals.proofs.SpanLaws.{runs_are_one}
 use Rattle.model.specs.declared.mode.Mode.{Mode}
 use Rattle.model.specs.declared.mode.Mode.TheVariants.{Read, Write}
 use Rattle.model.specs.declared.owner.Owner.{Owner}
@@ -66,31 +67,15 @@ bars_none : (mode : Mode) (x : Option Mode) → ((m : Mode) → x ≡ Some m →
 bars_none mode None h = refl
 bars_none mode (Some m) h = h m refl
 
--- two regions of one function of bytes that begin at one byte are one
-pub region_one : (f : ℕ → Option Mode) (s t : Range) (m n : Mode) → IsRun f s m → IsRun f t n → s.lo ≡ t.lo → (s.hi ≡ t.hi) × (m ≡ n)
-region_one f s t m n p q e =
-    let at_s : f s.lo ≡ Some m = p.all s.lo (omega arith) p.ordered in
-    let at_t : f t.lo ≡ Some n = q.all t.lo (omega arith) q.ordered in
-    let here : f s.lo ≡ f t.lo = ap f e in
-    let modes : m ≡ n = cc in
-    let ordered_s = p.ordered in
-    let ordered_t = q.ordered in
-    let ends : s.hi ≡ t.hi = elim (cases_order s.hi t.hi) [
-      | inl same ↦ same
-      | inr (inl lt) ↦ let past : f (s.hi + 1) ≡ Some n = q.all (s.hi + 1) (omega arith) (omega arith) in absurd (p.ends (past ∙ ap Some (sym modes)))
-      | inr (inr lt) ↦ let past : f (t.hi + 1) ≡ Some m = p.all (t.hi + 1) (omega arith) (omega arith) in absurd (q.ends (past ∙ ap Some modes))
-    ] in
-    (ends, modes)
-
-pub lock_one : (a b : LockInfo) → a.owner ≡ b.owner → a.mode ≡ b.mode → a.span.lo ≡ b.span.lo → a.span.hi ≡ b.span.hi → a ≡ b
-lock_one a b owners modes los his = λ i. record { owner = owners i; mode = modes i; span = record { lo = los i; hi = his i } }
+pub lock_one : (a b : LockInfo) → a.owner ≡ b.owner → a.mode ≡ b.mode → a.span ≡ b.span → a ≡ b
+lock_one a b owners modes spans = λ i. record { owner = owners i; mode = modes i; span = spans i }
 
 -- two regions of one owner that begin at one byte are one
 pub same_region : (h : FileLocks) (a b : LockInfo) → IsRegion h a → IsRegion h b → a.owner ≡ b.owner → a.span.lo ≡ b.span.lo → a ≡ b
 same_region h a b p q owners los =
     let r : IsRun (h b.owner) a.span a.mode = subst (λ (o : Owner). IsRun (h o) a.span a.mode) owners p in
-    let same = region_one (h b.owner) a.span b.span a.mode b.mode r q los in
-    lock_one a b owners same.1 los same.0
+    let same = runs_are_one (h b.owner) a.span b.span a.mode b.mode a.span.lo r q (omega arith, r.ordered) (omega (arith, los), omega (arith, los, q.ordered)) in
+    lock_one a b owners same.1 same.0
 
 -- each of two locks that come before or are the other is the other
 pub lowest_one : (h : FileLocks) (owner : Owner) (s : Range) (mode : Mode) (a b : LockInfo) → IsLowestBlocker h owner s mode a → IsLowestBlocker h owner s mode b → a ≡ b

@@ -14,6 +14,7 @@ use Rattle.std.proofs.lemmas.List.Sorted.{ranks_by, sorted_far, All-permutation,
 use Rattle.std.proofs.lemmas.Map.Keys.{IsDistinct-IsPermutation}
 use Rattle.intervals.specs.Bytes.{nothing, IsRun}
 use Rattle.intervals.specs.Runs.{value_at}
+use Rattle.intervals.proofs.SpanLaws.{runs_are_one}
 use Rattle.model.specs.declared.mode.Mode.{Mode}
 use Rattle.model.specs.declared.lock_info.LockInfo.{LockInfo}
 use Rattle.model.specs.Owners.{same_owner}
@@ -24,7 +25,7 @@ use Rattle.lock_table.specs.Rows.{locks_of, NothingFrom}
 use Rattle.lock_table.specs.Listing.{IsBefore, IsListing, lock_cmp, same_start, ListsRegions}
 use Rattle.model.proofs.OwnerLaws.{owner_exact, owner_refl}
 use Rattle.lock_table.proofs.Orders.{owners_total, owner_equal, nat_cmp_less, nat_cmp_equal, then_less, then_equal, back_less}
-use Rattle.lock_table.proofs.BlockerLemmas.{IsJoin, region_left, region_right, region_cases, owners_apart, region_own, own_region, region_one, lock_one}
+use Rattle.lock_table.proofs.BlockerLemmas.{IsJoin, region_left, region_right, region_cases, owners_apart, region_own, own_region, lock_one}
 
 -- the order of locks
 pub locks_total : IsTotalOrder lock_cmp
@@ -163,16 +164,8 @@ module _ (r : OwnerLocks) (from : ℕ) (old new : List LockInfo) (l : Listed r f
         | inl lt ↦ absurd (first.first.none_before y.span.lo late lt (rw here refl))
         | inr le ↦ le
       ] in
-      let los : y.span.lo ≡ x.span.lo = elim (cases_lt x.span.lo y.span.lo) [
-        | inl lt ↦
-            let there : f y.span.lo ≡ Some x.mode = first.region.all y.span.lo (omega arith) (omega arith) in
-            let before : f (y.span.lo - 1) ≡ Some x.mode = first.region.all (y.span.lo - 1) (omega arith) (omega arith) in
-            let modes : x.mode ≡ y.mode = cc in
-            absurd (run.begins (y.span.lo - 1) (omega arith) (before ∙ ap Some modes))
-        | inr le ↦ omega arith
-      ] in
-      let same = region_one f y.span x.span y.mode x.mode run first.region los in
-      lock_one y x (owner ∙ sym first.owner) same.1 los same.0
+      let same = runs_are_one f y.span x.span y.mode x.mode y.span.lo run first.region (omega arith, run.ordered) (omega arith, omega arith) in
+      lock_one y x (owner ∙ sym first.owner) same.1 same.0
 
   apart_from : (y : LockInfo) → (y.owner ≡ r.owner) × IsRun (value_at r.spans) y.span y.mode × (y.span.lo < from) → All (λ z. same_start y z ≡ false) (x ∷ [])
   apart_from y h zero d lt = let late = starts_late in and_left (eqb y.span.lo x.span.lo) (same_owner y.owner x.owner) (ne_eqb y.span.lo x.span.lo (λ e. absurd (omega (arith, h.2))))

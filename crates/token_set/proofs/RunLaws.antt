@@ -1,29 +1,14 @@
 -- Lists of the longest runs of a token.
 use Rattle.std.specs.Prelude.{◌≡◌, ◌≢◌, ℕ, ◌+◌, ◌-◌, ◌<◌, ◌≤◌, Some, List, [], ◌∷◌, ◌++◌, All, AllPairs, Contains}
-use Rattle.std.proofs.Common.{sym, ap, ◌∙◌, subst, inl, inr, arith}
-use Rattle.std.proofs.lemmas.Bool.{cases_lt, cases_order}
+use Rattle.std.proofs.Common.{sym, subst, inl, inr, arith}
+use Rattle.std.proofs.lemmas.Bool.{cases_lt}
 use Rattle.std.proofs.lemmas.List.Elements.{All-push, All-weaker, Contains-append_left, Contains-push}
 use Rattle.std.proofs.lemmas.List.Quantifiers.{all_pairs_push}
 use Rattle.intervals.specs.Bytes.{Range, IsRun}
+use Rattle.intervals.proofs.SpanLaws.{runs_are_one}
 use Rattle.model.specs.declared.level.Level.{Level}
 use Rattle.token_set.specs.Tokens.{Token}
 use Rattle.token_set.specs.Runs.{IsNextRun}
-
--- two runs that begin at one byte are one
-run_one : (t : Token) (s q : Range) (v w : Level) → IsRun t s v → IsRun t q w → s.lo ≡ q.lo → ◌≡◌ {A = Range × Level} (s, v) (q, w)
-run_one t s q v w a b los =
-    let at_s : t s.lo ≡ Some v = a.all s.lo (omega arith) a.ordered in
-    let at_q : t q.lo ≡ Some w = b.all q.lo (omega arith) b.ordered in
-    let here : t s.lo ≡ t q.lo = ap t los in
-    let levels : v ≡ w = cc in
-    let ordered_s = a.ordered in
-    let ordered_q = b.ordered in
-    let his : s.hi ≡ q.hi = elim (cases_order s.hi q.hi) [
-      | inl same ↦ same
-      | inr (inl lt) ↦ let past : t (s.hi + 1) ≡ Some w = b.all (s.hi + 1) (omega arith) (omega arith) in absurd (a.ends (past ∙ ap Some (sym levels)))
-      | inr (inr lt) ↦ let past : t (q.hi + 1) ≡ Some v = a.all (q.hi + 1) (omega arith) (omega arith) in absurd (b.ends (past ∙ ap Some levels))
-    ] in
-    λ i. (record { lo = los i; hi = his i }, levels i)
 
 -- those runs are listed that begin before the byte, at which none goes on
 pub record Listed (t : Token) (from : ℕ) (runs : List (Range × Level)) : Type 0 where
@@ -54,15 +39,8 @@ module _ (t : Token) (from : ℕ) (runs : List (Range × Level)) (l : Listed t f
         | inl lt ↦ let none = next.none_before q.lo late lt in absurd cc
         | inr le ↦ le
       ] in
-      let los : q.lo ≡ s.lo = elim (cases_lt s.lo q.lo) [
-        | inl lt ↦
-            let there : t q.lo ≡ Some v = next.run.all q.lo (omega arith) (omega arith) in
-            let before : t (q.lo - 1) ≡ Some v = next.run.all (q.lo - 1) (omega arith) (omega arith) in
-            let levels : v ≡ w = cc in
-            absurd (run.begins (q.lo - 1) (omega arith) (before ∙ ap Some levels))
-        | inr le ↦ omega arith
-      ] in
-      run_one t q s w v run next.run los
+      let same = runs_are_one t q s w v q.lo run next.run (omega arith, run.ordered) (omega arith, omega arith) in
+      λ i. (same.0 i, same.1 i)
 
   pub listed_more : Listed t (s.hi + 1) (runs ++ (s, v) ∷ [])
   listed_more = record {
