@@ -1,5 +1,5 @@
 //! Why locks stay as they are.
-use std::alloc::{AllocError, AllocFailed};
+use std::alloc::AllocError;
 use thiserror::Error;
 
 /// Why a call left the locks as they were.
@@ -20,17 +20,6 @@ impl From<AllocError> for LockError {
     ghost from_gives = { λ error made. made ≡ NoMemory };
 
     fn from(_error: AllocError) -> Self {
-        LockError::NoMemory
-    }
-}
-
-impl<T: Drop> From<AllocFailed<T>> for LockError {
-    ghost use Rattle.std.specs.Prelude.{◌≡◌};
-    ghost use Rattle.lock_table.specs.declared.error.LockError.TheVariants.{NoMemory};
-
-    ghost from_gives = { λ error made. made ≡ NoMemory };
-
-    fn from(_error: AllocFailed<T>) -> Self {
         LockError::NoMemory
     }
 }

@@ -1,6 +1,5 @@
 //! What a token gives up at once. (A node plans what it gives up.)
 use intervals::span::{GREATEST, Span};
-use lock_table::error::LockError;
 use lock_table::lock_table::LockTable;
 use model::level::Level;
 use model::lock_info::LockInfo;
@@ -42,7 +41,7 @@ const HIGH: LockInfo = LockInfo {
 };
 
 // The node's locks of the file: both. (In a box, since that is dropped in fewer steps, each of which the check proves.)
-fn both_locks(alloc: Global) -> Result<Box<LockTable>, LockError> {
+fn both_locks(alloc: Global) -> Result<Box<LockTable>, Fail> {
     let mut locks = Box::new(alloc, LockTable::new(alloc, 1024))?;
     for lock in [HIGH, LOW] {
         locks.set(lock.owner, FILE, lock.span, lock.mode)?;
