@@ -1,5 +1,5 @@
 //! The cluster.
-ghost use Rattle.std.specs.Prelude.{◌≡◌, ◌≢◌, ◌<◌, true, false, Ok, Err, ◌++◌, ◌∷◌, [], IfOk, IfErr, OnOk, OnErr, length, ◌-◌, slice_set, slice_index_or};
+ghost use Rattle.std.specs.Prelude.{◌≡◌, ◌≢◌, ◌<◌, true, false, Ok, Err, ◌++◌, ◌∷◌, [], IfOk, IfErr, OnOk, OnErr, length, ◌-◌, slice_index_or};
 ghost use Rattle.messages.specs.declared.refusal.Refused.TheVariants.{NoMemory};
 ghost use Rattle.messages.specs.declared.refusal.StepError.TheVariants.{NoMemory as OutOfMemory};
 ghost use Rattle.messages.specs.Messages.{is_within};
@@ -516,13 +516,9 @@ impl World {
         ensures err { OnErr result ((e : Refused) → next (world_state self.old) event ≢ Err e) }
         ensures unchanged { OnErr result (self.new ≡ self.old) }
     {
-        let outcome = settle_node(
-            alloc,
-            &mut self.nodes,
-            node as usize - 1,
-            change,
-            &mut self.sent,
-        )?;
+        self.sent.extend(alloc, change.outcome.sends.as_slice())?;
+        let stepping = &mut self.nodes[node as usize - 1];
+        let outcome = stepping.apply(change);
         self.length += 1;
         Ok(Entry::at_node(event, incarnation, outcome))
     }
@@ -541,13 +537,9 @@ impl World {
         ensures err { OnErr result ((e : Refused) → next (world_state self.old) event ≢ Err e) }
         ensures unchanged { OnErr result (self.new ≡ self.old) }
     {
-        let outcome = settle_server(
-            alloc,
-            &mut self.servers,
-            file as usize - 1,
-            change,
-            &mut self.sent,
-        )?;
+        self.sent.extend(alloc, change.outcome.sends.as_slice())?;
+        let server = &mut self.servers[file as usize - 1];
+        let outcome = server.apply(change);
         self.length += 1;
         Ok(Entry::new(event, outcome))
     }
@@ -672,44 +664,4 @@ impl World {
         }
         Ok(world)
     }
-}
-
-// Makes the change of the node at an index, once its messages are sent.
-fn settle_node(
-    alloc: Global,
-    nodes: &mut Vec<Node>,
-    index: usize,
-    change: NodeChange,
-    sent: &mut Sent,
-) -> Result<Outcome, AllocError>
-    requires within { index < length nodes.old.items }
-    requires fits { (p : NodeParts) → p ≡ slice_index_or nodes.old.items index p → Fits p change.edit }
-    ensures nodes { OnOk result ((p : NodeParts) → p ≡ slice_index_or nodes.old.items index p → (next : NodeParts) × (nodes.new.items ≡ slice_set nodes.old.items index next) × (node_state next ≡ reached p change.edit)) }
-    ensures outcome { IfOk result (λ outcome. outcome ≡ change.outcome) }
-    ensures sent { IfOk result (λ outcome. sent.new ≡ sent.old ++ outcome.sends) }
-    ensures unchanged { OnErr result ((nodes.new.items ≡ nodes.old.items) × (sent.new ≡ sent.old)) }
-{
-    sent.extend(alloc, change.outcome.sends.as_slice())?;
-    let node = &mut nodes[index];
-    Ok(node.apply(change))
-}
-
-// Makes the change of the server at an index, once its messages are sent.
-fn settle_server(
-    alloc: Global,
-    servers: &mut Vec<Server>,
-    index: usize,
-    change: ServerChange,
-    sent: &mut Sent,
-) -> Result<Outcome, AllocError>
-    requires within { index < length servers.old.items }
-    requires fits { (p : ServerParts) → p ≡ slice_index_or servers.old.items index p → ServerFits p change.edit }
-    ensures servers { OnOk result ((p : ServerParts) → p ≡ slice_index_or servers.old.items index p → (next : ServerParts) × (servers.new.items ≡ slice_set servers.old.items index next) × (server_state next ≡ planned p change.edit)) }
-    ensures outcome { IfOk result (λ outcome. outcome ≡ change.outcome) }
-    ensures sent { IfOk result (λ outcome. sent.new ≡ sent.old ++ outcome.sends) }
-    ensures unchanged { OnErr result ((servers.new.items ≡ servers.old.items) × (sent.new ≡ sent.old)) }
-{
-    sent.extend(alloc, change.outcome.sends.as_slice())?;
-    let server = &mut servers[index];
-    Ok(server.apply(change))
 }

@@ -13,35 +13,26 @@ use Rattle.node_core.specs.Node.{node_rule}
 use Rattle.cluster_core.proofs.steps.NodeSteps.{call_done, deliver_done, interrupt_done, retry_done, remembered_state, in_order_either, told_either}
 use Rattle.cluster_core.proofs.steps.NodeTokens.{called_asks, tried_if_asks, denied_asks, interrupted_asks}
 
-in_order-node : (s : NodeState) (file number : ℕ) (e : Effect) → e.state.node ≡ s.node → (in_order s file number e).state.node ≡ s.node
-in_order-node s file number e kept =
-    in_order_either (λ x. x.state.node ≡ s.node) s file number e (λ next. kept) (ap (λ (x : NodeState). x.node) (remembered_state s (s.files file).answer)) refl
+-- both are states of one node, in one incarnation
+abbrev OfOneHost : NodeState → NodeState → Type 0
+OfOneHost s t = (t.node ≡ s.node) × (t.incarnation ≡ s.incarnation)
 
--- a message leaves the node its number
-delivered-node : (s : NodeState) (m : Message) → (delivered s m).state.node ≡ s.node
-delivered-node s (Grant file number call mode span) =
+in_order-host : (s : NodeState) (file number : ℕ) (e : Effect) → OfOneHost s e.state → OfOneHost s (in_order s file number e).state
+in_order-host s file number e kept =
+    let is = remembered_state s (s.files file).answer in
+    in_order_either (λ x. OfOneHost s x.state) s file number e (λ next. kept) (ap (λ (x : NodeState). x.node) is, ap (λ (x : NodeState). x.incarnation) is) (refl, refl)
+
+-- a message leaves the node its number and its incarnation
+delivered-host : (s : NodeState) (m : Message) → OfOneHost s (delivered s m).state
+delivered-host s (Grant file number call mode span) =
     let t = in_epoch s file number in
     let next = after_command t file (raised (t.files file).token span mode) number (Taken file number call) (t.files file).asked in
-    in_order-node t file number (granted t file number call mode span) (tried_if_asks next (open_call next call.number)).node_is
-delivered-node s (Revoke file number holder call mode wanted) = let t = in_epoch s file number in in_order-node t file number (revoked t file number call mode wanted) refl
-delivered-node s (Hello file number holder) = told_either (λ e. e.state.node ≡ s.node) (in_epoch s file number) file number (λ is. refl) refl
-delivered-node s (Deny file call holder number lock) = (denied_asks s lock (open_call s call.number)).node_is
-delivered-node s m = refl
-
-in_order-incarnation : (s : NodeState) (file number : ℕ) (e : Effect) → e.state.incarnation ≡ s.incarnation → (in_order s file number e).state.incarnation ≡ s.incarnation
-in_order-incarnation s file number e kept =
-    in_order_either (λ x. x.state.incarnation ≡ s.incarnation) s file number e (λ next. kept) (ap (λ (x : NodeState). x.incarnation) (remembered_state s (s.files file).answer)) refl
-
--- and its incarnation
-delivered-incarnation : (s : NodeState) (m : Message) → (delivered s m).state.incarnation ≡ s.incarnation
-delivered-incarnation s (Grant file number call mode span) =
-    let t = in_epoch s file number in
-    let next = after_command t file (raised (t.files file).token span mode) number (Taken file number call) (t.files file).asked in
-    in_order-incarnation t file number (granted t file number call mode span) (tried_if_asks next (open_call next call.number)).incarnation_is
-delivered-incarnation s (Revoke file number holder call mode wanted) = let t = in_epoch s file number in in_order-incarnation t file number (revoked t file number call mode wanted) refl
-delivered-incarnation s (Hello file number holder) = told_either (λ e. e.state.incarnation ≡ s.incarnation) (in_epoch s file number) file number (λ is. refl) refl
-delivered-incarnation s (Deny file call holder number lock) = (denied_asks s lock (open_call s call.number)).incarnation_is
-delivered-incarnation s m = refl
+    let asks = tried_if_asks next (open_call next call.number) in
+    in_order-host t file number (granted t file number call mode span) (asks.node_is, asks.incarnation_is)
+delivered-host s (Revoke file number holder call mode wanted) = let t = in_epoch s file number in in_order-host t file number (revoked t file number call mode wanted) (refl, refl)
+delivered-host s (Hello file number holder) = told_either (λ e. OfOneHost s e.state) (in_epoch s file number) file number (λ is. (refl, refl)) (refl, refl)
+delivered-host s (Deny file call holder number lock) = let asks = denied_asks s lock (open_call s call.number) in (asks.node_is, asks.incarnation_is)
+delivered-host s m = (refl, refl)
 
 -- a call is named by its node, and nothing else is named
 abbrev pub NamesBy : ℕ → NodeEvent → Option CallId → Type 0
@@ -61,7 +52,7 @@ node_rule-steps s (Call pid op) done h =
     let counted = record s { calls = s.calls + 1 } in
     subst (Steps s (Call pid op)) (call_done s pid op done h) (record { node = (called_asks counted (s.calls + 1) pid op).node_is; incarnation = (called_asks counted (s.calls + 1) pid op).incarnation_is; named = refl })
 node_rule-steps s (Deliver m) done h = elim (deliver_done s m done h) [
-  | inl taken ↦ subst (Steps s (Deliver m)) taken.1 (record { node = delivered-node s m; incarnation = delivered-incarnation s m; named = refl })
+  | inl taken ↦ let same = delivered-host s m in subst (Steps s (Deliver m)) taken.1 (record { node = same.0; incarnation = same.1; named = refl })
   | inr passed ↦ subst (Steps s (Deliver m)) passed (record { node = refl; incarnation = refl; named = refl })
 ]
 node_rule-steps s (Interrupt pid) done h =

@@ -6,7 +6,7 @@ use Rattle.std.specs.declared.option.Option.{Option}
 use Rattle.std.specs.declared.option.Option.TheVariants.{None, Some}
 use Rattle.std.specs.declared.result.Result.{Result}
 use Rattle.std.specs.declared.result.Result.TheVariants.{Ok, Err}
-use Rattle.std.proofs.lemmas.List.{length-set}
+use Rattle.std.proofs.lemmas.List.{get_or_default, length-set}
 use Rattle.model.specs.declared.call.CallId.{CallId}
 use Rattle.messages.specs.Messages.{is_within}
 use Rattle.messages.specs.Entries.{NamesItsCall, NamesItsIncarnation}
@@ -37,6 +37,10 @@ use Rattle.members.specs.Parts.{incarnation_in, incarnation_of, members_state}
 use Rattle.cluster_core.proofs.common.Numbered.{within_is, put_at, read_number}
 use Rattle.cluster_core.proofs.steps.NodeNumbers.{NamesBy, node_rule-steps}
 use Rattle.cluster_core.proofs.steps.ServerSteps.{server_rule-sending, server_rule-epoch}
+
+-- what is read at a place of a list is one, whatever is read behind its end
+pub one_there : {X : Type 0} (xs : List X) (i : ℕ) (x y : X) → i < length xs → x ≡ slice_index_or xs i x → y ≡ slice_index_or xs i y → x ≡ y
+one_there xs i x y lt here there = here ∙ get_or_default xs i x y lt ∙ sym there
 
 -- the world with another node, more messages, and one more entry
 abbrev pub with_node_parts : WorldParts → ℕ → NodeParts → List Message → WorldParts
