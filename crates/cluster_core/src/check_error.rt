@@ -2,7 +2,7 @@
 ghost use Rattle.std.specs.Prelude.{◌≡◌};
 ghost use Rattle.cluster_core.specs.declared.check_error.CheckError.TheVariants.{NoMemory};
 
-use std::alloc::{AllocError, AllocFailed};
+use std::alloc::AllocError;
 use thiserror::Error;
 
 /// Why entries that somebody hands in are taken for no journal.
@@ -24,14 +24,6 @@ impl From<AllocError> for CheckError {
     ghost from_gives = { λ error made. made ≡ NoMemory };
 
     fn from(_error: AllocError) -> CheckError {
-        CheckError::NoMemory
-    }
-}
-
-impl<T: Drop> From<AllocFailed<T>> for CheckError {
-    ghost from_gives = { λ error made. made ≡ NoMemory };
-
-    fn from(_error: AllocFailed<T>) -> CheckError {
         CheckError::NoMemory
     }
 }
