@@ -4,27 +4,8 @@ ghost use Rattle.pictures.specs.Style.{dark, defs, legend, light, style};
 
 use std::alloc::AllocError;
 
-/// Writes how the elements look, in the light and in the dark.
-///
-/// # Errors
-/// `AllocError` where a request for memory was refused.
-#[tactic(auto, unfolding(crate::specs::Style::style))]
-pub(crate) fn push_style(out: &mut String) -> Result<(), AllocError>
-    ensures { OnOk result (string_bytes out.new ≡ string_bytes out.old ++ style) }
-{
-    out.push_str("<style>\n")?;
-    push_light(out)?;
-    out.push_str("@media (prefers-color-scheme: dark) {\n")?;
-    push_dark(out)?;
-    out.push_str("}\n</style>\n")
-}
-
-#[tactic(auto, unfolding(crate::specs::Style::light))]
-fn push_light(out: &mut String) -> Result<(), AllocError>
-    ensures { OnOk result (string_bytes out.new ≡ string_bytes out.old ++ light) }
-{
-    out.push_str(
-        "\
+// How they look in the light.
+const LIGHT: &str = "\
 svg { background: #ffffff; font-family: Helvetica, Arial, sans-serif; font-size: 10px; }
 text { fill: #1f2430; }
 .number { fill: #7a8194; text-anchor: middle; }
@@ -63,17 +44,10 @@ text { fill: #1f2430; }
 .shared { fill-opacity: 0.4; }
 .lock { fill: none; stroke: #1f2430; stroke-width: 1.5; }
 .read { stroke-dasharray: 3 2; }
-",
-    )
-}
+";
 
-// Writes what differs in the dark.
-#[tactic(auto, unfolding(crate::specs::Style::dark))]
-fn push_dark(out: &mut String) -> Result<(), AllocError>
-    ensures { OnOk result (string_bytes out.new ≡ string_bytes out.old ++ dark) }
-{
-    out.push_str(
-        "\
+// What differs in the dark.
+const DARK: &str = "\
 svg { background: #14171f; }
 text { fill: #e6e8ee; }
 .number, .again { fill: #8f97aa; }
@@ -106,8 +80,37 @@ text { fill: #e6e8ee; }
 .n7 { fill: #b8a23f; }
 .n8 { fill: #a8816b; }
 .lock { stroke: #ffffff; }
-",
-    )
+";
+
+/// Writes how the elements look, in the light and in the dark.
+///
+/// # Errors
+/// `AllocError` where a request for memory was refused.
+#[tactic(auto, unfolding(crate::specs::Style::style))]
+pub(crate) fn push_style(out: &mut String) -> Result<(), AllocError>
+    ensures { OnOk result (string_bytes out.new ≡ string_bytes out.old ++ style) }
+{
+    out.push_str("<style>\n")?;
+    push_light(out)?;
+    out.push_str("@media (prefers-color-scheme: dark) {\n")?;
+    push_dark(out)?;
+    out.push_str("}\n</style>\n")
+}
+
+// Writes how they look in the light.
+#[tactic(auto, unfolding(crate::specs::Style::light))]
+fn push_light(out: &mut String) -> Result<(), AllocError>
+    ensures { OnOk result (string_bytes out.new ≡ string_bytes out.old ++ light) }
+{
+    out.push_str(LIGHT)
+}
+
+// Writes what differs in the dark.
+#[tactic(auto, unfolding(crate::specs::Style::dark))]
+fn push_dark(out: &mut String) -> Result<(), AllocError>
+    ensures { OnOk result (string_bytes out.new ≡ string_bytes out.old ++ dark) }
+{
+    out.push_str(DARK)
 }
 
 /// Writes the head of an arrow, a diamond, and what the boxes of tokens and locks mean.
