@@ -19,38 +19,27 @@ const OPEN: Op = Op::Open {
     access: Access::ReadWrite,
 };
 
-const QUERY: Op = Op::Query {
-    fd: 0,
-    kind: Kind::OfProcess,
-    mode: Mode::Write,
-    start: 5,
-    len: 10,
-};
+// A call of a process for a write lock of ten bytes, from this one on.
+macro_rules! of_ten {
+    ($call:ident, $start:expr) => {
+        Op::$call {
+            fd: 0,
+            kind: Kind::OfProcess,
+            mode: Mode::Write,
+            start: $start,
+            len: 10,
+        }
+    };
+}
+
+const QUERY: Op = of_ten!(Query, 5);
 
 // Write locks of bytes 0 to 9, and of 5 to 14.
-const FIRST: Op = Op::Set {
-    fd: 0,
-    kind: Kind::OfProcess,
-    mode: Mode::Write,
-    start: 0,
-    len: 10,
-};
+const FIRST: Op = of_ten!(Set, 0);
 
-const SECOND: Op = Op::Set {
-    fd: 0,
-    kind: Kind::OfProcess,
-    mode: Mode::Write,
-    start: 5,
-    len: 10,
-};
+const SECOND: Op = of_ten!(Set, 5);
 
-const WAIT: Op = Op::Wait {
-    fd: 0,
-    kind: Kind::OfProcess,
-    mode: Mode::Write,
-    start: 5,
-    len: 10,
-};
+const WAIT: Op = of_ten!(Wait, 5);
 
 // A lock of bytes 40 to 49 of a description, and one of a process.
 const SHARED: Op = Op::Set {
@@ -61,13 +50,7 @@ const SHARED: Op = Op::Set {
     len: 10,
 };
 
-const FORTY: Op = Op::Set {
-    fd: 0,
-    kind: Kind::OfProcess,
-    mode: Mode::Write,
-    start: 40,
-    len: 10,
-};
+const FORTY: Op = of_ten!(Set, 40);
 
 // The middle of the first lock, and a segment that there is not.
 const MIDDLE: Op = Op::Unlock {
