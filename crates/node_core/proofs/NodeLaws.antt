@@ -12,7 +12,7 @@ use Rattle.model.specs.declared.owner.Kind.{Kind}
 use Rattle.model.specs.declared.owner.Kind.TheVariants.{OfProcess}
 use Rattle.model.specs.declared.opened.Opened.{Opened}
 use Rattle.model.specs.declared.reply.Reply.{Reply}
-use Rattle.model.specs.declared.reply.Reply.TheVariants.{Done, Fd, NoLocks}
+use Rattle.model.specs.declared.reply.Reply.TheVariants.{Done, Fd}
 use Rattle.model.specs.declared.reply.Reply.TheVariants as reply
 use Rattle.model.specs.Limits.{IsNumber, most_descriptors}
 use Rattle.model.specs.declared.lock_info.LockInfo.{LockInfo}
@@ -33,7 +33,7 @@ use Rattle.descriptors.specs.declared.process_entry.ProcessEntry.{ProcessEntry}
 use Rattle.descriptors.specs.declared.error.FdError.{FdError}
 use Rattle.node_core.specs.declared.file_row.FileRow.{FileRow}
 use Rattle.node_core.specs.declared.open_call.OpenCall.{OpenCall}
-use Rattle.node_core.specs.State.{NodeState, first_file, first_node, process}
+use Rattle.node_core.specs.State.{NodeState, first_file, first_node, host, process}
 use Rattle.descriptors.specs.Rows.{processes, resolved, fd_reply}
 use Rattle.fcntl_table.proofs.TargetLaws.{target_in, target-err, target-ok, resolved_ok}
 use Rattle.node_core.specs.Files.{file_state}
@@ -43,7 +43,8 @@ use Rattle.descriptors.specs.Edits.{edited, Fits as ProcessFits}
 use Rattle.descriptors.specs.declared.call.ProcessCall.{ProcessCall}
 use Rattle.descriptors.specs.declared.call.ProcessCall.TheVariants.{Spawn, Fork, Open, Dup}
 use Rattle.descriptors.specs.Calls.{after}
-use Rattle.node_core.specs.Plans.{table_after, ProcessesFit}
+use Rattle.node_core.specs.Plans.{table_after, TableFits}
+use Rattle.node_core.specs.declared.edit.TableEdit.TheVariants.{OfProcess as OfProcessEdit}
 
 -- the node itself is its own
 own_host : (node incarnation : ℕ) → ((node == node) && (incarnation == incarnation)) ≡ true
@@ -58,7 +59,7 @@ unfolding node_state
 around-own p pid = ap (λ b. if b then processes p.processes else no_processes) (own_host p.node p.incarnation)
 
 -- a call that concerns processes and descriptors alone
-pub beside-ok : (p : NodeParts) (pid : ℕ) (e : ProcessEdit) (answer : Reply) (f : Processes → Result (Processes × Reply) Reply) → f (processes p.processes) ≡ Ok (edited (processes p.processes) e, answer) → beside (node_state p).table (process (node_state p) pid) (f (around (node_state p).table (process (node_state p) pid))) ≡ (table_after (node_state p) (Some e), answer)
+pub beside-ok : (p : NodeParts) (pid : ℕ) (e : ProcessEdit) (answer : Reply) (f : Processes → Result (Processes × Reply) Reply) → f (processes p.processes) ≡ Ok (edited (processes p.processes) e, answer) → beside (node_state p).table (process (node_state p) pid) (f (around (node_state p).table (process (node_state p) pid))) ≡ (table_after (host (node_state p)) (node_state p).table (OfProcessEdit e), answer)
 beside-ok p pid e answer f is =
     ap (λ x. beside (node_state p).table (process (node_state p) pid) (f x)) (around-own p pid)
     ∙ ap (beside (node_state p).table (process (node_state p) pid)) is
@@ -135,7 +136,7 @@ either_open : (b : Bool) (x y : Option Opened) (o : Opened) (P : ℕ → Type 0)
 either_open true x y o P h k = h
 either_open false x y o P h k = k
 
-fork-within : (p : NodeParts) (e : ProcessEdit) (pid child : ℕ) (told : Reply) → after_fork (processes p.processes) pid child ≡ Ok (edited (processes p.processes) e, told) → ProcessFits p.processes e → IsNode p → ProcessesFit p (Some e)
+fork-within : (p : NodeParts) (e : ProcessEdit) (pid child : ℕ) (told : Reply) → after_fork (processes p.processes) pid child ≡ Ok (edited (processes p.processes) e, told) → ProcessFits p.processes e → IsNode p → TableFits p (OfProcessEdit e)
 unfolding node_state
 fork-within p e pid child told is fits h =
     let ps = processes p.processes in
@@ -151,25 +152,25 @@ dup_is ps new pid told true (Some o) h = (o, refl, on_is (nat_lt (lowest_fd ps p
 dup_is ps new pid told true None h = absurd (cc)
 dup_is ps new pid told false x h = absurd (cc)
 
-dup-within : (p : NodeParts) (e : ProcessEdit) (pid fd : ℕ) (told : Reply) → after_dup (processes p.processes) pid fd ≡ Ok (edited (processes p.processes) e, told) → ProcessFits p.processes e → IsNode p → ProcessesFit p (Some e)
+dup-within : (p : NodeParts) (e : ProcessEdit) (pid fd : ℕ) (told : Reply) → after_dup (processes p.processes) pid fd ≡ Ok (edited (processes p.processes) e, told) → ProcessFits p.processes e → IsNode p → TableFits p (OfProcessEdit e)
 unfolding node_state
 dup-within p e pid fd told is fits h =
     let ps = processes p.processes in
     let d = dup_is ps (edited ps e) pid told (ps.runs pid) (ps.opened pid fd) is in
     (fits, λ q k o some. either_open ((q == pid) && (k == lowest_fd ps pid)) (Some d.0) (ps.opened q k) o (IsNumber p.shape.files) (λ same. h.opened_in pid fd o (d.1 ∙ same)) (h.opened_in q k o) (ap (λ (x : Processes). x.opened q k) d.2 ∙ some))
 
-open-within : (p : NodeParts) (e : ProcessEdit) (pid file : ℕ) (told : Reply) (access : Access) → after_open (processes p.processes) pid file access ≡ Ok (edited (processes p.processes) e, told) → IsNumber (node_state p).shape.files file → ProcessFits p.processes e → IsNode p → ProcessesFit p (Some e)
+open-within : (p : NodeParts) (e : ProcessEdit) (pid file : ℕ) (told : Reply) (access : Access) → after_open (processes p.processes) pid file access ≡ Ok (edited (processes p.processes) e, told) → IsNumber (node_state p).shape.files file → ProcessFits p.processes e → IsNode p → TableFits p (OfProcessEdit e)
 unfolding node_state
 open-within p e pid file told access is within fits h =
     (fits, opened-within (processes p.processes) (edited (processes p.processes) e) pid file told access (IsNumber p.shape.files) is within h.opened_in)
 
-spawn-within : (p : NodeParts) (e : ProcessEdit) (pid : ℕ) (told : Reply) → after_spawn (processes p.processes) pid ≡ Ok (edited (processes p.processes) e, told) → ProcessFits p.processes e → IsNode p → ProcessesFit p (Some e)
+spawn-within : (p : NodeParts) (e : ProcessEdit) (pid : ℕ) (told : Reply) → after_spawn (processes p.processes) pid ≡ Ok (edited (processes p.processes) e, told) → ProcessFits p.processes e → IsNode p → TableFits p (OfProcessEdit e)
 unfolding node_state
 spawn-within p e pid told is fits h =
     (fits, λ q fd o some. spawned-within ((processes p.processes).runs pid) (processes p.processes) (edited (processes p.processes) e) pid told (λ o. IsNumber p.shape.files o.file) is h.opened_in q fd o some)
 
 -- what refers to a file of the shape goes on so after each call
-pub call-within : (p : NodeParts) (e : ProcessEdit) (pid : ℕ) (call : ProcessCall) (reply : Reply) → after (processes p.processes) pid call ≡ Ok (edited (processes p.processes) e, reply) → NamesFile (node_state p).shape.files call → ProcessFits p.processes e → IsNode p → ProcessesFit p (Some e)
+pub call-within : (p : NodeParts) (e : ProcessEdit) (pid : ℕ) (call : ProcessCall) (reply : Reply) → after (processes p.processes) pid call ≡ Ok (edited (processes p.processes) e, reply) → NamesFile (node_state p).shape.files call → ProcessFits p.processes e → IsNode p → TableFits p (OfProcessEdit e)
 call-within p e pid Spawn reply is named fits h = spawn-within p e pid reply is fits h
 call-within p e pid (Fork child) reply is named fits h = fork-within p e pid child reply is fits h
 call-within p e pid (Open file access) reply is named fits h = open-within p e pid file reply access is named fits h

@@ -2,7 +2,6 @@
 use Rattle.std.specs.Prelude.{◌≡◌, ℕ, zero, suc, ◌+◌, ◌≤◌, ◌<◌, ◌==◌, Bool, true, false, if◌then◌else◌, Option, None, Ok, Err, refl}
 use Rattle.std.proofs.Common.{arith, ap, sym, ◌∙◌, inl, inr}
 use Rattle.std.proofs.lemmas.Bool.{cases_eq, eq-eqb, ne_eqb}
-use Rattle.model.specs.declared.host.Host.{Host}
 use Rattle.model.specs.declared.op.Op.TheVariants as op
 use Rattle.model.specs.declared.opened.Opened.{Opened}
 use Rattle.model.specs.declared.process.Process.{Process}
@@ -12,27 +11,17 @@ use Rattle.model.specs.declared.reply.Reply.TheVariants.{Done}
 use Rattle.model.specs.Limits.{IsNumber}
 use Rattle.model.specs.Descriptors.{Processes, is_of_file, has_open}
 use Rattle.model.specs.Table.{Table, around, descriptor, is_running, exited}
-use Rattle.model.proofs.Closings.{AreFewerOpen, open_if, open_exited}
 use Rattle.descriptors.specs.declared.error.FdError.{FdError}
 use Rattle.descriptors.specs.declared.error.FdError.TheVariants.{NoProcess, BadFd}
 use Rattle.descriptors.specs.Rows.{processes, resolved, fd_reply}
-use Rattle.fcntl_table.specs.Hosts.{process_at}
 use Rattle.fcntl_table.proofs.TableLaws.{found_there, closes_there, refused_there}
-use Rattle.node_core.specs.declared.edit.Shut.{Shut}
-use Rattle.node_core.specs.declared.edit.Shut.TheVariants.{Nothing, Closes, Exits}
-use Rattle.node_core.specs.declared.open_calls.CallsEdit.TheVariants.{Gone, Left}
-use Rattle.node_core.specs.State.{NodeState, Effect, without_call_of, process}
+use Rattle.node_core.specs.declared.edit.TableEdit.TheVariants.{Closes, Exits}
+use Rattle.node_core.specs.State.{NodeState, Effect, without_call_of, host, process}
 use Rattle.node_core.specs.Try.{may_free, settled, with_freed, with_freed_of}
 use Rattle.node_core.specs.Calls.{called, shut_by}
 use Rattle.node_core.specs.Parts.{NodeParts, node_state, IsNode}
-use Rattle.node_core.specs.Plans.{numbered, shut_after, shut_effect}
+use Rattle.node_core.specs.Plans.{numbered, table_after}
 use Rattle.node_core.proofs.NodeLaws.{around-own}
-
--- what is open was open
-pub shut-open : (h : Host) (t : Table) (shut : Shut) → AreFewerOpen (t.on h.node h.incarnation) ((shut_after h t shut).on h.node h.incarnation)
-shut-open h t Nothing = λ pid fd o x. x
-shut-open h t (Closes pid fd) = open_if (process_at h pid) t fd (descriptor t (process_at h pid) fd)
-shut-open h t (Exits pid) = open_exited (process_at h pid) t
 
 -- the one file that passes is told, if it is among those up to n
 freed-none : (file n : ℕ) (e : Effect) → n < file → with_freed_of (λ f. file == f) n e ≡ e
@@ -80,7 +69,7 @@ fd-frees NoProcess = refl
 fd-frees BadFd = refl
 
 -- a close that is refused
-pub close-refused : (p : NodeParts) (pid fd : ℕ) (e : FdError) → resolved (processes p.processes) pid fd ≡ Err e → called (numbered (node_state p)) ((node_state p).calls + 1) pid (op.Close fd) ≡ shut_effect (node_state p) Nothing (Gone ((node_state p).calls + 1)) (fd_reply e)
+pub close-refused : (p : NodeParts) (pid fd : ℕ) (e : FdError) → resolved (processes p.processes) pid fd ≡ Err e → called (numbered (node_state p)) ((node_state p).calls + 1) pid (op.Close fd) ≡ settled (numbered (node_state p)) ((node_state p).calls + 1) ((node_state p).table, fd_reply e)
 close-refused p pid fd e is =
     let s = node_state p in
     let t = s.table in
@@ -91,14 +80,14 @@ close-refused p pid fd e is =
     ∙ not-freed (numbered s) (s.calls + 1) passes t (fd_reply e) (fd-frees e)
 
 -- a close that is done
-pub close-found : (p : NodeParts) (pid fd : ℕ) (o : Opened) → resolved (processes p.processes) pid fd ≡ Ok o → IsNumber (node_state p).shape.files o.file → called (numbered (node_state p)) ((node_state p).calls + 1) pid (op.Close fd) ≡ with_freed o.file (shut_effect (node_state p) (Closes pid fd) (Gone ((node_state p).calls + 1)) Done)
+pub close-found : (p : NodeParts) (pid fd : ℕ) (o : Opened) → resolved (processes p.processes) pid fd ≡ Ok o → IsNumber (node_state p).shape.files o.file → called (numbered (node_state p)) ((node_state p).calls + 1) pid (op.Close fd) ≡ with_freed o.file (settled (numbered (node_state p)) ((node_state p).calls + 1) (table_after (host (node_state p)) (node_state p).table (Closes pid fd), Done))
 close-found p pid fd o is within =
     let s = node_state p in
     let t = s.table in
     let q : Process = process s pid in
     let found : resolved (around t q) pid fd ≡ Ok o = ap (λ (ps : Processes). resolved ps pid fd) (around-own p pid) ∙ is in
     let there = found_there (is_running t q) (descriptor t q fd) o found in
-    let e : Effect = shut_effect s (Closes pid fd) (Gone (s.calls + 1)) Done in
+    let e : Effect = settled (numbered s) (s.calls + 1) (table_after (host s) t (Closes pid fd), Done) in
     ap (shut_by (numbered s) (s.calls + 1) (λ file. is_of_file file (descriptor t q fd))) (closes_there t q fd (is_running t q) (descriptor t q fd) o there.0 there.1)
     ∙ ap (λ (x : Option Opened). with_freed_of (λ file. is_of_file file x) s.shape.files e) there.1
     ∙ freed-one o.file s.shape.files e within.0 within.1
@@ -111,15 +100,19 @@ abbrev exit-answered : NodeState → ℕ → Bool → Effect
 exit-answered s pid b =
     shut_by (without_call_of (numbered s) pid) (s.calls + 1) (has_open (around s.table (process s pid)) pid) (if b then (exited s.table (process s pid), Done) else (s.table, reply.NoProcess))
 
+-- an exit that is done, before servers hear
+abbrev pub exit-effect : NodeState → ℕ → Effect
+exit-effect s pid = settled (without_call_of (numbered s) pid) (s.calls + 1) (table_after (host s) s.table (Exits pid), Done)
+
 -- an exit that is refused
-pub exit-refused : (p : NodeParts) (pid : ℕ) → (processes p.processes).runs pid ≡ false → called (numbered (node_state p)) ((node_state p).calls + 1) pid op.Exit ≡ shut_effect (node_state p) Nothing (Left pid ((node_state p).calls + 1)) reply.NoProcess
+pub exit-refused : (p : NodeParts) (pid : ℕ) → (processes p.processes).runs pid ≡ false → called (numbered (node_state p)) ((node_state p).calls + 1) pid op.Exit ≡ settled (without_call_of (numbered (node_state p)) pid) ((node_state p).calls + 1) ((node_state p).table, reply.NoProcess)
 exit-refused p pid stopped = ap (exit-answered (node_state p) pid) (runs-own p pid false stopped)
 
 -- an exit that is done
-pub exit-done : (p : NodeParts) (pid : ℕ) → (processes p.processes).runs pid ≡ true → called (numbered (node_state p)) ((node_state p).calls + 1) pid op.Exit ≡ with_freed_of (has_open (processes p.processes) pid) (node_state p).shape.files (shut_effect (node_state p) (Exits pid) (Left pid ((node_state p).calls + 1)) Done)
+pub exit-done : (p : NodeParts) (pid : ℕ) → (processes p.processes).runs pid ≡ true → called (numbered (node_state p)) ((node_state p).calls + 1) pid op.Exit ≡ with_freed_of (has_open (processes p.processes) pid) (node_state p).shape.files (exit-effect (node_state p) pid)
 exit-done p pid runs =
     ap (exit-answered (node_state p) pid) (runs-own p pid true runs)
-    ∙ ap (λ (ps : Processes). with_freed_of (has_open ps pid) (node_state p).shape.files (shut_effect (node_state p) (Exits pid) (Left pid ((node_state p).calls + 1)) Done)) (around-own p pid)
+    ∙ ap (λ (ps : Processes). with_freed_of (has_open ps pid) (node_state p).shape.files (exit-effect (node_state p) pid)) (around-own p pid)
 
 -- what a descriptor refers to is of a file of the shape
 pub opened-within-shape : (p : NodeParts) (pid fd : ℕ) (o : Opened) → IsNode p → resolved (processes p.processes) pid fd ≡ Ok o → IsNumber (node_state p).shape.files o.file

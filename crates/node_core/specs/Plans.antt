@@ -4,30 +4,28 @@ use Rattle.std.specs.List.{slice_get}
 use Rattle.std.specs.Vec.{vec_capacity}
 use Rattle.model.specs.declared.host.Host.{Host}
 use Rattle.model.specs.declared.opened.Opened.{Opened}
-use Rattle.model.specs.declared.reply.Reply.{Reply}
 use Rattle.model.specs.Descriptors.{Processes}
 use Rattle.model.specs.Limits.{IsNumber, most_processes}
-use Rattle.model.specs.Locks.{Locks, with_lock}
-use Rattle.model.specs.Table.{Table, around, descriptor, with_processes, closed_if, exited}
-use Rattle.lock_table.specs.declared.lock_table.LockEdit.{LockEdit}
-use Rattle.lock_table.specs.Rows.{HasRoom as HasRowRoom, HasRuns}
+use Rattle.model.specs.Locks.{with_lock}
+use Rattle.model.specs.Table.{Table, descriptor, with_processes, closed_if, exited}
+use Rattle.lock_table.specs.Rows.{TableParts, HasRoom as HasRowRoom, HasRuns}
 use Rattle.token_set.specs.Edits.{edited as token_edited}
 use Rattle.messages.specs.Messages.{greatest_number}
-use Rattle.descriptors.specs.declared.edit.ProcessEdit.{ProcessEdit}
+use Rattle.descriptors.specs.declared.process_entry.ProcessEntry.{ProcessEntry}
 use Rattle.descriptors.specs.Edits.{edited, Fits as ProcessFits}
 use Rattle.node_core.specs.declared.effect.Effect.{Effect as EffectFields}
 use Rattle.node_core.specs.declared.edit.Draft.{Draft}
 use Rattle.fcntl_table.specs.Hosts.{process_at}
 use Rattle.node_core.specs.declared.edit.Edit.{Edit}
-use Rattle.node_core.specs.declared.edit.Shut.{Shut}
-use Rattle.node_core.specs.declared.edit.Shut.TheVariants.{Nothing, Closes, Exits}
+use Rattle.node_core.specs.declared.edit.TableEdit.{TableEdit}
+use Rattle.node_core.specs.declared.edit.TableEdit.TheVariants.{Nothing, OfProcess, OfLocks, Closes, Exits}
 use Rattle.node_core.specs.declared.file_row.FileEdit.{FileEdit}
 use Rattle.node_core.specs.declared.file_row.FileRow.{FileRow}
 use Rattle.node_core.specs.declared.open_call.OpenCall.{OpenCall}
 use Rattle.node_core.specs.declared.open_calls.CallsEdit.{CallsEdit}
 use Rattle.node_core.specs.declared.open_calls.CallsEdit.TheVariants.{Same, Put, Gone, Left}
 use Rattle.descriptors.specs.Rows.{processes}
-use Rattle.node_core.specs.State.{FileState, NodeState, Effect, first_file, host, id_of, process}
+use Rattle.node_core.specs.State.{FileState, NodeState, Effect, first_file, host}
 use Rattle.node_core.specs.Answers.{answer_of}
 use Rattle.node_core.specs.Anchors.{IsAnchored}
 use Rattle.node_core.specs.Parts.{NodeParts, node_state, IsCallOf}
@@ -63,30 +61,13 @@ abbrev pub files_told : (ℕ → FileState) → List ℕ → ℕ → FileState
 files_told files [] = files
 files_told files (file ∷ more) = files_told (told files file) more
 
--- the locks once the edit is made
-abbrev pub locks_after : Locks → Option LockEdit → Locks
-locks_after h None = h
-locks_after h (Some e) = with_lock h e.file e.owner e.write.span e.write.value
-
--- the state with those locks
-abbrev pub with_locks : NodeState → Locks → NodeState
-with_locks s h = record s { table = record s.table { locks = h } }
-
--- the processes once the edit is made
-abbrev pub processes_after : Processes → Option ProcessEdit → Processes
-processes_after ps None = ps
-processes_after ps (Some e) = edited ps e
-
--- the table once the edit of the node's processes is made
-abbrev pub table_after : NodeState → Option ProcessEdit → Table
-table_after s None = s.table
-table_after s (Some e) = with_processes s.table (process s 0) (edited (around s.table (process s 0)) e)
-
--- the table once that is closed on the host
-abbrev pub shut_after : Host → Table → Shut → Table
-shut_after h t Nothing = t
-shut_after h t (Closes pid fd) = closed_if t (process_at h pid) fd (descriptor t (process_at h pid) fd)
-shut_after h t (Exits pid) = exited t (process_at h pid)
+-- the table once the edit is made on the host
+abbrev pub table_after : Host → Table → TableEdit → Table
+table_after h t Nothing = t
+table_after h t (OfProcess e) = with_processes t (process_at h 0) (edited (t.on h.node h.incarnation) e)
+table_after h t (OfLocks e) = record t { locks = with_lock t.locks e.file e.owner e.write.span e.write.value }
+table_after h t (Closes pid fd) = closed_if t (process_at h pid) fd (descriptor t (process_at h pid) fd)
+table_after h t (Exits pid) = exited t (process_at h pid)
 
 -- the open calls once the edit is made
 abbrev pub pending_after : List OpenCall → CallsEdit → List OpenCall
@@ -112,18 +93,10 @@ abbrev pub planned : NodeParts → Edit → NodeState
 planned p e =
     let s = drafted p e.draft in
     record s {
-      table = shut_after (host s) (record (table_after s e.processes) { locks = locks_after s.table.locks e.locks }) e.shut;
+      table = table_after (host s) s.table e.table;
       pending = pending_after s.pending e.calls;
       files = files_told s.files e.freed;
     }
-
--- a call that closes something is answered, with these calls open from then on
-abbrev pub shut_effect : NodeState → Shut → CallsEdit → Reply → Effect
-shut_effect s shut calls reply = record {
-  state = record (numbered s) { table = shut_after (host s) s.table shut; pending = pending_after s.pending calls };
-  reply = Some (id_of s (s.calls + 1), reply);
-  sends = [];
-}
 
 -- what the step comes to
 abbrev pub effect_of : NodeParts → EffectFields → Effect
@@ -142,24 +115,22 @@ CommandFits files (Some e) = IsNumber files e.file
 abbrev pub DraftFits : NodeParts → Draft → Type 0
 DraftFits p d = NumberFits (node_state p).calls d.numbered × CommandFits (node_state p).shape.files d.command
 
--- what the edit of locks needs: room where a row is new, and where there is one no more runs than it was planned for
-abbrev pub LocksFit : NodeParts → Option LockEdit → Type 0
-LocksFit p None = Unit {0}
-LocksFit p (Some e) =
-    (e.room.items ≡ []) × HasRowRoom p.locks.rows e.file e.owner (vec_capacity e.room) × HasRuns p.locks.rows e.file e.owner e.write.runs
+-- what the edit needs of processes and locks: rows as they were planned for, with room where one is new; a process that closes something runs
+abbrev pub RowsFit : List ProcessEntry → TableParts → TableEdit → Type 0
+RowsFit rows locks Nothing = Unit {0}
+RowsFit rows locks (OfProcess e) = ProcessFits rows e
+RowsFit rows locks (OfLocks e) =
+    (e.room.items ≡ []) × HasRowRoom locks.rows e.file e.owner (vec_capacity e.room) × HasRuns locks.rows e.file e.owner e.write.runs
+RowsFit rows locks (Closes pid fd) = IsNumber most_processes pid × ((processes rows).runs pid ≡ true)
+RowsFit rows locks (Exits pid) = IsNumber most_processes pid × ((processes rows).runs pid ≡ true)
 
--- what the edit of processes needs: its own, and all that is open stays of files of the shape
-abbrev pub ProcessesFit : NodeParts → Option ProcessEdit → Type 0
-ProcessesFit p None = Unit {0}
-ProcessesFit p (Some e) =
-    ProcessFits p.processes e
-    × ((pid fd : ℕ) (o : Opened) → (edited (processes p.processes) e).opened pid fd ≡ Some o → IsNumber (node_state p).shape.files o.file)
+-- all that is open stays of files of the shape
+abbrev pub OpensWithin : ℕ → Processes → TableEdit → Type 0
+OpensWithin files ps (OfProcess e) = (pid fd : ℕ) (o : Opened) → (edited ps e).opened pid fd ≡ Some o → IsNumber files o.file
+OpensWithin files ps _ = Unit {0}
 
--- a process that closes something runs
-abbrev pub ShutFits : Processes → Shut → Type 0
-ShutFits ps Nothing = Unit {0}
-ShutFits ps (Closes pid fd) = IsNumber most_processes pid × (ps.runs pid ≡ true)
-ShutFits ps (Exits pid) = IsNumber most_processes pid × (ps.runs pid ≡ true)
+abbrev pub TableFits : NodeParts → TableEdit → Type 0
+TableFits p e = RowsFit p.processes p.locks e × OpensWithin (node_state p).shape.files (processes p.processes) e
 
 -- room for one more call than so many, where one is put last
 abbrev pub HasRoom : ℕ → CallsEdit → Type 0
@@ -178,9 +149,7 @@ CallsFit p e = HasRoom (length p.pending) e × IsPut p e
 abbrev pub PartsFit : NodeParts → Edit → Type 0
 PartsFit p e =
     DraftFits p e.draft
-    × LocksFit p e.locks
-    × ProcessesFit p e.processes
-    × ShutFits (processes_after (processes p.processes) e.processes) e.shut
+    × TableFits p e.table
     × CallsFit p e.calls
     × All (IsNumber (node_state p).shape.files) e.freed
 

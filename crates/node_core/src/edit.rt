@@ -1,11 +1,9 @@
 //! What a step of a node changes, as plain data.
-ghost use Rattle.std.specs.Prelude.{◌≡◌, ℕ, true, false, Some, None, [], IfSome};
-ghost use Rattle.descriptors.specs.Rows.{processes as processes_of};
-ghost use Rattle.descriptors.specs.Edits.{Fits as ProcessFits};
+ghost use Rattle.std.specs.Prelude.{◌≡◌, ℕ, true, false, Some, None, []};
 ghost use Rattle.fcntl_table.specs.Hosts.{shown};
 ghost use Rattle.model.specs.Descriptors.{Processes as ProcessTable};
-ghost use Rattle.node_core.specs.Plans.{processes_after, shut_after, ShutFits};
-ghost use Rattle.node_core.specs.declared.edit.Shut.TheVariants.{Nothing};
+ghost use Rattle.node_core.specs.Plans.{table_after, RowsFit};
+ghost use Rattle.node_core.specs.declared.edit.TableEdit.TheVariants.{Nothing};
 ghost use Rattle.node_core.specs.declared.open_calls.CallsEdit.TheVariants.{Same};
 
 use crate::file_row::FileEdit;
@@ -58,24 +56,26 @@ impl Draft {
     }
 }
 
-/// What a step closes, with the locks that hang on it.
-#[derive(Clone, Copy)]
-pub enum Shut {
+/// What a step changes of the processes and their locks.
+#[derive(Drop)]
+pub enum TableEdit {
     Nothing,
-    /// A descriptor of a process.
+    /// A process begins, or a descriptor opens.
+    OfProcess(ProcessEdit),
+    /// What one owner holds in one file changes.
+    OfLocks(LockEdit),
+    /// A descriptor of a process is closed, with the locks that hang on it.
     Closes { pid: u16, fd: u8 },
-    /// All descriptors of a process, which runs no longer.
+    /// All descriptors of a process are closed, which runs no longer.
     Exits { pid: u16 },
 }
 
-/// What a step changes: its draft, and then the processes, what one owner holds in one file, what is
-/// closed, the open calls, and the files whose servers hear that locks may be gone, in that order.
+/// What a step changes: its draft, and then the processes and their locks, the open calls, and the files
+/// whose servers hear that locks may be gone, in that order.
 #[derive(Drop)]
 pub struct Edit {
     pub draft: Draft,
-    pub processes: Option<ProcessEdit>,
-    pub locks: Option<LockEdit>,
-    pub shut: Shut,
+    pub table: TableEdit,
     pub calls: CallsEdit,
     pub freed: Items<u16>,
 }
@@ -83,13 +83,11 @@ pub struct Edit {
 impl Edit {
     /// The draft, and nothing more. Takes no memory.
     pub fn of(alloc: Global, draft: Draft) -> Edit
-        ensures { result ≡ record { draft = draft; processes = None; locks = None; shut = Nothing; calls = Same; freed = [] } }
+        ensures { result ≡ record { draft = draft; table = Nothing; calls = Same; freed = [] } }
     {
         Edit {
             draft,
-            processes: None,
-            locks: None,
-            shut: Shut::Nothing,
+            table: TableEdit::Nothing,
             calls: CallsEdit::Same,
             freed: Items::new(alloc),
         }
@@ -97,31 +95,22 @@ impl Edit {
 
     /// Nothing. Takes no memory.
     pub fn none(alloc: Global) -> Edit
-        ensures { result ≡ record { draft = record { numbered = false; command = None }; processes = None; locks = None; shut = Nothing; calls = Same; freed = [] } }
+        ensures { result ≡ record { draft = record { numbered = false; command = None }; table = Nothing; calls = Same; freed = [] } }
     {
         Edit::of(alloc, Draft::none())
     }
 }
 
-/// Makes a planned change of processes, if there is one. Takes no memory.
-pub fn apply_processes(processes: &mut Processes, edit: Option<ProcessEdit>)
-    requires { IfSome edit (ProcessFits processes.old) }
-    ensures { processes_of processes.new ≡ processes_after (processes_of processes.old) edit }
+/// Makes a planned change of processes and locks on the host. Takes no memory.
+pub fn apply_table(processes: &mut Processes, locks: &mut LockTable, host: Host, edit: TableEdit)
+    requires { RowsFit processes.old locks.old edit }
+    ensures { (on : ℕ → ℕ → ProcessTable) → shown on host processes.new locks.new ≡ table_after host (shown on host processes.old locks.old) edit }
 {
     match edit {
-        Some(edit) => processes.apply(edit),
-        None => {}
-    }
-}
-
-/// Closes what a step closes on the host, with the locks that hang on it. Takes no memory.
-pub fn apply_shut(processes: &mut Processes, locks: &mut LockTable, host: Host, shut: Shut)
-    requires { ShutFits (processes_of processes.old) shut }
-    ensures { (on : ℕ → ℕ → ProcessTable) → shown on host processes.new locks.new ≡ shut_after host (shown on host processes.old locks.old) shut }
-{
-    match shut {
-        Shut::Nothing => {}
-        Shut::Closes { pid, fd } => close_at(processes, locks, host, pid, fd),
-        Shut::Exits { pid } => exit_at(processes, locks, host, pid),
+        TableEdit::Nothing => {}
+        TableEdit::OfProcess(edit) => processes.apply(edit),
+        TableEdit::OfLocks(edit) => locks.apply(edit),
+        TableEdit::Closes { pid, fd } => close_at(processes, locks, host, pid, fd),
+        TableEdit::Exits { pid } => exit_at(processes, locks, host, pid),
     }
 }

@@ -1,15 +1,12 @@
 //! The locks of a node.
-ghost use Rattle.std.specs.Prelude.{◌≡◌, ◌≤◌, ◌<◌, Err, [], IfSome, OnOk, OnErr};
+ghost use Rattle.std.specs.Prelude.{◌≡◌, ◌≤◌, ◌<◌, Err, OnOk, OnErr};
 ghost use Rattle.intervals.specs.Bytes.{put};
 ghost use Rattle.model.specs.Locks.{with_lock, regions};
-ghost use Rattle.lock_table.specs.Rows.{held, HasRoom, HasRuns};
-ghost use Rattle.std.specs.Vec.{vec_capacity};
-ghost use Rattle.node_core.specs.Plans.{locks_after};
+ghost use Rattle.lock_table.specs.Rows.{held};
 ghost use Rattle.node_core.specs.Try.{may_free};
 
-pub use fcntl_table::locks::lock_reply;
 use lock_table::error::LockError;
-use lock_table::lock_table::{LockEdit, LockTable};
+use lock_table::lock_table::LockTable;
 use model::lock_target::LockTarget;
 use model::mode::Mode;
 use model::reply::Reply;
@@ -33,20 +30,6 @@ pub fn change_locks(
     match mode {
         Some(mode) => locks.set(target.owner, target.file, target.span, mode),
         None => locks.unlock(target.owner, target.file, target.span),
-    }
-}
-
-/// Makes a planned change of locks, if there is one. Takes no memory.
-pub fn apply_locks(locks: &mut LockTable, edit: Option<LockEdit>)
-    requires empty { IfSome edit (λ e. e.room.items ≡ []) }
-    requires room { IfSome edit (λ e. HasRoom locks.old.rows e.file e.owner (vec_capacity e.room)) }
-    requires runs { IfSome edit (λ e. HasRuns locks.old.rows e.file e.owner e.write.runs) }
-    ensures locks { held locks.new ≡ locks_after (held locks.old) edit }
-    ensures limit { locks.new.limit ≡ locks.old.limit }
-{
-    match edit {
-        Some(edit) => locks.apply(edit),
-        None => {}
     }
 }
 

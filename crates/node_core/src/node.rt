@@ -10,11 +10,10 @@ ghost use Rattle.node_core.specs.Parts.{node_state, IsCallOf};
 ghost use Rattle.node_core.specs.Plans.{planned, Fits};
 
 use crate::change::Change;
-use crate::edit::{Draft, Edit, apply_processes, apply_shut};
+use crate::edit::{Draft, Edit, apply_table};
 use crate::event::NodeEvent;
 use crate::file_row::FileRow;
 use crate::files::{apply_command, clear_asked, copy_files, file_of, new_files, same_files};
-use crate::locks::apply_locks;
 use crate::numbers::calls_after;
 use crate::open_call::OpenCall;
 use crate::open_calls::OpenCalls;
@@ -240,18 +239,14 @@ impl Node {
     {
         let Edit {
             draft,
-            processes,
-            locks,
-            shut,
+            table,
             calls,
             freed,
         } = edit;
         let Draft { numbered, command } = draft;
         let host = self.host();
         self.calls = calls_after(self.calls, numbered);
-        apply_processes(&mut self.processes, processes);
-        apply_locks(&mut self.locks, locks);
-        apply_shut(&mut self.processes, &mut self.locks, host, shut);
+        apply_table(&mut self.processes, &mut self.locks, host, table);
         self.pending.apply(calls);
         apply_command(&mut self.files, command);
         clear_asked(&mut self.files, freed.as_slice());

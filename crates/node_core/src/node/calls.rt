@@ -1,25 +1,23 @@
 //! A node takes a call of one of its processes.
-ghost use Rattle.std.specs.Prelude.{◌≡◌, ◌≢◌, ◌+◌, ◌≤◌, ◌<◌, ◌↔◌, true, Ok, Err, IfOk, IfErr, IsTrue, is_some};
+ghost use Rattle.std.specs.Prelude.{◌≡◌, ◌≢◌, ◌+◌, ◌≤◌, ◌<◌, ◌↔◌, true, [], Ok, Err, IfOk, IfErr, IsTrue};
 ghost use Rattle.model.specs.Limits.{IsNumber, most_processes};
 ghost use Rattle.model.specs.Table.{target};
 ghost use Rattle.messages.specs.Messages.{greatest_number};
-ghost use Rattle.node_core.specs.State.{process, open_call_of};
+ghost use Rattle.node_core.specs.State.{host, process, open_call_of};
 ghost use Rattle.node_core.specs.Try.{settled};
 ghost use Rattle.node_core.specs.Calls.{is_in_shape, is_exit, is_set, is_busy, lock_call, unlock_call, called, call_rule};
 ghost use Rattle.node_core.specs.Retries.{retry_rule};
 ghost use Rattle.descriptors.specs.Calls.{CanBegin};
 ghost use Rattle.node_core.specs.Parts.{node_state, asked, NamesFile, IsOwn, IsSpan};
-ghost use Rattle.node_core.specs.Plans.{numbered, table_after, planned, effect_of, ProcessesFit, PartsFit};
+ghost use Rattle.node_core.specs.Plans.{numbered, table_after, planned, effect_of, TableFits, PartsFit};
 
 use super::Node;
 use crate::change::Change;
-use crate::edit::{Draft, Edit};
+use crate::edit::{Draft, TableEdit};
 use crate::effect::Effect;
 use crate::numbers::is_pid;
 use crate::open_call::{Intent, OpenCall};
-use crate::open_calls::CallsEdit;
 use descriptors::call::ProcessCall;
-use descriptors::edit::ProcessEdit;
 use fcntl_table::target::target_at;
 use intervals::span::Span;
 use messages::refusal::StepError;
@@ -79,19 +77,15 @@ impl Node {
     }
 
     // What the call makes of the processes, and its reply.
-    fn plan_process(
-        &self,
-        pid: u16,
-        call: ProcessCall,
-    ) -> Result<(Option<ProcessEdit>, Reply), AllocError>
+    fn plan_process(&self, pid: u16, call: ProcessCall) -> Result<(TableEdit, Reply), AllocError>
         requires number { CanBegin pid call }
         requires file { NamesFile (node_state self.now).shape.files call }
-        ensures value { IfOk result (λ r. asked (node_state self.now) pid call ≡ (table_after (node_state self.now) r.0, r.1)) }
-        ensures fits { IfOk result (λ r. ProcessesFit self.now r.0) }
+        ensures value { IfOk result (λ r. asked (node_state self.now) pid call ≡ (table_after (host (node_state self.now)) (node_state self.now).table r.0, r.1)) }
+        ensures fits { IfOk result (λ r. TableFits self.now r.0) }
     {
         match self.processes.plan(pid, call) {
-            Ok((edit, reply)) => Ok((Some(edit), reply)),
-            Err(error) => Ok((None, error.reply()?)),
+            Ok((edit, reply)) => Ok((TableEdit::OfProcess(edit), reply)),
+            Err(error) => Ok((TableEdit::Nothing, error.reply()?)),
         }
     }
 
@@ -119,20 +113,15 @@ impl Node {
         target_at(self.process(pid), need, kind, opened, segment)
     }
 
-    // The call of a process is answered, with these processes from then on.
-    fn answer_with(&self, alloc: Global, processes: Option<ProcessEdit>, reply: Reply) -> Effect
+    // The call is answered in its own step, with that change of the table.
+    pub(super) fn answer_call(&self, alloc: Global, table: TableEdit, reply: Reply) -> Effect
         requires left { (node_state self.now).calls < greatest_number }
-        requires fits { ProcessesFit self.now processes }
-        ensures value { settled (numbered (node_state self.now)) ((node_state self.now).calls + 1) (table_after (node_state self.now) processes, reply) ≡ effect_of self.now result }
+        requires table { TableFits self.now table }
+        ensures value { settled (numbered (node_state self.now)) ((node_state self.now).calls + 1) (table_after (host (node_state self.now)) (node_state self.now).table table, reply) ≡ effect_of self.now result }
         ensures fits { PartsFit self.now result.edit }
+        ensures first { result.edit.freed ≡ [] }
     {
-        let number = self.next_number();
-        let edit = Edit {
-            processes,
-            calls: CallsEdit::Gone(number),
-            ..Edit::of(alloc, Draft::of_call())
-        };
-        Effect::answered(alloc, edit, self.id(number), reply)
+        self.answer(alloc, Draft::of_call(), table, self.next_number(), reply)
     }
 
     // A call that is about processes and descriptors alone is answered.
@@ -143,8 +132,8 @@ impl Node {
         ensures value { IfOk result (λ effect. settled (numbered (node_state self.now)) ((node_state self.now).calls + 1) (asked (node_state self.now) pid call) ≡ effect_of self.now effect) }
         ensures fits { IfOk result (λ effect. PartsFit self.now effect.edit) }
     {
-        let (processes, reply) = self.plan_process(pid, call)?;
-        Ok(self.answer_with(alloc, processes, reply))
+        let (table, reply) = self.plan_process(pid, call)?;
+        Ok(self.answer_call(alloc, table, reply))
     }
 
     // A call about a lock that passes its first tests is open, and is tried.
@@ -163,11 +152,10 @@ impl Node {
         ensures value { IfOk result (λ effect. lock_call (numbered (node_state self.now)) ((node_state self.now).calls + 1) pid intent mode target ≡ effect_of self.now effect) }
         ensures fits { IfOk result (λ effect. PartsFit self.now effect.edit) }
     {
-        let number = self.next_number();
         match target {
             Ok(target) => {
                 let call = OpenCall {
-                    number,
+                    number: self.next_number(),
                     pid,
                     intent,
                     file: target.file,
@@ -177,7 +165,7 @@ impl Node {
                 };
                 self.try_call(alloc, Draft::of_call(), &call)
             }
-            Err(refusal) => Ok(self.answer(alloc, Draft::of_call(), None, number, refusal)),
+            Err(refusal) => Ok(self.answer_call(alloc, TableEdit::Nothing, refusal)),
         }
     }
 
@@ -194,10 +182,9 @@ impl Node {
         ensures value { IfOk result (λ effect. unlock_call (numbered (node_state self.now)) ((node_state self.now).calls + 1) target ≡ effect_of self.now effect) }
         ensures fits { IfOk result (λ effect. PartsFit self.now effect.edit) }
     {
-        let number = self.next_number();
         match target {
-            Ok(target) => self.lock(alloc, Draft::of_call(), number, target, None),
-            Err(refusal) => Ok(self.answer(alloc, Draft::of_call(), None, number, refusal)),
+            Ok(target) => self.lock(alloc, Draft::of_call(), self.next_number(), target, None),
+            Err(refusal) => Ok(self.answer_call(alloc, TableEdit::Nothing, refusal)),
         }
     }
 

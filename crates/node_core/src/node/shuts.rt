@@ -4,13 +4,14 @@ ghost use Rattle.descriptors.specs.Rows.{processes};
 ghost use Rattle.model.specs.Limits.{IsNumber, most_processes};
 ghost use Rattle.model.specs.Descriptors.{has_open};
 ghost use Rattle.messages.specs.Messages.{greatest_number};
-ghost use Rattle.node_core.specs.Try.{with_freed, with_freed_of};
+ghost use Rattle.node_core.specs.State.{host, without_call_of};
+ghost use Rattle.node_core.specs.Try.{settled, with_freed, with_freed_of};
 ghost use Rattle.node_core.specs.Calls.{called};
 ghost use Rattle.node_core.specs.Parts.{node_state};
-ghost use Rattle.node_core.specs.Plans.{numbered, shut_effect, effect_of, ShutFits, CallsFit, PartsFit};
+ghost use Rattle.node_core.specs.Plans.{numbered, table_after, effect_of, TableFits, PartsFit};
 
 use super::Node;
-use crate::edit::{Draft, Edit, Shut};
+use crate::edit::{Draft, Edit, TableEdit};
 use crate::effect::Effect;
 use crate::open_calls::CallsEdit;
 use model::op::Op;
@@ -18,22 +19,21 @@ use model::reply::Reply;
 use std::alloc::{AllocError, Global};
 
 impl Node {
-    // A call that closes this is answered, with these calls open from then on.
-    fn answer_shut(&self, alloc: Global, shut: Shut, calls: CallsEdit, reply: Reply) -> Effect
+    // The exit is answered with that change of the table; no call of the process is open any longer.
+    fn answer_exit(&self, alloc: Global, pid: u16, table: TableEdit, reply: Reply) -> Effect
         requires left { (node_state self.now).calls < greatest_number }
-        requires runs { ShutFits (processes self.now.processes) shut }
-        requires calls { CallsFit self.now calls }
-        ensures value { shut_effect (node_state self.now) shut calls reply ≡ effect_of self.now result }
+        requires table { TableFits self.now table }
+        ensures value { settled (without_call_of (numbered (node_state self.now)) pid) ((node_state self.now).calls + 1) (table_after (host (node_state self.now)) (node_state self.now).table table, reply) ≡ effect_of self.now result }
         ensures fits { PartsFit self.now result.edit }
         ensures first { result.edit.freed ≡ [] }
     {
-        let id = self.id(self.next_number());
+        let number = self.next_number();
         let edit = Edit {
-            shut,
-            calls,
+            table,
+            calls: CallsEdit::Left { pid, number },
             ..Edit::of(alloc, Draft::of_call())
         };
-        Effect::answered(alloc, edit, id, reply)
+        Effect::answered(alloc, edit, self.id(number), reply)
     }
 
     // The descriptor is closed, and the call is answered; the server of its file hears that locks may
@@ -44,14 +44,12 @@ impl Node {
         ensures value { IfOk result (λ effect. called (numbered (node_state self.now)) ((node_state self.now).calls + 1) pid (Op.Close fd) ≡ effect_of self.now effect) }
         ensures fits { IfOk result (λ effect. PartsFit self.now effect.edit) }
     {
-        let calls = CallsEdit::Gone(self.next_number());
         match self.processes.resolve(pid, fd) {
             Ok(opened) => {
-                let shut = Shut::Closes { pid, fd };
-                let effect = self.answer_shut(alloc, shut, calls, Reply::Done);
+                let effect = self.answer_call(alloc, TableEdit::Closes { pid, fd }, Reply::Done);
                 self.tell_freed(opened.file, effect)
             }
-            Err(error) => Ok(self.answer_shut(alloc, Shut::Nothing, calls, error.reply())),
+            Err(error) => Ok(self.answer_call(alloc, TableEdit::Nothing, error.reply())),
         }
     }
 
@@ -96,12 +94,10 @@ impl Node {
         ensures value { IfOk result (λ effect. called (numbered (node_state self.now)) ((node_state self.now).calls + 1) pid Op.Exit ≡ effect_of self.now effect) }
         ensures fits { IfOk result (λ effect. PartsFit self.now effect.edit) }
     {
-        let number = self.next_number();
-        let calls = CallsEdit::Left { pid, number };
         if !self.processes.is_running(pid) {
-            return Ok(self.answer_shut(alloc, Shut::Nothing, calls, Reply::NoProcess));
+            return Ok(self.answer_exit(alloc, pid, TableEdit::Nothing, Reply::NoProcess));
         }
-        let effect = self.answer_shut(alloc, Shut::Exits { pid }, calls, Reply::Done);
+        let effect = self.answer_exit(alloc, pid, TableEdit::Exits { pid }, Reply::Done);
         self.tell_open(pid, effect)
     }
 }

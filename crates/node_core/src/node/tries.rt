@@ -1,5 +1,5 @@
 //! A node tries an open call about a lock.
-ghost use Rattle.std.specs.Prelude.{◌≡◌, ◌≤◌, ◌<◌, ◌+◌, false, None, Ok, [], All, IfOk, IfSome};
+ghost use Rattle.std.specs.Prelude.{◌≡◌, ◌≤◌, ◌<◌, ◌+◌, false, Ok, [], All, IfOk, IfSome};
 ghost use Rattle.model.specs.Limits.{IsNumber};
 ghost use Rattle.model.specs.Locks.{lowest_blocker};
 ghost use Rattle.model.specs.declared.reply.Reply.{Reply};
@@ -7,19 +7,19 @@ ghost use Rattle.model.specs.Table.{regions_with, lock_within};
 ghost use Rattle.token_set.specs.Sets.{token_of};
 ghost use Rattle.token_set.specs.Tokens.{covers, desired};
 ghost use Rattle.messages.specs.declared.message.Message.TheVariants.{Freed};
-ghost use Rattle.node_core.specs.State.{answered, host};
-ghost use Rattle.node_core.specs.Try.{requested, answered_if, with_freed, locked_by, answered_here, tried, tried_if};
+ghost use Rattle.node_core.specs.State.{host};
+ghost use Rattle.node_core.specs.Try.{settled, requested, answered_if, with_freed, locked_by, answered_here, tried, tried_if};
+ghost use Rattle.node_core.specs.declared.edit.TableEdit.TheVariants.{Nothing};
 ghost use Rattle.node_core.specs.Parts.{node_state, IsOwn, IsSpan, IsCallOf};
-ghost use Rattle.node_core.specs.Plans.{drafted, trying, opened_if, pending_after, locks_after, with_locks, effect_of, DraftFits, LocksFit, CallsFit, PartsFit};
+ghost use Rattle.node_core.specs.Plans.{drafted, trying, opened_if, pending_after, table_after, effect_of, DraftFits, TableFits, CallsFit, PartsFit};
 
 use super::Node;
-use crate::edit::{Draft, Edit};
+use crate::edit::{Draft, Edit, TableEdit};
 use crate::effect::Effect;
 use crate::locks::may_free;
 use crate::open_call::{Intent, OpenCall};
 use crate::open_calls::CallsEdit;
-use lock_table::error::LockError;
-use lock_table::lock_table::LockEdit;
+use fcntl_table::locks::lock_reply;
 use messages::message::Message;
 use messages::wanted::Wanted;
 use model::lock_info::LockInfo;
@@ -125,24 +125,24 @@ impl Node {
         Effect::sent(alloc, edit, request)
     }
 
-    // The call is answered with these locks, and open no longer.
+    // The call is answered with that change of the table, and open no longer.
     pub(super) fn answer(
         &self,
         alloc: Global,
         draft: Draft,
-        locks: Option<LockEdit>,
+        table: TableEdit,
         number: u32,
         reply: Reply,
     ) -> Effect
         requires number { 1 ≤ number }
         requires draft { DraftFits self.now draft }
-        requires locks { LocksFit self.now locks }
-        ensures value { answered (with_locks (drafted self.now draft) (locks_after (node_state self.now).table.locks locks)) number reply ≡ effect_of self.now result }
+        requires table { TableFits self.now table }
+        ensures value { settled (drafted self.now draft) number (table_after (host (node_state self.now)) (node_state self.now).table table, reply) ≡ effect_of self.now result }
         ensures fits { PartsFit self.now result.edit }
         ensures first { result.edit.freed ≡ [] }
     {
         let edit = Edit {
-            locks,
+            table,
             calls: CallsEdit::Gone(number),
             ..Edit::of(alloc, draft)
         };
@@ -157,7 +157,7 @@ impl Node {
     {
         match reply {
             None => Effect::quiet(alloc, Edit::none(alloc)),
-            Some(reply) => self.answer(alloc, Draft::none(), None, number, reply),
+            Some(reply) => self.answer(alloc, Draft::none(), TableEdit::Nothing, number, reply),
         }
     }
 
@@ -175,7 +175,7 @@ impl Node {
         ensures fits { IfOk result (λ effect. PartsFit self.now effect.edit) }
     {
         if let Some(reply) = refusal {
-            return Ok(self.answer(alloc, draft, None, call.number, reply));
+            return Ok(self.answer(alloc, draft, TableEdit::Nothing, call.number, reply));
         }
         let calls = self.keep_open(&draft, call)?;
         let edit = Edit {
@@ -187,24 +187,24 @@ impl Node {
 
     // What locks or frees the bytes, unless their owner would have too many regions, and the reply. That
     // there would be too many is told without memory.
+    #[tactic(auto, unfolding(crate::specs::Parts::node_state))]
     fn plan_lock(
         &self,
         target: LockTarget,
         mode: Option<Mode>,
-    ) -> Result<(Option<LockEdit>, Reply), AllocError>
+    ) -> Result<(TableEdit, Reply), AllocError>
         requires own { IsOwn (node_state self.now).node (node_state self.now).incarnation target.owner }
         requires span { IsSpan target.span }
-        ensures locked { IfOk result (λ r. lock_within (node_state self.now).table target mode ≡ (record (node_state self.now).table { locks = locks_after (node_state self.now).table.locks r.0 }, r.1)) }
-        ensures refused { (node_state self.now).table.limit < regions_with (node_state self.now).table target mode → result ≡ Ok (None, Reply.NoLocks) }
-        ensures fits { IfOk result (λ r. LocksFit self.now r.0) }
+        ensures locked { IfOk result (λ r. lock_within (node_state self.now).table target mode ≡ (table_after (host (node_state self.now)) (node_state self.now).table r.0, r.1)) }
+        ensures refused { (node_state self.now).table.limit < regions_with (node_state self.now).table target mode → result ≡ Ok (Nothing, Reply.NoLocks) }
+        ensures fits { IfOk result (λ r. TableFits self.now r.0) }
     {
         match self
             .locks
             .plan(target.owner, target.file, target.span, mode)
         {
-            Ok(edit) => Ok((Some(edit), Reply::Done)),
-            Err(LockError::NoLocks) => Ok((None, Reply::NoLocks)),
-            Err(LockError::NoMemory) => Err(AllocError),
+            Ok(edit) => Ok((TableEdit::OfLocks(edit), Reply::Done)),
+            Err(error) => Ok((TableEdit::Nothing, lock_reply(error)?)),
         }
     }
 
@@ -253,8 +253,8 @@ impl Node {
         ensures value { IfOk result (λ effect. locked_by (drafted self.now draft) number target mode ≡ effect_of self.now effect) }
         ensures fits { IfOk result (λ effect. PartsFit self.now effect.edit) }
     {
-        let (locks, reply) = self.plan_lock(target, mode)?;
-        let effect = self.answer(alloc, draft, locks, number, reply);
+        let (table, reply) = self.plan_lock(target, mode)?;
+        let effect = self.answer(alloc, draft, table, number, reply);
         if !may_free(mode, &reply) {
             return Ok(effect);
         }
@@ -281,7 +281,13 @@ impl Node {
                 call.target(),
                 Some(call.mode),
             ),
-            Intent::Query => Ok(self.answer(alloc, draft, None, call.number, Reply::Free)),
+            Intent::Query => Ok(self.answer(
+                alloc,
+                draft,
+                TableEdit::Nothing,
+                call.number,
+                Reply::Free,
+            )),
         }
     }
 

@@ -1,14 +1,12 @@
-use Rattle.std.specs.Prelude.{◌≡◌, Ok, Err, IfOk}
+use Rattle.std.specs.Prelude.{◌≡◌, ◌+◌, Ok, Err, IfOk}
 use Rattle.std.proofs.Common.{ap, sym, subst, ◌∙◌}
-use Rattle.model.specs.declared.reply.Reply.TheVariants.{Done}
+use Rattle.model.specs.declared.reply.Reply.{Reply}
 use Rattle.model.specs.Limits.{IsNumber}
 use Rattle.descriptors.specs.Rows.{processes, resolved}
-use Rattle.node_core.specs.declared.edit.Shut.TheVariants.{Nothing, Closes}
-use Rattle.node_core.specs.declared.open_calls.CallsEdit.TheVariants.{Gone}
 use Rattle.node_core.specs.State.{Effect}
-use Rattle.node_core.specs.Try.{with_freed}
+use Rattle.node_core.specs.Try.{settled, with_freed}
 use Rattle.node_core.specs.Parts.{NodeParts, node_state}
-use Rattle.node_core.specs.Plans.{shut_effect, effect_of}
+use Rattle.node_core.specs.Plans.{numbered, effect_of}
 use Rattle.node_core.proofs.ShutLaws.{close-found, close-refused, opened-within-shape}
 use Rattle.node_core.proofs.node.Node.call_close.Goals as goal
 
@@ -21,8 +19,7 @@ returns-in-Ok-clause-value c =
     let o = c.in-Ok.opened in
     let is = subst (λ (q : NodeParts). resolved (processes q.processes) c.args.pid c.args.fd ≡ Ok o) c.self.view_is (sym c.in-Ok.ensures.value) in
     let within : IsNumber (node_state p).shape.files o.file = rw (← c.self.view_is) (opened-within-shape _ c.args.pid c.args.fd o c.self.invariant (sym c.in-Ok.ensures.value)) in
-    let made = (λ i. shut_effect (node_state p) (Closes c.args.pid c.args.fd) (Gone (sym c.next_number.ensures i)) Done) ∙ c.answer_shut-effect.ensures.value in
-    let all = close-found p c.args.pid c.args.fd o is within ∙ ap (with_freed o.file) made in
+    let all = close-found p c.args.pid c.args.fd o is within ∙ ap (with_freed o.file) c.answer_call-effect.ensures.value in
     subst (λ (x : Effect). IfOk c.tell_freed.result (λ e. x ≡ effect_of p e)) (sym all) c.tell_freed.ensures.value
 
 pub returns-in-Err-clause-value : goal.returns-in-Err-clause-value
@@ -30,5 +27,5 @@ returns-in-Err-clause-value c =
     let p : NodeParts = c.args.self.now in
     let is = subst (λ (q : NodeParts). resolved (processes q.processes) c.args.pid c.args.fd ≡ Err c.in-Err.error) c.self.view_is (sym c.in-Err.ensures.value) in
     close-refused p c.args.pid c.args.fd c.in-Err.error is
-    ∙ (λ i. shut_effect (node_state p) Nothing (Gone (sym c.next_number.ensures i)) (sym c.reply.ensures i))
-    ∙ c.answer_shut.ensures.value
+    ∙ ap (λ (r : Reply). settled (numbered (node_state p)) ((node_state p).calls + 1) ((node_state p).table, r)) (sym c.reply.ensures)
+    ∙ c.answer_call.ensures.value

@@ -1,29 +1,22 @@
 use Rattle.std.specs.Prelude.{◌≡◌, IfOk}
 use Rattle.std.proofs.Common.{ap, sym, subst, ◌∙◌}
-use Rattle.model.specs.declared.reply.Reply.TheVariants.{Done, NoProcess}
 use Rattle.model.specs.Descriptors.{has_open}
 use Rattle.descriptors.specs.Rows.{processes}
-use Rattle.node_core.specs.declared.edit.Shut.TheVariants.{Nothing, Exits}
-use Rattle.node_core.specs.declared.open_calls.CallsEdit.TheVariants.{Left}
 use Rattle.node_core.specs.State.{Effect}
 use Rattle.node_core.specs.Try.{with_freed_of}
 use Rattle.node_core.specs.Parts.{NodeParts, node_state}
-use Rattle.node_core.specs.Plans.{shut_effect, effect_of}
+use Rattle.node_core.specs.Plans.{effect_of}
 use Rattle.node_core.proofs.ShutLaws.{exit-done, exit-refused}
 use Rattle.node_core.proofs.node.Node.call_exit.Goals as goal
 
 pub returns-then-not-is_running-clause-value : goal.returns-then-not-is_running-clause-value
 returns-then-not-is_running-clause-value c =
-    let p : NodeParts = c.args.self.now in
     let stopped = ap (λ (q : NodeParts). (processes q.processes).runs c.args.pid) (sym c.self.view_is) ∙ sym c.is_running.ensures ∙ c.if-not-is_running.true in
-    exit-refused p c.args.pid stopped
-    ∙ (λ i. shut_effect (node_state p) Nothing (Left c.args.pid (sym c.next_number-number.ensures i)) NoProcess)
-    ∙ c.answer_shut.ensures.value
+    exit-refused c.args.self.now c.args.pid stopped ∙ c.answer_exit.ensures.value
 
 pub returns-clause-value : goal.returns-clause-value
 returns-clause-value c =
     let p : NodeParts = c.args.self.now in
     let runs = ap (λ (q : NodeParts). (processes q.processes).runs c.args.pid) (sym c.self.view_is) ∙ sym c.is_running.ensures ∙ c.if-not-is_running.false in
-    let made = (λ i. shut_effect (node_state p) (Exits c.args.pid) (Left c.args.pid (sym c.next_number-number.ensures i)) Done) ∙ c.answer_shut-effect.ensures.value in
-    let all = exit-done p c.args.pid runs ∙ ap (with_freed_of (has_open (processes p.processes) c.args.pid) (node_state p).shape.files) made in
+    let all = exit-done p c.args.pid runs ∙ ap (with_freed_of (has_open (processes p.processes) c.args.pid) (node_state p).shape.files) c.answer_exit-effect.ensures.value in
     subst (λ (x : Effect). IfOk c.tell_open.result (λ e. x ≡ effect_of p e)) (sym all) c.tell_open.ensures.value
