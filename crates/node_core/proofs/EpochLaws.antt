@@ -1,5 +1,5 @@
 -- What a node knows in the epoch of a command.
-use Rattle.std.specs.Prelude.{◌≡◌, ℕ, ◌+◌, ◌==◌, ◌||◌, Bool, true, false, nat_lt, if◌then◌else◌, Some, None, Result, IfOk, refl}
+use Rattle.std.specs.Prelude.{◌≡◌, ℕ, ◌+◌, ◌==◌, ◌||◌, Bool, true, false, nat_lt, if◌then◌else◌, ◌∷◌, Some, None, Result, Ok, Err, IfOk, refl}
 use Rattle.std.specs.declared.alloc.AllocError.{AllocError}
 use Rattle.std.proofs.Common.{ap, sym, subst, ◌∙◌}
 use Rattle.std.proofs.lemmas.Bool.{eq-eqb}
@@ -64,6 +64,11 @@ revoked-in s file number call mode wanted =
     let answer = answer_to file number (host s) call gives in
     (λ i. sent (after_command (in_epoch s file number) file (after_giving_up (token-in s file number i) mode gives) number answer (is_conflict gives || asked-in s file number i)) answer)
     ∙ ap (λ (next : NodeState). sent next answer) (done-in s file number (after_giving_up (s.files file).token mode gives) answer (is_conflict gives || (s.files file).asked))
+
+-- a message is sent before the others
+pub effect-before : (p : NodeParts) (does : Effect) (first : Message) (e : EffectFields) (r : Result EffectFields AllocError) → does ≡ effect_of p e → IfOk r (λ a. a ≡ record { edit = e.edit; reply = e.reply; sends = first ∷ e.sends }) → IfOk r (λ a. before first does ≡ effect_of p a)
+effect-before p does first e (Err x) is made = tt
+effect-before p does first e (Ok a) is made = ap (before first) is ∙ sym (ap (effect_of p) made)
 
 -- a command that is next in its epoch is done
 pub in_order-next : (s : NodeState) (p : NodeParts) (file number : ℕ) (done same : Effect) (r : Result EffectFields AllocError) → (number == (s.files file).last + 1) ≡ true → done ≡ same → IfOk r (λ e. same ≡ effect_of p e) → IfOk r (λ e. in_order s file number done ≡ effect_of p e)

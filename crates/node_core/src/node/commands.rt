@@ -1,5 +1,5 @@
 //! A node takes a message of a token server.
-ghost use Rattle.std.specs.Prelude.{◌≡◌, ◌≢◌, ◌==◌, ◌+◌, true, false, if◌then◌else◌, Some, Ok, Err, IfOk, IfErr, IfSome};
+ghost use Rattle.std.specs.Prelude.{◌≡◌, ◌≢◌, ◌==◌, ◌+◌, true, false, Some, Ok, Err, IfOk, IfErr, IfSome};
 ghost use Rattle.model.specs.Limits.{IsNumber};
 ghost use Rattle.token_set.specs.Releases.{gave_up};
 ghost use Rattle.messages.specs.Messages.{is_within, host_of, file_of};
@@ -7,7 +7,7 @@ ghost use Rattle.messages.specs.declared.message.Message.TheVariants.{Report};
 ghost use Rattle.messages.specs.Reports.{runs_of};
 ghost use Rattle.node_core.specs.Answers.{answer_of};
 ghost use Rattle.node_core.specs.Commands.{in_epoch, remembered, in_order, granted, revoked, told, denied, delivered, deliver_rule};
-ghost use Rattle.node_core.specs.State.{quiet, host};
+ghost use Rattle.node_core.specs.State.{host};
 ghost use Rattle.node_core.specs.Parts.{node_state, after_grant, after_revoke, out_of_order, is_for, IsCallOf};
 ghost use Rattle.node_core.specs.Plans.{drafted, planned, effect_of, CommandFits, DraftFits, PartsFit};
 
@@ -90,25 +90,9 @@ impl Node {
         Ok(Draft::of_command(edit))
     }
 
-    // The token is raised, and the call that it was for is tried if it is still open.
+    // A grant that is the next command: the token is raised, and the call that it was for is tried if it
+    // is still open.
     fn grant(&self, alloc: Global, command: &Command, span: Span) -> Result<Effect, AllocError>
-        requires { IsNumber (node_state self.now).shape.files command.now.file }
-        ensures value { IfOk result (λ effect. granted (node_state self.now) command.now.file command.now.number command.now.call command.now.mode span ≡ effect_of self.now effect) }
-        ensures fits { IfOk result (λ effect. PartsFit self.now effect.edit) }
-    {
-        let draft = self.raise(command, span)?;
-        let waiting = self.open_call(command.call.number);
-        let effect = self.try_if(alloc, draft, waiting)?;
-        effect.after(alloc, command.taken().message())
-    }
-
-    // Grants of an epoch are done in the order of their numbers, each once.
-    fn grant_in_order(
-        &self,
-        alloc: Global,
-        command: &Command,
-        span: Span,
-    ) -> Result<Effect, AllocError>
         requires { IsNumber (node_state self.now).shape.files command.now.file }
         ensures value { IfOk result (λ effect. in_order (in_epoch (node_state self.now) command.now.file command.now.number) command.now.file command.now.number (granted (in_epoch (node_state self.now) command.now.file command.now.number) command.now.file command.now.number command.now.call command.now.mode span) ≡ effect_of self.now effect) }
         ensures fits { IfOk result (λ effect. PartsFit self.now effect.edit) }
@@ -116,7 +100,10 @@ impl Node {
         if !self.is_next(command) {
             return self.on_out_of_order(alloc, command);
         }
-        self.grant(alloc, command, span)
+        let draft = self.raise(command, span)?;
+        let waiting = self.open_call(command.call.number);
+        let effect = self.try_if(alloc, draft, waiting)?;
+        effect.after(alloc, command.taken().message())
     }
 
     // What the node gives up: bytes around those that are required, or nothing, with the lock in the way.
@@ -149,27 +136,9 @@ impl Node {
         Ok((gives, Draft::of_command(edit)))
     }
 
-    // The token is given up as far as no lock is in the way, and the answer is sent.
+    // A revoke that is the next command: the token is given up as far as no lock is in the way, and the
+    // answer is sent.
     fn revoke(&self, alloc: Global, command: &Command, wanted: Wanted) -> Result<Effect, AllocError>
-        requires { IsNumber (node_state self.now).shape.files command.now.file }
-        ensures value { IfOk result (λ effect. revoked (node_state self.now) command.now.file command.now.number command.now.call command.now.mode wanted ≡ effect_of self.now effect) }
-        ensures fits { IfOk result (λ effect. PartsFit self.now effect.edit) }
-    {
-        let (gives, draft) = self.give_up(command, wanted)?;
-        Effect::sent(
-            alloc,
-            Edit::of(alloc, draft),
-            command.answer(self.host(), gives).message(),
-        )
-    }
-
-    // Revokes of an epoch are done in the order of their numbers, each once.
-    fn revoke_in_order(
-        &self,
-        alloc: Global,
-        command: &Command,
-        wanted: Wanted,
-    ) -> Result<Effect, AllocError>
         requires { IsNumber (node_state self.now).shape.files command.now.file }
         ensures value { IfOk result (λ effect. in_order (in_epoch (node_state self.now) command.now.file command.now.number) command.now.file command.now.number (revoked (in_epoch (node_state self.now) command.now.file command.now.number) command.now.file command.now.number command.now.call command.now.mode wanted) ≡ effect_of self.now effect) }
         ensures fits { IfOk result (λ effect. PartsFit self.now effect.edit) }
@@ -177,7 +146,12 @@ impl Node {
         if !self.is_next(command) {
             return self.on_out_of_order(alloc, command);
         }
-        self.revoke(alloc, command, wanted)
+        let (gives, draft) = self.give_up(command, wanted)?;
+        Effect::sent(
+            alloc,
+            Edit::of(alloc, draft),
+            command.answer(self.host(), gives).message(),
+        )
     }
 
     // The node's token for the file, as it reports it to a server that was rebuilt.
@@ -264,7 +238,7 @@ impl Node {
                 call,
                 mode,
                 span,
-            } => self.grant_in_order(alloc, &Command::new(*file, *number, *call, *mode), *span),
+            } => self.grant(alloc, &Command::new(*file, *number, *call, *mode), *span),
             Message::Revoke {
                 file,
                 number,
@@ -272,7 +246,7 @@ impl Node {
                 mode,
                 wanted,
                 ..
-            } => self.revoke_in_order(alloc, &Command::new(*file, *number, *call, *mode), *wanted),
+            } => self.revoke(alloc, &Command::new(*file, *number, *call, *mode), *wanted),
             Message::Hello { file, number, .. } => self.tell(alloc, *file, *number),
             Message::Deny { call, lock, .. } => {
                 let waiting = self.open_call(call.number);
@@ -282,19 +256,7 @@ impl Node {
         }
     }
 
-    // A message comes. One for another incarnation of the node does nothing.
-    fn on_message(&self, alloc: Global, message: &Message) -> Result<Effect, AllocError>
-        requires { is_within (node_state self.now).shape.files (file_of message.now) ≡ true }
-        ensures value { IfOk result (λ effect. (if (host_of message.now).incarnation == (node_state self.now).incarnation then delivered (node_state self.now) message.now else quiet (node_state self.now)) ≡ effect_of self.now effect) }
-        ensures fits { IfOk result (λ effect. PartsFit self.now effect.edit) }
-    {
-        if !self.is_for_now(message) {
-            return Ok(Effect::quiet(alloc, Edit::none(alloc)));
-        }
-        self.deliver(alloc, message)
-    }
-
-    // What a message does.
+    // What a message does. One for another incarnation of the node does nothing.
     pub(super) fn plan_message(&self, alloc: Global, message: &Message) -> Result<Change, StepError>
         ensures ok { IfOk result (λ change. deliver_rule (node_state self.now) message.now ≡ Ok (planned self.now change.edit, change.outcome)) }
         ensures err { IfErr result (λ error. error ≢ StepError.NoMemory → deliver_rule (node_state self.now) message.now ≡ Err error) }
@@ -304,7 +266,10 @@ impl Node {
         if !self.is_for_me(message) {
             return Err(StepError::Stranger);
         }
-        let effect = self.on_message(alloc, message)?;
+        if !self.is_for_now(message) {
+            return Ok(Effect::quiet(alloc, Edit::none(alloc)).change(None));
+        }
+        let effect = self.deliver(alloc, message)?;
         Ok(effect.change(None))
     }
 }

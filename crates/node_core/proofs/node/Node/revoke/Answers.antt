@@ -1,8 +1,8 @@
-use Rattle.std.proofs.Common.{sym, ◌∙◌}
+use Rattle.std.proofs.Common.{rules, sym, ◌∙◌}
 use Rattle.node_core.specs.Commands.{in_epoch, revoked}
 use Rattle.node_core.specs.Parts.{node_state}
 use Rattle.node_core.proofs.EpochLaws.{in_order-next, revoked-in}
-use Rattle.node_core.proofs.node.Node.revoke_in_order.Goals as goal
+use Rattle.node_core.proofs.node.Node.revoke.Goals as goal
 
 pub returns-clause-value : goal.returns-clause-value
 returns-clause-value c =
@@ -10,4 +10,4 @@ returns-clause-value c =
     let k = c.args.command.now in
     let t = in_epoch s k.file k.number in
     let same = revoked-in s k.file k.number k.call k.mode c.args.wanted in
-    in_order-next t c.args.self.now k.file k.number (revoked t k.file k.number k.call k.mode c.args.wanted) (revoked s k.file k.number k.call k.mode c.args.wanted) c.revoke.result (sym c.is_next.ensures ∙ c.if-not-is_next.false) same c.revoke.ensures.value
+    in_order-next t c.args.self.now k.file k.number (revoked t k.file k.number k.call k.mode c.args.wanted) (revoked s k.file k.number k.call k.mode c.args.wanted) c.sent.result (sym c.is_next.ensures ∙ c.if-not-is_next.false) same (search rules)
