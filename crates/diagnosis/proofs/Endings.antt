@@ -3,10 +3,12 @@ use Rattle.std.proofs.Common.{◌≡◌, ◌≢◌, ℕ, ◌+◌, ◌≤◌, Boo
 use Rattle.std.specs.Prelude.{◌⊎◌, ◌↔◌, IfSome, slice_get}
 use Rattle.std.specs.List.{All, flat_map}
 use Rattle.texts.specs.LineFeeds.{line_feed, line_feeds, PassesLines}
-use Rattle.lockscript.specs.Scripts.{BeginsScript, HasScript, IsBad, IsFirstBad}
+use Rattle.lockscript.specs.Scripts.{HasScript, IsBad, IsFirstBad}
 use Rattle.lockscript.specs.Scripts.IsBad.{has_no_cluster, has_no_end, stands_wrong}
+use Rattle.lockscript.proofs.BadLines.{BeginsScript}
 use Rattle.lockscript.proofs.Feeds.{line_feeds-line}
-use Rattle.lockscript.proofs.OneReading.{Onward, begins-front, either, one_reading}
+use Rattle.lockscript.proofs.FirstBadLines.{Further, begins-front, further}
+use Rattle.lockscript.proofs.OneReading.{one_reading}
 use Rattle.lockscript.proofs.Passes.{IsSingle, ended}
 use Rattle.diagnosis.specs.BadLines.{AreBadLines, IsBadAt, Tells, TellsBadLines}
 use Rattle.diagnosis.specs.Places.{EndsBadly}
@@ -27,19 +29,15 @@ no-line (line ∷ lines) rest behind no_feed e single =
     let begins = begins-front rest line lines behind e single in
     absurd (omega (arith, no_feed, line_feeds-line rest line (flat_map ended lines ++ behind) begins))
 
--- no reading goes past what has no line feed
-not-further : (text : List ℕ) (kept : List (ℕ × List ℕ)) (rest : List ℕ) (passed : ℕ) (kept' : List (ℕ × List ℕ)) (rest' : List ℕ) (passed' : ℕ)
-    → line_feeds rest ≡ 0 → Onward kept rest passed kept' rest' passed' ⊎ Onward kept' rest' passed' kept rest passed → passed' ≤ passed
-not-further text kept rest passed kept' rest' passed' no_feed (inl o) =
-    let none = no-line o.lines rest rest' no_feed o.parts o.single in
-    omega (arith, o.counted, ap length none)
-not-further text kept rest passed kept' rest' passed' no_feed (inr o) = omega (arith, o.counted)
-
--- so no line past it is bad
+-- no line past what has no line feed is bad
 within-end : (text : List ℕ) (kept : List (ℕ × List ℕ)) (rest : List ℕ) (passed n : ℕ) → PassesLines text 0 kept rest passed → line_feeds rest ≡ 0 → IsBadAt text n → n ≤ passed + 1
-within-end text kept rest passed n before no_feed bad =
-    let le = not-further text kept rest passed bad.kept bad.rest bad.passed no_feed (either text kept rest passed bad.kept bad.rest bad.passed before bad.before) in
-    omega (arith, le, bad.counted)
+within-end text kept rest passed n before no_feed bad = by (further before.lines bad.before.lines rest bad.rest before.single bad.before.single (sym before.parts ∙ bad.before.parts))
+  where
+    by : Further before.lines bad.before.lines rest bad.rest ⊎ Further bad.before.lines before.lines bad.rest rest → n ≤ passed + 1
+    by (inl f) =
+        let none = no-line f.between rest bad.rest no_feed f.parts f.single in
+        omega (arith, before.counted, bad.before.counted, bad.counted, ap length f.lines, length-append before.lines f.between, ap length none)
+    by (inr f) = omega (arith, before.counted, bad.before.counted, bad.counted, ap length f.lines, length-append bad.before.lines f.between)
 
 -- then all bad lines are known
 all-known : (text : List ℕ) (kept kept' : List (ℕ × List ℕ)) (rest : List ℕ) (passed : ℕ) (numbers : List ℕ) → PassesLines text 0 kept rest passed → line_feeds rest ≡ 0

@@ -7,12 +7,13 @@ use Rattle.std.proofs.lemmas.List.{get_or_append_left, map-append}
 use Rattle.std.proofs.Math.Seq.{get_or-append_seam}
 use Rattle.std.proofs.lemmas.Bool.{cases_lt}
 use Rattle.std.proofs.lemmas.List.Elements.{All-nil, All-push, Contains-append_left, Contains-get_or, Contains-push, Contains-push_cases}
-use Rattle.texts.specs.LineFeeds.{line_feed, is_skipped, BeginsWithLine, PassesLines}
-use Rattle.lockscript.specs.Scripts.{BeginsScript, IsBad, IsFirstBad, IsLine, IsMisplaced, line_text, script_of, shape_text}
+use Rattle.texts.specs.LineFeeds.{line_feed, is_skipped, kept_lines, BeginsWithLine, PassesLines}
+use Rattle.lockscript.specs.Scripts.{IsBad, IsFirstBad, IsLine, IsMisplaced, line_text, script_of, shape_text}
 use Rattle.lockscript.specs.Scripts.IsBad.{has_no_cluster, has_no_end, stands_wrong}
+use Rattle.lockscript.proofs.BadLines.{BeginsScript, first-bad_script}
 use Rattle.lockscript.proofs.Begun.{passes-more}
 use Rattle.lockscript.proofs.Feeds.{line_feeds-line}
-use Rattle.lockscript.proofs.OneReading.{Onward, either, line-same, same-kept}
+use Rattle.lockscript.proofs.FirstBadLines.{line-same, passes-of, same-passed}
 use Rattle.lockscript.proofs.Passes.{passes-join, passes-none, passes-said, passes-skipped}
 use Rattle.diagnosis.specs.BadLines.{IsBadAt, Tells}
 use Rattle.diagnosis.specs.Places.{IsFit, IsUnfit}
@@ -45,25 +46,19 @@ pub record HasRead (text : List ℕ) (number : ℕ) (is_first : Bool) (rest : Li
   pub knows : KnowsBad text kept passed numbers
   pub tells : Tells numbers told others
 
-no-lines : (lines : List (List ℕ)) → length lines ≡ 0 → lines ≡ []
-no-lines [] e = refl
-no-lines (line ∷ lines) e = absurd (omega (arith, e))
-
 -- behind equally many lines two readings have kept and left the same
 same-reading : (text : List ℕ) (kept : List (ℕ × List ℕ)) (rest : List ℕ) (passed : ℕ) (kept' : List (ℕ × List ℕ)) (rest' : List ℕ)
-    → (a : PassesLines text 0 kept rest passed) → (b : PassesLines text 0 kept' rest' passed)
-    → Onward kept rest passed kept' rest' passed ⊎ Onward kept' rest' passed kept rest passed → (kept' ≡ kept) × (rest ≡ rest')
-same-reading text kept rest passed kept' rest' a b (inl o) = same-kept kept rest passed kept' rest' passed o (no-lines o.lines (omega (arith, o.counted)))
-same-reading text kept rest passed kept' rest' a b (inr o) =
-    let same = same-kept kept' rest' passed kept rest passed o (no-lines o.lines (omega (arith, o.counted))) in
-    (sym same.0, sym same.1)
+    → PassesLines text 0 kept rest passed → PassesLines text 0 kept' rest' passed → (kept' ≡ kept) × (rest ≡ rest')
+same-reading text kept rest passed kept' rest' a b =
+    let same = same-passed text a.lines b.lines rest rest' (passes-of a) (passes-of b) (omega (arith, a.counted, b.counted)) in
+    (sym b.said ∙ ap (kept_lines 1) same.0 ∙ a.said, same.1)
 
 -- whether the next line is bad is said of what was kept and left
 pub bad-here : (text : List ℕ) (kept : List (ℕ × List ℕ)) (rest : List ℕ) (passed : ℕ) → PassesLines text 0 kept rest passed → IsBadAt text (passed + 1) → IsBad kept (passed + 1) rest
 bad-here text kept rest passed a b =
     let e : b.passed ≡ passed = omega (arith, b.counted) in
     let before = subst (λ (n : ℕ). PassesLines text 0 b.kept b.rest n) e b.before in
-    let same = same-reading text kept rest passed b.kept b.rest a before (either text kept rest passed b.kept b.rest passed a before) in
+    let same = same-reading text kept rest passed b.kept b.rest a before in
     subst (λ (ks : List (ℕ × List ℕ)). IsBad ks (passed + 1) rest) same.0 (subst (λ (r : List ℕ). IsBad b.kept (passed + 1) r) (sym same.1) b.bad)
 
 -- the next line is bad where that is said
@@ -196,7 +191,7 @@ know-bad text kept kept' rest passed numbers knows before bad = record {
   few = omega (arith, knows.few, length-append numbers ((passed + 1) ∷ []));
   good = λ none. absurd (omega (arith, ap length none, length-append numbers ((passed + 1) ∷ [])));
   first = λ n more e. first-more text numbers passed n more knows.first
-      (λ none. record { kept = kept; rest = rest; passed = passed; before = before; counted = refl; good = knows.good none; bad = bad }) e;
+      (λ none. first-bad_script text kept rest passed before (knows.good none) bad) e;
 }
 
 -- no line was looked at

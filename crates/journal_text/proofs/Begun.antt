@@ -4,12 +4,15 @@ use Rattle.std.specs.List.{All, flat_map}
 use Rattle.std.proofs.lemmas.Grind.{flat_map-append}
 use Rattle.std.proofs.lemmas.List.{append-nil, map-append}
 use Rattle.std.proofs.lemmas.List.Elements.{All-cons, All-head, All-nil, All-push, All-tail}
-use Rattle.model.specs.declared.policy.Policy.TheVariants.{Wide}
 use Rattle.messages.specs.Shapes.{IsShape, ShapeFields}
 use Rattle.messages.specs.declared.version.Version.{Version}
 use Rattle.messages.specs.declared.version.Version.TheVariants.{Second}
+use Rattle.texts.specs.FirstBadLine.{Begins, IsBadNext, Passes}
+use Rattle.texts.specs.FirstBadLine.IsBadNext.{has_no_line, stands_wrong}
 use Rattle.texts.specs.LineFeeds.{line_feed, line_feeds, BeginsWithLine}
 use Rattle.texts.specs.Reads.{Reads}
+use Rattle.lockscript.proofs.BadLines.{smallest}
+use Rattle.lockscript.proofs.FirstBadLines.{begins-whole}
 use Rattle.lockscript.proofs.Passes.{IsSingle, ended}
 use Rattle.journal_text.specs.declared.lines.JournalLine.{JournalLine}
 use Rattle.journal_text.specs.declared.lines.JournalLine.TheVariants.{End}
@@ -20,9 +23,8 @@ use Rattle.journal_text.specs.Journals.{head_text}
 use Rattle.journal_text.specs.Lines.{IsCount, IsServedLine, line_text}
 use Rattle.journal_text.specs.Places.{IsMisplaced, IsStuck, StandsNext, place, start}
 use Rattle.journal_text.specs.Places.IsStuck.{misplaced, no_line}
-use Rattle.journal_text.specs.Readings.{BeginsJournal, IsBad, IsFirstBad, IsJournalText, Passes, Writes, body_lines}
-use Rattle.journal_text.specs.Readings.IsBad.{has_no_line, stands_wrong}
-use Rattle.journal_text.proofs.HeadKinds.{apart-head}
+use Rattle.journal_text.specs.Readings.{AreJournal, IsFirstBad, IsJournalText, Writes, body_lines}
+use Rattle.journal_text.proofs.HeadKinds.{head}
 use Rattle.journal_text.proofs.LineKinds.{line as line_texts}
 use Rattle.journal_text.proofs.Runs.{run, run-append, run-journal, run-none}
 use Rattle.journal_text.proofs.Steps.{Further, Reading, empty-open, entries, named, none-some, phase_of-open, place_of, read_lines, some-same}
@@ -91,30 +93,29 @@ journal-begun text s (whole es) taken begun e = record {
 }
 
 -- the last line is enough for a journal
-begins-end : (s : ShapeFields) (es : List NamedEntry) (js : List JournalLine) → body_lines es ≡ js ++ End (length es) ∷ [] → IsShape s → All (IsServedLine s.version) js → IsCount (length es) → BeginsJournal (texts_of s js)
-begins-end s es js e shape_in lines_in fits = record {
-  shape = s;
-  entries = es;
-  more = line_text s.version (End (length es)) ∷ [];
-  writes = record {
-    texts = texts-push s js (End (length es)) ∙ ap (texts_of s) (sym e);
-    shape_in = shape_in;
-    lines_in = subst (All (IsServedLine s.version)) (sym e) (All-push (IsServedLine s.version) js (End (length es)) lines_in fits);
-  };
-}
+begins-end : (s : ShapeFields) (es : List NamedEntry) (js : List JournalLine) → body_lines es ≡ js ++ End (length es) ∷ [] → IsShape s → All (IsServedLine s.version) js → IsCount (length es) → Begins AreJournal (texts_of s js)
+begins-end s es js e shape_in lines_in fits = (
+  line_text s.version (End (length es)) ∷ [],
+  (
+    s,
+    (
+      es,
+      record {
+        texts = texts-push s js (End (length es)) ∙ ap (texts_of s) (sym e);
+        shape_in = shape_in;
+        lines_in = subst (All (IsServedLine s.version)) (sym e) (All-push (IsServedLine s.version) js (End (length es)) lines_in fits);
+      },
+    ),
+  ),
+)
 
-pub good-begun : (text : List ℕ) (s : ShapeFields) (r : Reading) (rest : List ℕ) (taken : ℕ) → Begun text s r rest taken → BeginsJournal (texts_of s (read_lines r))
+pub good-begun : (text : List ℕ) (s : ShapeFields) (r : Reading) (rest : List ℕ) (taken : ℕ) → Begun text s r rest taken → Begins AreJournal (texts_of s (read_lines r))
 good-begun text s nothing rest taken begun = begins-end s [] [] refl begun.shape_in begun.lines_in (omega arith)
 good-begun text s (some es event reply sends) rest taken begun =
     let last = named event reply sends in
     let counted : length (es ++ last ∷ []) ≡ length es + 1 = omega (arith, length-append es (last ∷ [])) in
     begins-end s (es ++ last ∷ []) (read_lines (some es event reply sends)) refl begun.shape_in begun.lines_in (omega (arith, counted, begun.fits))
-good-begun text s (whole es) rest taken begun = record {
-  shape = s;
-  entries = es;
-  more = [];
-  writes = record { texts = append-nil (texts_of s (body_lines es)); shape_in = begun.shape_in; lines_in = begun.lines_in };
-}
+good-begun text s (whole es) rest taken begun = begins-whole AreJournal (texts_of s (body_lines es)) (s, (es, record { texts = refl; shape_in = begun.shape_in; lines_in = begun.lines_in }))
 
 pub heads : (x y : List ℕ) (xs ys : List (List ℕ)) → x ∷ xs ≡ y ∷ ys → x ≡ y
 heads x y xs ys e = cc
@@ -172,16 +173,19 @@ not-next v js p es line ran wrong c =
 -- lines behind one head are of its version
 pub one-version : (s t : ShapeFields) (texts : List (List ℕ)) (ks : List JournalLine) → IsShape s → IsShape t → All (IsServedLine t.version) ks → head_text s ∷ texts ≡ head_text t ∷ map (line_text t.version) ks → (texts ≡ map (line_text s.version) ks) × All (IsServedLine s.version) ks
 one-version s t texts ks s_in t_in ks_in e =
-    let same = apart-head s t s_in t_in (heads (head_text s) (head_text t) texts (map (line_text t.version) ks) e) in (
+    let same = head.apart s t s_in t_in (heads (head_text s) (head_text t) texts (map (line_text t.version) ks) e) in (
       tails (head_text s) (head_text t) texts (map (line_text t.version) ks) e ∙ sym (ap (λ (x : ShapeFields). map (line_text x.version) ks) same),
       subst (λ (x : ShapeFields). All (IsServedLine x.version) ks) (sym same) ks_in,
     )
 
-not-begun : (s : ShapeFields) (js : List JournalLine) (p : Place) (line : List ℕ) → IsShape s → All (IsServedLine s.version) js → run (Some start) js ≡ Some p → IsMisplaced s.version p line → BeginsJournal (texts_of s js ++ line ∷ []) → ⊥
+not-begun : (s : ShapeFields) (js : List JournalLine) (p : Place) (line : List ℕ) → IsShape s → All (IsServedLine s.version) js → run (Some start) js ≡ Some p → IsMisplaced s.version p line → Begins AreJournal (texts_of s js ++ line ∷ []) → ⊥
 not-begun s js p line s_in js_in ran wrong b =
-    let e = sym (append_assoc (texts_of s js) (line ∷ []) b.more) ∙ b.writes.texts in
-    let rest = one-version s b.shape (map (line_text s.version) js ++ line ∷ b.more) (body_lines b.entries) s_in b.writes.shape_in b.writes.lines_in e in
-    not-next s.version js p b.entries line ran wrong (continues s.version js (body_lines b.entries) line b.more js_in rest.1 rest.0)
+    let t = b.1.0 in
+    let es = b.1.1.0 in
+    let writes = b.1.1.1 in
+    let e = sym (append_assoc (texts_of s js) (line ∷ []) b.0) ∙ writes.texts in
+    let rest = one-version s t (map (line_text s.version) js ++ line ∷ b.0) (body_lines es) s_in writes.shape_in writes.lines_in e in
+    not-next s.version js p es line ran wrong (continues s.version js (body_lines es) line b.0 js_in rest.1 rest.0)
 
 -- lines behind which the last one may stand are no journal
 not-whole : (s t : ShapeFields) (js : List JournalLine) (p : Place) (es : List NamedEntry) → IsShape s → All (IsServedLine s.version) js → run (Some start) js ≡ Some p → (p.phase ≡ Ended → ⊥) → Writes (texts_of s js) t es → ⊥
@@ -192,8 +196,8 @@ not-whole s t js p es s_in js_in ran unended w =
     let here = some-same p (place (length es) Ended) ends in
     unended (ap (λ (q : Place). q.phase) here)
 
-bad-begun : (s : ShapeFields) (js : List JournalLine) (p : Place) (rest : List ℕ) → IsShape s → All (IsServedLine s.version) js → run (Some start) js ≡ Some p → IsStuck s.version p rest → IsBad (texts_of s js) rest
-bad-begun s js p rest s_in js_in ran (no_line none unended) = has_no_line none (λ gone t es w. not-whole s t js p es s_in js_in ran (unended gone) w)
+bad-begun : (s : ShapeFields) (js : List JournalLine) (p : Place) (rest : List ℕ) → IsShape s → All (IsServedLine s.version) js → run (Some start) js ≡ Some p → IsStuck s.version p rest → IsBadNext AreJournal (texts_of s js) rest
+bad-begun s js p rest s_in js_in ran (no_line none unended) = has_no_line none (λ gone are. not-whole s are.0 js p are.1.0 s_in js_in ran (unended gone) are.1.1)
 bad-begun s js p rest s_in js_in ran (misplaced line after begins wrong) = stands_wrong line after begins (not-begun s js p line s_in js_in ran wrong)
 
 pub stuck-begun : (text : List ℕ) (s : ShapeFields) (r : Reading) (rest : List ℕ) (taken : ℕ) → Begun text s r rest taken → IsStuck s.version (place_of r) rest → IsFirstBad text (taken + 1)
@@ -207,22 +211,23 @@ stuck-begun text s r rest taken begun stuck = record {
 }
 
 -- some journal begins with no line
-abbrev smallest : ShapeFields
-smallest = record { version = Second; nodes = 1; files = 1; policy = Wide }
+some-journal : Begins AreJournal []
+some-journal = (
+  texts_of smallest (body_lines []),
+  (
+    smallest,
+    (
+      [],
+      record {
+        texts = refl;
+        shape_in = record { nodes_in = (omega arith, omega arith); files_in = (omega arith, omega arith) };
+        lines_in = All-cons (IsServedLine Second) (End 0) [] (omega arith) (All-nil (IsServedLine Second));
+      },
+    ),
+  ),
+)
 
-some-journal : BeginsJournal []
-some-journal = record {
-  shape = smallest;
-  entries = [];
-  more = texts_of smallest (body_lines []);
-  writes = record {
-    texts = refl;
-    shape_in = record { nodes_in = (omega arith, omega arith); files_in = (omega arith, omega arith) };
-    lines_in = All-cons (IsServedLine Second) (End 0) [] (omega arith) (All-nil (IsServedLine Second));
-  };
-}
-
-bad-at-first : (text : List ℕ) → IsBad [] text → IsFirstBad text 1
+bad-at-first : (text : List ℕ) → IsBadNext AreJournal [] text → IsFirstBad text 1
 bad-at-first text bad = record { lines = []; rest = text; before = passes-none text; counted = omega arith; good = some-journal; bad = bad }
 
 no-lines : (s : ShapeFields) (js : List JournalLine) → [] ≡ texts_of s js → ⊥
@@ -230,9 +235,12 @@ no-lines s js e = absurd (cc)
 
 -- there is no first line
 pub bad-no_line : (text : List ℕ) → line_feeds text ≡ 0 → IsFirstBad text 1
-bad-no_line text none = bad-at-first text (has_no_line none (λ gone s es w. no-lines s (body_lines es) w.texts))
+bad-no_line text none = bad-at-first text (has_no_line none (λ gone are. no-lines are.0 (body_lines are.1.0) are.1.1.texts))
 
 -- the first line names no shape
 pub bad-first : (text line after : List ℕ) → BeginsWithLine text line after → Reads head_text IsShape line None → IsFirstBad text 1
 bad-first text line after begins none =
-    bad-at-first text (stands_wrong line after begins (λ b. none b.shape b.writes.shape_in (heads line (head_text b.shape) b.more (map (line_text b.shape.version) (body_lines b.entries)) b.writes.texts)))
+    bad-at-first text (stands_wrong line after begins (λ b. not-head b.1.0 b.1.1.0 b.0 b.1.1.1))
+  where
+    not-head : (s : ShapeFields) (es : List NamedEntry) (more : List (List ℕ)) → Writes (line ∷ more) s es → ⊥
+    not-head s es more writes = none s writes.shape_in (heads line (head_text s) more (map (line_text s.version) (body_lines es)) writes.texts)

@@ -3,8 +3,10 @@ use Rattle.std.proofs.Common.{◌≡◌, true, ℕ, List, [], ◌∷◌, inl, in
 use Rattle.messages.specs.Versions.{may_rebuild}
 use Rattle.messages.specs.declared.version.Version.{Version}
 use Rattle.texts.proofs.FirstWords.{BeginsWithWord}
-use Rattle.message_text.proofs.FieldTexts.{AreTexts, both, call, file, holder, pid, server, where_so}
+use Rattle.message_text.proofs.AreTexts.{AreTexts, both, where_so}
+use Rattle.message_text.proofs.FieldTexts.{file, pid}
 use Rattle.message_text.proofs.MessageKinds.{message}
+use Rattle.message_text.proofs.NameTexts.{call, holder, server}
 use Rattle.message_text.proofs.Variants.{Variant, of_variants, variant}
 use Rattle.lockscript.proofs.OperationKinds.{op}
 use Rattle.journal_text.specs.declared.named_event.NamedEvent.TheVariants.{Call, Deliver, Interrupt, Retry, Resend, Declare, Restart, Learn, FailServer, StartServer}

@@ -4,14 +4,15 @@ use Rattle.std.specs.List.{flat_map}
 use Rattle.messages.specs.Entries.{EntryFields}
 use Rattle.messages.specs.Shapes.{IsShape, ShapeFields}
 use Rattle.messages.specs.declared.version.Version.TheVariants.{First}
+use Rattle.texts.specs.FirstBadLine.{Passes}
 use Rattle.texts.specs.LineFeeds.{BeginsWithLine}
 use Rattle.texts.specs.Reads.{Reads}
-use Rattle.lockscript.proofs.OneReading.{begins-front, line-same}
+use Rattle.lockscript.proofs.FirstBadLines.{begins-front, line-same}
 use Rattle.lockscript.proofs.Passes.{ended}
 use Rattle.journal_text.specs.Journals.{head_text}
 use Rattle.journal_text.specs.Lines.{line_text}
-use Rattle.journal_text.proofs.HeadKinds.{apart-head}
-use Rattle.journal_text.specs.Readings.{BeginsAs, IsOld, Passes, WritesJournal, body_lines}
+use Rattle.journal_text.proofs.HeadKinds.{head}
+use Rattle.journal_text.specs.Readings.{BeginsAs, IsOld, WritesJournal, body_lines}
 
 -- a first line that names no cluster is none of a journal of version 1
 pub old-no_head : (text line rest : List ℕ) → BeginsWithLine text line rest → Reads head_text IsShape line None → IsOld text → ⊥
@@ -35,4 +36,4 @@ old_text text s es writes is =
 pub one_shape : (text : List ℕ) (s t : ShapeFields) (es : List EntryFields) → BeginsAs text s → WritesJournal text t es → s ≡ t
 one_shape text s t es first writes =
     let begins = begins_as text t es writes in
-    apart-head s t first.2 begins.2 (line-same text (head_text s) first.0 (head_text t) begins.0 first.1 begins.1).0
+    head.apart s t first.2 begins.2 (line-same text (head_text s) first.0 (head_text t) begins.0 first.1 begins.1).0

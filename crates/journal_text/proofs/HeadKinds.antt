@@ -1,49 +1,62 @@
 -- The first lines of journals, of which each version has its own.
-use Rattle.std.proofs.Common.{◌≡◌, ◌≢◌, List, [], ◌∷◌, ◌++◌, ℕ, Option, Some, None, refl, sym, ap, subst, ◌∙◌}
+use Rattle.std.proofs.Common.{◌≡◌, ◌≢◌, List, [], ◌∷◌, ◌++◌, ℕ, false, true, eqb, Option, Some, None, inl, inr, refl, sym, ap, subst, ◌∙◌, arith}
+use Rattle.std.specs.Prelude.{◌⊎◌}
+use Rattle.std.specs.List.{starts_with}
+use Rattle.model.specs.declared.policy.Policy.{Policy}
 use Rattle.messages.specs.Shapes.{IsShape, ShapeFields}
 use Rattle.messages.specs.declared.version.Version.{Version}
 use Rattle.messages.specs.declared.version.Version.TheVariants.{First, Second}
 use Rattle.texts.specs.Reads.{Reads}
-use Rattle.texts.proofs.Pairs.{AreApart}
+use Rattle.message_text.proofs.AreTexts.{AreTexts, has_no_feed}
+use Rattle.message_text.proofs.Variants.{Variant, is_of, none-of, of_variants, variant}
 use Rattle.lockscript.specs.Scripts.{IsShapeOf, counts_text}
-use Rattle.lockscript.proofs.Clusters.{apart-clusters}
+use Rattle.lockscript.proofs.Clusters.{IsCounts, counts-fit, counts-parts, counts_of, shape_counts, shape_with}
 use Rattle.journal_text.specs.Journals.{head_front, head_text}
-use Rattle.message_text.proofs.Fronts.{Kinds, apart-kinds, kind_in, none-of_kind}
 
-abbrev pub table : List (List ℕ × Version)
-table = (head_front First, First) ∷ (head_front Second, Second) ∷ []
+pub shape-fits : (v : Version) (c : ℕ × (ℕ × Policy)) → IsCounts c → IsShape (shape_with v c)
+shape-fits v c fits = record { nodes_in = (fits.0.0, omega (arith, fits.0.1)); files_in = fits.1.0 }
 
-pub told : (v : Version) (bytes : List ℕ) → kind_in table (head_front v ++ bytes) ≡ Some v
-told First bytes = refl
-told Second bytes = refl
+-- the shape is of the version, or its line begins with another
+abbrev pub IsTold : Version → ShapeFields → Type 0
+IsTold v s = ((c : ℕ × (ℕ × Policy)) × IsCounts c × (s ≡ shape_with v c)) ⊎ (starts_with eqb (head_text s) (head_front v) ≡ false)
 
-pub of_version : (s : ShapeFields) → IsShape s → IsShapeOf s.version s
-of_version s fits = record { is_shape = fits; is_version = refl }
+told-same : (v : Version) (s : ShapeFields) → s.version ≡ v → IsShape s → IsTold v s
+told-same v s e fits = inl (counts_of s, counts-fit s fits, ap (λ (w : Version). shape_with w (counts_of s)) e)
 
-abbrev pub heads : Kinds ShapeFields head_text IsShape
-heads = record {
-  Kind = Version;
-  Operands = λ v. ShapeFields;
-  front = head_front;
-  table = table;
-  told = told;
-  rest = λ v. counts_text;
-  Fit = IsShapeOf;
-  kind_of = λ s. s.version;
-  operands_of = λ s. s;
-  fit = of_version;
-  written = λ s. refl;
-  make = λ v s. s;
-  made = λ s. refl;
-}
+begins-as : (v w : Version) (s : ShapeFields) → s.version ≡ w → starts_with eqb (head_text s) (head_front v) ≡ starts_with eqb (head_front w ++ counts_text s) (head_front v)
+begins-as v w s e = ap (λ (x : Version). starts_with eqb (head_front x ++ counts_text s) (head_front v)) e
 
--- no line begins two journals
-pub apart-head : AreApart head_text IsShape
-apart-head = apart-kinds heads apart-clusters
+told-by : (v w : Version) (s : ShapeFields) → s.version ≡ w → IsShape s → IsTold v s
+told-by First First s e fits = told-same First s e fits
+told-by First Second s e fits = inr (begins-as First Second s e)
+told-by Second First s e fits = inr (begins-as Second First s e)
+told-by Second Second s e fits = told-same Second s e fits
+
+pub told : (v : Version) (s : ShapeFields) → IsShape s → IsTold v s
+told v s fits = told-by v s.version s refl fits
+
+pub no_feed : (v : Version) → has_no_feed (head_front v) ≡ true
+no_feed First = refl
+no_feed Second = refl
+
+abbrev pub head_of : Version → Variant head_text IsShape
+head_of v = variant (head_front v) (no_feed v) shape_counts (shape_with v) (shape-fits v) (λ c. ap (λ (t : List ℕ). head_front v ++ t) (counts-parts (shape_with v c))) (told v)
+
+abbrev kinds : List (Variant head_text IsShape)
+kinds = head_of First ∷ head_of Second ∷ []
+
+begins-one : (v : Version) (bytes : List ℕ) → is_of kinds (head_front v ++ bytes) ≡ true
+begins-one First bytes = refl
+begins-one Second bytes = refl
+
+pub head : AreTexts head_text IsShape
+head = of_variants kinds (λ s. begins-one s.version (counts_text s))
 
 -- behind what the first line of a version begins with, a shape of that version is named, or none is
 pub head-read : (version : Version) (line operands : List ℕ) → line ≡ head_front version ++ operands → (made : Option ShapeFields) → Reads counts_text (IsShapeOf version) operands made → Reads head_text IsShape line made
-head-read version line operands parts None none = subst (λ (bytes : List ℕ). Reads head_text IsShape bytes None) (sym parts) (none-of_kind heads version operands none)
+head-read version line operands parts None none =
+    subst (λ (bytes : List ℕ). Reads head_text IsShape bytes None) (sym parts)
+    (none-of (head_of version) operands (λ c fits e. none (shape_with version c) (record { is_shape = shape-fits version c fits; is_version = refl }) (e ∙ sym (counts-parts (shape_with version c)))))
 head-read version line operands parts (Some s) some =
     (some.0.is_shape, parts ∙ ap (λ (counts : List ℕ). head_front version ++ counts) some.1 ∙ sym (ap (λ (v : Version). head_front v ++ counts_text s) some.0.is_version))
 

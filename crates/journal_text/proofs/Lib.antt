@@ -7,9 +7,6 @@ pub mod Runs
 pub mod Begun
 pub mod Standing
 pub mod Stuck
-pub mod Feedless
-pub mod FeedlessOps
-pub mod FeedlessLines
 pub mod Printed
 pub mod OneReading
 pub mod FirstLines

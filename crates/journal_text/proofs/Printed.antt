@@ -12,6 +12,7 @@ use Rattle.messages.specs.declared.message.Message.{Message}
 use Rattle.messages.specs.declared.version.Version.{Version}
 use Rattle.message_text.specs.Names.{call_text}
 use Rattle.lockscript.specs.Texts.{reply_text}
+use Rattle.lockscript.proofs.Feeds.{none_is-line_feeds}
 use Rattle.lockscript.proofs.Passes.{IsSingle, ended}
 use Rattle.journal_text.specs.declared.lines.JournalLine.{JournalLine}
 use Rattle.journal_text.specs.declared.lines.JournalLine.TheVariants.{End, Send}
@@ -21,7 +22,8 @@ use Rattle.journal_text.specs.Journals.{end_text, entries_text, entry_text, head
 use Rattle.journal_text.specs.Lines.{IsServedLine, line_text}
 use Rattle.journal_text.specs.OneText.{IsServedJournal}
 use Rattle.journal_text.specs.Readings.{IsJournalText, WritesJournal, answer_lines, body_lines, entry_in, entry_lines, lines_of}
-use Rattle.journal_text.proofs.FeedlessLines.{head-single, line-single}
+use Rattle.journal_text.proofs.HeadKinds.{head}
+use Rattle.journal_text.proofs.LineKinds.{line}
 
 -- lines, each with its line feed
 abbrev lines_text : Version → List JournalLine → List ℕ
@@ -76,7 +78,7 @@ journal-printed text s es j = j.whole.parts ∙ ap (λ (ls : List (List ℕ)). f
 
 lines-single : (v : Version) (js : List JournalLine) → All (IsServedLine v) js → All IsSingle (map (line_text v) js)
 lines-single v [] served = All-nil IsSingle
-lines-single v (j ∷ js) served = All-cons IsSingle (line_text v j) (map (line_text v) js) (line-single v j (All-head (IsServedLine v) j js served)) (lines-single v js (All-tail (IsServedLine v) j js served))
+lines-single v (j ∷ js) served = All-cons IsSingle (line_text v j) (map (line_text v) js) (none_is-line_feeds (line_text v j) ((line v).feedless j (All-head (IsServedLine v) j js served))) (lines-single v js (All-tail (IsServedLine v) j js served))
 
 -- a journal within the limits is read of the text that it is printed as
 pub read-printed : (s : ShapeFields) (es : List EntryFields) → IsServedJournal s es → WritesJournal (journal_text s es) s es
@@ -87,7 +89,7 @@ read-printed s es j = record {
     lines = head_text s ∷ map (line_text s.version) (body_lines j.named);
     whole = record {
       parts = ap (journal_text s) j.same ∙ sym (lines-printed s j.named);
-      single = All-cons IsSingle (head_text s) (map (line_text s.version) (body_lines j.named)) (head-single s j.shape_in) (lines-single s.version (body_lines j.named) j.lines_in);
+      single = All-cons IsSingle (head_text s) (map (line_text s.version) (body_lines j.named)) (none_is-line_feeds (head_text s) (head.feedless s j.shape_in)) (lines-single s.version (body_lines j.named) j.lines_in);
     };
     writes = record { texts = refl; shape_in = j.shape_in; lines_in = j.lines_in };
   };

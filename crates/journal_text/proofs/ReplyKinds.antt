@@ -4,7 +4,8 @@ use Rattle.model.specs.declared.reply.Reply.TheVariants.{Done, Fd, Again, Free, 
 use Rattle.texts.proofs.FirstWords.{BeginsWithWord}
 use Rattle.lockscript.specs.Texts.{reply_text}
 use Rattle.lockscript.proofs.FieldTexts.{fd, nothing}
-use Rattle.message_text.proofs.FieldTexts.{AreTexts, lock}
+use Rattle.message_text.proofs.AreTexts.{AreTexts}
+use Rattle.message_text.proofs.SpanParts.{lock}
 use Rattle.message_text.proofs.Variants.{Variant, of_variants, variant}
 use Rattle.journal_text.specs.Served.{IsServedReply}
 

@@ -1,11 +1,12 @@
 -- What a text says of a journal: that it is one, or which line is the first bad one.
-use Rattle.std.specs.Prelude.{◌≡◌, ℕ, ◌+◌, List, [], ◌∷◌, ◌++◌, All, flat_map, length, map, Option, Some, None}
+use Rattle.std.specs.Prelude.{◌≡◌, ℕ, ◌+◌, List, [], ◌∷◌, ◌++◌, All, length, map, Option, Some, None}
 use Rattle.model.specs.declared.call.CallId.{CallId}
 use Rattle.model.specs.declared.reply.Reply.{Reply}
 use Rattle.messages.specs.Entries.{EntryFields}
 use Rattle.messages.specs.Shapes.{IsShape, ShapeFields}
 use Rattle.messages.specs.declared.version.Version.TheVariants.{First}
-use Rattle.texts.specs.LineFeeds.{line_feed, line_feeds, BeginsWithLine}
+use Rattle.texts.specs.FirstBadLine.{IsFirstBadOf, Passes}
+use Rattle.texts.specs.LineFeeds.{BeginsWithLine}
 use Rattle.lockscript.specs.declared.error.ParseError.{ParseError}
 use Rattle.lockscript.specs.declared.error.ParseError.TheVariants.{NoMemory, BadLine}
 use Rattle.journal_text.specs.declared.named_entry.NamedEntry.{NamedEntry}
@@ -42,11 +43,6 @@ pub record Writes (lines : List (List ℕ)) (s : ShapeFields) (es : List NamedEn
   pub shape_in : IsShape s
   pub lines_in : All (IsServedLine s.version) (body_lines es)
 
--- the text is whole lines, and then the rest
-pub record Passes (text : List ℕ) (lines : List (List ℕ)) (rest : List ℕ) : Type 0 where
-  pub parts : text ≡ flat_map (λ line. line ++ line_feed ∷ []) lines ++ rest
-  pub single : All (λ line. line_feeds line ≡ 0) lines
-
 -- the text writes a journal of these entries
 pub record IsJournalText (text : List ℕ) (s : ShapeFields) (es : List NamedEntry) : Type 0 where
   pub lines : List (List ℕ)
@@ -79,26 +75,13 @@ pub record IsOld (text : List ℕ) : Type 0 where
 abbrev pub HasJournal : List ℕ → Type 0
 HasJournal text = (s : ShapeFields) × ((es : List NamedEntry) × IsJournalText text s es)
 
--- some journal begins with these lines
-pub record BeginsJournal (lines : List (List ℕ)) : Type 0 where
-  pub shape : ShapeFields
-  pub entries : List NamedEntry
-  pub more : List (List ℕ)
-  pub writes : Writes (lines ++ more) shape entries
+-- the lines are those of some journal
+abbrev pub AreJournal : List (List ℕ) → Type 0
+AreJournal lines = (s : ShapeFields) × ((es : List NamedEntry) × Writes lines s es)
 
--- why the next line is bad: there is none, and no journal ends here, or no journal goes on with it
-pub data IsBad (lines : List (List ℕ)) (rest : List ℕ) : Type 0 where
-  has_no_line : line_feeds rest ≡ 0 → (rest ≡ [] → (s : ShapeFields) (es : List NamedEntry) → Writes lines s es → ⊥) → IsBad lines rest
-  stands_wrong : (line after : List ℕ) → BeginsWithLine rest line after → (BeginsJournal (lines ++ line ∷ []) → ⊥) → IsBad lines rest
-
--- some journal begins with the lines before this one, and it is bad behind them
-pub record IsFirstBad (text : List ℕ) (number : ℕ) : Type 0 where
-  pub lines : List (List ℕ)
-  pub rest : List ℕ
-  pub before : Passes text lines rest
-  pub counted : number ≡ length lines + 1
-  pub good : BeginsJournal lines
-  pub bad : IsBad lines rest
+-- the line of this number is the first bad one
+abbrev pub IsFirstBad : List ℕ → ℕ → Type 0
+IsFirstBad = IsFirstBadOf AreJournal
 
 -- the first bad line is told
 abbrev pub IsBadLine : List ℕ → ParseError → Type 0

@@ -1,13 +1,10 @@
 -- What is known of a text of which some lines were read.
-use Rattle.std.proofs.Common.{◌≡◌, ◌≢◌, ℕ, ◌+◌, List, [], ◌∷◌, ◌++◌, map, inl, inr, refl, sym, ap, subst, ◌∙◌}
+use Rattle.std.proofs.Common.{◌≡◌, ℕ, List, [], ◌∷◌, ◌++◌, map, sym, ap, ◌∙◌}
 use Rattle.std.proofs.lemmas.List.{append-nil, map-append}
 use Rattle.std.proofs.lemmas.List.Elements.{All-nil, All-push}
 use Rattle.messages.specs.Shapes.{ShapeFields}
-use Rattle.texts.specs.LineFeeds.{line_feeds, FindsLine, PassesLines}
-use Rattle.lockscript.specs.Scripts.{Begun, IsBad, IsBadFirst, IsBadLine, IsFirstBad, IsLine, IsMisplaced, IsNoLine, IsNoShape, IsRefused, IsScript, IsScriptShape, LineFields, ScriptFields, line_text, script_of, shape_text}
-use Rattle.lockscript.specs.declared.error.ParseError.{ParseError}
-use Rattle.lockscript.specs.declared.error.ParseError.TheVariants.{NoMemory, BadLine}
-use Rattle.lockscript.specs.Scripts.IsBad.{stands_wrong, has_no_end}
+use Rattle.texts.specs.LineFeeds.{FindsLine, PassesLines}
+use Rattle.lockscript.specs.Scripts.{Begun, IsLine, IsScript, IsScriptShape, LineFields, ScriptFields, line_text, script_of, shape_text}
 use Rattle.lockscript.proofs.Passes.{passes-join, passes-found}
 
 -- skipped lines add nothing
@@ -56,51 +53,3 @@ script-begun text s middle between passed begun after = record {
   whole = passes-more text 0 begun.kept middle between [] passed begun.passes after;
   writes = begun.writes;
 }
-
--- the line after those that are whole has no line feed
-abbrev pub bad-unfinished : (text : List ℕ) (s : ScriptFields) (middle : List ℕ) (between : ℕ) (rest : List ℕ) (passed : ℕ)
-    → Begun text s middle between → PassesLines middle between [] rest passed → rest ≢ [] → line_feeds rest ≡ 0 → IsFirstBad text (passed + 1)
-bad-unfinished text s middle between rest passed begun after some no_feed = record {
-  kept = begun.kept;
-  rest = rest;
-  passed = passed;
-  before = passes-more text 0 begun.kept middle between rest passed begun.passes after;
-  counted = refl;
-  good = inr (s, begun.writes);
-  bad = has_no_end some no_feed;
-}
-
--- the line may not stand behind the others
-abbrev pub bad-line : (text : List ℕ) (s : ScriptFields) (middle : List ℕ) (between number : ℕ) (line rest : List ℕ)
-    → Begun text s middle between → FindsLine middle between number line rest → IsNoLine number line → IsFirstBad text number
-bad-line text s middle between number line rest begun found no_line =
-    let kept_is = begun.writes.texts in
-    record {
-      kept = begun.kept;
-      rest = found.from;
-      passed = found.passed;
-      before = passes-more text 0 begun.kept middle between found.from found.passed begun.passes found.skips;
-      counted = found.counted;
-      good = inr (s, begun.writes);
-      bad = stands_wrong line rest found.begins found.says (subst (λ (ks : List (ℕ × List ℕ)). IsMisplaced ks number line) (sym kept_is) no_line);
-    }
-
--- nothing is kept, and the text goes on with this line
-pub bad-none : (text rest : List ℕ) (passed : ℕ) → PassesLines text 0 [] rest passed → IsBad [] (passed + 1) rest → IsBadFirst text (BadLine (passed + 1))
-bad-none text rest passed before bad = (record { kept = []; rest = rest; passed = passed; before = before; counted = refl; good = inl refl; bad = bad }, refl)
-
--- the first line that is not skipped names no cluster
-pub bad-first : (text : List ℕ) (number : ℕ) (line rest : List ℕ) → FindsLine text 0 number line rest → IsNoShape line → IsBadFirst text (BadLine number)
-bad-first text number line rest found no_shape =
-    subst (λ (n : ℕ). IsBadFirst text (BadLine n)) (sym found.counted)
-    (bad-none text found.from found.passed found.skips (stands_wrong line rest found.begins found.says (subst (λ (n : ℕ). IsMisplaced [] n line) found.counted no_shape)))
-
--- the first bad line is told
-pub bad-told : (text : List ℕ) (error : ParseError) → IsBadFirst text error → IsBadLine text error
-bad-told text NoMemory bad = absurd bad
-bad-told text (BadLine number) bad = bad.0
-
--- a bad line refuses the text
-pub bad-refused : (text : List ℕ) (error : ParseError) → IsBadLine text error → IsRefused text error
-bad-refused text NoMemory bad = absurd bad
-bad-refused text (BadLine number) bad = bad

@@ -1,8 +1,7 @@
 -- The fields of operations: no two values share a text, and no text has a line feed.
-use Rattle.std.proofs.Common.{◌≡◌, ℕ, suc, true, not, eqb, ℤ, pos, negsuc, List, [], ◌∷◌, refl, arith, codes, decimal, FitsSigned, w64}
+use Rattle.std.proofs.Common.{◌≡◌, ℕ, suc, true, ℤ, pos, negsuc, List, [], ◌∷◌, refl, arith, codes, decimal, FitsSigned, w64}
 use Rattle.std.specs.Prelude.{⊤}
 use Rattle.std.specs.Fmt.{signed_decimal}
-use Rattle.std.specs.List.{list_all}
 use Rattle.model.specs.Limits.{IsNumber, most_nodes}
 use Rattle.model.specs.declared.access.Access.TheVariants.{ReadOnly, WriteOnly, ReadWrite}
 use Rattle.model.specs.declared.owner.Kind.TheVariants.{OfProcess, OfDescription}
@@ -13,8 +12,7 @@ use Rattle.texts.specs.Words.{access_text, kind_text, policy_text}
 use Rattle.texts.proofs.FieldValues.{apart-access, apart-byte, apart-kind, apart-offset, apart-policy}
 use Rattle.texts.proofs.Pairs.{AllLack, apart-after}
 use Rattle.texts.proofs.SingleWords.{byte_words, kind_words, lacks-tested, offset_words}
-use Rattle.message_text.proofs.Feedless.{number}
-use Rattle.message_text.proofs.FieldTexts.{AreFields, AreTexts, both, up_to}
+use Rattle.message_text.proofs.AreTexts.{AreFields, AreTexts, both, has_no_feed, number, up_to}
 use Rattle.message_text.proofs.Words.{lacks-append}
 use Rattle.lockscript.specs.Served.{IsDescriptor}
 use Rattle.lockscript.specs.Texts.{segment_text}
@@ -23,7 +21,7 @@ pub node : AreFields decimal (IsNumber most_nodes)
 node = up_to most_nodes (omega arith)
 
 -- a front, and what stands behind it
-pub behind : {A : Type 0} {f : A → List ℕ} {P : A → Type 0} (front : List ℕ) → list_all (λ b. not (eqb b line_feed)) front ≡ true → AreTexts f P → AreTexts (after_text front f) P
+pub behind : {A : Type 0} {f : A → List ℕ} {P : A → Type 0} (front : List ℕ) → has_no_feed front ≡ true → AreTexts f P → AreTexts (after_text front f) P
 behind {f = f} {P = P} front no_feed texts =
     record { apart = apart-after front f P texts.apart; feedless = λ x fits. lacks-append line_feed front (f x) (lacks-tested line_feed front no_feed) (texts.feedless x fits) }
 

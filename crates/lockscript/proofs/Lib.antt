@@ -1,6 +1,8 @@
 pub mod Feeds
 pub mod Passes
 pub mod Begun
+pub mod BadLines
+pub mod FirstBadLines
 pub mod OneReading
 pub mod ThreadScripts
 pub mod ShapedTexts

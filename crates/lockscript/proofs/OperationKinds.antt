@@ -4,7 +4,8 @@ use Rattle.model.specs.declared.op.Op.TheVariants.{Spawn, Fork, Open, Dup, Close
 use Rattle.texts.proofs.FirstWords.{BeginsWithWord}
 use Rattle.lockscript.specs.Served.{IsServedOp}
 use Rattle.lockscript.specs.Texts.{op_text}
-use Rattle.message_text.proofs.FieldTexts.{AreTexts, both, file, mode, pid}
+use Rattle.message_text.proofs.AreTexts.{AreTexts, both, mode}
+use Rattle.message_text.proofs.FieldTexts.{file, pid}
 use Rattle.message_text.proofs.Variants.{Variant, of_variants, variant}
 use Rattle.lockscript.proofs.FieldTexts.{access, fd, kind, nothing, segment}
 

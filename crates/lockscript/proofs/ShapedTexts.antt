@@ -1,17 +1,19 @@
 -- Texts of scripts for a cluster of a shape that is given, of which some lines were read.
-use Rattle.std.proofs.Common.{◌≡◌, ◌≢◌, ℕ, ◌+◌, List, [], ◌∷◌, ◌++◌, map, inl, inr, sym, ap, subst, ◌∙◌}
+use Rattle.std.proofs.Common.{◌≡◌, ◌≢◌, ℕ, ◌+◌, List, [], ◌∷◌, ◌++◌, length, map, inl, inr, sym, ap, subst, ◌∙◌}
 use Rattle.std.specs.Prelude.{◌⊎◌}
 use Rattle.std.proofs.lemmas.List.{append-nil}
 use Rattle.messages.specs.Shapes.{ShapeFields}
+use Rattle.texts.specs.FirstBadLine.{Begins}
 use Rattle.texts.specs.LineFeeds.{PassesLines, kept_lines}
-use Rattle.lockscript.specs.Scripts.{Begun, BeginsScript, IsBadFirst, IsFirstBad, IsRefused, IsScript, ScriptFields, Writes, line_text, script_of, shape_text}
+use Rattle.lockscript.specs.Scripts.{AreScript, Begun, IsBadFirst, IsFirstBad, IsRefused, IsScript, ScriptFields, Writes, line_text, script_of, shape_text}
 use Rattle.lockscript.specs.ShapedScripts.{IsClusterLine, IsForShape, IsRefusedForShape, NamesAnother}
 use Rattle.lockscript.specs.ShapedScripts.IsBadForShape.{names_another, stands_wrong}
 use Rattle.lockscript.specs.declared.error.ParseError.{ParseError}
 use Rattle.lockscript.specs.declared.error.ParseError.TheVariants.{NoMemory, BadLine}
 use Rattle.lockscript.proofs.Begun.{begun-first}
-use Rattle.lockscript.proofs.Clusters.{apart-shape}
-use Rattle.lockscript.proofs.OneReading.{Onward, either, same-kept, stops}
+use Rattle.lockscript.proofs.Clusters.{shape as shape_texts}
+use Rattle.lockscript.proofs.FirstBadLines.{Further, begins-whole, further, kept-on, same-lines, stops}
+use Rattle.lockscript.proofs.Passes.{kept_lines-append}
 use Rattle.lockscript.proofs.SameLines.{first-same}
 
 -- the `cluster` line begins a script
@@ -24,18 +26,16 @@ shape-same kept more s t a b =
     let lines = map line_text s.lines ++ more in
     let both : (a.cluster_line, shape_text s.shape) ∷ lines ≡ (b.cluster_line, shape_text t.shape) ∷ map line_text t.lines = sym (ap (λ (ks : List (ℕ × List ℕ)). ks ++ more) a.texts) ∙ b.texts in
     let first = first-same (a.cluster_line, shape_text s.shape) (b.cluster_line, shape_text t.shape) lines (map line_text t.lines) both in
-    apart-shape s.shape t.shape a.shape_in b.shape_in (ap (λ (x : ℕ × List ℕ). x.1) first)
-
-further-shape : (kept : List (ℕ × List ℕ)) (rest : List ℕ) (passed : ℕ) (kept' : List (ℕ × List ℕ)) (rest' : List ℕ) (passed' : ℕ) (s t : ScriptFields) → Writes kept s → Writes kept' t
-    → Onward kept rest passed kept' rest' passed' ⊎ Onward kept' rest' passed' kept rest passed → s.shape ≡ t.shape
-further-shape kept rest passed kept' rest' passed' s t a b (inl o) = shape-same kept (kept_lines (passed + 1) o.lines) s t a (subst (λ (ks : List (ℕ × List ℕ)). Writes ks t) o.said b)
-further-shape kept rest passed kept' rest' passed' s t a b (inr o) = sym (shape-same kept' (kept_lines (passed' + 1) o.lines) t s b (subst (λ (ks : List (ℕ × List ℕ)). Writes ks s) o.said a))
+    shape_texts.apart s.shape t.shape a.shape_in b.shape_in (ap (λ (x : ℕ × List ℕ). x.1) first)
 
 -- a text is of one cluster
 one-shape : (text : List ℕ) (kept : List (ℕ × List ℕ)) (rest : List ℕ) (passed : ℕ) (kept' : List (ℕ × List ℕ)) (rest' : List ℕ) (passed' : ℕ) (s t : ScriptFields)
     → PassesLines text 0 kept rest passed → PassesLines text 0 kept' rest' passed' → Writes kept s → Writes kept' t → s.shape ≡ t.shape
-one-shape text kept rest passed kept' rest' passed' s t a b writes writes' =
-    further-shape kept rest passed kept' rest' passed' s t writes writes' (either text kept rest passed kept' rest' passed' a b)
+one-shape text kept rest passed kept' rest' passed' s t a b writes writes' = by (further a.lines b.lines rest rest' a.single b.single (sym a.parts ∙ b.parts))
+  where
+    by : Further a.lines b.lines rest rest' ⊎ Further b.lines a.lines rest' rest → s.shape ≡ t.shape
+    by (inl f) = shape-same kept (kept_lines (1 + length a.lines) f.between) s t writes (subst (λ (ks : List (ℕ × List ℕ)). Writes ks t) (kept-on a b f) writes')
+    by (inr f) = sym (shape-same kept' (kept_lines (1 + length b.lines) f.between) t s writes' (subst (λ (ks : List (ℕ × List ℕ)). Writes ks s) (kept-on b a f) writes))
 
 -- the script that the text writes is of the cluster that its first line names
 pub one-for-shape : (text : List ℕ) (number : ℕ) (shape : ShapeFields) (rest : List ℕ) (s : ScriptFields) → IsClusterLine text number shape rest → IsScript text s → IsForShape shape text s
@@ -64,14 +64,16 @@ no-lines kept more s writes none =
     let both : [] ≡ ((writes.cluster_line, shape_text s.shape) ∷ map line_text s.lines) ++ more = none ∙ ap (λ (ks : List (ℕ × List ℕ)). ks ++ more) writes.texts in
     absurd (cc)
 
-not-begun : (text : List ℕ) (number : ℕ) (s : ScriptFields) (rest : List ℕ) (passed : ℕ) (bad : IsFirstBad text number) → bad.kept ≡ [] → (begun : Begun text s rest passed)
-    → Onward bad.kept bad.rest bad.passed begun.kept rest passed ⊎ Onward begun.kept rest passed bad.kept bad.rest bad.passed → ⊥
-not-begun text number s rest passed bad none begun (inl o) =
-    let good : BeginsScript begun.kept = inr (s, begun.writes) in
-    let stopped = stops bad.kept number bad.passed bad.rest o.lines rest bad.bad bad.counted o.parts o.single (subst BeginsScript o.said good) in
-    let same = same-kept bad.kept bad.rest bad.passed begun.kept rest passed o stopped in
-    no-lines begun.kept [] s begun.writes (sym none ∙ sym same.0 ∙ sym (append-nil begun.kept))
-not-begun text number s rest passed bad none begun (inr o) = no-lines begun.kept (kept_lines (passed + 1) o.lines) s begun.writes (sym none ∙ o.said)
+not-begun : (text : List ℕ) (number : ℕ) (s : ScriptFields) (rest : List ℕ) (passed : ℕ) (bad : IsFirstBad text number) → kept_lines 1 bad.lines ≡ [] → (begun : Begun text s rest passed)
+    → Further bad.lines begun.passes.lines bad.rest rest ⊎ Further begun.passes.lines bad.lines rest bad.rest → ⊥
+not-begun text number s rest passed bad none begun (inl f) =
+    let good = begins-whole AreScript begun.passes.lines (s, subst (λ (ks : List (ℕ × List ℕ)). Writes ks s) (sym begun.passes.said) begun.writes) in
+    let stopped = stops AreScript bad.lines f.between bad.rest rest bad.bad f.parts f.single (subst (Begins AreScript) f.lines good) in
+    let same = (same-lines bad.lines begun.passes.lines bad.rest rest f stopped).0 in
+    no-lines begun.kept [] s begun.writes (sym none ∙ sym (ap (kept_lines 1) same) ∙ begun.passes.said ∙ sym (append-nil begun.kept))
+not-begun text number s rest passed bad none begun (inr f) =
+    let more = kept_lines (1 + length begun.passes.lines) f.between in
+    no-lines begun.kept more s begun.writes (sym none ∙ ap (kept_lines 1) f.lines ∙ kept_lines-append 1 begun.passes.lines f.between ∙ ap (λ (ks : List (ℕ × List ℕ)). ks ++ more) begun.passes.said)
 
 -- a line in which the `cluster` line is looked for
 pub bad-before : (shape : ShapeFields) (text : List ℕ) (error : ParseError) → IsBadFirst text error → (error ≢ NoMemory) × IsRefusedForShape shape text error
@@ -80,5 +82,6 @@ bad-before shape text (BadLine at) bad = (
   λ e. absurd (cc),
   stands_wrong bad.0 (λ other another.
       let begun = begun-cluster text other another.other another.rest another.names in
-      not-begun text at (script_of another.other []) another.rest other bad.0 bad.1 begun (either text bad.0.kept bad.0.rest bad.0.passed begun.kept another.rest other bad.0.before begun.passes)),
+      not-begun text at (script_of another.other []) another.rest other bad.0 bad.1 begun
+      (further bad.0.lines begun.passes.lines bad.0.rest another.rest bad.0.before.single begun.passes.single (sym bad.0.before.parts ∙ begun.passes.parts))),
 )

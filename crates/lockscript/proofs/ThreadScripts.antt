@@ -1,16 +1,21 @@
 -- Texts of scripts whose lines threads take, of which some lines were read.
-use Rattle.std.proofs.Common.{◌≡◌, ◌≢◌, ℕ, ◌+◌, Bool, false, true, not, cond, List, [], ◌∷◌, ◌++◌, map, Some, None, refl, sym, ap, subst, ◌∙◌}
+use Rattle.std.proofs.Common.{◌≡◌, ◌≢◌, ℕ, ◌+◌, Bool, false, true, not, cond, List, [], ◌∷◌, ◌++◌, map, Some, None, refl, sym, ap, subst, ◌∙◌, arith}
 use Rattle.std.specs.Option.{option_map}
-use Rattle.std.specs.List.{find}
+use Rattle.std.specs.List.{All, find}
+use Rattle.std.proofs.lemmas.List.Elements.{All-cons, All-head, All-nil, All-push, All-tail}
 use Rattle.std.proofs.lemmas.Option.{none-some}
-use Rattle.texts.specs.LineFeeds.{line_feeds, FindsLine, PassesLines}
-use Rattle.lockscript.specs.Scripts.{Begun, IsBadFirst, IsLine, IsNoLine, IsRefused, IsScript, LineFields, ScriptFields, Writes, line_text, script_of, shape_text}
-use Rattle.lockscript.specs.ThreadLines.{bad_line, is_for_threads, IsBadOnThreads, IsForThreads, IsRefusedOnThreads}
-use Rattle.lockscript.specs.ThreadLines.IsBadOnThreads.{is_not_taken, stands_wrong}
+use Rattle.texts.specs.FirstBadLine.{Begins}
+use Rattle.texts.specs.FirstBadLine.IsBadNext.{stands_wrong}
+use Rattle.texts.specs.LineFeeds.{line_feeds, is_skipped, kept_lines, FindsLine, PassesLines}
+use Rattle.lockscript.specs.Scripts.{AreScript, Begun, IsBadFirst, IsLine, IsNoLine, IsRefused, IsScript, LineFields, ScriptFields, Writes, command_text, line_text, script_of, shape_text}
+use Rattle.lockscript.specs.ThreadLines.{bad_line, is_for_threads, AreForThreads, IsBadOnThreads, IsForThreads, IsRefusedOnThreads}
 use Rattle.lockscript.specs.declared.error.ParseError.{ParseError}
 use Rattle.lockscript.specs.declared.error.ParseError.TheVariants.{NoMemory, BadLine}
-use Rattle.lockscript.proofs.Begun.{bad-line, bad-unfinished, begun-line}
-use Rattle.lockscript.proofs.OneReading.{one_reading, written-same}
+use Rattle.lockscript.proofs.BadLines.{among-lines, good-begun, kept-behind, line-of, smallest, smallest-behind, unfinished-of}
+use Rattle.lockscript.proofs.Begun.{begun-line, passes-more}
+use Rattle.lockscript.proofs.CommandKinds.{command}
+use Rattle.lockscript.proofs.FirstBadLines.{bad-of_some, passes-of}
+use Rattle.lockscript.proofs.OneReading.{one_reading}
 
 abbrev number : LineFields → ℕ
 number l = l.number
@@ -18,23 +23,25 @@ number l = l.number
 abbrev is_refused : LineFields → Bool
 is_refused l = not (is_for_threads l.command)
 
-push-by : (b : Bool) (x l : LineFields) (ls : List LineFields) → option_map number (cond b (Some x) (find is_refused ls)) ≡ None → (bad_line ls ≡ None → bad_line (ls ++ l ∷ []) ≡ bad_line (l ∷ []))
-    → option_map number (cond b (Some x) (find is_refused (ls ++ l ∷ []))) ≡ bad_line (l ∷ [])
-push-by true x l ls none more = absurd (none-some x.number (sym none))
-push-by false x l ls none more = more none
+-- they take every line where none is bad
+abbrev Takes : LineFields → Type 0
+Takes l = is_for_threads l.command ≡ true
 
--- behind lines that threads take
-bad_line-push : (ls : List LineFields) (l : LineFields) → bad_line ls ≡ None → bad_line (ls ++ l ∷ []) ≡ bad_line (l ∷ [])
-bad_line-push [] l none = refl
-bad_line-push (x ∷ ls) l none = push-by (is_refused x) x l ls none (bad_line-push ls l)
+takes-by : (b : Bool) (l : LineFields) (ls : List LineFields) → is_for_threads l.command ≡ b → option_map number (cond (not b) (Some l) (find is_refused ls)) ≡ None → (bad_line ls ≡ None → All Takes ls) → All Takes (l ∷ ls)
+takes-by false l ls is none more = absurd (none-some l.number (sym none))
+takes-by true l ls is none more = All-cons Takes l ls is (more none)
+
+takes-all : (ls : List LineFields) → bad_line ls ≡ None → All Takes ls
+takes-all [] none = All-nil Takes
+takes-all (l ∷ ls) none = takes-by (is_for_threads l.command) l ls refl none (takes-all ls)
+
+takes-none : (ls : List LineFields) → All Takes ls → bad_line ls ≡ None
+takes-none [] all = refl
+takes-none (l ∷ ls) all = ap (λ (b : Bool). option_map number (cond (not b) (Some l) (find is_refused ls))) (All-head Takes l ls all) ∙ takes-none ls (All-tail Takes l ls all)
 
 -- one more that they take
 bad_line-taken : (ls : List LineFields) (l : LineFields) → bad_line ls ≡ None → true ≡ is_for_threads l.command → bad_line (ls ++ l ∷ []) ≡ None
-bad_line-taken ls l none takes = bad_line-push ls l none ∙ ap (λ (b : Bool). option_map number (cond (not b) (Some l) None)) (sym takes)
-
--- one that they don't take
-bad_line-not_taken : (ls : List LineFields) (l : LineFields) → bad_line ls ≡ None → false ≡ is_for_threads l.command → bad_line (ls ++ l ∷ []) ≡ Some l.number
-bad_line-not_taken ls l none refuses = bad_line-push ls l none ∙ ap (λ (b : Bool). option_map number (cond (not b) (Some l) None)) (sym refuses)
+bad_line-taken ls l none takes = takes-none (ls ++ l ∷ []) (All-push Takes ls l (takes-all ls none) (sym takes))
 
 -- what was begun by lines that threads take
 abbrev pub BegunForThreads : List ℕ → ScriptFields → List ℕ → ℕ → Type 0
@@ -47,39 +54,67 @@ pub more-for-threads : (text : List ℕ) (s : ScriptFields) (middle : List ℕ) 
 more-for-threads text s middle between at line rest l begun found fits e takes =
     (begun-line text s.shape s.lines middle between at line rest l begun.0 found fits e, bad_line-taken s.lines l begun.1 takes)
 
--- a line that threads don't take
-pub bad-not_taken : (text : List ℕ) (s : ScriptFields) (middle : List ℕ) (between at : ℕ) (line rest : List ℕ) (l : LineFields)
-    → BegunForThreads text s middle between → FindsLine middle between at line rest → IsLine l → (at, line) ≡ line_text l → false ≡ is_for_threads l.command
-    → IsBadOnThreads text at
-bad-not_taken text s middle between at line rest l begun found fits e refuses =
-    is_not_taken (script_of s.shape (s.lines ++ l ∷ [])) rest at (begun-line text s.shape s.lines middle between at line rest l begun.0 found fits e)
-    (bad_line-not_taken s.lines l begun.1 refuses ∙ ap (λ (x : ℕ × List ℕ). Some x.0) (sym e))
+-- what is for threads is a script
+some-script : (lines : List (List ℕ)) → AreForThreads lines → AreScript lines
+some-script lines are = (are.0, are.1)
 
-none-before : (kept : List (ℕ × List ℕ)) (s t : ScriptFields) → Writes kept s → Writes kept t → bad_line s.lines ≡ None → bad_line t.lines ≡ None
-none-before kept s t mine writes none = subst (λ (x : ScriptFields). bad_line x.lines ≡ None) (written-same kept kept s t mine writes refl) none
+module _ (text : List ℕ) (s : ScriptFields) (middle : List ℕ) (between : ℕ) (begun : BegunForThreads text s middle between) where
+  for-threads : (lines : List (List ℕ)) → Writes (kept_lines 1 lines) s → AreForThreads lines
+  for-threads lines writes = (s, writes, begun.1)
 
--- a line that may not stand behind the others
-pub bad-behind : (text : List ℕ) (s : ScriptFields) (middle : List ℕ) (between at : ℕ) (line rest : List ℕ)
-    → BegunForThreads text s middle between → FindsLine middle between at line rest → IsNoLine at line → IsBadOnThreads text at
-bad-behind text s middle between at line rest begun found no_line =
-    stands_wrong (bad-line text s middle between at line rest begun.0 found no_line) (λ t writes. none-before begun.0.kept s t begun.0.writes writes begun.1)
+  -- no script for threads goes on with a line that they don't take
+  not-on : (line : List ℕ) (l : LineFields) (from : List ℕ) (passed : ℕ) (before : PassesLines text 0 begun.0.kept from passed) → is_skipped line ≡ false → IsLine l → line ≡ command_text l.command → false ≡ is_for_threads l.command
+      → Begins AreForThreads (before.lines ++ line ∷ []) → ⊥
+  not-on line l from passed before says fits e refuses b =
+      let t = b.1.0 in
+      let after = kept_lines (passed + 1 + 1) b.0 in
+      let x : ℕ × List ℕ = (passed + 1, line) in
+      let first : ℕ × List ℕ = (begun.0.writes.cluster_line, shape_text s.shape) in
+      let lines = map line_text s.lines in
+      let kept = kept-behind text begun.0.kept from passed before line b.0 says ∙ ap (λ (ks : List (ℕ × List ℕ)). ks ++ x ∷ after) begun.0.writes.texts in
+      let w = subst (λ (ks : List (ℕ × List ℕ)). Writes ks t) kept b.1.1 in
+      let taken = takes-all t.lines b.1.2 in
+      let found = among-lines (λ m. IsLine m × Takes m) first lines after x t (λ k d lt. (w.lines_in k d lt, taken k d lt)) w in
+      let asked = command.apart l.command found.line.command fits.within found.fits.0.within (sym e ∙ ap (λ (y : ℕ × List ℕ). y.1) found.written) in
+      let both : false ≡ true = refuses ∙ ap is_for_threads asked ∙ found.fits.1 in
+      absurd (cc)
 
--- a line with no line feed
-pub bad-end : (text : List ℕ) (s : ScriptFields) (middle : List ℕ) (between : ℕ) (rest : List ℕ) (passed : ℕ)
-    → BegunForThreads text s middle between → PassesLines middle between [] rest passed → rest ≢ [] → line_feeds rest ≡ 0 → IsBadOnThreads text (passed + 1)
-bad-end text s middle between rest passed begun after some no_feed =
-    stands_wrong (bad-unfinished text s middle between rest passed begun.0 after some no_feed) (λ t writes. none-before begun.0.kept s t begun.0.writes writes begun.1)
+  -- a line that threads don't take
+  pub bad-not_taken : (at : ℕ) (line rest : List ℕ) (l : LineFields) → FindsLine middle between at line rest → IsLine l → (at, line) ≡ line_text l → false ≡ is_for_threads l.command → IsBadOnThreads text at
+  bad-not_taken at line rest l found fits e refuses =
+      let before = passes-more text 0 begun.0.kept middle between found.from found.passed begun.0.passes found.skips in
+      record {
+        lines = before.lines;
+        rest = found.from;
+        before = passes-of before;
+        counted = omega (arith, found.counted, before.counted);
+        good = good-begun AreForThreads some-script text s middle between begun.0 for-threads found.from found.passed before;
+        bad = stands_wrong line rest found.begins (not-on line l found.from found.passed before found.says fits (ap (λ (y : ℕ × List ℕ). y.1) e) refuses);
+      }
 
--- no script is written by no lines
-not-empty : (kept : List (ℕ × List ℕ)) (s : ScriptFields) → kept ≡ [] → Writes kept s → ⊥
-not-empty kept s none writes =
-    let both : [] ≡ (writes.cluster_line, shape_text s.shape) ∷ map line_text s.lines = sym none ∙ writes.texts in
-    absurd (cc)
+  -- a line that may not stand behind the others
+  pub bad-behind : (at : ℕ) (line rest : List ℕ) → FindsLine middle between at line rest → IsNoLine at line → IsBadOnThreads text at
+  bad-behind = line-of AreForThreads some-script text s middle between begun.0 for-threads
+
+  -- a line with no line feed
+  pub bad-end : (rest : List ℕ) (passed : ℕ) → PassesLines middle between [] rest passed → rest ≢ [] → line_feeds rest ≡ 0 → IsBadOnThreads text (passed + 1)
+  bad-end = unfinished-of AreForThreads some-script text s middle between begun.0 for-threads
 
 -- a line in which the `cluster` line is looked for
 pub bad-at-first : (text : List ℕ) (error : ParseError) → IsBadFirst text error → (error ≢ NoMemory) × IsRefusedOnThreads text error
 bad-at-first text NoMemory bad = absurd bad
-bad-at-first text (BadLine at) bad = (λ e. absurd (cc), stands_wrong bad.0 (λ s writes. absurd (not-empty bad.0.kept s bad.1 writes)))
+bad-at-first text (BadLine at) bad =
+    let b = bad.0 in (
+      λ e. absurd (cc),
+      record {
+        lines = b.lines;
+        rest = b.rest;
+        before = b.before;
+        counted = b.counted;
+        good = (shape_text smallest ∷ [], (script_of smallest [], smallest-behind b.lines bad.1, refl));
+        bad = bad-of_some AreScript AreForThreads some-script b.lines b.rest b.bad;
+      },
+    )
 
 -- a text writes one script
 pub one-for-threads : (text : List ℕ) (s t : ScriptFields) → IsForThreads text s → IsScript text t → IsForThreads text t

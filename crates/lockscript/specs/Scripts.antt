@@ -1,5 +1,5 @@
 -- Scripts, and their lines.
-use Rattle.std.specs.Prelude.{◌≡◌, ◌≢◌, ℕ, ◌+◌, ◌⊎◌, false, List, [], ◌∷◌, ◌++◌, All, map, codes, decimal, ⊤}
+use Rattle.std.specs.Prelude.{◌≡◌, ◌≢◌, ℕ, false, List, [], ◌∷◌, ◌++◌, All, map, codes, decimal, ⊤}
 use Rattle.model.specs.Limits.{IsNumber, most_nodes, most_processes}
 use Rattle.lockscript.specs.declared.script_line.Command.{Command}
 use Rattle.lockscript.specs.declared.script_line.Command.TheVariants.{Call, Deliver, Lose, Settle, Interrupt, Retry, Resend, Declare, Restart, Learn, FailServer, StartServer}
@@ -13,7 +13,8 @@ use Rattle.texts.specs.Reads.{pair_text}
 use Rattle.lockscript.specs.Texts.{op_text}
 use Rattle.texts.specs.Words.{policy_text}
 use Rattle.lockscript.specs.Served.{IsServedOp}
-use Rattle.texts.specs.LineFeeds.{line_feeds, is_skipped, BeginsWithLine, PassesLines}
+use Rattle.texts.specs.FirstBadLine.{IsFirstBadOf}
+use Rattle.texts.specs.LineFeeds.{line_feeds, is_skipped, kept_lines, BeginsWithLine, PassesLines}
 
 pub record LineFields : Type 0 where
   pub number : ℕ
@@ -110,10 +111,6 @@ pub record IsScript (text : List ℕ) (s : ScriptFields) : Type 0 where
   pub whole : PassesLines text 0 kept [] passed
   pub writes : Writes kept s
 
--- lines that may be kept at the beginning of a script
-abbrev pub BeginsScript : List (ℕ × List ℕ) → Type 0
-BeginsScript kept = (kept ≡ []) ⊎ ((s : ScriptFields) × Writes kept s)
-
 -- the line names no cluster that is served
 abbrev pub IsNoShape : List ℕ → Type 0
 IsNoShape line = (s : ShapeFields) → IsScriptShape s → line ≢ shape_text s
@@ -134,15 +131,13 @@ pub data IsBad (kept : List (ℕ × List ℕ)) (number : ℕ) (rest : List ℕ) 
   has_no_end : rest ≢ [] → line_feeds rest ≡ 0 → IsBad kept number rest
   stands_wrong : (line after : List ℕ) → BeginsWithLine rest line after → is_skipped line ≡ false → IsMisplaced kept number line → IsBad kept number rest
 
--- the lines before this one are whole and begin a script, and it is bad behind them
-pub record IsFirstBad (text : List ℕ) (number : ℕ) : Type 0 where
-  pub kept : List (ℕ × List ℕ)
-  pub rest : List ℕ
-  pub passed : ℕ
-  pub before : PassesLines text 0 kept rest passed
-  pub counted : number ≡ passed + 1
-  pub good : BeginsScript kept
-  pub bad : IsBad kept number rest
+-- the lines, those that are skipped among them, write some script
+abbrev pub AreScript : List (List ℕ) → Type 0
+AreScript lines = (s : ScriptFields) × Writes (kept_lines 1 lines) s
+
+-- the line of this number is the first bad one
+abbrev pub IsFirstBad : List ℕ → ℕ → Type 0
+IsFirstBad = IsFirstBadOf AreScript
 
 -- the first bad line is told
 abbrev pub IsBadLine : List ℕ → ParseError → Type 0
@@ -152,7 +147,7 @@ IsBadLine text (BadLine number) = IsFirstBad text number
 -- the same, where it is the line in which the `cluster` line is looked for
 abbrev pub IsBadFirst : List ℕ → ParseError → Type 0
 IsBadFirst text NoMemory = ⊥
-IsBadFirst text (BadLine number) = (bad : IsFirstBad text number) × (bad.kept ≡ [])
+IsBadFirst text (BadLine number) = (bad : IsFirstBad text number) × (kept_lines 1 bad.lines ≡ [])
 
 -- the text writes some script
 abbrev pub HasScript : List ℕ → Type 0

@@ -1,7 +1,9 @@
 -- Lines of scripts that threads take, and texts of scripts that have no others.
-use Rattle.std.specs.Prelude.{◌≡◌, ℕ, List, Bool, true, false, not, Option, Some, None, find}
+use Rattle.std.specs.Prelude.{◌≡◌, ℕ, List, Bool, true, false, not, Option, None, find}
 use Rattle.std.specs.Option.{option_map}
-use Rattle.lockscript.specs.Scripts.{Begun, IsFirstBad, IsScript, LineFields, ScriptFields, Writes}
+use Rattle.texts.specs.FirstBadLine.{IsFirstBadOf}
+use Rattle.texts.specs.LineFeeds.{kept_lines}
+use Rattle.lockscript.specs.Scripts.{IsScript, LineFields, ScriptFields, Writes}
 use Rattle.lockscript.specs.declared.error.ParseError.{ParseError}
 use Rattle.lockscript.specs.declared.error.ParseError.TheVariants.{NoMemory, BadLine}
 use Rattle.lockscript.specs.declared.script_line.Command.{Command}
@@ -30,12 +32,13 @@ bad_line lines = option_map (λ l. l.number) (find (λ l. not (is_for_threads l.
 abbrev pub IsForThreads : List ℕ → ScriptFields → Type 0
 IsForThreads text s = IsScript text s × (bad_line s.lines ≡ None)
 
--- why the line of this number is the first bad one on threads
-pub data IsBadOnThreads (text : List ℕ) (number : ℕ) : Type 0 where
-  -- it is the first that threads don't take of whole lines with which the text begins, and which write a script
-  is_not_taken : (s : ScriptFields) (rest : List ℕ) (passed : ℕ) → Begun text s rest passed → bad_line s.lines ≡ Some number → IsBadOnThreads text number
-  -- it may not stand there in any script, and threads take the lines before it
-  stands_wrong : (bad : IsFirstBad text number) → ((s : ScriptFields) → Writes bad.kept s → bad_line s.lines ≡ None) → IsBadOnThreads text number
+-- the lines write some script, and threads take those of it
+abbrev pub AreForThreads : List (List ℕ) → Type 0
+AreForThreads lines = (s : ScriptFields) × Writes (kept_lines 1 lines) s × (bad_line s.lines ≡ None)
+
+-- the line of this number is the first bad one on threads
+abbrev pub IsBadOnThreads : List ℕ → ℕ → Type 0
+IsBadOnThreads = IsFirstBadOf AreForThreads
 
 -- why the text is no script whose lines threads take, or for what such script there was no memory
 abbrev pub IsRefusedOnThreads : List ℕ → ParseError → Type 0

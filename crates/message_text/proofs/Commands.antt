@@ -2,13 +2,12 @@
 use Rattle.std.proofs.Common.{◌≡◌, ℕ, zero, ◌+◌, ◌-◌, ◌*◌, ◌/◌, ◌<◌, ◌≤◌, List, refl, sym, ◌∙◌, ap, arith, decimal}
 use Rattle.std.proofs.Math.Nat.{div-lt_iff_lt-mul, div-mul-le_self, lt-div-mul-add}
 use Rattle.std.proofs.lemmas.Nat.{div-mul-add}
-use Rattle.message_text.proofs.SingleWords.{count_words}
 use Rattle.messages.specs.Epochs.{IsCommand, IsEpoch, IsRebuilt, before_epoch, begin_of, epoch_of}
 use Rattle.messages.specs.declared.version.Version.TheVariants.{Second}
 use Rattle.texts.specs.Reads.{Both, pair_text}
 use Rattle.texts.proofs.FieldValues.{apart-number}
-use Rattle.texts.proofs.Pairs.{AreApart, AreWords, apart-pair}
-use Rattle.texts.proofs.SingleWords.{Lacks-decimal, number_words}
+use Rattle.texts.proofs.Pairs.{AreApart, AreWords}
+use Rattle.texts.proofs.SingleWords.{Lacks-decimal}
 use Rattle.message_text.specs.Served.{IsCommandNumber, IsCounted}
 use Rattle.message_text.specs.Texts.{command_text, epoch_text}
 use Rattle.message_text.proofs.Views.{Views}
@@ -60,10 +59,6 @@ module _ {A : Type 0} (f : A → List ℕ) (P : A → Type 0) where
     fit = λ c fits. let parts = number-in c.0 fits.0 in (parts.0, (parts.1, fits.1));
     same = λ c. refl;
   }
-
-  pub apart-epochs : AreApart f P → AreApart (pair_text decimal (pair_text decimal f)) (Both IsEpoch (Both IsCounted P))
-  apart-epochs one = apart-pair decimal (pair_text decimal f) IsEpoch (Both IsCounted P) (number_words 65535 (omega arith)) (apart-number 65535 (omega arith))
-      (apart-pair decimal f IsCounted P count_words (apart-number 4294967295 (omega arith)) one)
 
 -- a command from its epoch and its number in that
 pub command-back : {A : Type 0} (m n : ℕ) (x y : A) → ◌≡◌ {A = ℕ × (ℕ × A)} (epoch_of m, (m - begin_of m, x)) (epoch_of n, (n - begin_of n, y)) → ◌≡◌ {A = ℕ × A} (m, x) (n, y)

@@ -1,14 +1,12 @@
 pub mod OneField
 pub mod SingleWords
-pub mod Fronts
 pub mod Views
+pub mod AreTexts
 pub mod NameTexts
-pub mod OffsetParts
 pub mod SpanParts
 pub mod Words
 pub mod Commands
 pub mod ReportWords
-pub mod Feedless
 pub mod FieldTexts
 pub mod Variants
 pub mod MessageKinds

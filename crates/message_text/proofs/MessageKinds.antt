@@ -6,7 +6,10 @@ use Rattle.messages.specs.declared.version.Version.{Version}
 use Rattle.texts.proofs.FirstWords.{BeginsWithWord}
 use Rattle.message_text.specs.Served.{IsServedMessage}
 use Rattle.message_text.specs.Texts.{message_text}
-use Rattle.message_text.proofs.FieldTexts.{AreTexts, both, call, epoch, file, holder, lock, mode, numbered, runs, span, urgency, wants, where_so}
+use Rattle.message_text.proofs.AreTexts.{AreTexts, both, mode, where_so}
+use Rattle.message_text.proofs.FieldTexts.{epoch, file, numbered, runs, urgency}
+use Rattle.message_text.proofs.NameTexts.{call, holder}
+use Rattle.message_text.proofs.SpanParts.{lock, span, wants}
 use Rattle.message_text.proofs.Variants.{Variant, of_variants, variant}
 
 -- the words that messages begin with

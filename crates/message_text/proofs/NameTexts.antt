@@ -1,21 +1,23 @@
--- Names of nodes, calls and owners.
-use Rattle.std.proofs.Common.{◌≡◌, ◌≢◌, ℕ, ◌<◌, ◌^◌, List, [], ◌∷◌, ◌++◌, None, refl, ap, ◌∙◌, arith, append_assoc, codes, decimal}
+-- Names of nodes, calls, servers and owners.
+use Rattle.std.proofs.Common.{◌≡◌, ◌≢◌, ℕ, ◌<◌, ◌^◌, false, true, eqb, List, [], ◌∷◌, ◌++◌, None, inl, inr, refl, ap, subst, ◌∙◌, arith, append_assoc, codes, decimal}
+use Rattle.std.specs.Prelude.{◌⊎◌}
+use Rattle.std.specs.List.{starts_with}
 use Rattle.model.specs.declared.call.CallId.{CallId}
 use Rattle.model.specs.declared.host.Host.{Host}
 use Rattle.model.specs.declared.owner.Kind.{Kind}
 use Rattle.model.specs.declared.owner.Kind.TheVariants.{OfProcess, OfDescription}
 use Rattle.model.specs.declared.owner.Owner.{Owner}
-use Rattle.model.specs.Limits.{IsCall, IsNumber, IsOwner, most_nodes, most_of}
-use Rattle.messages.specs.Epochs.{IsEpoch}
-use Rattle.texts.specs.Reads.{Reads}
+use Rattle.model.specs.Limits.{IsCall, IsNumber, IsOwner, most_descriptions, most_nodes, most_of, most_processes}
+use Rattle.texts.specs.Reads.{Both, Reads, joined_text}
 use Rattle.message_text.specs.Names.{call_text, host_text, owner_letter, owner_text, dot, holder_text, server_text}
-use Rattle.texts.proofs.FieldValues.{apart-number}
-use Rattle.message_text.proofs.Fronts.{Kinds, apart-kinds}
-use Rattle.texts.proofs.Pairs.{AllLack, AreApart, apart-joined}
+use Rattle.message_text.specs.Parts.{AreCallParts, AreNodeParts, AreNumbered, AreServerParts, at_sign, call_parts_text, node_parts_text, numbered_text}
+use Rattle.message_text.specs.Served.{IsHolder}
+use Rattle.texts.proofs.Pairs.{AllLack}
 use Rattle.texts.proofs.SingleWords.{decimal-lacks}
-use Rattle.message_text.specs.Parts.{AreCallParts, AreCounted, AreNodeParts, AreNumbered, AreServerParts, at_sign, call_parts_text, counted_text, node_parts_text, numbered_text}
-use Rattle.message_text.specs.Served.{IsCounted, IsFile, IsHolder}
-use Rattle.message_text.proofs.Views.{Views, view-apart}
+use Rattle.message_text.proofs.AreTexts.{AreFields, AreTexts, joined, up_to, viewed}
+use Rattle.message_text.proofs.Variants.{Variant, is_of, of_variants, variant}
+use Rattle.message_text.proofs.Views.{Views}
+use Rattle.message_text.proofs.Words.{call_words, holder_words}
 
 -- numbers have no dot and no `@`
 pub dot-lacks : (most : ℕ) → most < 2 ^ 64 → AllLack dot decimal (IsNumber most)
@@ -24,17 +26,9 @@ dot-lacks most small n fits = decimal-lacks dot (λ d low high e. omega (arith, 
 pub at_sign-lacks : (most : ℕ) → most < 2 ^ 64 → AllLack at_sign decimal (IsNumber most)
 at_sign-lacks most small n fits = decimal-lacks at_sign (λ d low high e. omega (arith, high, e)) n (omega (arith, fits.1, small))
 
-apart-counted : AreApart counted_text AreCounted
-apart-counted = apart-joined dot decimal decimal (IsNumber 65535) IsCounted (dot-lacks 65535 (omega arith)) (apart-number 65535 (omega arith)) (apart-number 4294967295 (omega arith))
-
-apart-node_parts : AreApart node_parts_text AreNodeParts
-apart-node_parts = apart-joined dot decimal decimal (IsNumber most_nodes) (IsNumber 65535) (dot-lacks most_nodes (omega arith)) (apart-number most_nodes (omega arith)) (apart-number 65535 (omega arith))
-
-pub apart-server : AreApart server_text AreServerParts
-apart-server = apart-joined dot decimal decimal IsFile IsEpoch (dot-lacks 256 (omega arith)) (apart-number 256 (omega arith)) (apart-number 65535 (omega arith))
-
-apart-call_parts : AreApart call_parts_text AreCallParts
-apart-call_parts = apart-joined dot decimal counted_text (IsNumber most_nodes) AreCounted (dot-lacks most_nodes (omega arith)) (apart-number most_nodes (omega arith)) apart-counted
+-- a number, a dot, and what stands behind it
+dotted : {A : Type 0} {f : A → List ℕ} {P : A → Type 0} (most : ℕ) → most < 2 ^ 64 → AreTexts f P → AreTexts (joined_text dot decimal f) (Both (IsNumber most) P)
+dotted most small rest = joined dot refl (dot-lacks most small) (up_to most small).texts rest
 
 -- a node in one incarnation
 abbrev pub hosts : Views (ℕ × ℕ) Host node_parts_text AreNodeParts holder_text IsHolder
@@ -47,8 +41,8 @@ hosts = record {
 abbrev host-made : ℕ × ℕ → Host
 host-made p = record { node = p.0; incarnation = p.1 }
 
-pub apart-holder : AreApart holder_text IsHolder
-apart-holder = view-apart hosts apart-node_parts (λ x y e. ap host-made e)
+pub holder : AreFields holder_text IsHolder
+holder = record { words = holder_words; texts = viewed hosts (λ x y _ _ e. ap host-made e) (dotted most_nodes (omega arith) (up_to 65535 (omega arith)).texts) }
 
 abbrev pub calls : Views (ℕ × (ℕ × ℕ)) CallId call_parts_text AreCallParts call_text IsCall
 calls = record {
@@ -62,43 +56,62 @@ calls = record {
 abbrev call-made : ℕ × (ℕ × ℕ) → CallId
 call-made p = record { node = p.0; incarnation = p.1.0; number = p.1.1 }
 
-pub apart-call : AreApart call_text IsCall
-apart-call = view-apart calls apart-call_parts (λ x y e. ap call-made e)
+pub call : AreFields call_text IsCall
+call = record { words = call_words; texts = viewed calls (λ x y _ _ e. ap call-made e) (dotted most_nodes (omega arith) (dotted 65535 (omega arith) (up_to 4294967295 (omega arith)).texts)) }
 
-pub apart-numbered : (most : ℕ) → most < 2 ^ 64 → AreApart numbered_text (AreNumbered most)
-apart-numbered most small = apart-joined at_sign decimal holder_text (IsNumber most) IsHolder (at_sign-lacks most small) (apart-number most small) apart-holder
+pub server : AreTexts server_text AreServerParts
+server = dotted 256 (omega arith) (up_to 65535 (omega arith)).texts
+
+pub numbered_name : (most : ℕ) → most < 2 ^ 64 → AreTexts numbered_text (AreNumbered most)
+numbered_name most small = joined at_sign refl (at_sign-lacks most small) (up_to most small).texts holder.texts
 
 pub owner-written : (o : Owner) → owner_text o ≡ owner_letter o.kind ++ numbered_text (o.number, record { node = o.node; incarnation = o.incarnation })
 owner-written o = append_assoc (owner_letter o.kind ++ decimal o.number) (codes "@") (host_text o.node o.incarnation)
     ∙ append_assoc (owner_letter o.kind) (decimal o.number) (codes "@" ++ host_text o.node o.incarnation)
 
-abbrev table : List (List ℕ × Kind)
-table = (codes "p", OfProcess) ∷ (codes "d", OfDescription) ∷ []
+abbrev pub owner_parts : Owner → ℕ × Host
+owner_parts o = (o.number, record { node = o.node; incarnation = o.incarnation })
 
--- owners are processes and descriptions
-abbrev pub owners : Kinds Owner owner_text IsOwner
-owners = record {
-  Kind = Kind;
-  Operands = λ k. ℕ × Host;
-  front = owner_letter;
-  table = table;
-  told = elim [ OfProcess ↦ λ bytes. refl | OfDescription ↦ λ bytes. refl ];
-  rest = λ k. numbered_text;
-  Fit = λ k. AreNumbered (most_of k);
-  kind_of = λ o. o.kind;
-  operands_of = λ o. (o.number, record { node = o.node; incarnation = o.incarnation });
-  fit = λ o fits. (fits.number_in, fits.host);
-  written = owner-written;
-  make = λ k p. record { node = p.1.node; incarnation = p.1.incarnation; kind = k; number = p.0 };
-  made = λ o. refl;
-}
+abbrev pub owner-made : Kind → ℕ × Host → Owner
+owner-made k p = record { node = p.1.node; incarnation = p.1.incarnation; kind = k; number = p.0 }
 
-apart-owner_rest : (k : Kind) → AreApart numbered_text (AreNumbered (most_of k))
-apart-owner_rest OfProcess = apart-numbered 256 (omega arith)
-apart-owner_rest OfDescription = apart-numbered 16384 (omega arith)
+-- an owner is of a kind, or its name begins with another letter
+abbrev pub IsTold : Kind → Owner → Type 0
+IsTold k o = ((p : ℕ × Host) × AreNumbered (most_of k) p × (o ≡ owner-made k p)) ⊎ (starts_with eqb (owner_text o) (owner_letter k) ≡ false)
 
-pub apart-owner : AreApart owner_text IsOwner
-apart-owner = apart-kinds owners apart-owner_rest
+told-same : (k : Kind) (o : Owner) → o.kind ≡ k → IsOwner o → IsTold k o
+told-same k o e fits = inl (owner_parts o, (subst (λ (j : Kind). IsNumber (most_of j) o.number) e fits.number_in, fits.host), ap (λ (j : Kind). owner-made j (owner_parts o)) e)
+
+begins-as : (k j : Kind) (o : Owner) → o.kind ≡ j → starts_with eqb (owner_text o) (owner_letter k) ≡ starts_with eqb (owner_letter j ++ numbered_text (owner_parts o)) (owner_letter k)
+begins-as k j o e = ap (λ (bytes : List ℕ). starts_with eqb bytes (owner_letter k)) (owner-written o ∙ ap (λ (i : Kind). owner_letter i ++ numbered_text (owner_parts o)) e)
+
+told-by : (k j : Kind) (o : Owner) → o.kind ≡ j → IsOwner o → IsTold k o
+told-by OfProcess OfProcess o e fits = told-same OfProcess o e fits
+told-by OfProcess OfDescription o e fits = inr (begins-as OfProcess OfDescription o e)
+told-by OfDescription OfProcess o e fits = inr (begins-as OfDescription OfProcess o e)
+told-by OfDescription OfDescription o e fits = told-same OfDescription o e fits
+
+pub owner-told : (k : Kind) (o : Owner) → IsOwner o → IsTold k o
+owner-told k o fits = told-by k o.kind o refl fits
+
+abbrev OwnerKind : Type 1
+OwnerKind = Variant owner_text IsOwner
+
+abbrev pub processes : OwnerKind
+processes = variant (codes "p") refl (numbered_name most_processes (omega arith)) (owner-made OfProcess) (λ p fit. record { host = fit.1; number_in = fit.0 }) (λ p. owner-written (owner-made OfProcess p)) (owner-told OfProcess)
+
+abbrev pub descriptions : OwnerKind
+descriptions = variant (codes "d") refl (numbered_name most_descriptions (omega arith)) (owner-made OfDescription) (λ p fit. record { host = fit.1; number_in = fit.0 }) (λ p. owner-written (owner-made OfDescription p)) (owner-told OfDescription)
+
+abbrev kinds : List OwnerKind
+kinds = processes ∷ descriptions ∷ []
+
+begins-one : (k : Kind) (bytes : List ℕ) → is_of kinds (owner_letter k ++ bytes) ≡ true
+begins-one OfProcess bytes = refl
+begins-one OfDescription bytes = refl
+
+pub owner : AreTexts owner_text IsOwner
+owner = of_variants kinds (λ o. ap (is_of kinds) (owner-written o) ∙ begins-one o.kind (numbered_text (owner_parts o)))
 
 absent : (word : List ℕ) → ((rest : List ℕ) → word ≢ codes "p" ++ rest) → ((rest : List ℕ) → word ≢ codes "d" ++ rest) → (k : Kind) (rest : List ℕ) → word ≢ owner_letter k ++ rest
 absent word no_p no_d OfProcess = no_p

@@ -1,16 +1,13 @@
 -- Values of an enum: a text begins with the front of its variant, and the variant's fields stand behind that.
-use Rattle.std.proofs.Common.{◌≡◌, ℕ, Bool, false, true, not, eqb, if◌then◌else◌, List, [], ◌∷◌, ◌++◌, None, inl, inr, sym, ap, subst, ◌∙◌}
+use Rattle.std.proofs.Common.{◌≡◌, ℕ, Bool, false, true, eqb, if◌then◌else◌, List, [], ◌∷◌, ◌++◌, None, inl, inr, sym, ap, subst, ◌∙◌}
 use Rattle.std.specs.Prelude.{◌⊎◌}
-use Rattle.std.specs.List.{list_all, starts_with}
+use Rattle.std.specs.List.{starts_with}
 use Rattle.texts.specs.LineFeeds.{line_feed}
 use Rattle.texts.specs.Reads.{Lacks, Reads}
 use Rattle.texts.proofs.OfKinds.{IsKind, apart-kind, reads-kind}
 use Rattle.texts.proofs.SingleWords.{lacks-tested}
-use Rattle.message_text.proofs.FieldTexts.{AreTexts}
+use Rattle.message_text.proofs.AreTexts.{AreTexts, has_no_feed}
 use Rattle.message_text.proofs.Words.{lacks-append}
-
-abbrev has_no_feed : List ℕ → Bool
-has_no_feed bytes = list_all (λ b. not (eqb b line_feed)) bytes
 
 pub record Variant {A : Type 0} (text : A → List ℕ) (Fits : A → Type 0) : Type 1 where
   pub Fields : Type 0

@@ -22,5 +22,5 @@ pub view-unfit : {A B : Type 0} {f : A → List ℕ} {P : A → Type 0} {g : B �
 view-unfit v apart bytes p some unfit x fits e = unfit x fits (apart p (v.parts x) some.0 (v.fit x fits) (sym some.1 ∙ e ∙ v.same x))
 
 -- values with the same parts are one where the parts tell them apart
-pub view-apart : {A B : Type 0} {f : A → List ℕ} {P : A → Type 0} {g : B → List ℕ} {Q : B → Type 0} (v : Views A B f P g Q) → AreApart f P → ((x y : B) → v.parts x ≡ v.parts y → x ≡ y) → AreApart g Q
-view-apart v apart made x y x_fits y_fits e = made x y (apart (v.parts x) (v.parts y) (v.fit x x_fits) (v.fit y y_fits) (sym (v.same x) ∙ e ∙ v.same y))
+pub view-apart : {A B : Type 0} {f : A → List ℕ} {P : A → Type 0} {g : B → List ℕ} {Q : B → Type 0} (v : Views A B f P g Q) → AreApart f P → ((x y : B) → Q x → Q y → v.parts x ≡ v.parts y → x ≡ y) → AreApart g Q
+view-apart v apart made x y x_fits y_fits e = made x y x_fits y_fits (apart (v.parts x) (v.parts y) (v.fit x x_fits) (v.fit y y_fits) (sym (v.same x) ∙ e ∙ v.same y))

@@ -11,14 +11,14 @@ use Rattle.lockscript.specs.declared.error.ParseError.TheVariants.{BadLine}
 use Rattle.lockscript.specs.Readings.{HasOneReading}
 use Rattle.lockscript.specs.Scripts.{HasScript, IsRefused}
 use Rattle.message_text.specs.Names.{call_text}
-use Rattle.message_text.proofs.NameTexts.{apart-call}
+use Rattle.message_text.proofs.NameTexts.{call as call_texts}
 use Rattle.stories.specs.Stories.{is_made, story_text}
 use Rattle.pictures.specs.Around.{around}
 use Rattle.replay.specs.Tellings.{HasNoCall, HasNothingOf, IsStoryOf, margin}
 
 -- a name is of one call
 same-call : (name : List ℕ) (call other : CallId) → IsCall call → name ≡ call_text call → IsCall other → name ≡ call_text other → other ≡ call
-same-call name call other fits named other_fits other_named = apart-call other call other_fits fits (sym other_named ∙ named)
+same-call name call other fits named other_fits other_named = call_texts.texts.apart other call other_fits fits (sym other_named ∙ named)
 
 no-other : (j : JournalFields) (name : List ℕ) (call : CallId) → IsCall call → name ≡ call_text call → is_made call j.entries ≡ false → HasNoCall j name
 no-other j name call fits named none other other_fits other_named = ap (λ (c : CallId). is_made c j.entries) (same-call name call other fits named other_fits other_named) ∙ none

@@ -1,3 +1,4 @@
+pub mod FirstBadLine
 pub mod Layout
 pub mod LineFeeds
 pub mod Reads

@@ -18,7 +18,7 @@ returns-in_err-line-clause-bad c =
     let after = c.next_command.new.self in
     let unfinished = c.in_err-line.ensures.unfinished in
     rw (p.1, p.2, unfinished.0)
-    (λ e. absurd (cc), bad-end c.args.text.now c.loop-line.invariant.0 here.rest.now here.taken after.rest.now after.taken c.loop-line.invariant.1 unfinished.1 unfinished.2 unfinished.3)
+    (λ e. absurd (cc), bad-end c.args.text.now c.loop-line.invariant.0 here.rest.now here.taken c.loop-line.invariant.1 after.rest.now after.taken unfinished.1 unfinished.2 unfinished.3)
 
 pub returns-in_err-made-clause-bad : goal.returns-in_err-made-clause-bad
 returns-in_err-made-clause-bad c =
@@ -28,7 +28,7 @@ returns-in_err-made-clause-bad c =
     let line = rw c.in-Some.is at c.in_ok-line.ensures.line in
     let bad = c.in_err-made.ensures.bad_line in
     rw (p.1, p.2, bad.0)
-    (λ e. absurd (cc), bad-behind c.args.text.now c.loop-line.invariant.0 here.rest.now here.taken c.in-Some.line.number c.in-Some.line.text.now after.rest.now c.loop-line.invariant.1 line.1 bad.1)
+    (λ e. absurd (cc), bad-behind c.args.text.now c.loop-line.invariant.0 here.rest.now here.taken c.loop-line.invariant.1 c.in-Some.line.number c.in-Some.line.text.now after.rest.now line.1 bad.1)
 
 pub returns-then-not-is_for_threads-clause-bad : goal.returns-then-not-is_for_threads-clause-bad
 returns-then-not-is_for_threads-clause-bad c =
@@ -38,8 +38,8 @@ returns-then-not-is_for_threads-clause-bad c =
     let made = c.in_ok-made.ensures.made in
     let refuses : false ≡ is_for_threads c.in_ok-made.made.command = sym c.if-not-is_for_threads.true ∙ (c.is_for_threads.ensures ∙ ap is_for_threads c.command.ensures.value) in (
       λ e. absurd (cc),
-      bad-not_taken c.args.text.now c.loop-line.invariant.0 here.rest.now here.taken c.in-Some.line.number c.in-Some.line.text.now after.rest.now
-          c.in_ok-made.made c.loop-line.invariant.1 line.1 made.0 made.1 refuses,
+      bad-not_taken c.args.text.now c.loop-line.invariant.0 here.rest.now here.taken c.loop-line.invariant.1 c.in-Some.line.number c.in-Some.line.text.now after.rest.now
+          c.in_ok-made.made line.1 made.0 made.1 refuses,
     )
 
 pub loop-line-preserved : goal.loop-line-preserved

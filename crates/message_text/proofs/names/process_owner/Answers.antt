@@ -1,7 +1,6 @@
-use Rattle.model.specs.declared.owner.Kind.TheVariants.{OfProcess}
-use Rattle.message_text.proofs.Fronts.{none-of_kind}
-use Rattle.message_text.proofs.NameTexts.{owners}
+use Rattle.message_text.proofs.Variants.{none-of}
+use Rattle.message_text.proofs.NameTexts.{processes}
 use Rattle.message_text.proofs.names.process_owner.Goals as goal
 
 pub returns-in_err-number : goal.returns-in_err-number
-returns-in_err-number c = rw c.from_residual.ensures (none-of_kind owners OfProcess c.args.rest.now c.in_err-number.ensures)
+returns-in_err-number c = rw c.from_residual.ensures (none-of processes c.args.rest.now c.in_err-number.ensures)

@@ -1,10 +1,10 @@
 use Rattle.std.proofs.Common.{ℕ, ap, arith}
 use Rattle.message_text.proofs.Views.{view-none, view-unfit}
-use Rattle.message_text.proofs.SpanParts.{apart-offsets, spans}
+use Rattle.message_text.proofs.SpanParts.{offsets, spans}
 use Rattle.message_text.proofs.spans.span_of.Goals as goal
 
 pub returns-in_err-lo : goal.returns-in_err-lo
 returns-in_err-lo c = rw c.from_residual.ensures (view-none spans c.args.text.now c.in_err-lo.ensures)
 
 pub returns-then-hi-lo : goal.returns-then-hi-lo
-returns-then-hi-lo c = view-unfit spans apart-offsets c.args.text.now (c.in_ok-lo.lo, c.in_ok-lo.hi) c.in_ok-lo.ensures (λ x fits same. omega (arith, c.if-hi-lo.true, ap (λ (p : ℕ × ℕ). p.0) same, ap (λ (p : ℕ × ℕ). p.1) same, fits.0))
+returns-then-hi-lo c = view-unfit spans offsets.apart c.args.text.now (c.in_ok-lo.lo, c.in_ok-lo.hi) c.in_ok-lo.ensures (λ x fits same. omega (arith, c.if-hi-lo.true, ap (λ (p : ℕ × ℕ). p.0) same, ap (λ (p : ℕ × ℕ). p.1) same, fits.0))

@@ -1,5 +1,6 @@
 use Rattle.std.proofs.lemmas.Result.{err_from_is_err_and}
-use Rattle.lockscript.proofs.Begun.{bad-line, bad-refused, bad-told, bad-unfinished, begun-line, script-begun}
+use Rattle.lockscript.proofs.BadLines.{bad-line, bad-refused, bad-told, bad-unfinished}
+use Rattle.lockscript.proofs.Begun.{begun-line, script-begun}
 use Rattle.lockscript.specs.Scripts.{script_of}
 use Rattle.lockscript.proofs.script.Script.parse.Goals as goal
 
