@@ -1,7 +1,7 @@
 //! Places in journals, between two lines behind the first.
 ghost use Rattle.std.specs.Prelude.{◌≡◌, ◌↔◌, IsTrue};
 ghost use Rattle.journal_text.specs.declared.place.Phase.TheVariants as phase;
-ghost use Rattle.journal_text.specs.Places.{after_answer, after_end, after_entry, after_send, next_place, place, start};
+ghost use Rattle.journal_text.specs.Places.{after_end, after_entry, next_place, place, start};
 
 use crate::lines::JournalLine;
 
@@ -49,8 +49,14 @@ impl Place {
     {
         match line {
             JournalLine::Entry { position, .. } => self.behind_entry(*position),
-            JournalLine::Answer { .. } => self.behind_answer(),
-            JournalLine::Send(_) => self.behind_send(),
+            JournalLine::Answer { .. } => match self.phase {
+                Phase::Begun => Some(self.sending()),
+                Phase::Empty | Phase::Sending | Phase::Ended => None,
+            },
+            JournalLine::Send(_) => match self.phase {
+                Phase::Begun | Phase::Sending => Some(self.sending()),
+                Phase::Empty | Phase::Ended => None,
+            },
             JournalLine::End { count } => self.behind_end(*count),
         }
     }
@@ -66,26 +72,6 @@ impl Place {
             count: position,
             phase: Phase::Begun,
         })
-    }
-
-    // The place behind a reply.
-    fn behind_answer(self) -> Option<Place>
-        ensures { result ≡ after_answer self.count self.phase }
-    {
-        match self.phase {
-            Phase::Begun => Some(self.sending()),
-            Phase::Empty | Phase::Sending | Phase::Ended => None,
-        }
-    }
-
-    // The place behind a message.
-    fn behind_send(self) -> Option<Place>
-        ensures { result ≡ after_send self.count self.phase }
-    {
-        match self.phase {
-            Phase::Begun | Phase::Sending => Some(self.sending()),
-            Phase::Empty | Phase::Ended => None,
-        }
     }
 
     // The place behind a reply or a message of the entry.

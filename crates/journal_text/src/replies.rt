@@ -6,7 +6,7 @@ ghost use Rattle.lockscript.specs.Texts.{reply_text};
 ghost use Rattle.journal_text.specs.Served.{IsServedReply};
 
 use lockscript::replies::push_reply;
-use message_text::spans::lock_of;
+use message_text::fields::LockText;
 use model::reply::Reply;
 use std::alloc::AllocError;
 use texts::text::{Text, split_field};
@@ -28,8 +28,8 @@ fn reply_with(word: &str, operand: &str) -> Option<Reply>
 {
     match word {
         "fd" => u8::read(operand).map(|fd| Reply::Fd(fd)),
-        "again" => lock_of(operand).map(|lock| Reply::Again(lock)),
-        "blocked" => lock_of(operand).map(|lock| Reply::Blocked(lock)),
+        "again" => LockText::read(operand).map(|lock| Reply::Again(lock)),
+        "blocked" => LockText::read(operand).map(|lock| Reply::Blocked(lock)),
         _ => None,
     }
 }

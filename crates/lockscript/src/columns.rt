@@ -3,14 +3,15 @@ ghost use Rattle.std.specs.Prelude.{◌≡◌, ◌≤◌, ◌-◌, ◌++◌, cod
 ghost use Rattle.lockscript.specs.Layout.{left_in};
 ghost use Rattle.texts.specs.Layout.{space};
 ghost use Rattle.lockscript.specs.Listing.{placed, span_columns};
-ghost use Rattle.message_text.specs.Names.{call_text, host_text, owner_text};
+ghost use Rattle.message_text.specs.Names.{call_text, host_text};
 
 use intervals::span::Span;
-use message_text::names::{push_call, push_host, push_owner};
+use message_text::fields::CallName;
+use message_text::names::push_host;
 use model::call::CallId;
-use model::owner::Owner;
 use std::alloc::AllocError;
 use std::fmt::Write;
+use texts::text::Text;
 
 /// The width of a column of calls, or of owners.
 const NAME_WIDTH: usize = 16;
@@ -36,23 +37,13 @@ fn fill_column(out: &mut String, start: usize, width: usize) -> Result<(), Alloc
     push_spaces(out, width.saturating_sub(written))
 }
 
-/// Writes a call at the left end of its column.
+/// Writes the name of a call or of an owner at the left end of its column.
 #[tactic(auto, unfolding(crate::specs::Layout::left_in))]
-pub(crate) fn push_call_column(out: &mut String, call: &CallId) -> Result<(), AllocError>
-    ensures { OnOk result (string_bytes out.new ≡ string_bytes out.old ++ left_in 16 (call_text call.now)) }
+pub(crate) fn push_name_column<F: Text>(out: &mut String, name: &F::Value) -> Result<(), AllocError>
+    ensures { OnOk result (string_bytes out.new ≡ string_bytes out.old ++ left_in 16 (F.text_of name.now)) }
 {
     let start = out.len();
-    push_call(out, call)?;
-    fill_column(out, start, NAME_WIDTH)
-}
-
-/// Writes an owner at the left end of its column.
-#[tactic(auto, unfolding(crate::specs::Layout::left_in))]
-pub(crate) fn push_owner_column(out: &mut String, owner: &Owner) -> Result<(), AllocError>
-    ensures { OnOk result (string_bytes out.new ≡ string_bytes out.old ++ left_in 16 (owner_text owner.now)) }
-{
-    let start = out.len();
-    push_owner(out, owner)?;
+    F::write(name, out)?;
     fill_column(out, start, NAME_WIDTH)
 }
 
@@ -75,7 +66,7 @@ pub(crate) fn push_placed(out: &mut String, position: u64, call: &CallId) -> Res
     ensures { OnOk result (string_bytes out.new ≡ string_bytes out.old ++ placed position (call_text call.now)) }
 {
     write!(out, "{position:>7} ")?;
-    push_call_column(out, call)?;
+    push_name_column::<CallName>(out, call)?;
     out.push_str(" ")
 }
 

@@ -4,13 +4,14 @@ ghost use Rattle.cluster_core.specs.declared.item.Item.TheVariants.{Answered, Go
 ghost use Rattle.lockscript.specs.Listing.{listing_text, listing_start, history_text, lock_line, refused_line, replied, reply_lines, token_line, history_line};
 ghost use Rattle.lockscript.specs.Texts.{reply_text};
 
-use crate::columns::{push_host_column, push_owner_column, push_placed, push_span_line};
+use crate::columns::{push_host_column, push_name_column, push_placed, push_span_line};
 use crate::operations::Operation;
 use crate::refused_line::RefusedLine;
 use crate::replies::push_reply;
 use cluster_core::held_lock::HeldLock;
 use cluster_core::item::Item;
 use cluster_core::token_run::TokenRun;
+use message_text::fields::OwnerName;
 use messages::entry::Entry;
 use model::call::CallId;
 use model::op::Op;
@@ -137,7 +138,7 @@ fn push_locks(out: &mut String, locks: &[HeldLock]) -> Result<(), AllocError>
 fn push_lock(out: &mut String, held: &HeldLock) -> Result<(), AllocError>
     ensures { OnOk result (string_bytes out.new ≡ string_bytes out.old ++ lock_line held.now) }
 {
-    push_owner_column(out, &held.lock.owner)?;
+    push_name_column::<OwnerName>(out, &held.lock.owner)?;
     push_span_line(out, held.file, held.lock.span, mode_word(held.lock.mode))
 }
 

@@ -1,5 +1,5 @@
 //! Scripts.
-ghost use Rattle.std.specs.Prelude.{◌≡◌, ◌≢◌, ◌≤◌, ◌↔◌, ℕ, List, [], IfErr, IfOk, IsTrue, OnOk};
+ghost use Rattle.std.specs.Prelude.{◌≡◌, ◌≢◌, ◌≤◌, ℕ, List, [], IfErr, IfOk, OnOk};
 ghost use Rattle.lockscript.specs.declared.error.ParseError.TheVariants.{BadLine, NoMemory};
 ghost use Rattle.lockscript.specs.Scripts.{Begun, HasScript, IsBadFirst, IsBadLine, IsLine, IsNoLine, IsRefused, IsScript, ScriptFields, line_text, script_of};
 ghost use Rattle.lockscript.specs.ShapedScripts.{IsClusterLine, IsForShape, IsRefusedForShape};
@@ -149,17 +149,10 @@ fn check_shape(shape: &Shape, text: &str) -> Result<(), ParseError>
 {
     let mut source = Lines::new(text);
     let (number, found) = cluster_in(&mut source)?;
-    if !same_shape(&found, shape) {
+    if found != *shape {
         return Err(ParseError::BadLine(number));
     }
     Ok(())
-}
-
-// Whether both are the same shape.
-fn same_shape(one: &Shape, other: &Shape) -> bool
-    ensures { IsTrue result ↔ (one.now ≡ other.now) }
-{
-    one == other
 }
 
 // Why a text is refused for which there is no memory: by its first bad line, if it has one.

@@ -4,7 +4,6 @@ ghost use Rattle.lockscript.specs.Scripts.{command_text};
 
 use crate::operations::Operation;
 use crate::script_line::Command;
-use message_text::numbers::{FileField, IncarnationField, NodeField, PidField};
 use std::alloc::AllocError;
 use std::fmt::Write;
 use texts::text::Text;
@@ -18,8 +17,8 @@ pub fn push_command(out: &mut String, command: &Command) -> Result<(), AllocErro
 {
     match command {
         Command::Call { node, pid, op } => {
-            out.push_str("call ")?;
-            <(NodeField, (PidField, Operation))>::write(&(*node, (*pid, *op)), out)
+            write!(out, "call {node} {pid} ")?;
+            Operation::write(op, out)
         }
         Command::Deliver { message } => write!(out, "deliver {message}"),
         Command::Lose { message } => write!(out, "lose {message}"),
@@ -33,13 +32,7 @@ pub fn push_command(out: &mut String, command: &Command) -> Result<(), AllocErro
             file,
             node,
             incarnation,
-        } => {
-            out.push_str("learn ")?;
-            <(FileField, (NodeField, IncarnationField))>::write(
-                &(*file, (*node, *incarnation)),
-                out,
-            )
-        }
+        } => write!(out, "learn {file} {node} {incarnation}"),
         Command::FailServer { file } => write!(out, "fail-server {file}"),
         Command::StartServer { file } => write!(out, "start-server {file}"),
     }

@@ -11,8 +11,7 @@ ghost use Rattle.message_text.specs.Texts.{command_text, epoch_text, span_text, 
 
 use crate::edition::Edition;
 use crate::names::{call_of, host_of, owner_of, push_call, push_host, push_lock, push_owner};
-use crate::numbers::{Counted, EpochField, FileField, RebuiltField};
-use crate::spans::{lock_of, span_of, wants_of};
+use crate::numbers::{Counted, EpochField, FileField, Offset, RebuiltField};
 use intervals::span::Span;
 use messages::command_number::CommandNumber;
 use messages::epoch_number::EpochNumber;
@@ -23,6 +22,7 @@ use messages::wanted::Wanted;
 use model::call::CallId;
 use model::host::Host;
 use model::lock_info::LockInfo;
+use model::mode::Mode;
 use model::owner::Owner;
 use std::alloc::AllocError;
 use std::fmt::Write;
@@ -239,7 +239,11 @@ impl Text for SpanText {
     ghost is_served = { IsServedSpan };
 
     fn read(text: &str) -> Option<Span> {
-        span_of(text)
+        let (lo, hi) = <(Offset, Offset)>::read(text)?;
+        if hi < lo {
+            return None;
+        }
+        Some(Span { lo, hi })
     }
 
     fn write(value: &Span, out: &mut String) -> Result<(), AllocError> {
@@ -260,7 +264,18 @@ impl Text for WantsText {
     ghost is_served = { AreServedWants };
 
     fn read(text: &str) -> Option<Wanted> {
-        wants_of(text)
+        let (lo, (hi, desired)) = <(Offset, (Offset, SpanText))>::read(text)?;
+        if hi < lo {
+            return None;
+        }
+        if lo < desired.lo {
+            return None;
+        }
+        if desired.hi < hi {
+            return None;
+        }
+        let required = Span { lo, hi };
+        Some(Wanted::new(required, desired))
     }
 
     fn write(value: &Wanted, out: &mut String) -> Result<(), AllocError> {
@@ -271,7 +286,7 @@ impl Text for WantsText {
 }
 
 /// `pPID@N.I` or `dNUMBER@N.I`.
-pub(crate) struct OwnerName;
+pub struct OwnerName;
 
 impl Text for OwnerName {
     type Value = Owner;
@@ -290,7 +305,7 @@ impl Text for OwnerName {
 }
 
 /// `MODE LO HI OWNER`.
-pub(crate) struct LockText;
+pub struct LockText;
 
 impl Text for LockText {
     type Value = LockInfo;
@@ -300,7 +315,12 @@ impl Text for LockText {
     ghost is_served = { IsServedLock };
 
     fn read(text: &str) -> Option<LockInfo> {
-        lock_of(text)
+        let (mode, (lo, (hi, owner))) = <(Mode, (Offset, (Offset, OwnerName)))>::read(text)?;
+        if hi < lo {
+            return None;
+        }
+        let span = Span { lo, hi };
+        Some(LockInfo { owner, mode, span })
     }
 
     fn write(value: &LockInfo, out: &mut String) -> Result<(), AllocError> {

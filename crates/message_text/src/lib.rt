@@ -10,6 +10,5 @@ pub mod names;
 pub mod numbers;
 mod operands;
 mod reports;
-pub mod spans;
 pub mod writing;
 pub mod written_message;

@@ -1,12 +1,8 @@
 //! Messages from their texts.
-ghost use Rattle.std.specs.Prelude.{◌≡◌, ◌∷◌, ◌++◌, codes, decimal, true};
-ghost use Rattle.messages.specs.Epochs.{IsRebuilt};
-ghost use Rattle.messages.specs.Versions.{may_rebuild};
-ghost use Rattle.texts.specs.Layout.{space};
-ghost use Rattle.texts.specs.Reads.{Lacks, Reads};
-ghost use Rattle.message_text.specs.Served.{IsFile, IsHolder, IsServedMessage};
-ghost use Rattle.message_text.specs.Texts.{epoch_text, message_text};
-ghost use Rattle.message_text.specs.Names.{holder_text};
+ghost use Rattle.std.specs.Prelude.{◌++◌, codes};
+ghost use Rattle.texts.specs.Reads.{Reads};
+ghost use Rattle.message_text.specs.Served.{IsServedMessage};
+ghost use Rattle.message_text.specs.Texts.{message_text};
 
 use crate::edition::{Edition, FirstEdition, SecondEdition};
 use crate::fields::{EpochName, FileName, HostName, first_field};
@@ -16,11 +12,8 @@ use crate::operands::{
 };
 use crate::reports::are_runs;
 use crate::written_message::WrittenMessage;
-use messages::epoch_number::EpochNumber;
-use messages::file_number::FileNumber;
 use messages::message::Message;
 use messages::version::Version;
-use model::host::Host;
 use texts::text::{Text, split_field};
 
 /// The message that the text writes in this version.
@@ -176,57 +169,17 @@ fn report_of<V: Edition>(operands: &str) -> Option<WrittenMessage<'_>>
     if !V::version().may_rebuild() {
         return None;
     }
-    match first_field::<FileName>(operands) {
-        Some((file, rest)) => report_about::<V>(file, rest),
-        None => None,
+    let Some((file, about)) = first_field::<FileName>(operands) else {
+        return None;
+    };
+    let Some((number, held)) = first_field::<EpochName>(about) else {
+        return None;
+    };
+    let Some((holder, runs)) = first_field::<HostName>(held) else {
+        return None;
+    };
+    if !are_runs(runs) {
+        return None;
     }
-}
-
-// `report F` with these operands.
-fn report_about<V: Edition>(file: FileNumber, operands: &str) -> Option<WrittenMessage<'_>>
-    requires rebuilds { may_rebuild V.version ≡ true }
-    requires file_in { IsFile file }
-    ensures { Reads (message_text V.version) (IsServedMessage V.version) (codes "report " ++ (decimal file ++ space ∷ operands.now)) result }
-{
-    match first_field::<EpochName>(operands) {
-        Some((number, rest)) => report_to::<V>(file, number, rest),
-        None => None,
-    }
-}
-
-// `report F E` with these operands.
-fn report_to<V: Edition>(
-    file: FileNumber,
-    number: EpochNumber,
-    operands: &str,
-) -> Option<WrittenMessage<'_>>
-    requires rebuilds { may_rebuild V.version ≡ true }
-    requires file_in { IsFile file }
-    requires number_in { IsRebuilt number }
-    ensures { Reads (message_text V.version) (IsServedMessage V.version) (codes "report " ++ (decimal file ++ space ∷ (epoch_text number ++ space ∷ operands.now))) result }
-{
-    match first_field::<HostName>(operands) {
-        Some((holder, runs)) => report_with::<V>(file, number, holder, runs),
-        None => None,
-    }
-}
-
-// `report F E H` with these runs.
-fn report_with<V: Edition>(
-    file: FileNumber,
-    number: EpochNumber,
-    holder: Host,
-    runs: &str,
-) -> Option<WrittenMessage<'_>>
-    requires rebuilds { may_rebuild V.version ≡ true }
-    requires file_in { IsFile file }
-    requires number_in { IsRebuilt number }
-    requires holder_in { IsHolder holder }
-    ensures { Reads (message_text V.version) (IsServedMessage V.version) (codes "report " ++ (decimal file ++ space ∷ (epoch_text number ++ space ∷ (holder_text holder ++ space ∷ runs.now)))) result }
-{
-    if are_runs(runs) {
-        Some(WrittenMessage::report(file, number, holder, runs))
-    } else {
-        None
-    }
+    Some(WrittenMessage::report(file, number, holder, runs))
 }

@@ -3,7 +3,7 @@ use Rattle.model.specs.declared.mode.Mode.{Mode}
 use Rattle.model.specs.declared.owner.Owner.{Owner}
 use Rattle.message_text.proofs.Views.{view-none, view-unfit}
 use Rattle.message_text.proofs.SpanParts.{lock_parts, locks}
-use Rattle.message_text.proofs.spans.lock_of.Goals as goal
+use Rattle.message_text.proofs.fields.LockTextText.read.Goals as goal
 
 pub returns-in_err-mode : goal.returns-in_err-mode
 returns-in_err-mode c = rw c.from_residual.ensures (view-none locks c.args.text.now c.in_err-mode.ensures)

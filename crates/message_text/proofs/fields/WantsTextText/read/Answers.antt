@@ -2,7 +2,7 @@ use Rattle.std.proofs.Common.{ℕ, ap, arith}
 use Rattle.intervals.specs.Bytes.{Range}
 use Rattle.message_text.proofs.Views.{view-none, view-unfit}
 use Rattle.message_text.proofs.SpanParts.{offsets_and_span, ranges}
-use Rattle.message_text.proofs.spans.wants_of.Goals as goal
+use Rattle.message_text.proofs.fields.WantsTextText.read.Goals as goal
 
 pub returns-in_err-lo : goal.returns-in_err-lo
 returns-in_err-lo c = rw c.from_residual.ensures (view-none ranges c.args.text.now c.in_err-lo.ensures)

@@ -1,7 +1,7 @@
 use Rattle.std.proofs.Common.{ℕ, ap, arith}
 use Rattle.message_text.proofs.Views.{view-none, view-unfit}
 use Rattle.message_text.proofs.SpanParts.{offsets, spans}
-use Rattle.message_text.proofs.spans.span_of.Goals as goal
+use Rattle.message_text.proofs.fields.SpanTextText.read.Goals as goal
 
 pub returns-in_err-lo : goal.returns-in_err-lo
 returns-in_err-lo c = rw c.from_residual.ensures (view-none spans c.args.text.now c.in_err-lo.ensures)
