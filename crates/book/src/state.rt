@@ -1,15 +1,13 @@
 //! States of actors.
-ghost use Rattle.std.specs.Prelude.{◌≡◌, ◌≢◌, ◌≤◌, ◌↔◌, if◌then◌else◌, Some, None, Ok, Err, IfOk, IfErr, IsTrue};
+ghost use Rattle.std.specs.Prelude.{◌≡◌, ◌≢◌, ◌≤◌, ◌↔◌, Ok, Err, IfOk, IfErr, IsTrue};
 ghost use Rattle.node_core.specs.Parts.{node_state};
 ghost use Rattle.token_server.specs.Parts.{server_state};
 ghost use Rattle.cluster_core.specs.Parts.{world_state};
 ghost use Rattle.node_core.specs.Commands.{is_node};
 ghost use Rattle.token_server.specs.Server.{is_server};
-ghost use Rattle.cluster_core.specs.Actors.{node_at, server_at, node_step, server_step};
+ghost use Rattle.cluster_core.specs.Actors.{node_step, server_step};
 ghost use Rattle.node_core.specs.Plans.{planned as reached, Fits as NodeFits};
-ghost use Rattle.node_core.specs.declared.event.NodeEvent.TheVariants as own;
 ghost use Rattle.token_server.specs.Edits.{planned, Fits as ServerFits};
-ghost use Rattle.token_server.specs.declared.event.ServerEvent.TheVariants as served;
 
 use crate::edit::Edit;
 use cluster_core::world::World;
@@ -53,44 +51,6 @@ fn is_server(number: u16, actor: Actor) -> bool
     }
 }
 
-// What the node will do at an event, if that is its own.
-fn node_plan(
-    alloc: Global,
-    node: &Node,
-    is_own: bool,
-    event: &NodeEvent,
-) -> Result<NodeChange, StepError>
-    ensures ok { IfOk result (λ change. node_at (node_state node.now) (if is_own then Some event.now else None) ≡ Ok (reached node.now change.edit, change.outcome)) }
-    ensures err { IfErr result (λ e. e ≢ StepError.NoMemory → node_at (node_state node.now) (if is_own then Some event.now else None) ≡ Err e) }
-    ensures refused { (r : StepError) → node_at (node_state node.now) (if is_own then Some event.now else None) ≡ Err r → result ≡ Err r }
-    ensures fits { IfOk result (λ change. NodeFits node.now change.edit) }
-{
-    if is_own {
-        node.plan(alloc, event)
-    } else {
-        Err(StepError::Stranger)
-    }
-}
-
-// What the node will do where the message comes, if that is for it.
-fn node_delivery(
-    alloc: Global,
-    node: &Node,
-    is_own: bool,
-    message: &Message,
-) -> Result<NodeChange, StepError>
-    ensures ok { IfOk result (λ change. node_at (node_state node.now) (if is_own then Some (own.Deliver message.now) else None) ≡ Ok (reached node.now change.edit, change.outcome)) }
-    ensures err { IfErr result (λ e. e ≢ StepError.NoMemory → node_at (node_state node.now) (if is_own then Some (own.Deliver message.now) else None) ≡ Err e) }
-    ensures refused { (r : StepError) → node_at (node_state node.now) (if is_own then Some (own.Deliver message.now) else None) ≡ Err r → result ≡ Err r }
-    ensures fits { IfOk result (λ change. NodeFits node.now change.edit) }
-{
-    if is_own {
-        node.plan_delivery(alloc, message)
-    } else {
-        Err(StepError::Stranger)
-    }
-}
-
 // What the node with the number will do at an event.
 fn planned_node(
     alloc: Global,
@@ -104,68 +64,19 @@ fn planned_node(
     ensures fits { IfOk result (λ change. NodeFits node.now change.edit) }
 {
     match event {
-        Event::Call { node: of, pid, op } => {
-            let call = NodeEvent::Call { pid: *pid, op: *op };
-            node_plan(alloc, node, *of == number, &call)
+        Event::Call { node: of, pid, op } if *of == number => {
+            node.plan(alloc, &NodeEvent::Call { pid: *pid, op: *op })
         }
-        Event::Deliver(message) => {
-            node_delivery(alloc, node, is_node(number, message.addressee()), message)
+        Event::Deliver(message) if is_node(number, message.addressee()) => {
+            node.plan_delivery(alloc, message)
         }
-        Event::Interrupt { node: of, pid } => {
-            node_plan(
-                alloc,
-                node,
-                *of == number,
-                &NodeEvent::Interrupt { pid: *pid },
-            )
+        Event::Interrupt { node: of, pid } if *of == number => {
+            node.plan(alloc, &NodeEvent::Interrupt { pid: *pid })
         }
-        Event::Retry { node: of, pid } => {
-            node_plan(alloc, node, *of == number, &NodeEvent::Retry { pid: *pid })
+        Event::Retry { node: of, pid } if *of == number => {
+            node.plan(alloc, &NodeEvent::Retry { pid: *pid })
         }
-        Event::Resend { .. }
-        | Event::Declare { .. }
-        | Event::Restart { .. }
-        | Event::Learn { .. }
-        | Event::FailServer { .. }
-        | Event::StartServer { .. } => Err(StepError::Stranger),
-    }
-}
-
-// What the server will do at an event, if that is its own.
-fn server_plan(
-    alloc: Global,
-    server: &Server,
-    is_own: bool,
-    event: &ServerEvent,
-) -> Result<ServerChange, StepError>
-    ensures ok { IfOk result (λ change. server_at (server_state server.now) (if is_own then Some event.now else None) ≡ Ok (planned server.now change.edit, change.outcome)) }
-    ensures err { IfErr result (λ e. e ≢ StepError.NoMemory → server_at (server_state server.now) (if is_own then Some event.now else None) ≡ Err e) }
-    ensures refused { (r : StepError) → r ≢ StepError.Spent → server_at (server_state server.now) (if is_own then Some event.now else None) ≡ Err r → result ≡ Err r }
-    ensures fits { IfOk result (λ change. ServerFits server.now change.edit) }
-{
-    if is_own {
-        server.plan(alloc, event)
-    } else {
-        Err(StepError::Stranger)
-    }
-}
-
-// What the server will do where the message comes, if that is for it.
-fn server_delivery(
-    alloc: Global,
-    server: &Server,
-    is_own: bool,
-    message: &Message,
-) -> Result<ServerChange, StepError>
-    ensures ok { IfOk result (λ change. server_at (server_state server.now) (if is_own then Some (served.Deliver message.now) else None) ≡ Ok (planned server.now change.edit, change.outcome)) }
-    ensures err { IfErr result (λ e. e ≢ StepError.NoMemory → server_at (server_state server.now) (if is_own then Some (served.Deliver message.now) else None) ≡ Err e) }
-    ensures refused { (r : StepError) → r ≢ StepError.Spent → server_at (server_state server.now) (if is_own then Some (served.Deliver message.now) else None) ≡ Err r → result ≡ Err r }
-    ensures fits { IfOk result (λ change. ServerFits server.now change.edit) }
-{
-    if is_own {
-        server.plan_delivery(alloc, message)
-    } else {
-        Err(StepError::Stranger)
+        _ => Err(StepError::Stranger),
     }
 }
 
@@ -182,35 +93,22 @@ fn planned_server(
     ensures fits { IfOk result (λ change. ServerFits server.now change.edit) }
 {
     match event {
-        Event::Deliver(message) => {
-            server_delivery(
-                alloc,
-                server,
-                is_server(number, message.addressee()),
-                message,
-            )
+        Event::Deliver(message) if is_server(number, message.addressee()) => {
+            server.plan_delivery(alloc, message)
         }
-        Event::Resend { file } => {
-            server_plan(alloc, server, *file == number, &ServerEvent::Resend)
-        }
+        Event::Resend { file } if *file == number => server.plan(alloc, &ServerEvent::Resend),
         Event::Learn {
             file,
             node,
             incarnation,
-        } => {
+        } if *file == number => {
             let learn = ServerEvent::Learn {
                 node: *node,
                 incarnation: *incarnation,
             };
-            server_plan(alloc, server, *file == number, &learn)
+            server.plan(alloc, &learn)
         }
-        Event::Call { .. }
-        | Event::Interrupt { .. }
-        | Event::Retry { .. }
-        | Event::Declare { .. }
-        | Event::Restart { .. }
-        | Event::FailServer { .. }
-        | Event::StartServer { .. } => Err(StepError::Stranger),
+        _ => Err(StepError::Stranger),
     }
 }
 
