@@ -6,7 +6,6 @@ use Rattle.std.proofs.lemmas.Bool.Decides.{nat_tests}
 use Rattle.messages.specs.Versions.{may_rebuild}
 use Rattle.messages.specs.Messages.{sending}
 use Rattle.messages.specs.declared.actor.Actor.TheVariants.{Node as ANode, Server as AServer}
-use Rattle.messages.specs.declared.event.Event.{Event}
 use Rattle.messages.specs.declared.event.Event.TheVariants.{Declare, Restart, FailServer, StartServer}
 use Rattle.messages.specs.declared.entry.Entry.{Entry}
 use Rattle.node_core.specs.State.{NodeState, first_node}
@@ -23,12 +22,6 @@ use Rattle.book.specs.declared.state.State.{State}
 use Rattle.book.specs.declared.state.State.TheVariants.{OfNode, OfServer}
 use Rattle.book.specs.States.{actor_of, incarnation_of, HasState, is_declared}
 
-same_node : (n m : ℕ) → ◌≡◌ {A = Event} (Declare n) (Declare m) → n ≡ m
-same_node n m e = cc
-
-same_again : (n m : ℕ) → ◌≡◌ {A = Event} (Restart n) (Restart m) → n ≡ m
-same_again n m e = cc
-
 -- the entry of a declaration
 pub declared_entry : (w : WorldState) (n : ℕ) (q : WorldState × Entry) → next w (Declare n) ≡ Ok q → (k : ℕ) × (q.1 ≡ entry (Declare n) k (sending []))
 declared_entry w n q h = declare_step w (λ p. (k : ℕ) × (p.1 ≡ entry (Declare n) k (sending []))) n q (λ m is alive. ((w.nodes m).incarnation, refl)) (next_taken w (Declare n) q h).1
@@ -38,7 +31,7 @@ pub declared_others : (w : WorldState) (n : ℕ) (q : WorldState × Entry) (x : 
 declared_others w n q (OfServer f x) h ne has = declare_step w (λ p. HasState p.0 (OfServer f x)) n q (λ m is alive. record { number = has.number; working = has.working; state = has.state }) (next_taken w (Declare n) q h).1
 declared_others w n q (OfNode k x) h ne has =
     declare_step w (λ p. HasState p.0 (OfNode k x)) n q (λ m is alive.
-    let other : k ≡ m → ⊥ = λ e. ne (ap ANode (e ∙ sym (same_node n m is))) in
+    let other : k ≡ m → ⊥ = λ e. ne (ap ANode (cc)) in
     record {
       number = has.number;
       alive = at_number k m (λ b. (if b then false else w.alive k) ≡ true) (λ same. absurd (other same)) (λ _. has.alive);
@@ -58,7 +51,7 @@ declared_fences w n q (OfNode k x) h is same least =
     let taken = next_taken w (Declare n) q h in
     let known : has_node w k ≡ true = ap (has_node w) here ∙ taken.0 in
     declare_step w (λ p. is_declared p.0 (OfNode k x) ≡ true) n q (λ m at_m alive.
-    let at : n ≡ m = same_node n m at_m in
+    let at : n ≡ m = cc in
     let grows : (if k == m then first_node w.shape m ((w.nodes m).incarnation + 1) else w.nodes k).incarnation ≡ i + 1 =
     at_number k m (λ b. (if b then first_node w.shape m ((w.nodes m).incarnation + 1) else w.nodes k).incarnation ≡ i + 1)
     (λ _. ap (λ (j : ℕ). (w.nodes j).incarnation + 1) (sym at) ∙ ap (λ (j : ℕ). j + 1) (sym same))
@@ -83,16 +76,10 @@ restarted_mine w n q s h stands =
     let known = (next_taken w (Restart n) q h).0 in
     restart_step w (λ p. s ≡ p.0.nodes n → HasNode p.0 n s) n q (λ m is dead few here. record {
       number = known;
-      alive = at_number n m (λ b. (if b then true else w.alive n) ≡ true) (λ same. refl) (λ other. absurd (other (same_again n m is)));
+      alive = at_number n m (λ b. (if b then true else w.alive n) ≡ true) (λ same. refl) (λ other. absurd (other (cc)));
       state = sym here;
     })
     (next_taken w (Restart n) q h).1 stands
-
-same_failed : (f g : ℕ) → ◌≡◌ {A = Event} (FailServer f) (FailServer g) → f ≡ g
-same_failed f g e = cc
-
-same_started : (f g : ℕ) → ◌≡◌ {A = Event} (StartServer f) (StartServer g) → f ≡ g
-same_started f g e = cc
 
 -- the entry of a failure
 pub failed_entry : (w : WorldState) (f : ℕ) (q : WorldState × Entry) → next w (FailServer f) ≡ Ok q → (k : ℕ) × (q.1 ≡ entry (FailServer f) k (sending []))
@@ -103,7 +90,7 @@ pub failed_others : (w : WorldState) (f : ℕ) (q : WorldState × Entry) (x : St
 failed_others w f q (OfNode n x) h ne has = fail_step w (λ p. HasState p.0 (OfNode n x)) f q (λ g is works. record { number = has.number; alive = has.alive; state = has.state }) (next_taken w (FailServer f) q h).1
 failed_others w f q (OfServer k x) h ne has =
     fail_step w (λ p. HasState p.0 (OfServer k x)) f q (λ g is works.
-    let other : k ≡ g → ⊥ = λ e. ne (ap AServer (e ∙ sym (same_failed f g is))) in
+    let other : k ≡ g → ⊥ = λ e. ne (ap AServer (cc)) in
     record {
       number = has.number;
       working = at_number k g (λ b. (if b then false else w.working k) ≡ true) (λ same. absurd (other same)) (λ _. has.working);
@@ -124,7 +111,7 @@ failed_fences w f q (OfServer k x) h is same least =
     let known : has_file w k ≡ true = ap (has_file w) here ∙ (and_parts (may_rebuild w.shape.version) (has_file w f) taken.0).1 in
     let now : (w.servers k).epoch ≡ e = ap (λ (j : ℕ). (w.servers j).epoch) here ∙ sym same in
     fail_step w (λ p. is_declared p.0 (OfServer k x) ≡ true) f q (λ g at_g works.
-    let at : k ≡ g = here ∙ same_failed f g at_g in
+    let at : k ≡ g = cc in
     let stopped : (if k == g then false else w.working k) ≡ false = at_number k g (λ b. (if b then false else w.working k) ≡ false) (λ _. refl) (λ other. absurd (other at)) in
     (λ j. known j && (nat_le 1 e && (if stopped j then nat_lt e (w.servers k).epoch else nat_le e (now j)))) ∙ up_to_itself e least)
     taken.1
@@ -133,7 +120,8 @@ failed_fences w f q (OfServer k x) h is same least =
 pub started_entry : (w : WorldState) (f : ℕ) (q : WorldState × Entry) → next w (StartServer f) ≡ Ok q → (k : ℕ) × (q.1 ≡ entry (StartServer f) k (sending (outstanding (next_server w f))))
 started_entry w f q h =
     start_step w (λ p. (k : ℕ) × (p.1 ≡ entry (StartServer f) k (sending (outstanding (next_server w f))))) f q (λ g is stopped few.
-    ((w.servers g).epoch + 1, ap (λ (i : ℕ). entry (StartServer f) ((w.servers g).epoch + 1) (sending (outstanding (next_server w i)))) (sym (same_started f g is))))
+    let at : g ≡ f = cc in
+    ((w.servers g).epoch + 1, ap (λ (i : ℕ). entry (StartServer f) ((w.servers g).epoch + 1) (sending (outstanding (next_server w i)))) at))
     (next_taken w (StartServer f) q h).1
 
 -- a start leaves other actors as they are
@@ -141,7 +129,7 @@ pub started_others : (w : WorldState) (f : ℕ) (q : WorldState × Entry) (x : S
 started_others w f q (OfNode n x) h ne has = start_step w (λ p. HasState p.0 (OfNode n x)) f q (λ g is stopped few. record { number = has.number; alive = has.alive; state = has.state }) (next_taken w (StartServer f) q h).1
 started_others w f q (OfServer k x) h ne has =
     start_step w (λ p. HasState p.0 (OfServer k x)) f q (λ g is stopped few.
-    let other : k ≡ g → ⊥ = λ e. ne (ap AServer (e ∙ sym (same_started f g is))) in
+    let other : k ≡ g → ⊥ = λ e. ne (ap AServer (cc)) in
     record {
       number = has.number;
       working = at_number k g (λ b. (if b then true else w.working k) ≡ true) (λ same. refl) (λ _. has.working);
@@ -155,7 +143,7 @@ started_mine w f q s h stands =
     let known = (next_taken w (StartServer f) q h).0 in
     start_step w (λ p. s ≡ p.0.servers f → HasServer p.0 f s) f q (λ g is stopped few here. record {
       number = (and_parts (may_rebuild w.shape.version) (has_file w f) known).1;
-      working = at_number f g (λ b. (if b then true else w.working f) ≡ true) (λ same. refl) (λ other. absurd (other (same_started f g is)));
+      working = at_number f g (λ b. (if b then true else w.working f) ≡ true) (λ same. refl) (λ other. absurd (other (cc)));
       state = sym here;
     })
     (next_taken w (StartServer f) q h).1 stands
