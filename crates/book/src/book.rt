@@ -207,7 +207,7 @@ impl<J: Name> Book<J> {
         let seen = seen_of(seen);
         accepts(&self.run, &self.spots, seat, &prepared, seen)?;
         let parts = prepared.into_parts();
-        take_next(&mut self.run, alloc, parts.event)?;
+        take_next(&mut self.run, alloc, parts.event).map_err(|_| CommitError::NoMemory)?;
         let outcome = seat.advance(parts.edit, parts.outcome);
         let spot = self.spots.note(seat.state());
         seat.stand_at(spot);

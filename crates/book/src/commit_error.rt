@@ -1,8 +1,4 @@
 //! Why a step is not taken.
-ghost use Rattle.std.specs.Prelude.{◌≡◌};
-ghost use Rattle.book.specs.declared.commit_error.CommitError.TheVariants.{NoMemory};
-
-use std::alloc::{AllocError, AllocFailed};
 use thiserror::Error;
 
 /// What a commit may be refused for.
@@ -24,20 +20,4 @@ pub enum CommitError {
     /// The step or the seat is not of the state that stands in the book.
     #[error("the step is of another state")]
     Stale,
-}
-
-impl From<AllocError> for CommitError {
-    ghost from_gives = { λ error made. made ≡ NoMemory };
-
-    fn from(_error: AllocError) -> CommitError {
-        CommitError::NoMemory
-    }
-}
-
-impl<T: Drop> From<AllocFailed<T>> for CommitError {
-    ghost from_gives = { λ error made. made ≡ NoMemory };
-
-    fn from(_error: AllocFailed<T>) -> CommitError {
-        CommitError::NoMemory
-    }
 }

@@ -1,5 +1,8 @@
-use Rattle.std.proofs.Common.{◌≡◌, ℕ, sym, ap, ◌∙◌, subst, option_copied, Ok}
+use Rattle.std.proofs.Common.{◌≡◌, ℕ, true, false, sym, ap, ◌∙◌, subst, option_copied, Result, Ok, Err}
+use Rattle.std.proofs.lemmas.Bool.{false≢true}
 use Rattle.std.proofs.lemmas.Result.{err_from_is_err_and}
+use Rattle.std.specs.Prelude.{OnErr, OnOk, is_ok}
+use Rattle.std.specs.declared.alloc.AllocError.{AllocError}
 use Rattle.messages.specs.declared.event.Event.{Event}
 use Rattle.messages.specs.declared.entry.Entry.{Entry}
 use Rattle.cluster_core.specs.World.{WorldState}
@@ -32,6 +35,15 @@ advance-outcome-requires-clause-fits g c =
     let step : IsStepFrom c.args.seat.now c.args.prepared = c.requires c.in_ok-accepts.ensures.tests.0.named in
     subst (λ (e : Edit). Fits c.args.seat.now.state e) (sym c.into_parts-parts.ensures.edit) step.0
 
+-- what holds of a run that went on, and of one that did not
+where_ok : {P : Type 0} (r : Result (Unit {0}) AllocError) → is_ok r ≡ true → OnOk r P → P
+where_ok (Ok done) is holds = holds
+where_ok (Err why) is holds = absurd (false≢true is)
+
+where_err : {P : Type 0} (r : Result (Unit {0}) AllocError) → is_ok r ≡ false → OnErr r P → P
+where_err (Ok done) is holds = absurd (false≢true (sym is))
+where_err (Err why) is holds = holds
+
 -- what was committed
 made : (g : Over) (c : goal.After-new g) → Commits c.self.inside.run c.args.seat.now c.args.prepared (seen_at (option_copied c.args.seen)) c.take_next.new.run c.stand_at.new.self c.new.result
 made g c =
@@ -49,7 +61,8 @@ made g c =
     let said = ap (λ (x : StampFields). x.event) is ∙ parts.ensures.told in
     let gave = ap (λ (x : StampFields). x.outcome) is ∙ c.advance-outcome.ensures.outcome ∙ parts.ensures.outcome in
     let seen_is = ap (λ (x : StampFields). x.seen) is in
-    let went = subst (λ (e : Event). GoesOn b e d) parts.ensures.event c.in_ok-take_next.ensures.ok in
+    let is_ok_there = sym c.map_err.ensures.variant ∙ ap is_ok c.in_ok-map_err.was in
+    let went = subst (λ (e : Event). GoesOn b e d) parts.ensures.event (where_ok c.take_next.result is_ok_there c.take_next.ensures.ok) in
     let becomes = subst (λ (e : Edit). Becomes s.state e r.state) parts.ensures.edit c.advance-outcome.ensures.state in
     let at_mark : Commits b s p c.seen_of-seen.result d r t = committed b d s r p c.seen_of-seen.result t accepted step went becomes c.advance-outcome.ensures.commits position said gave seen_is in
     let seen : Commits b s p (seen_at (option_copied c.args.seen)) d r t = subst (λ (n : ℕ). Commits b s p n d r t) c.seen_of-seen.ensures at_mark in
@@ -68,7 +81,10 @@ returns-in_err-accepts-clause-outcome g c =
     rw (told.1, told.2) (subst (λ (x : RunFields). Refuses x s p (seen_at (option_copied c.args.seen)) e) c.self.view_is here)
 
 pub invariant_of-self : goal.invariant_of-self
-invariant_of-self g c = subst (λ (r : RunFields). AreReached (world_state r.world) c.self.inside.spots) (sym c.in_err-take_next.ensures.unchanged) c.self.invariant
+invariant_of-self g c =
+    let is_err_there = sym c.map_err.ensures.variant ∙ ap is_ok c.in_err-map_err.was in
+    let unchanged = where_err c.take_next.result is_err_there c.take_next.ensures.unchanged in
+    subst (λ (r : RunFields). AreReached (world_state r.world) c.self.inside.spots) (sym unchanged) c.self.invariant
 
 pub invariant_of-self-2 : goal.invariant_of-self-2
 invariant_of-self-2 g c =
