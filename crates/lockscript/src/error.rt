@@ -2,7 +2,7 @@
 ghost use Rattle.std.specs.Prelude.{◌≡◌};
 ghost use Rattle.lockscript.specs.declared.error.ParseError.TheVariants.{NoMemory};
 
-use std::alloc::{AllocError, AllocFailed};
+use std::alloc::AllocError;
 use thiserror::Error;
 
 /// Why a text is no script, or no journal.
@@ -21,14 +21,6 @@ impl From<AllocError> for ParseError {
     ghost from_gives = { λ error made. made ≡ NoMemory };
 
     fn from(_error: AllocError) -> ParseError {
-        ParseError::NoMemory
-    }
-}
-
-impl<T: Drop> From<AllocFailed<T>> for ParseError {
-    ghost from_gives = { λ error made. made ≡ NoMemory };
-
-    fn from(_error: AllocFailed<T>) -> ParseError {
         ParseError::NoMemory
     }
 }
