@@ -2,7 +2,7 @@
 ghost use Rattle.std.specs.Prelude.{◌≡◌};
 ghost use Rattle.recordings.specs.declared.error.RecordingError.TheVariants.{NoMemory};
 
-use std::alloc::{AllocError, AllocFailed};
+use std::alloc::AllocError;
 use thiserror::Error;
 
 /// Why no script is made of a recording.
@@ -23,14 +23,6 @@ impl From<AllocError> for RecordingError {
     ghost from_gives = { λ error made. made ≡ NoMemory };
 
     fn from(_error: AllocError) -> RecordingError {
-        RecordingError::NoMemory
-    }
-}
-
-impl<T: Drop> From<AllocFailed<T>> for RecordingError {
-    ghost from_gives = { λ error made. made ≡ NoMemory };
-
-    fn from(_error: AllocFailed<T>) -> RecordingError {
         RecordingError::NoMemory
     }
 }
