@@ -1,14 +1,9 @@
 use Rattle.std.proofs.Common.{[], ◌∷◌, ◌++◌}
 use Rattle.std.proofs.lemmas.Result.{err_from_is_err_and}
-use Rattle.lockscript.proofs.BadLines.{bad-line, bad-told, bad-unfinished}
+use Rattle.lockscript.proofs.BadLines.{bad-line, bad-unfinished}
 use Rattle.lockscript.proofs.Begun.{begun-line, script-begun}
 use Rattle.lockscript.specs.Scripts.{script_of}
 use Rattle.lockscript.proofs.script.check.Goals as goal
-
-pub returns-in_err-shape_in-clause-bad : goal.returns-in_err-shape_in-clause-bad
-returns-in_err-shape_in-clause-bad c =
-    let p = err_from_is_err_and c.from_residual.result c.from_residual.ensures.1 in
-    rw (p.1, p.2) (bad-told c.args.text.now _ (rw c.new-source.ensures.rest at c.in_err-shape_in.ensures.bad))
 
 pub returns-in_err-line-clause-bad : goal.returns-in_err-line-clause-bad
 returns-in_err-line-clause-bad c =

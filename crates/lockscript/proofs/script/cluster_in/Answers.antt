@@ -1,19 +1,8 @@
-use Rattle.std.proofs.Common.{[], refl, sym}
+use Rattle.std.proofs.Common.{[], refl}
 use Rattle.std.proofs.lemmas.Result.{err_from_is_err_and}
 use Rattle.lockscript.specs.Scripts.IsBad.{has_no_cluster, has_no_end}
 use Rattle.lockscript.proofs.BadLines.{bad-first, bad-none}
 use Rattle.lockscript.proofs.script.cluster_in.Goals as goal
-
-pub returns-in-Some-shape_of-clause-cluster : goal.returns-in-Some-shape_of-clause-cluster
-returns-in-Some-shape_of-clause-cluster c =
-    let line = rw c.in-Some.is at c.in_ok-first.ensures.line in
-    let found = rw c.requires at line.1 in
-    record { line = c.in-Some.first.text.now; finds = found; names = c.in-Some-shape_of.ensures.1; shape_in = c.in-Some-shape_of.ensures.0 }
-
-pub returns-in-Some-shape_of-clause-taken : goal.returns-in-Some-shape_of-clause-taken
-returns-in-Some-shape_of-clause-taken c =
-    let line = rw c.in-Some.is at c.in_ok-first.ensures.line in
-    sym line.0
 
 pub returns-in-None-clause-bad : goal.returns-in-None-clause-bad
 returns-in-None-clause-bad c =

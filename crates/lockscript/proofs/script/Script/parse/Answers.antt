@@ -1,13 +1,8 @@
 use Rattle.std.proofs.lemmas.Result.{err_from_is_err_and}
-use Rattle.lockscript.proofs.BadLines.{bad-line, bad-refused, bad-told, bad-unfinished}
+use Rattle.lockscript.proofs.BadLines.{bad-line, bad-unfinished}
 use Rattle.lockscript.proofs.Begun.{begun-line, script-begun}
 use Rattle.lockscript.specs.Scripts.{script_of}
 use Rattle.lockscript.proofs.script.Script.parse.Goals as goal
-
-pub returns-in_err-shape-clause-refused : goal.returns-in_err-shape-clause-refused
-returns-in_err-shape-clause-refused c =
-    let p = err_from_is_err_and c.from_residual.result c.from_residual.ensures.1 in
-    rw (p.1, p.2) (bad-refused c.args.text.now _ (bad-told c.args.text.now _ (rw c.new-source.ensures.rest at c.in_err-shape.ensures.bad)))
 
 pub returns-in_err-line-clause-refused : goal.returns-in_err-line-clause-refused
 returns-in_err-line-clause-refused c =

@@ -1,11 +1,6 @@
-use Rattle.std.proofs.lemmas.Result.{err_from_is_err_and, IfErr-weaker, IfOk-weaker}
+use Rattle.std.proofs.lemmas.Result.{IfErr-weaker, IfOk-weaker}
 use Rattle.lockscript.proofs.ShapedTexts.{one-for-shape, refused-for-shape}
 use Rattle.lockscript.proofs.script.Script.parse_for_shape.Goals as goal
-
-pub returns-in_err-check_shape-clause-refused : goal.returns-in_err-check_shape-clause-refused
-returns-in_err-check_shape-clause-refused c =
-    let p = err_from_is_err_and c.from_residual.result c.from_residual.ensures.1 in
-    rw (p.1, p.2) (c.in_err-check_shape.ensures.bad.1)
 
 pub returns-clause-script : goal.returns-clause-script
 returns-clause-script c =
