@@ -6,7 +6,6 @@ pub mod FirstBadLines
 pub mod OneReading
 pub mod ThreadScripts
 pub mod ShapedTexts
-pub mod SingleWords
 pub mod FieldTexts
 pub mod OperationKinds
 pub mod CommandKinds
