@@ -10,7 +10,7 @@ use model::lock_info::LockInfo;
 use model::mode::Mode;
 
 /// A node's answer where a token server revokes bytes of its token.
-#[derive(Clone, Copy)]
+#[derive(Clone, Copy, PartialEq, Eq)]
 pub enum GaveUp {
     /// The bytes that were given up.
     Released(Span),
