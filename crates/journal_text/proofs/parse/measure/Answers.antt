@@ -1,10 +1,8 @@
-use Rattle.std.proofs.Common.{refl, sym, ap, subst, ◌∙◌}
+use Rattle.std.proofs.Common.{refl, subst, ◌∙◌}
 use Rattle.std.proofs.lemmas.Result.{err_from_is_err_and}
 use Rattle.messages.specs.declared.version.Version.{Version}
-use Rattle.journal_text.specs.declared.place.Place.{Place}
-use Rattle.journal_text.specs.Built.{BuilderFields}
 use Rattle.journal_text.specs.Places.{IsStuck, StandsNext}
-use Rattle.journal_text.proofs.Standing.{standing-counted, standing-first, standing-passed, standing-stuck, standing-whole}
+use Rattle.journal_text.proofs.Standing.{standing-first, standing-passed, standing-stuck}
 use Rattle.journal_text.proofs.Steps.{built_of}
 use Rattle.journal_text.proofs.Steps.Reading.{nothing}
 use Rattle.journal_text.proofs.parse.measure.Goals as goal
@@ -35,14 +33,3 @@ loop-preserved c =
     let line = c.in_ok-pass_line.ensures.passed c.if-branch.true in
     let stands = subst (λ (v : Version). StandsNext v here.place here.rest.now line.0 after.place after.rest.now) c.version.ensures line.1 in
     standing-passed c.args.text.now c.in_ok-shape.shape here.rest.now here.taken here.place at_loop.0 line.0 after.place after.rest.now after.taken at_loop.1 stands line.2
-
-pub returns-clause-journal : goal.returns-clause-journal
-returns-clause-journal c =
-    let here = c.loop.reader in
-    let at_loop = c.loop.invariant in
-    let ended = c.in_ok-pass_line.ensures.ended c.if-branch.false in
-    let same = ap (λ (q : Place). q.count) ended.3 in
-    let phase = ap (λ (q : Place). q.phase) (sym ended.3) ∙ ended.1 in
-    let counted = standing-counted c.args.text.now c.in_ok-shape.shape here.rest.now here.taken here.place at_loop.0 at_loop.1 phase in
-    let b : BuilderFields = at_loop.0 in
-    (b.entries, standing-whole c.args.text.now c.in_ok-shape.shape here.rest.now here.taken here.place b at_loop.1 (sym ended.2 ∙ ended.0) phase, c.count.ensures ∙ same ∙ counted)
