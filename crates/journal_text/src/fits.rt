@@ -1,8 +1,7 @@
 //! What the types of the parts of an entry hold it to. These functions only say it: they change nothing.
 ghost use Rattle.std.specs.Prelude.{All, IfSome};
 ghost use Rattle.model.specs.Limits.{IsCall};
-ghost use Rattle.lockscript.specs.Served.{IsDescriptor};
-ghost use Rattle.journal_text.specs.Fits.{FitsEntry, FitsEvent, FitsIncarnation, FitsMessage, FitsOp, IsServedAnswer};
+ghost use Rattle.journal_text.specs.Fits.{FitsEntry, FitsEvent, FitsMessage, FitsOp, IsServedAnswer};
 ghost use Rattle.journal_text.specs.Served.{IsServedReply};
 
 use message_text::fits::{call_fits, lock_fits, message_fits};
@@ -13,17 +12,13 @@ use model::call::CallId;
 use model::op::Op;
 use model::reply::Reply;
 
-fn descriptor_fits(fd: u8)
-    ensures { IsDescriptor fd }
-{
-    let _fd = fd;
-}
-
 fn reply_fits(reply: &Reply)
     ensures { IsServedReply reply.now }
 {
     match *reply {
-        Reply::Fd(fd) => descriptor_fits(fd),
+        Reply::Fd(fd) => {
+            let _fd = fd;
+        }
         Reply::Again(lock) | Reply::Blocked(lock) => lock_fits(lock),
         Reply::Done
         | Reply::Free
@@ -59,15 +54,11 @@ fn event_fits(event: &Event)
     match event {
         Event::Call { op, .. } => op_fits(*op),
         Event::Deliver(message) => message_fits(message),
-        Event::Learn { incarnation, .. } => incarnation_fits(*incarnation),
+        Event::Learn { incarnation, .. } => {
+            let _incarnation = *incarnation;
+        }
         _ => (),
     }
-}
-
-fn incarnation_fits(incarnation: u16)
-    ensures { FitsIncarnation incarnation }
-{
-    let _incarnation = incarnation;
 }
 
 fn name_fits(call: Option<CallId>)
@@ -90,7 +81,7 @@ fn entry_fits(entry: &Entry)
     ensures { FitsEntry entry.now }
 {
     event_fits(entry.event());
-    incarnation_fits(entry.incarnation());
+    let _incarnation = entry.incarnation();
     name_fits(entry.call());
     answer_fits(entry.reply());
     messages_fit(entry.sends());
