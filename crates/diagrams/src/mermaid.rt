@@ -1,6 +1,8 @@
 //! Sequence diagrams, in Mermaid's text.
 ghost use Rattle.std.specs.Prelude.{◌≡◌, ◌++◌, filter_map, flat_map, option_to_list, string_bytes, IfOk, OnOk};
 ghost use Rattle.std.specs.Option.{option_copied};
+ghost use Rattle.pictures.specs.Bars.{bars};
+ghost use Rattle.pictures.specs.Rows.{rows};
 ghost use Rattle.diagrams.specs.Sequences.{all_text, diagram_text, entry_lines, lane_of, pair_id, participant_text, sequence_text};
 
 use crate::notes::{push_actor_id, push_entry_lines};
@@ -43,9 +45,7 @@ pub fn sequence(
 {
     let window = window.cut(entries.len() as u64);
     let part = stretch(alloc, &window, entries)?;
-    let bars = bars(alloc, &window, entries)?;
-    let rows = rows(alloc, shape, part.as_slice(), bars.as_slice())?;
-    let actors = lanes_of(alloc, rows.as_slice())?;
+    let actors = lanes(alloc, shape, &window, entries, part.as_slice())?;
     let deliveries = Deliveries::of(alloc, entries)?;
     let places = Places::of(alloc, history)?;
     let all = all_of(alloc, actors.as_slice())?;
@@ -60,6 +60,21 @@ pub fn sequence(
         part.as_slice(),
     )?;
     Ok(out)
+}
+
+// The nodes and the servers that take part in the window of the entries, which shows this part of them.
+fn lanes(
+    alloc: Global,
+    shape: &Shape,
+    window: &Window,
+    entries: &[Entry],
+    part: &[PlacedEntry<'_>],
+) -> Result<Vec<Actor>, AllocError>
+    ensures { IfOk result (λ actors. actors.items ≡ filter_map lane_of (rows shape.now part.now (bars window.now entries.now))) }
+{
+    let bars = bars(alloc, window, entries)?;
+    let rows = rows(alloc, shape, part, bars.as_slice())?;
+    lanes_of(alloc, rows.as_slice())
 }
 
 // The nodes and the servers that the rows are about.
