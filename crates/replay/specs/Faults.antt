@@ -36,6 +36,12 @@ IsUnread Holds RanShort path (CannotRead named) = (named.now ≡ path) × Holds 
 IsUnread Holds RanShort path NoMemory = RanShort
 IsUnread Holds RanShort path fault = ⊥
 
+-- why the text of the file of this path is not there: it has none, or memory is short
+abbrev pub IsTextless : (Option (List ℕ) → Type 0) → Type 0 → List ℕ → Fault → Type 0
+IsTextless Holds RanShort path (CannotRead named) = (named.now ≡ path) × HasNoText Holds
+IsTextless Holds RanShort path NoMemory = RanShort
+IsTextless Holds RanShort path fault = ⊥
+
 -- a fault at a file of this path: it has no text, memory is short where `RanShort` says it, or `Told` allows the fault, which may be short memory too
 abbrev pub IsFileFault : (Option (List ℕ) → Type 0) → Type 0 → List ℕ → (Fault → Type 0) → Fault → Type 0
 IsFileFault Holds RanShort path Told (CannotRead named) = (named.now ≡ path) × HasNoText Holds

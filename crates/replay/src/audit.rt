@@ -1,19 +1,18 @@
 //! Whether the journal of a file is one of a run, and its history.
-ghost use Rattle.std.specs.Prelude.{◌≡◌, ◌≢◌, ◌≤◌, string_bytes, IfErr, IfOk};
+ghost use Rattle.std.specs.Prelude.{◌≡◌, ◌≢◌, ◌≤◌, length, string_bytes, IfErr, IfOk};
 ghost use Rattle.cluster_core.specs.Journals.{JournalFields};
 ghost use Rattle.cluster_core.specs.World.{journal_limit};
 ghost use Rattle.command_line.specs.Tasks.{audit, history};
 ghost use Rattle.journal_text.specs.Readings.{HasLength};
-ghost use Rattle.messages.specs.declared.version.Version.TheVariants.{Second};
 ghost use Rattle.replay.specs.declared.fault.Fault.TheVariants.{CannotWriteOutput, NoMemory};
 ghost use Rattle.replay.specs.Audits.{HasJournal, HasNewJournal, IsAudited, IsHistoryText, IsVerdict, WritesFew};
 ghost use Rattle.replay.specs.Commands.{Does, IsFault};
-ghost use Rattle.replay.specs.Faults.{IsJournalFault, IsOldFault, IsOldTextFault, IsTextFault};
+ghost use Rattle.replay.specs.Faults.{IsJournalFault, IsOldFault, IsTextFault};
 ghost use Rattle.replay.specs.Stores.{SameFiles};
 
 use crate::auditor::Auditor;
 use crate::fault::Fault;
-use crate::input::bytes_of;
+use crate::input::text_of;
 use crate::shown::Shown;
 use crate::store::Store;
 use cluster_core::check_error::CheckError;
@@ -83,11 +82,8 @@ fn first_wrong<'a, S: Store, V: Watcher>(
     ensures fault { IfErr result (IsJournalFault (S.holds store.old path.now) (S.ran_short store.new) path.now) }
     ensures files { SameFiles (S.holds store.old) (S.holds store.new) }
 {
-    let bytes = bytes_of(alloc, store, path)?;
-    match str::from_utf8(bytes.as_slice()) {
-        Ok(text) => first_wrong_in(alloc, text, watcher),
-        Err(_) => Err(Fault::CannotRead(path)),
-    }
+    let text = text_of(alloc, store, path)?;
+    first_wrong_in(alloc, text.as_str(), watcher)
 }
 
 // The same of the journal that the text writes. Its entries are not kept. Where memory is short, what is wrong
@@ -156,12 +152,7 @@ pub(crate) fn checked<'a, S: Store>(
     ensures files { SameFiles (S.holds store.old) (S.holds store.new) }
 {
     let (shape, entries) = entries_of(alloc, store, path)?;
-    match Journal::check(alloc, shape, entries) {
-        Ok(journal) => Ok(Audited::Run(journal)),
-        Err(CheckError::NotARun(position)) => Ok(Audited::Wrong(position)),
-        Err(CheckError::JournalFull) => Err(Fault::JournalFull),
-        Err(CheckError::NoMemory) => Err(Fault::NoMemory),
-    }
+    audit_of(alloc, shape, entries)
 }
 
 // What an audit of the journal of a file comes to, behind which a run is to go on. One of version 1 is
@@ -176,6 +167,15 @@ pub(crate) fn checked_new<'a, S: Store>(
     ensures files { SameFiles (S.holds store.old) (S.holds store.new) }
 {
     let (shape, entries) = new_entries_of(alloc, store, path)?;
+    audit_of(alloc, shape, entries)
+}
+
+// What an audit of these entries of a cluster of this shape comes to.
+fn audit_of<'a>(alloc: Global, shape: Shape, entries: Vec<Entry>) -> Result<Audited, Fault<'a>>
+    requires { length entries.items ≤ journal_limit }
+    ensures audited { IfOk result (IsAudited (record { shape = shape; entries = entries.items })) }
+    ensures fault { IfErr result (λ fault. fault ≡ NoMemory) }
+{
     match Journal::check(alloc, shape, entries) {
         Ok(journal) => Ok(Audited::Run(journal)),
         Err(CheckError::NotARun(position)) => Ok(Audited::Wrong(position)),
@@ -194,18 +194,8 @@ fn new_entries_of<'a, S: Store>(
     ensures fault { IfErr result (IsOldFault (S.holds store.old path.now) (S.ran_short store.new) path.now) }
     ensures files { SameFiles (S.holds store.old) (S.holds store.new) }
 {
-    let bytes = bytes_of(alloc, store, path)?;
-    match str::from_utf8(bytes.as_slice()) {
-        Ok(text) => new_entries_in(alloc, text),
-        Err(_) => Err(Fault::CannotRead(path)),
-    }
-}
-
-// The shape and the entries of the journal of version 2 that the text writes.
-fn new_entries_in<'a>(alloc: Global, text: &str) -> Result<(Shape, Vec<Entry>), Fault<'a>>
-    ensures entries { IfOk result (λ made. WritesFew text.now (record { shape = made.0; entries = made.1.items }) × (made.0.version ≡ Second)) }
-    ensures fault { IfErr result (IsOldTextFault text.now) }
-{
+    let text = text_of(alloc, store, path)?;
+    let text = text.as_str();
     if is_old(text) {
         return Err(Fault::OldJournal);
     }
@@ -222,11 +212,8 @@ fn entries_of<'a, S: Store>(
     ensures fault { IfErr result (IsJournalFault (S.holds store.old path.now) (S.ran_short store.new) path.now) }
     ensures files { SameFiles (S.holds store.old) (S.holds store.new) }
 {
-    let bytes = bytes_of(alloc, store, path)?;
-    match str::from_utf8(bytes.as_slice()) {
-        Ok(text) => entries_in(alloc, text),
-        Err(_) => Err(Fault::CannotRead(path)),
-    }
+    let text = text_of(alloc, store, path)?;
+    entries_in(alloc, text.as_str())
 }
 
 // The shape and the entries of the journal that the text writes. Where memory is short, what is wrong with the

@@ -1,14 +1,21 @@
-use Rattle.std.proofs.Common.{inr}
+use Rattle.std.proofs.Common.{◌≡◌, inr, subst, sym}
+use Rattle.std.proofs.lemmas.Result.{IfErr-weaker, IfOk-weaker}
+use Rattle.cluster_core.specs.Journals.{JournalFields}
+use Rattle.replay.specs.declared.fault.Fault.TheVariants.{NoMemory}
+use Rattle.replay.specs.Audits.{HasNewJournal, IsAudited}
+use Rattle.replay.specs.Faults.{IsOldFault}
 use Rattle.replay.proofs.audit.checked_new.Goals as goal
 
-pub returns-in-Err-NotARun-clause-audited : goal.returns-in-Err-NotARun-clause-audited
-returns-in-Err-NotARun-clause-audited g c =
-    (record { shape = c.in_ok-shape.shape; entries = c.in_ok-shape.entries.items }, c.in_ok-shape.ensures.entries, c.in-Err-NotARun.ensures.wrong c.in-Err-NotARun.position (cc c.in-Err-NotARun.field-0-is))
+pub returns-clause-audited : goal.returns-clause-audited
+returns-clause-audited g c =
+    let Holds = g.S.Store.holds c.args.store.now c.args.path.now in
+    let j : JournalFields = record { shape = c.in_ok-shape.shape; entries = c.in_ok-shape.entries.items } in
+    IfOk-weaker c.audit_of.result (IsAudited j) (λ audited. (k : JournalFields) × HasNewJournal Holds k × IsAudited k audited) (λ audited is. (j, c.in_ok-shape.ensures.entries, is)) c.audit_of.ensures.audited
 
-pub returns-in-Err-JournalFull-clause-fault : goal.returns-in-Err-JournalFull-clause-fault
-returns-in-Err-JournalFull-clause-fault g c =
-    let has = c.in_ok-shape.ensures.entries in
-    (record { shape = c.in_ok-shape.shape; entries = c.in_ok-shape.entries.items }, has.0.0, has.1, c.in-Err-JournalFull.ensures.full.0 (cc c.in-Err-JournalFull.field-0-is))
-
-pub returns-in-Err-NoMemory-clause-fault : goal.returns-in-Err-NoMemory-clause-fault
-returns-in-Err-NoMemory-clause-fault g c = inr (record { shape = c.in_ok-shape.shape; entries = c.in_ok-shape.entries.items }, c.in_ok-shape.ensures.entries)
+pub returns-clause-fault : goal.returns-clause-fault
+returns-clause-fault g c =
+    let Holds = g.S.Store.holds c.args.store.now c.args.path.now in
+    let RanShort = g.S.Store.ran_short c.new_entries_of.new.store in
+    let j : JournalFields = record { shape = c.in_ok-shape.shape; entries = c.in_ok-shape.entries.items } in
+    let Is = IsOldFault Holds RanShort c.args.path.now in
+    IfErr-weaker c.audit_of.result (λ fault. fault ≡ NoMemory) Is (λ fault is. subst Is (sym is) (inr (j, c.in_ok-shape.ensures.entries))) c.audit_of.ensures.fault

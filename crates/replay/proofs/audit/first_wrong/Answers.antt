@@ -1,26 +1,27 @@
-use Rattle.std.proofs.Common.{◌∙◌, ℕ, List, IsUtf8, Some, subst, sym}
+use Rattle.std.proofs.Common.{ℕ, List, IsUtf8, Some, subst, sym}
 use Rattle.std.proofs.lemmas.Result.{IfErr-weaker, IfOk-weaker}
+use Rattle.std.proofs.lemmas.Str.{IsUtf8-string_bytes}
 use Rattle.cluster_core.specs.Journals.{JournalFields}
 use Rattle.replay.specs.Audits.{HasJournal, IsVerdict, WritesFew}
 use Rattle.replay.specs.Faults.{IsJournalFault, IsTextFault}
 use Rattle.replay.proofs.Journals.{has-journal, text-fault}
 use Rattle.replay.proofs.audit.first_wrong.Goals as goal
 
-pub returns-in-Ok-clause-verdict : goal.returns-in-Ok-clause-verdict
-returns-in-Ok-clause-verdict g c =
+pub returns-clause-verdict : goal.returns-clause-verdict
+returns-clause-verdict g c =
     let Holds = g.S.Store.holds c.args.store.now c.args.path.now in
-    let text = c.in-Ok.text.now in
-    let held = subst (λ (bytes : List ℕ). Holds (Some bytes)) (sym (c.in-Ok.ensures.cases.0 ∙ c.as_slice.ensures.value)) c.in_ok-bytes.ensures.bytes in
-    let utf8 = subst IsUtf8 (sym c.in-Ok.ensures.cases.0) c.in-Ok.ensures.cases.1 in
+    let text = c.as_str.result.now in
+    let held = subst (λ (bytes : List ℕ). Holds (Some bytes)) (sym c.as_str.ensures.value) c.in_ok-text.ensures.text in
+    let utf8 = subst IsUtf8 (sym c.as_str.ensures.value) (IsUtf8-string_bytes c.in_ok-text.text) in
     IfOk-weaker c.first_wrong_in.result (λ wrong. (j : JournalFields) × WritesFew text j × IsVerdict j wrong) (λ wrong. (j : JournalFields) × HasJournal Holds j × IsVerdict j wrong)
     (λ wrong found. (found.0, has-journal Holds text found.0 held utf8 found.1, found.2)) c.first_wrong_in.ensures.verdict
 
-pub returns-in-Ok-clause-fault : goal.returns-in-Ok-clause-fault
-returns-in-Ok-clause-fault g c =
+pub returns-clause-fault : goal.returns-clause-fault
+returns-clause-fault g c =
     let Holds = g.S.Store.holds c.args.store.now c.args.path.now in
-    let RanShort = g.S.Store.ran_short c.bytes_of.new.store in
-    let text = c.in-Ok.text.now in
-    let held = subst (λ (bytes : List ℕ). Holds (Some bytes)) (sym (c.in-Ok.ensures.cases.0 ∙ c.as_slice.ensures.value)) c.in_ok-bytes.ensures.bytes in
-    let utf8 = subst IsUtf8 (sym c.in-Ok.ensures.cases.0) c.in-Ok.ensures.cases.1 in
+    let RanShort = g.S.Store.ran_short c.text_of.new.store in
+    let text = c.as_str.result.now in
+    let held = subst (λ (bytes : List ℕ). Holds (Some bytes)) (sym c.as_str.ensures.value) c.in_ok-text.ensures.text in
+    let utf8 = subst IsUtf8 (sym c.as_str.ensures.value) (IsUtf8-string_bytes c.in_ok-text.text) in
     IfErr-weaker c.first_wrong_in.result (IsTextFault text) (IsJournalFault Holds RanShort c.args.path.now)
     (λ fault is. text-fault Holds RanShort c.args.path.now text fault held utf8 is) c.first_wrong_in.ensures.fault
