@@ -204,26 +204,18 @@ fn shown_of<'a, R: Threads + Wait + Clock + Sync, S: Store, V: Watcher + RunWatc
             journal,
             open,
             quiet,
-        } => run_shown(
-            alloc,
-            store,
-            script,
-            after,
-            journal,
-            Wanted { open, quiet },
-            watcher,
-        ),
+        } => {
+            let wanted = Wanted { open, quiet };
+            run_shown(alloc, store, script, after, journal, wanted, watcher)
+        }
         Line::Threads {
             script,
             seed,
-            stop_when_stuck,
+            stop_when_stuck: may_stop,
             no_join,
             journal,
         } => {
-            let manner = Manner {
-                no_join,
-                may_stop: stop_when_stuck,
-            };
+            let manner = Manner { no_join, may_stop };
             play_on_threads(rt, alloc, store, script, seed, manner, journal, watcher)
         }
         Line::Audit { journal } => audit(alloc, store, journal, watcher),
