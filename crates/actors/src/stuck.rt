@@ -2,7 +2,7 @@
 use messages::command_number::CommandNumber;
 use messages::entry::Entry;
 use messages::event::Event;
-use messages::message::{Message, Urgency};
+use messages::message::{Blocking, Message};
 use model::call::CallId;
 use model::host::Host;
 use std::alloc::{AllocError, Global};
@@ -100,12 +100,12 @@ fn request_of(message: &Message) -> Option<Request> {
         Message::Request {
             file,
             call,
-            urgency,
+            blocking,
             ..
         } => Some(Request {
             file: file.get(),
             call: *call,
-            waits: *urgency == Urgency::Waits,
+            waits: *blocking == Blocking::Yes,
         }),
         _ => None,
     }

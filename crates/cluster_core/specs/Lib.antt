@@ -3,7 +3,7 @@ pub mod Next
 pub mod Runs
 pub mod Parts
 pub mod Changes
-pub mod Known
+pub mod SentIndexes
 pub mod Journals
 pub mod Union
 pub mod Histories

@@ -87,7 +87,7 @@ impl Run {
     {
         let change = self.world.plan(alloc, &event)?;
         self.entries.reserve(1)?;
-        let entry = self.world.settle(alloc, event, change)?;
+        let entry = self.world.apply(alloc, event, change)?;
         self.entries.push_reserved(entry);
         Ok(())
     }

@@ -2,7 +2,7 @@
 ghost use Rattle.std.specs.Prelude.{◌≡◌, [], ◌∷◌, ◌++◌, OnOk, OnErr};
 ghost use Rattle.messages.specs.Messages.{is_among};
 
-use crate::known::Known;
+use crate::sent_index::SentIndex;
 use messages::message::Message;
 use std::alloc::{AllocError, Global};
 use std::marker::Model;
@@ -11,19 +11,19 @@ use std::marker::Model;
 #[derive(Drop)]
 pub struct Sent {
     messages: Vec<Message>,
-    known: Known,
+    index: SentIndex,
 }
 
 impl Model for Sent {
     ghost use Rattle.std.specs.Prelude.{List};
     ghost use Rattle.messages.specs.declared.message.Message.{Message};
-    ghost use Rattle.cluster_core.specs.Known.{Knows};
+    ghost use Rattle.cluster_core.specs.SentIndexes.{Knows};
 
     ghost Value = { List Message };
 
     ghost view = { λ s. s.messages.items };
 
-    ghost invariant = { λ s. Knows s.known.places s.known.others.items s.messages.items };
+    ghost invariant = { λ s. Knows s.index.places s.index.others.items s.messages.items };
 }
 
 impl Sent {
@@ -33,7 +33,7 @@ impl Sent {
     {
         Sent {
             messages: Vec::new(alloc),
-            known: Known::new(alloc),
+            index: SentIndex::new(alloc),
         }
     }
 
@@ -41,7 +41,7 @@ impl Sent {
     pub fn contains(&self, message: &Message) -> bool
         ensures { result ≡ is_among self.now message.now }
     {
-        self.known.has(self.messages.as_slice(), message)
+        self.index.has(self.messages.as_slice(), message)
     }
 
     /// The messages in order of sending.
@@ -59,10 +59,10 @@ impl Sent {
         ensures ok { OnOk result (self.new ≡ self.old ++ messages.now) }
         ensures err { OnErr result (self.new ≡ self.old) }
     {
-        self.known.reserve(messages.len())?;
+        self.index.reserve(messages.len())?;
         let start = self.messages.len();
         add_copies(alloc, &mut self.messages, messages)?;
-        self.known.note_from(self.messages.as_slice(), start);
+        self.index.note_from(self.messages.as_slice(), start);
         Ok(())
     }
 }

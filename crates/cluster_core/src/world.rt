@@ -579,7 +579,7 @@ impl World {
     ///
     /// # Errors
     /// `AllocError` where a request for memory was refused. The world is then as it was.
-    pub(crate) fn settle(
+    pub(crate) fn apply(
         &mut self,
         alloc: Global,
         event: Event,
@@ -623,7 +623,7 @@ impl World {
         ensures unchanged { OnErr result (self.new ≡ self.old) }
     {
         let change = self.plan(alloc, &event)?;
-        Ok(self.settle(alloc, event, change)?)
+        Ok(self.apply(alloc, event, change)?)
     }
 
     /// Every message that was sent so far, in order of sending; equal messages stand there each.

@@ -76,7 +76,7 @@ event_note version e over = together (note_start over ∷ plain_text version e �
 
 -- what a message is about: the call that it names, or else a node in one incarnation
 unfoldable pub subject_text : Message → List ℕ
-subject_text (Request file call urgency mode wanted) = call_text call
+subject_text (Request file call blocking mode wanted) = call_text call
 subject_text (Grant file number call mode span) = call_text call
 subject_text (Revoke file number holder call mode wanted) = call_text call
 subject_text (Taken file number call) = call_text call

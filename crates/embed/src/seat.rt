@@ -130,7 +130,7 @@ fn show_call(rt: &HostRuntime, node: &Node, call: &OpenCall) -> anyhow::Result<(
     let node = node.host().node;
     println!(rt;
         "  open: call {} of node {node}, {:?}",
-        call.number, call.intent
+        call.number, call.lock_command
     )?;
     show_span(rt, call.mode, call.span)
 }

@@ -73,7 +73,7 @@ rebuilds First early = absurd (early refl)
 rebuilds Second early = refl
 
 message-served : (version : Version) (m : Message) → FitsMessage m → (may_rebuild version ≡ false → IsEarly m) → IsServedMessage version m
-message-served version (message.Request file call urgency mode wanted) fits early = fits
+message-served version (message.Request file call blocking mode wanted) fits early = fits
 message-served version (message.Grant file number call mode span) fits early = (fits.0, number-served version number fits.1 early, fits.2, fits.3)
 message-served version (message.Revoke file number holder call mode wanted) fits early = (fits.0, number-served version number fits.1 early, fits.2, fits.3, fits.4)
 message-served version (message.Taken file number call) fits early = (fits.0, number-served version number fits.1 early, fits.2)

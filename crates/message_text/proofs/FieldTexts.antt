@@ -7,7 +7,7 @@ use Rattle.model.specs.Limits.{IsNumber, most_processes}
 use Rattle.model.specs.declared.level.Level.TheVariants.{Shared, Exclusive}
 use Rattle.messages.specs.Epochs.{IsRebuilt, epoch_of}
 use Rattle.messages.specs.Shapes.{most_files}
-use Rattle.messages.specs.declared.message.Urgency.TheVariants.{Now, Waits}
+use Rattle.messages.specs.declared.message.Blocking.TheVariants.{No, Yes}
 use Rattle.messages.specs.declared.token_run.TokenRun.{TokenRun}
 use Rattle.messages.specs.declared.version.Version.{Version}
 use Rattle.messages.specs.declared.version.Version.TheVariants.{First, Second}
@@ -18,12 +18,12 @@ use Rattle.texts.specs.Words.{level_text}
 use Rattle.texts.proofs.Pairs.{AllLack}
 use Rattle.texts.proofs.SingleWords.{lacks-tested}
 use Rattle.message_text.specs.Served.{AreServedRuns, IsCommandNumber, IsCounted, IsFile, IsServedSpan}
-use Rattle.message_text.specs.Texts.{command_text, epoch_text, run_text, runs_text, span_text, urgency_text}
+use Rattle.message_text.specs.Texts.{command_text, epoch_text, run_text, runs_text, span_text, blocking_text}
 use Rattle.message_text.proofs.AreTexts.{AreFields, AreTexts, both, number, up_to, viewed}
 use Rattle.message_text.proofs.Commands.{apart-epoch, command-back, epoch_words, with_epochs}
 use Rattle.message_text.proofs.ReportWords.{apart-runs, few_runs}
 use Rattle.message_text.proofs.SpanParts.{span}
-use Rattle.message_text.proofs.Words.{apart-urgency, lacks-append, urgency_words}
+use Rattle.message_text.proofs.Words.{apart-blocking, lacks-append, blocking_words}
 
 pub file : AreFields decimal IsFile
 file = up_to most_files (omega arith)
@@ -34,12 +34,12 @@ pid = up_to most_processes (omega arith)
 pub epoch : AreFields epoch_text IsRebuilt
 epoch = record { words = epoch_words; texts = record { apart = apart-epoch; feedless = λ n fits. number (epoch_of n) (omega (arith, fits.within)) } }
 
-urgencies : AllLack line_feed urgency_text (λ _. ⊤)
-urgencies Now fits = lacks-tested line_feed (codes "now") refl
-urgencies Waits fits = lacks-tested line_feed (codes "wait") refl
+blockings : AllLack line_feed blocking_text (λ _. ⊤)
+blockings No fits = lacks-tested line_feed (codes "now") refl
+blockings Yes fits = lacks-tested line_feed (codes "wait") refl
 
-pub urgency : AreFields urgency_text (λ _. ⊤)
-urgency = record { words = urgency_words; texts = record { apart = apart-urgency; feedless = urgencies } }
+pub blocking : AreFields blocking_text (λ _. ⊤)
+blocking = record { words = blocking_words; texts = record { apart = apart-blocking; feedless = blockings } }
 
 levels : AllLack line_feed level_text (λ _. ⊤)
 levels Shared fits = lacks-tested line_feed (codes "shared") refl

@@ -7,7 +7,7 @@ use Rattle.texts.proofs.FirstWords.{BeginsWithWord}
 use Rattle.message_text.specs.Served.{IsServedMessage}
 use Rattle.message_text.specs.Texts.{message_text}
 use Rattle.message_text.proofs.AreTexts.{AreTexts, both, mode, where_so}
-use Rattle.message_text.proofs.FieldTexts.{epoch, file, numbered, runs, urgency}
+use Rattle.message_text.proofs.FieldTexts.{epoch, file, numbered, runs, blocking}
 use Rattle.message_text.proofs.NameTexts.{call, holder}
 use Rattle.message_text.proofs.SpanParts.{lock, span, wants}
 use Rattle.message_text.proofs.Variants.{Variant, of_variants, variant}
@@ -21,8 +21,8 @@ module _ (version : Version) where
   MessageKind = Variant (message_text version) (IsServedMessage version)
 
   abbrev pub requests : MessageKind
-  requests = variant (codes "request ") refl (both file (both call (both urgency (both mode wants)))) (λ f. Request f.0 f.1.0 f.1.1.0 f.1.1.1.0 f.1.1.1.1) (λ f fit. (fit.0, fit.1.0, fit.1.1.1.1)) (λ f. refl)
-      (elim [ Request file call urgency mode wanted ↦ λ fits. inl ((file, (call, (urgency, (mode, wanted)))), (fits.0, (fits.1, (tt, (tt, fits.2)))), refl) | _ ↦ λ _. inr refl ])
+  requests = variant (codes "request ") refl (both file (both call (both blocking (both mode wants)))) (λ f. Request f.0 f.1.0 f.1.1.0 f.1.1.1.0 f.1.1.1.1) (λ f fit. (fit.0, fit.1.0, fit.1.1.1.1)) (λ f. refl)
+      (elim [ Request file call blocking mode wanted ↦ λ fits. inl ((file, (call, (blocking, (mode, wanted)))), (fits.0, (fits.1, (tt, (tt, fits.2)))), refl) | _ ↦ λ _. inr refl ])
 
   abbrev pub grants : MessageKind
   grants = variant (codes "grant ") refl (both file (numbered version (both call (both mode span)))) (λ f. Grant f.0 f.1.0 f.1.1.0 f.1.1.1.0 f.1.1.1.1) (λ f fit. (fit.0, fit.1.0, fit.1.1.0, fit.1.1.1.1)) (λ f. refl)

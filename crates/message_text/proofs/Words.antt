@@ -2,14 +2,14 @@
 use Rattle.std.proofs.Common.{ℕ, zero, suc, List, [], ◌∷◌, ◌++◌, refl, arith, codes, decimal}
 use Rattle.std.specs.Prelude.{⊤}
 use Rattle.model.specs.Limits.{IsCall}
-use Rattle.messages.specs.declared.message.Urgency.TheVariants.{Now, Waits}
+use Rattle.messages.specs.declared.message.Blocking.TheVariants.{No, Yes}
 use Rattle.texts.specs.Layout.{space}
 use Rattle.texts.specs.Reads.{Lacks}
 use Rattle.message_text.specs.Names.{call_text, host_text, holder_text}
 use Rattle.texts.proofs.Pairs.{AreApart, AreWords, heads}
 use Rattle.texts.proofs.SingleWords.{Lacks-decimal, one-word}
 use Rattle.message_text.specs.Served.{IsHolder}
-use Rattle.message_text.specs.Texts.{urgency_text}
+use Rattle.message_text.specs.Texts.{blocking_text}
 
 -- two texts without a byte are one without it
 pub lacks-append : (c : ℕ) (x y : List ℕ) → Lacks c x → Lacks c y → Lacks c (x ++ y)
@@ -29,12 +29,12 @@ call_words c fits =
     (lacks-append space (host_text c.node c.incarnation) (codes ".") (holder_words (record { node = c.node; incarnation = c.incarnation }) fits.host) (one-word (codes ".") refl))
     (Lacks-decimal c.number (omega (arith, fits.number_in.1)))
 
-pub urgency_words : AreWords urgency_text (λ _. ⊤)
-urgency_words Now fits = one-word (codes "now") refl
-urgency_words Waits fits = one-word (codes "wait") refl
+pub blocking_words : AreWords blocking_text (λ _. ⊤)
+blocking_words No fits = one-word (codes "now") refl
+blocking_words Yes fits = one-word (codes "wait") refl
 
-pub apart-urgency : AreApart urgency_text (λ _. ⊤)
-apart-urgency Now Now _ _ e = refl
-apart-urgency Now Waits _ _ e = absurd (omega (arith, heads 110 119 _ _ e))
-apart-urgency Waits Now _ _ e = absurd (omega (arith, heads 119 110 _ _ e))
-apart-urgency Waits Waits _ _ e = refl
+pub apart-blocking : AreApart blocking_text (λ _. ⊤)
+apart-blocking No No _ _ e = refl
+apart-blocking No Yes _ _ e = absurd (omega (arith, heads 110 119 _ _ e))
+apart-blocking Yes No _ _ e = absurd (omega (arith, heads 119 110 _ _ e))
+apart-blocking Yes Yes _ _ e = refl

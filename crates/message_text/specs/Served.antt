@@ -46,7 +46,7 @@ AreServedRuns runs = All (λ r. IsServedSpan r.span) runs × (are_longest runs �
 
 -- the two messages of servers that are rebuilt are written in no version in which none is
 abbrev pub IsServedMessage : Version → Message → Type 0
-IsServedMessage version (Request file call urgency mode wanted) = IsFile file × IsCall call × AreServedWants wanted
+IsServedMessage version (Request file call blocking mode wanted) = IsFile file × IsCall call × AreServedWants wanted
 IsServedMessage version (Grant file number call mode span) = IsFile file × IsCommandNumber version number × IsCall call × IsServedSpan span
 IsServedMessage version (Revoke file number holder call mode wanted) = IsFile file × IsCommandNumber version number × IsHolder holder × IsCall call × AreServedWants wanted
 IsServedMessage version (Taken file number call) = IsFile file × IsCommandNumber version number × IsCall call

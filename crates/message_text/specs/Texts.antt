@@ -5,8 +5,8 @@ use Rattle.messages.specs.Epochs.{begin_of, epoch_of}
 use Rattle.messages.specs.Wants.{Wants}
 use Rattle.messages.specs.declared.message.Message.{Message}
 use Rattle.messages.specs.declared.message.Message.TheVariants.{Request, Grant, Revoke, Taken, Released, Conflict, Deny, Freed, Hello, Report}
-use Rattle.messages.specs.declared.message.Urgency.{Urgency}
-use Rattle.messages.specs.declared.message.Urgency.TheVariants.{Now, Waits}
+use Rattle.messages.specs.declared.message.Blocking.{Blocking}
+use Rattle.messages.specs.declared.message.Blocking.TheVariants.{No, Yes}
 use Rattle.messages.specs.declared.token_run.TokenRun.{TokenRun}
 use Rattle.messages.specs.declared.version.Version.{Version}
 use Rattle.messages.specs.declared.version.Version.TheVariants.{First, Second}
@@ -15,9 +15,9 @@ use Rattle.texts.specs.Reads.{pair_text}
 use Rattle.texts.specs.Words.{level_text, mode_text}
 use Rattle.message_text.specs.Names.{call_text, holder_text, lock_text}
 
-abbrev pub urgency_text : Urgency → List ℕ
-urgency_text Now = codes "now"
-urgency_text Waits = codes "wait"
+abbrev pub blocking_text : Blocking → List ℕ
+blocking_text No = codes "now"
+blocking_text Yes = codes "wait"
 
 -- the first and the last byte
 abbrev pub span_text : Range → List ℕ
@@ -45,8 +45,8 @@ abbrev pub runs_text : List TokenRun → List ℕ
 runs_text runs = decimal (length runs) ++ flat_map (λ r. space ∷ run_text r) runs
 
 abbrev pub message_text : Version → Message → List ℕ
-message_text version (Request file call urgency mode wanted) =
-    codes "request " ++ pair_text decimal (pair_text call_text (pair_text urgency_text (pair_text mode_text wants_text))) (file, (call, (urgency, (mode, wanted))))
+message_text version (Request file call blocking mode wanted) =
+    codes "request " ++ pair_text decimal (pair_text call_text (pair_text blocking_text (pair_text mode_text wants_text))) (file, (call, (blocking, (mode, wanted))))
 message_text version (Grant file number call mode span) =
     codes "grant " ++ pair_text decimal (command_text version (pair_text call_text (pair_text mode_text span_text))) (file, (number, (call, (mode, span))))
 message_text version (Revoke file number holder call mode wanted) =

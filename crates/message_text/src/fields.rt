@@ -7,7 +7,7 @@ ghost use Rattle.texts.specs.Layout.{space};
 ghost use Rattle.texts.specs.Reads.{Both, Reads};
 ghost use Rattle.message_text.specs.Names.{call_text, lock_text, owner_text, holder_text};
 ghost use Rattle.message_text.specs.Served.{AreServedWants, IsCommandNumber, IsFile, IsHolder, IsServedLock, IsServedSpan};
-ghost use Rattle.message_text.specs.Texts.{command_text, epoch_text, span_text, urgency_text, wants_text};
+ghost use Rattle.message_text.specs.Texts.{command_text, epoch_text, span_text, blocking_text, wants_text};
 
 use crate::edition::Edition;
 use crate::names::{call_of, host_of, owner_of, push_call, push_host, push_lock, push_owner};
@@ -16,7 +16,7 @@ use intervals::span::Span;
 use messages::command_number::CommandNumber;
 use messages::epoch_number::EpochNumber;
 use messages::file_number::FileNumber;
-use messages::message::Urgency;
+use messages::message::Blocking;
 use messages::version::Version;
 use messages::wanted::Wanted;
 use model::call::CallId;
@@ -199,32 +199,32 @@ impl Word for CallName {
 }
 
 /// What a word says of a request: `now` or `wait`.
-pub(crate) struct UrgencyWord;
+pub(crate) struct BlockingWord;
 
-impl Text for UrgencyWord {
-    type Value = Urgency;
+impl Text for BlockingWord {
+    type Value = Blocking;
 
-    ghost text_of = { urgency_text };
+    ghost text_of = { blocking_text };
 
     ghost is_served = { λ _. ⊤ };
 
-    fn read(text: &str) -> Option<Urgency> {
+    fn read(text: &str) -> Option<Blocking> {
         match text {
-            "now" => Some(Urgency::Now),
-            "wait" => Some(Urgency::Waits),
+            "now" => Some(Blocking::No),
+            "wait" => Some(Blocking::Yes),
             _ => None,
         }
     }
 
-    fn write(value: &Urgency, out: &mut String) -> Result<(), AllocError> {
+    fn write(value: &Blocking, out: &mut String) -> Result<(), AllocError> {
         match value {
-            Urgency::Now => out.push_str("now"),
-            Urgency::Waits => out.push_str("wait"),
+            Blocking::No => out.push_str("now"),
+            Blocking::Yes => out.push_str("wait"),
         }
     }
 }
 
-impl Word for UrgencyWord {
+impl Word for BlockingWord {
     fn is_one_field() {}
 }
 

@@ -50,11 +50,11 @@ pub fn message_in<V: Edition>(text: &str) -> Option<WrittenMessage<'_>>
 fn request_of<V: Edition>(operands: &str) -> Option<WrittenMessage<'_>>
     ensures { Reads (message_text V.version) (IsServedMessage V.version) (codes "request " ++ operands.now) result }
 {
-    let (file, (call, (urgency, (mode, wanted)))) = RequestFields::read(operands)?;
+    let (file, (call, (blocking, (mode, wanted)))) = RequestFields::read(operands)?;
     Some(WrittenMessage::whole(Message::Request {
         file,
         call,
-        urgency,
+        blocking,
         mode,
         wanted,
     }))

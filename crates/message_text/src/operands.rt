@@ -1,11 +1,11 @@
 //! The fields of each kind of message.
 use crate::fields::{
-    CallName, EpochName, FileName, HostName, LockText, Numbered, SpanText, UrgencyWord, WantsText,
+    BlockingWord, CallName, EpochName, FileName, HostName, LockText, Numbered, SpanText, WantsText,
 };
 use model::mode::Mode;
 
 /// `F CALL KIND MODE R D`.
-pub(crate) type RequestFields = (FileName, (CallName, (UrgencyWord, (Mode, WantsText))));
+pub(crate) type RequestFields = (FileName, (CallName, (BlockingWord, (Mode, WantsText))));
 
 /// `F K CALL MODE LO HI`, with the epoch before K where the version has one.
 pub(crate) type GrantFields<V> = (FileName, Numbered<V, (CallName, (Mode, SpanText))>);

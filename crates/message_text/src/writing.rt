@@ -43,10 +43,10 @@ fn push_message_in<V: Edition>(out: &mut String, message: &Message) -> Result<()
         Request {
             file,
             call,
-            urgency,
+            blocking,
             mode,
             wanted,
-        } => push::<RequestFields>(out, "request ", &(file, (call, (urgency, (mode, wanted))))),
+        } => push::<RequestFields>(out, "request ", &(file, (call, (blocking, (mode, wanted))))),
         Taken { file, number, call } => {
             push::<TakenFields<V>>(out, "taken ", &(file, (number, call)))
         }

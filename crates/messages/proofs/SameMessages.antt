@@ -22,14 +22,14 @@ use Rattle.messages.specs.contracts.event.EventPartialEq.TheImpl as derived_of_e
 use Rattle.messages.specs.Wants.{Wants}
 use Rattle.messages.specs.declared.event.Event.{Event}
 use Rattle.messages.specs.declared.event.Event.TheVariants.{Call, Deliver, Interrupt, Retry, Resend, Declare, Restart, Learn, FailServer, StartServer}
-use Rattle.messages.specs.declared.message.Urgency.{Urgency}
-use Rattle.messages.specs.declared.message.Urgency.TheVariants.{Now, Waits}
+use Rattle.messages.specs.declared.message.Blocking.{Blocking}
+use Rattle.messages.specs.declared.message.Blocking.TheVariants.{No, Yes}
 use Rattle.messages.specs.declared.message.Message.{Message}
 use Rattle.messages.specs.declared.message.Message.TheVariants.{Request, Grant, Revoke, Taken, Released, Conflict, Deny, Freed, Hello, Report}
 use Rattle.messages.proofs.RunEquality.{runs_eq}
 use Rattle.messages.proofs.SameRuns.{range_exact, range_refl, runs_decide}
 use Rattle.messages.specs.TokenRuns.{same_range}
-use Rattle.messages.specs.Messages.{same_call, same_wants, same_urgency, same_host, same_lock, same_message, SameMessageIsEquality}
+use Rattle.messages.specs.Messages.{same_call, same_wants, same_blocking, same_host, same_lock, same_message, SameMessageIsEquality}
 
 -- a test that passes equals alone, and each with itself, decides equality
 exact_Decides : {A : Type 0} (same : A → A → Bool) → ((a b : A) → same a b ≡ true → a ≡ b) → ((a : A) → same a a ≡ true) → (a b : A) → Decides (same a b) (a ≡ b)
@@ -45,10 +45,10 @@ mode_Decides Read Read = (λ h. refl, λ e. refl)
 mode_Decides Write Write = (λ h. refl, λ e. refl)
 mode_Decides _ _ = (λ h. absurd (false≢true h), λ e. cc)
 
-urgency_Decides : (a b : Urgency) → Decides (same_urgency a b) (a ≡ b)
-urgency_Decides Now Now = (λ h. refl, λ e. refl)
-urgency_Decides Waits Waits = (λ h. refl, λ e. refl)
-urgency_Decides _ _ = (λ h. absurd (false≢true h), λ e. cc)
+blocking_Decides : (a b : Blocking) → Decides (same_blocking a b) (a ≡ b)
+blocking_Decides No No = (λ h. refl, λ e. refl)
+blocking_Decides Yes Yes = (λ h. refl, λ e. refl)
+blocking_Decides _ _ = (λ h. absurd (false≢true h), λ e. cc)
 
 range_Decides : (a b : Range) → Decides (same_range a b) (a ≡ b)
 range_Decides = exact_Decides same_range range_exact range_refl
@@ -89,8 +89,8 @@ call_refl a = (call_Decides a a).1 refl
 -- and so does the test of messages
 message_Decides : (a b : Message) → Decides (same_message a b) (a ≡ b)
 message_Decides (Request f c u m w) (Request g d v n x) =
-    Decides-like _ (λ (files, (calls, (urgencies, (modes, wants)))) i. Request (files i) (calls i) (urgencies i) (modes i) (wants i)) (λ e. (cc, (cc, (cc, (cc, cc)))))
-    (both (Decides-eqb f g) (both (call_Decides c d) (both (urgency_Decides u v) (both (mode_Decides m n) (wants_Decides w x)))))
+    Decides-like _ (λ (files, (calls, (blockings, (modes, wants)))) i. Request (files i) (calls i) (blockings i) (modes i) (wants i)) (λ e. (cc, (cc, (cc, (cc, cc)))))
+    (both (Decides-eqb f g) (both (call_Decides c d) (both (blocking_Decides u v) (both (mode_Decides m n) (wants_Decides w x)))))
 message_Decides (Grant f k c m s) (Grant g l d n t) =
     Decides-like _ (λ (files, (numbers, (calls, (modes, spans)))) i. Grant (files i) (numbers i) (calls i) (modes i) (spans i)) (λ e. (cc, (cc, (cc, (cc, cc)))))
     (both (Decides-eqb f g) (both (Decides-eqb k l) (both (call_Decides c d) (both (mode_Decides m n) (range_Decides s t)))))

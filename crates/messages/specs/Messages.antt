@@ -9,8 +9,8 @@ use Rattle.model.specs.declared.lock_info.LockInfo.{LockInfo}
 use Rattle.messages.specs.Wants.{Wants}
 use Rattle.messages.specs.declared.actor.Actor.{Actor}
 use Rattle.messages.specs.declared.actor.Actor.TheVariants.{Node as ANode, Server as AServer}
-use Rattle.messages.specs.declared.message.Urgency.{Urgency}
-use Rattle.messages.specs.declared.message.Urgency.TheVariants.{Now, Waits}
+use Rattle.messages.specs.declared.message.Blocking.{Blocking}
+use Rattle.messages.specs.declared.message.Blocking.TheVariants.{No, Yes}
 use Rattle.messages.specs.declared.message.Message.{Message}
 use Rattle.messages.specs.declared.message.Message.TheVariants.{Request, Grant, Revoke, Taken, Released, Conflict, Deny, Freed, Hello, Report}
 pub use Rattle.messages.specs.TokenRuns.{same_range, same_runs}
@@ -18,7 +18,7 @@ use Rattle.messages.specs.declared.outcome.Outcome.{Outcome}
 
 -- who takes the message
 abbrev pub addressee : Message → Actor
-addressee (Request file call urgency mode wanted) = AServer file
+addressee (Request file call blocking mode wanted) = AServer file
 addressee (Grant file number call mode span) = ANode call.node
 addressee (Revoke file number holder call mode wanted) = ANode holder.node
 addressee (Taken file number call) = AServer file
@@ -31,7 +31,7 @@ addressee (Report file number holder runs) = AServer file
 
 -- the node, in its incarnation, that sends the message or takes it
 abbrev pub host_of : Message → Host
-host_of (Request file call urgency mode wanted) = host_of_call call
+host_of (Request file call blocking mode wanted) = host_of_call call
 host_of (Grant file number call mode span) = host_of_call call
 host_of (Revoke file number holder call mode wanted) = holder
 host_of (Taken file number call) = host_of_call call
@@ -43,7 +43,7 @@ host_of (Hello file number holder) = holder
 host_of (Report file number holder runs) = holder
 
 abbrev pub file_of : Message → ℕ
-file_of (Request file call urgency mode wanted) = file
+file_of (Request file call blocking mode wanted) = file
 file_of (Grant file number call mode span) = file
 file_of (Revoke file number holder call mode wanted) = file
 file_of (Taken file number call) = file
@@ -72,17 +72,17 @@ same_call a b = (a.node == b.node) && ((a.incarnation == b.incarnation) && (a.nu
 abbrev pub same_wants : Wants → Wants → Bool
 same_wants a b = same_range a.required b.required && same_range a.desired b.desired
 
-abbrev pub same_urgency : Urgency → Urgency → Bool
-same_urgency Now Now = true
-same_urgency Waits Waits = true
-same_urgency _ _ = false
+abbrev pub same_blocking : Blocking → Blocking → Bool
+same_blocking No No = true
+same_blocking Yes Yes = true
+same_blocking _ _ = false
 
 abbrev pub same_lock : LockInfo → LockInfo → Bool
 same_lock a b = same_owner a.owner b.owner && (same_mode a.mode b.mode && same_range a.span b.span)
 
 -- messages are equal by value
 abbrev pub same_message : Message → Message → Bool
-same_message (Request f c u m w) (Request g d v n x) = (f == g) && (same_call c d && (same_urgency u v && (same_mode m n && same_wants w x)))
+same_message (Request f c u m w) (Request g d v n x) = (f == g) && (same_call c d && (same_blocking u v && (same_mode m n && same_wants w x)))
 same_message (Grant f k c m s) (Grant g l d n t) = (f == g) && ((k == l) && (same_call c d && (same_mode m n && same_range s t)))
 same_message (Revoke f k h c m w) (Revoke g l i d n x) = (f == g) && ((k == l) && (same_host h i && (same_call c d && (same_mode m n && same_wants w x))))
 same_message (Taken f k c) (Taken g l d) = (f == g) && ((k == l) && same_call c d)

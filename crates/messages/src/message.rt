@@ -17,11 +17,11 @@ use model::lock_info::LockInfo;
 use model::mode::Mode;
 use std::alloc::{AllocError, Global};
 
-/// What a request does where a lock blocks it: it is denied, or it waits.
+/// Whether a request waits where a lock blocks it (POSIX.1-2017 `fcntl()`, F_SETLKW), or is denied.
 #[derive(Clone, Copy, Debug, PartialEq, Eq, Hash)]
-pub enum Urgency {
-    Now,
-    Waits,
+pub enum Blocking {
+    No,
+    Yes,
 }
 
 /// A message, with the file that it is about, 1 to 256. `call` is the call of the node that asks,
@@ -33,7 +33,7 @@ pub enum Message {
     Request {
         file: FileNumber,
         call: CallId,
-        urgency: Urgency,
+        blocking: Blocking,
         mode: Mode,
         wanted: Wanted,
     },

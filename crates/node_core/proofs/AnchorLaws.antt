@@ -36,8 +36,8 @@ use Rattle.messages.specs.declared.outcome.Outcome.{Outcome}
 use Rattle.messages.specs.Messages.{addressee, host_of, file_of, is_within, greatest_number}
 use Rattle.node_core.specs.declared.event.NodeEvent.{NodeEvent}
 use Rattle.node_core.specs.declared.event.NodeEvent.TheVariants as event
-use Rattle.node_core.specs.declared.open_call.Intent.{Intent}
-use Rattle.node_core.specs.declared.open_call.Intent.TheVariants as intent
+use Rattle.node_core.specs.declared.open_call.LockCommand.{LockCommand}
+use Rattle.node_core.specs.declared.open_call.LockCommand.TheVariants as lock_command
 use Rattle.node_core.specs.declared.open_call.OpenCall.{OpenCall}
 use Rattle.node_core.specs.State.{NodeState, Effect, answered, quiet, sent, outcome, with_file, without_call_of, open_call, open_call_of, host, process, target_of}
 use Rattle.node_core.specs.Try.{settled, requested, refusal_of, answered_if, may_free, with_freed, with_freed_of, locked_by, answered_here, tried, tried_against, tried_if}
@@ -79,7 +79,7 @@ waits-on t u n i c goes w = record {
 }
 
 -- a call that passes its tests waits
-found-waits : (t : Table) (n i pid number : ℕ) (its : Intent) (mode : Mode) (need : Option Mode) (fd : ℕ) (kind : Kind) (start len : ℤ) (c : LockTarget) → IsNumber most_processes pid → target t (record { node = n; incarnation = i; pid = pid }) need fd kind start len ≡ Ok c → Waits t n i (record { number = number; pid = pid; intent = its; file = c.file; owner = c.owner; mode = mode; span = c.span })
+found-waits : (t : Table) (n i pid number : ℕ) (its : LockCommand) (mode : Mode) (need : Option Mode) (fd : ℕ) (kind : Kind) (start len : ℤ) (c : LockTarget) → IsNumber most_processes pid → target t (record { node = n; incarnation = i; pid = pid }) need fd kind start len ≡ Ok c → Waits t n i (record { number = number; pid = pid; lock_command = its; file = c.file; owner = c.owner; mode = mode; span = c.span })
 found-waits t n i pid number its mode need fd kind start len c pid_in found =
     let p : Process = record { node = n; incarnation = i; pid = pid } in
     let runs = if_then (is_running t p) (target_at p need kind (descriptor t p fd) (seg start len)) c NoProcess found in
@@ -125,8 +125,8 @@ settled-anchored s number pid answer follows others h =
 -- that locks may be gone is told at most
 freed-anchored : (file : ℕ) (e : Effect) → IsAnchored e.state → IsAnchored (with_freed file e).state
 freed-anchored file e h =
-    let told : Effect = record { state = with_file e.state file (record (e.state.files file) { asked = false }); reply = e.reply; sends = e.sends ++ Freed file (host e.state) ∷ [] } in
-    elim (e.state.files file).asked as (λ b. IsAnchored (if b then told else e).state) [ true ↦ h | false ↦ h ]
+    let told : Effect = record { state = with_file e.state file (record (e.state.files file) { owes_freed = false }); reply = e.reply; sends = e.sends ++ Freed file (host e.state) ∷ [] } in
+    elim (e.state.files file).owes_freed as (λ b. IsAnchored (if b then told else e).state) [ true ↦ h | false ↦ h ]
 
 freed_of-anchored : (passes : ℕ → Bool) (n : ℕ) (e : Effect) → IsAnchored e.state → IsAnchored (with_freed_of passes n e).state
 unfolding with_freed_of
@@ -163,17 +163,17 @@ set-anchored s c h w =
       waiting = λ k d lt. waits-on s.table u n i (get_or s.pending k d) (same_goes_on (s.table.on n i) (u.on n i) (get_or s.pending k d).pid same) (h.waiting k d lt);
     })
 
-here-anchored : (s : NodeState) (c : OpenCall) (i : Intent) → IsAnchored s → Waits s.table s.node s.incarnation c → IsAnchored (answered_here s c i).state
-here-anchored s c intent.Set h w = locked-anchored s c.number (target_of c) (Some c.mode) (set-anchored s c h w)
-here-anchored s c intent.Wait h w = locked-anchored s c.number (target_of c) (Some c.mode) (set-anchored s c h w)
-here-anchored s c intent.Query h w = answered-anchored s c.number Free h
+here-anchored : (s : NodeState) (c : OpenCall) (i : LockCommand) → IsAnchored s → Waits s.table s.node s.incarnation c → IsAnchored (answered_here s c i).state
+here-anchored s c lock_command.Set h w = locked-anchored s c.number (target_of c) (Some c.mode) (set-anchored s c h w)
+here-anchored s c lock_command.Wait h w = locked-anchored s c.number (target_of c) (Some c.mode) (set-anchored s c h w)
+here-anchored s c lock_command.Query h w = answered-anchored s c.number Free h
 
 -- an open call is tried
 tried-anchored : (s : NodeState) (c : OpenCall) → IsAnchored s → Waits s.table s.node s.incarnation c → IsAnchored (tried s c).state
 tried-anchored s c h w = elim (lowest_blocker (s.table.locks c.file) c.owner c.span c.mode) as (λ x. IsAnchored (tried_against s c x).state) [
-  | Some lock ↦ answered_if-anchored s c.number (refusal_of c.intent lock) h
-  | None ↦ elim (covers (s.files c.file).token c.span c.mode) as (λ b. IsAnchored (if b then answered_here s c c.intent else requested s c).state) [
-    | true ↦ here-anchored s c c.intent h w
+  | Some lock ↦ answered_if-anchored s c.number (refusal_of c.lock_command lock) h
+  | None ↦ elim (covers (s.files c.file).token c.span c.mode) as (λ b. IsAnchored (if b then answered_here s c c.lock_command else requested s c).state) [
+    | true ↦ here-anchored s c c.lock_command h w
     | false ↦ h
   ]
 ]
@@ -182,10 +182,10 @@ tried_if-anchored : (s : NodeState) (x : Option OpenCall) → IsAnchored s → I
 tried_if-anchored s None h w = h
 tried_if-anchored s (Some c) h w = tried-anchored s c h w
 
-lock_call-anchored : (s : NodeState) (number pid : ℕ) (its : Intent) (mode : Mode) (found : Result LockTarget Reply) → ((c : LockTarget) → found ≡ Ok c → Waits s.table s.node s.incarnation (record { number = number; pid = pid; intent = its; file = c.file; owner = c.owner; mode = mode; span = c.span })) → IsAnchored s → IsAnchored (lock_call s number pid its mode found).state
+lock_call-anchored : (s : NodeState) (number pid : ℕ) (its : LockCommand) (mode : Mode) (found : Result LockTarget Reply) → ((c : LockTarget) → found ≡ Ok c → Waits s.table s.node s.incarnation (record { number = number; pid = pid; lock_command = its; file = c.file; owner = c.owner; mode = mode; span = c.span })) → IsAnchored s → IsAnchored (lock_call s number pid its mode found).state
 lock_call-anchored s number pid its mode (Err refusal) waits h = answered-anchored s number refusal h
 lock_call-anchored s number pid its mode (Ok t) waits h =
-    let c : OpenCall = record { number = number; pid = pid; intent = its; file = t.file; owner = t.owner; mode = mode; span = t.span } in
+    let c : OpenCall = record { number = number; pid = pid; lock_command = its; file = t.file; owner = t.owner; mode = mode; span = t.span } in
     let w = waits t refl in
     tried-anchored (record s { pending = s.pending ++ c ∷ [] }) c (record { own = h.own; waiting = All-push (Waits s.table s.node s.incarnation) s.pending c h.waiting w }) w
 
@@ -235,14 +235,14 @@ called-anchored s number pid Exit pid_in known others h =
     not_its : (c : OpenCall) → not (c.pid == pid) ≡ true → c.pid ≡ pid → ⊥
     not_its c e same = both_ways (c.pid == pid) (not-true (c.pid == pid) e) (eq-eqb c.pid pid same)
 called-anchored s number pid (Set fd kind mode start len) pid_in known others h =
-    lock_call-anchored s number pid intent.Set mode (target s.table (process s pid) (Some mode) fd kind start len) (λ c found. found-waits s.table s.node s.incarnation pid number intent.Set mode (Some mode) fd kind start len c pid_in found) h
+    lock_call-anchored s number pid lock_command.Set mode (target s.table (process s pid) (Some mode) fd kind start len) (λ c found. found-waits s.table s.node s.incarnation pid number lock_command.Set mode (Some mode) fd kind start len c pid_in found) h
 called-anchored s number pid (Wait fd kind mode start len) pid_in known others h =
-    lock_call-anchored s number pid intent.Wait mode (target s.table (process s pid) (Some mode) fd kind start len) (λ c found. found-waits s.table s.node s.incarnation pid number intent.Wait mode (Some mode) fd kind start len c pid_in found) h
+    lock_call-anchored s number pid lock_command.Wait mode (target s.table (process s pid) (Some mode) fd kind start len) (λ c found. found-waits s.table s.node s.incarnation pid number lock_command.Wait mode (Some mode) fd kind start len c pid_in found) h
 called-anchored s number pid (Unlock fd kind start len) pid_in known others h =
     let found = target s.table (process s pid) None fd kind start len in
     unlocked-anchored s number found (settled-anchored s number pid (after_unlock s.table found) (unlock_follows s.table s.node s.incarnation pid fd kind start len pid_in h.own) others h)
 called-anchored s number pid (Query fd kind mode start len) pid_in known others h =
-    lock_call-anchored s number pid intent.Query mode (target s.table (process s pid) None fd kind start len) (λ c found. found-waits s.table s.node s.incarnation pid number intent.Query mode None fd kind start len c pid_in found) h
+    lock_call-anchored s number pid lock_command.Query mode (target s.table (process s pid) None fd kind start len) (λ c found. found-waits s.table s.node s.incarnation pid number lock_command.Query mode None fd kind start len c pid_in found) h
 
 -- what a step leaves
 abbrev Leaves : Result (NodeState × Outcome) StepError → Type 0
@@ -280,7 +280,7 @@ in_order-anchored s file number e h after =
 
 denied-anchored : (s : NodeState) (lock : LockInfo) (x : Option OpenCall) → IsAnchored s → IsAnchored (denied s lock x).state
 denied-anchored s lock None h = h
-denied-anchored s lock (Some c) h = answered_if-anchored s c.number (refusal_of c.intent lock) h
+denied-anchored s lock (Some c) h = answered_if-anchored s c.number (refusal_of c.lock_command lock) h
 
 -- a message is taken
 delivered-anchored : (s : NodeState) (m : Message) → IsAnchored s → IsAnchored (delivered s m).state
@@ -306,7 +306,7 @@ message-anchored s m h =
 
 interrupted-anchored : (s : NodeState) (x : Option OpenCall) → IsAnchored s → IsAnchored (interrupted s x).state
 interrupted-anchored s None h = h
-interrupted-anchored s (Some c) h = answered_if-anchored s c.number (interruption_of c.intent) h
+interrupted-anchored s (Some c) h = answered_if-anchored s c.number (interruption_of c.lock_command) h
 
 interrupt-anchored : (s : NodeState) (pid : ℕ) → IsAnchored s → Leaves (interrupt_rule s pid)
 interrupt-anchored s pid h =

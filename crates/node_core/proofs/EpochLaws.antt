@@ -24,7 +24,7 @@ use Rattle.node_core.proofs.PlanLaws.{on, if-if}
 pub in_epoch-file : (s : NodeState) (file number : ℕ) → (in_epoch s file number).files file ≡ renewed (s.files file) number
 in_epoch-file s file number = ap (λ (b : Bool). if b then renewed (s.files file) number else s.files file) (eq-eqb file file refl)
 
--- the token and what was asked stay
+-- the token stays, and whether a Freed is owed
 renewed-token : (f : FileState) (number : ℕ) → (renewed f number).token ≡ f.token
 renewed-token f number = by (nat_lt f.last (begin_of number))
   where
@@ -32,38 +32,38 @@ renewed-token f number = by (nat_lt f.last (begin_of number))
     by true = refl
     by false = refl
 
-renewed-asked : (f : FileState) (number : ℕ) → (renewed f number).asked ≡ f.asked
-renewed-asked f number = by (nat_lt f.last (begin_of number))
+renewed-owes : (f : FileState) (number : ℕ) → (renewed f number).owes_freed ≡ f.owes_freed
+renewed-owes f number = by (nat_lt f.last (begin_of number))
   where
-    by : (b : Bool) → (if b then record f { last = begin_of number; answer = None } else f).asked ≡ f.asked
+    by : (b : Bool) → (if b then record f { last = begin_of number; answer = None } else f).owes_freed ≡ f.owes_freed
     by true = refl
     by false = refl
 
 token-in : (s : NodeState) (file number : ℕ) → ((in_epoch s file number).files file).token ≡ (s.files file).token
 token-in s file number = ap (λ (f : FileState). f.token) (in_epoch-file s file number) ∙ renewed-token (s.files file) number
 
-asked-in : (s : NodeState) (file number : ℕ) → ((in_epoch s file number).files file).asked ≡ (s.files file).asked
-asked-in s file number = ap (λ (f : FileState). f.asked) (in_epoch-file s file number) ∙ renewed-asked (s.files file) number
+owes-in : (s : NodeState) (file number : ℕ) → ((in_epoch s file number).files file).owes_freed ≡ (s.files file).owes_freed
+owes-in s file number = ap (λ (f : FileState). f.owes_freed) (in_epoch-file s file number) ∙ renewed-owes (s.files file) number
 
 -- what a command that is done makes of the node does not hang on what came before
 done-in : (s : NodeState) (file number : ℕ) (token : Token) (answer : Message) (asked : Bool) → after_command (in_epoch s file number) file token number answer asked ≡ after_command s file token number answer asked
 done-in s file number token answer asked =
-    let done : FileState = record { token = token; last = number; answer = Some answer; asked = asked } in
+    let done : FileState = record { token = token; last = number; answer = Some answer; owes_freed = asked } in
     λ i. record s { files = λ f. if-if (f == file) done (renewed (s.files file) number) (s.files f) i }
 
 pub granted-in : (s : NodeState) (file number : ℕ) (call : CallId) (mode : Mode) (span : Range) → granted (in_epoch s file number) file number call mode span ≡ granted s file number call mode span
 granted-in s file number call mode span =
     let answer = Taken file number call in
     let tries : NodeState → Effect = λ next. before answer (tried_if next (open_call next call.number)) in
-    (λ i. tries (after_command (in_epoch s file number) file (raised (token-in s file number i) span mode) number answer (asked-in s file number i)))
-    ∙ ap tries (done-in s file number (raised (s.files file).token span mode) answer (s.files file).asked)
+    (λ i. tries (after_command (in_epoch s file number) file (raised (token-in s file number i) span mode) number answer (owes-in s file number i)))
+    ∙ ap tries (done-in s file number (raised (s.files file).token span mode) answer (s.files file).owes_freed)
 
 pub revoked-in : (s : NodeState) (file number : ℕ) (call : CallId) (mode : Mode) (wanted : Wants) → revoked (in_epoch s file number) file number call mode wanted ≡ revoked s file number call mode wanted
 revoked-in s file number call mode wanted =
     let gives = gave_up (s.table.locks file) s.node s.incarnation mode wanted.required wanted.desired in
     let answer = answer_to file number (host s) call gives in
-    (λ i. sent (after_command (in_epoch s file number) file (after_giving_up (token-in s file number i) mode gives) number answer (is_conflict gives || asked-in s file number i)) answer)
-    ∙ ap (λ (next : NodeState). sent next answer) (done-in s file number (after_giving_up (s.files file).token mode gives) answer (is_conflict gives || (s.files file).asked))
+    (λ i. sent (after_command (in_epoch s file number) file (after_giving_up (token-in s file number i) mode gives) number answer (is_conflict gives || owes-in s file number i)) answer)
+    ∙ ap (λ (next : NodeState). sent next answer) (done-in s file number (after_giving_up (s.files file).token mode gives) answer (is_conflict gives || (s.files file).owes_freed))
 
 -- a message is sent before the others
 pub effect-before : (p : NodeParts) (does : Effect) (first : Message) (e : EffectFields) (r : Result EffectFields AllocError) → does ≡ effect_of p e → IfOk r (λ a. a ≡ record { edit = e.edit; reply = e.reply; sends = first ∷ e.sends }) → IfOk r (λ a. before first does ≡ effect_of p a)

@@ -52,7 +52,7 @@ told-other files (f ∷ more) file below =
     let first : f < file = All-head (λ k. k < file) f more below in
     let other : file ≡ f → ⊥ = λ same. omega arith in
     told-other (told files f) more file (All-tail (λ k. k < file) f more below)
-    ∙ ap (λ (b : Bool). if b then record (files f) { asked = false } else files file) (ne_eqb file f other)
+    ∙ ap (λ (b : Bool). if b then record (files f) { owes_freed = false } else files file) (ne_eqb file f other)
 
 -- one more file is told
 pub told-push : (files : ℕ → FileState) (freed : List ℕ) (file : ℕ) → files_told files (freed ++ file ∷ []) ≡ told (files_told files freed) file
@@ -67,17 +67,17 @@ rises-more (f ∷ more) file rises =
     let here : f < file + 1 = omega arith in
     All-cons (λ k. k < file + 1) f more here (rises-more more file (All-tail (λ k. k < file) f more rises))
 
-asked-still : (p : NodeParts) (e : EffectFields) (file : ℕ) (b : Bool) → All (λ f. f < file) e.edit.freed → ((drafted p e.edit.draft).files file).asked ≡ b → ((planned p e.edit).files file).asked ≡ b
-asked-still p e file b rises asked =
-    ap (λ (f : FileState). f.asked) (told-other (drafted p e.edit.draft).files e.edit.freed file rises) ∙ asked
+owes-still : (p : NodeParts) (e : EffectFields) (file : ℕ) (b : Bool) → All (λ f. f < file) e.edit.freed → ((drafted p e.edit.draft).files file).owes_freed ≡ b → ((planned p e.edit).files file).owes_freed ≡ b
+owes-still p e file b rises asked =
+    ap (λ (f : FileState). f.owes_freed) (told-other (drafted p e.edit.draft).files e.edit.freed file rises) ∙ asked
 
 -- the server hears
-pub told-effect : (p : NodeParts) (e : EffectFields) (file : ℕ) (r : Result EffectFields AllocError) → All (λ f. f < file) e.edit.freed → ((drafted p e.edit.draft).files file).asked ≡ true → IfOk r (λ t. t ≡ record { edit = record e.edit { freed = e.edit.freed ++ file ∷ [] }; reply = e.reply; sends = e.sends ++ Freed file (host (node_state p)) ∷ [] }) → IfOk r (λ told. with_freed file (effect_of p e) ≡ effect_of p told)
+pub told-effect : (p : NodeParts) (e : EffectFields) (file : ℕ) (r : Result EffectFields AllocError) → All (λ f. f < file) e.edit.freed → ((drafted p e.edit.draft).files file).owes_freed ≡ true → IfOk r (λ t. t ≡ record { edit = record e.edit { freed = e.edit.freed ++ file ∷ [] }; reply = e.reply; sends = e.sends ++ Freed file (host (node_state p)) ∷ [] }) → IfOk r (λ told. with_freed file (effect_of p e) ≡ effect_of p told)
 told-effect p e file (Err x) rises asked made = tt
 told-effect p e file (Ok t) rises asked made =
     let files = (drafted p e.edit.draft).files in
     let hears : (ℕ → FileState) → Effect = λ known. record { state = record (planned p e.edit) { files = known }; reply = e.reply; sends = e.sends ++ Freed file (host (node_state p)) ∷ [] } in
-    on ((planned p e.edit).files file).asked (hears (told (files_told files e.edit.freed) file)) (effect_of p e) (asked-still p e file true rises asked)
+    on ((planned p e.edit).files file).owes_freed (hears (told (files_told files e.edit.freed) file)) (effect_of p e) (owes-still p e file true rises asked)
     ∙ ap hears (sym (told-push files e.edit.freed file))
     ∙ sym (ap (effect_of p) made)
 
@@ -95,11 +95,11 @@ told-rises e file m (Ok t) rises made =
     subst (λ (x : EffectFields). All (λ f. f < file + 1) x.edit.freed) (sym made) (All-push (λ f. f < file + 1) e.edit.freed file (rises-more e.edit.freed file rises) here)
 
 -- or it has no need to
-pub told-nothing : (p : NodeParts) (e : EffectFields) (file : ℕ) → All (λ f. f < file) e.edit.freed → ((drafted p e.edit.draft).files file).asked ≡ false → with_freed file (effect_of p e) ≡ effect_of p e
+pub told-nothing : (p : NodeParts) (e : EffectFields) (file : ℕ) → All (λ f. f < file) e.edit.freed → ((drafted p e.edit.draft).files file).owes_freed ≡ false → with_freed file (effect_of p e) ≡ effect_of p e
 told-nothing p e file rises asked =
     let files = (drafted p e.edit.draft).files in
     let heard : Effect = record { state = record (planned p e.edit) { files = told (files_told files e.edit.freed) file }; reply = e.reply; sends = e.sends ++ Freed file (host (node_state p)) ∷ [] } in
-    ap (λ (b : Bool). if b then heard else effect_of p e) (asked-still p e file false rises asked)
+    ap (λ (b : Bool). if b then heard else effect_of p e) (owes-still p e file false rises asked)
 
 -- what a step comes to
 pub outcome-planned : (p : NodeParts) (E : Effect) (e : EffectFields) (call : Option CallId) (change : Change) → E ≡ effect_of p e → change ≡ record { edit = e.edit; outcome = record { call = call; reply = e.reply; sends = e.sends } } → outcome call E ≡ (planned p change.edit, change.outcome)

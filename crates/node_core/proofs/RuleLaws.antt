@@ -34,8 +34,8 @@ use Rattle.messages.specs.declared.refusal.StepError.{StepError}
 use Rattle.messages.specs.declared.refusal.StepError.TheVariants.{Stranger, Busy, Spent}
 use Rattle.messages.specs.Messages.{is_within}
 use Rattle.node_core.specs.declared.open_call.OpenCall.{OpenCall}
-use Rattle.node_core.specs.declared.open_call.Intent.{Intent}
-use Rattle.node_core.specs.declared.open_call.Intent.TheVariants as intent
+use Rattle.node_core.specs.declared.open_call.LockCommand.{LockCommand}
+use Rattle.node_core.specs.declared.open_call.LockCommand.TheVariants as lock_command
 use Rattle.node_core.specs.State.{FileState, NodeState, Effect, host, process, id_of, open_call_of, target_of, outcome}
 use Rattle.node_core.specs.Try.{settled, requested, answered_if, may_free, with_freed, locked_by, answered_here, tried_against}
 use Rattle.node_core.specs.Calls.{is_pid, is_in_shape, is_exit, is_busy, lock_call, after_call, call_rule}
@@ -103,7 +103,7 @@ reply_if true x y e = e
 reply_if false x y e = refl
 
 with_freed-reply : (file : ℕ) (e : Effect) → (with_freed file e).reply ≡ e.reply
-with_freed-reply file e = reply_if (e.state.files file).asked _ e refl
+with_freed-reply file e = reply_if (e.state.files file).owes_freed _ e refl
 
 locked_by-reply : (s : NodeState) (number : ℕ) (t : LockTarget) (mode : Option Mode) → (locked_by s number t mode).reply ≡ Some (id_of s number, (lock_within s.table t mode).1)
 locked_by-reply s number t mode =
@@ -115,26 +115,26 @@ lock_within-done : (t : Table) (c : LockTarget) (mode : Option Mode) → regions
 lock_within-done t c mode h = taken (λ (a : Table × Reply). a.1 ≡ Done) (nat_le (regions_with t c mode) t.limit) (locked t c mode, Done) (t, NoLocks) (le-leb _ _ h) refl
 
 -- what asks for a lock that the node's own table then gives
-abbrev Locks : Intent → Type 0
+abbrev Locks : LockCommand → Type 0
 Locks its = (s : NodeState) (c : OpenCall) → answered_here s c its ≡ locked_by s c.number (target_of c) (Some c.mode)
 
 -- a call within the node's token that nothing is in the way of
-tried-done : (s : NodeState) (c : OpenCall) (r : Option LockInfo) → r ≡ None → Locks c.intent → covers (s.files c.file).token c.span c.mode ≡ true → regions_with s.table (target_of c) (Some c.mode) ≤ s.table.limit → (tried_against s c r).reply ≡ Some (id_of s c.number, Done)
+tried-done : (s : NodeState) (c : OpenCall) (r : Option LockInfo) → r ≡ None → Locks c.lock_command → covers (s.files c.file).token c.span c.mode ≡ true → regions_with s.table (target_of c) (Some c.mode) ≤ s.table.limit → (tried_against s c r).reply ≡ Some (id_of s c.number, Done)
 tried-done s c r none locks covered few =
     ap (λ (r : Option LockInfo). (tried_against s c r).reply) none
-    ∙ taken (λ (e : Effect). e.reply ≡ Some (id_of s c.number, Done)) (covers (s.files c.file).token c.span c.mode) (answered_here s c c.intent) (requested s c) covered (
+    ∙ taken (λ (e : Effect). e.reply ≡ Some (id_of s c.number, Done)) (covers (s.files c.file).token c.span c.mode) (answered_here s c c.lock_command) (requested s c) covered (
     ap (λ (e : Effect). e.reply) (locks s c)
     ∙ locked_by-reply s c.number (target_of c) (Some c.mode)
     ∙ ap (λ (a : Reply). Some (id_of s c.number, a)) (lock_within-done s.table (target_of c) (Some c.mode) few))
 
 -- so such a call for a lock is answered Done
-lock_call-done : (s : NodeState) (number pid : ℕ) (its : Intent) (fd : ℕ) (kind : Kind) (mode : Mode) (start len : ℤ) (t : LockTarget) → Locks its → target s.table (process s pid) (Some mode) fd kind start len ≡ Ok t → IsOfNode (s.table.locks t.file) s.node s.incarnation → IsFree (s.table.locks t.file) t.owner t.span mode → covers (s.files t.file).token t.span mode ≡ true → regions_with s.table t (Some mode) ≤ s.table.limit → (lock_call s number pid its mode (target s.table (process s pid) (Some mode) fd kind start len)).reply ≡ Some (id_of s number, Done)
+lock_call-done : (s : NodeState) (number pid : ℕ) (its : LockCommand) (fd : ℕ) (kind : Kind) (mode : Mode) (start len : ℤ) (t : LockTarget) → Locks its → target s.table (process s pid) (Some mode) fd kind start len ≡ Ok t → IsOfNode (s.table.locks t.file) s.node s.incarnation → IsFree (s.table.locks t.file) t.owner t.span mode → covers (s.files t.file).token t.span mode ≡ true → regions_with s.table t (Some mode) ≤ s.table.limit → (lock_call s number pid its mode (target s.table (process s pid) (Some mode) fd kind start len)).reply ≡ Some (id_of s number, Done)
 lock_call-done s number pid its fd kind mode start len t locks is own free covered few =
     let about : IsAbout (process s pid) t = subst (λ (r : Result LockTarget Reply). IfOk r (IsAbout (process s pid))) is (target-about s.table (process s pid) (Some mode) fd kind start len) in
     let of_node : IsOfNode (s.table.locks t.file) t.owner.node s.incarnation = subst (λ (n : ℕ). IsOfNode (s.table.locks t.file) n s.incarnation) (sym about.of_node) own in
     let of_host : IsOfNode (s.table.locks t.file) t.owner.node t.owner.incarnation = subst (λ (n : ℕ). IsOfNode (s.table.locks t.file) t.owner.node n) (sym about.of_incarnation) of_node in
     let none = sym (is_lowest_blocker (s.table.locks t.file) t.owner t.span mode None of_host about.span.ordered about.span.ends free) in
-    let c : OpenCall = record { number = number; pid = pid; intent = its; file = t.file; owner = t.owner; mode = mode; span = t.span } in
+    let c : OpenCall = record { number = number; pid = pid; lock_command = its; file = t.file; owner = t.owner; mode = mode; span = t.span } in
     let opened : NodeState = record s { pending = s.pending ++ c ∷ [] } in
     ap (λ (r : Result LockTarget Reply). (lock_call s number pid its mode r).reply) is ∙ tried-done opened c _ none locks covered few
 
@@ -149,14 +149,14 @@ call-taken s pid op P may known stays h =
 
 pub covered_set_is_done : CoveredSetIsDone
 covered_set_is_done s pid fd kind mode start len t may is own free covered few =
-    let locks : Locks intent.Set = λ n c. refl in
-    let done = lock_call-done (record s { calls = s.calls + 1 }) (s.calls + 1) pid intent.Set fd kind mode start len t locks is own free covered few in
+    let locks : Locks lock_command.Set = λ n c. refl in
+    let done = lock_call-done (record s { calls = s.calls + 1 }) (s.calls + 1) pid lock_command.Set fd kind mode start len t locks is own free covered few in
     call-taken s pid (Set fd kind mode start len) (λ r. r.1.reply ≡ Some (id_of s (s.calls + 1), Done)) may refl refl done
 
 pub covered_wait_is_done : CoveredWaitIsDone
 covered_wait_is_done s pid fd kind mode start len t may is own free covered few =
-    let locks : Locks intent.Wait = λ n c. refl in
-    let done = lock_call-done (record s { calls = s.calls + 1 }) (s.calls + 1) pid intent.Wait fd kind mode start len t locks is own free covered few in
+    let locks : Locks lock_command.Wait = λ n c. refl in
+    let done = lock_call-done (record s { calls = s.calls + 1 }) (s.calls + 1) pid lock_command.Wait fd kind mode start len t locks is own free covered few in
     call-taken s pid (Wait fd kind mode start len) (λ r. r.1.reply ≡ Some (id_of s (s.calls + 1), Done)) may refl refl done
 
 -- a call that is answered or stays open
@@ -166,7 +166,7 @@ answered_if-untouched s number (Some reply) = record { table = refl; files = ref
 
 interrupted-untouched : (s : NodeState) (x : Option OpenCall) → IsUntouched s (outcome None (interrupted s x))
 interrupted-untouched s None = record { table = refl; files = refl; silent = refl }
-interrupted-untouched s (Some c) = answered_if-untouched s c.number (interruption_of c.intent)
+interrupted-untouched s (Some c) = answered_if-untouched s c.number (interruption_of c.lock_command)
 
 pub interrupt_changes_nothing : InterruptChangesNothing
 interrupt_changes_nothing s pid within =
@@ -211,7 +211,7 @@ clear_revoke_gives_up s file number call mode wanted within next own revocable c
     let given = gave_up_is_given_up h s.node s.incarnation mode wanted.required wanted.desired own revocable in
     let released = gives-released h s.node s.incarnation mode wanted.required wanted.desired gives own revocable.ordered clear given in
     let done = revoked t file number call mode wanted in
-    let file_done : FileState = record { token = after_giving_up (t.files file).token mode gives; last = number; answer = Some (answer_to file number (host s) call gives); asked = is_conflict gives || (t.files file).asked } in
+    let file_done : FileState = record { token = after_giving_up (t.files file).token mode gives; last = number; answer = Some (answer_to file number (host s) call gives); owes_freed = is_conflict gives || (t.files file).owes_freed } in
     let is_next = next ∙ ap (λ (f : FileState). f.last + 1) (sym (in_epoch-file s file number)) in
     passed Q ((s.node == s.node) && is_within s.shape.files file) (Err Stranger) _ (and_from _ _ (eq-eqb s.node s.node refl) (and_from _ _ (le-leb _ _ within.0) (le-leb _ _ within.1))) (
     taken Q (s.incarnation == s.incarnation) _ _ (eq-eqb s.incarnation s.incarnation refl) (

@@ -12,8 +12,8 @@ use Rattle.messages.specs.declared.refusal.StepError.{StepError}
 use Rattle.messages.specs.declared.refusal.StepError.TheVariants.{Busy, Stranger, Spent}
 use Rattle.messages.specs.declared.outcome.Outcome.{Outcome}
 use Rattle.messages.specs.Messages.{is_within, greatest_number}
-use Rattle.node_core.specs.declared.open_call.Intent.{Intent}
-use Rattle.node_core.specs.declared.open_call.Intent.TheVariants as intent
+use Rattle.node_core.specs.declared.open_call.LockCommand.{LockCommand}
+use Rattle.node_core.specs.declared.open_call.LockCommand.TheVariants as lock_command
 use Rattle.node_core.specs.declared.open_call.OpenCall.{OpenCall}
 use Rattle.node_core.specs.State.{NodeState, Effect, answered, without_call_of, open_call_of, process, id_of, outcome}
 use Rattle.node_core.specs.Try.{settled, may_free, with_freed_of, locked_by, tried}
@@ -29,10 +29,10 @@ is_in_shape shape (Open file access) = is_within shape.files file
 is_in_shape shape _ = true
 
 -- a call about a lock that passes its first tests is open, and is tried
-abbrev pub lock_call : NodeState → ℕ → ℕ → Intent → Mode → Result LockTarget Reply → Effect
-lock_call s number pid intent mode (Err refusal) = answered s number refusal
-lock_call s number pid intent mode (Ok target) =
-    let c : OpenCall = record { number = number; pid = pid; intent = intent; file = target.file; owner = target.owner; mode = mode; span = target.span } in
+abbrev pub lock_call : NodeState → ℕ → ℕ → LockCommand → Mode → Result LockTarget Reply → Effect
+lock_call s number pid lock_command mode (Err refusal) = answered s number refusal
+lock_call s number pid lock_command mode (Ok target) =
+    let c : OpenCall = record { number = number; pid = pid; lock_command = lock_command; file = target.file; owner = target.owner; mode = mode; span = target.span } in
     tried (record s { pending = s.pending ++ c ∷ [] }) c
 
 -- the bytes are freed, if the call passes its first tests
@@ -53,10 +53,10 @@ called s number pid (Open file access) = settled s number (beside s.table (proce
 called s number pid (Dup fd) = settled s number (beside s.table (process s pid) (after_dup (around s.table (process s pid)) pid fd))
 called s number pid (Close fd) = shut_by s number (λ file. is_of_file file (descriptor s.table (process s pid) fd)) (after_close s.table (process s pid) fd)
 called s number pid Exit = shut_by (without_call_of s pid) number (has_open (around s.table (process s pid)) pid) (after_exit s.table (process s pid))
-called s number pid (Set fd kind mode start len) = lock_call s number pid intent.Set mode (target s.table (process s pid) (Some mode) fd kind start len)
-called s number pid (Wait fd kind mode start len) = lock_call s number pid intent.Wait mode (target s.table (process s pid) (Some mode) fd kind start len)
+called s number pid (Set fd kind mode start len) = lock_call s number pid lock_command.Set mode (target s.table (process s pid) (Some mode) fd kind start len)
+called s number pid (Wait fd kind mode start len) = lock_call s number pid lock_command.Wait mode (target s.table (process s pid) (Some mode) fd kind start len)
 called s number pid (Unlock fd kind start len) = unlock_call s number (target s.table (process s pid) None fd kind start len)
-called s number pid (Query fd kind mode start len) = lock_call s number pid intent.Query mode (target s.table (process s pid) None fd kind start len)
+called s number pid (Query fd kind mode start len) = lock_call s number pid lock_command.Query mode (target s.table (process s pid) None fd kind start len)
 
 -- the call takes the next number
 abbrev pub after_call : NodeState → ℕ → Op → NodeState × Outcome

@@ -49,12 +49,12 @@ before first e = record { state = e.state; reply = e.reply; sends = first ∷ e.
 
 -- the command is done: the file has this token from now on, and this is the answer
 abbrev pub after_command : NodeState → ℕ → Token → ℕ → Message → Bool → NodeState
-after_command s file token number answer asked = with_file s file (record { token = token; last = number; answer = Some answer; asked = asked })
+after_command s file token number answer asked = with_file s file (record { token = token; last = number; answer = Some answer; owes_freed = asked })
 
 -- the token is raised, and the call that it was for is tried if it is still open
 abbrev pub granted : NodeState → ℕ → ℕ → CallId → Mode → Range → Effect
 granted s file number call mode span =
-    let next = after_command s file (raised (s.files file).token span mode) number (Taken file number call) (s.files file).asked in
+    let next = after_command s file (raised (s.files file).token span mode) number (Taken file number call) (s.files file).owes_freed in
     before (Taken file number call) (tried_if next (open_call next call.number))
 
 -- the answer to a revoke
@@ -72,12 +72,12 @@ abbrev pub revoked : NodeState → ℕ → ℕ → CallId → Mode → Wants →
 revoked s file number call mode wanted =
     let gives = gave_up (s.table.locks file) s.node s.incarnation mode wanted.required wanted.desired in
     let answer = answer_to file number (host s) call gives in
-    sent (after_command s file (after_giving_up (s.files file).token mode gives) number answer (is_conflict gives || (s.files file).asked)) answer
+    sent (after_command s file (after_giving_up (s.files file).token mode gives) number answer (is_conflict gives || (s.files file).owes_freed)) answer
 
 -- an open call is answered with the lock in its way; one that waits stays open
 abbrev pub denied : NodeState → LockInfo → Option OpenCall → Effect
 denied s lock None = quiet s
-denied s lock (Some c) = answered_if s c.number (refusal_of c.intent lock)
+denied s lock (Some c) = answered_if s c.number (refusal_of c.lock_command lock)
 
 -- a server that was rebuilt hears which token the node has, as long as no command of its epoch is done
 abbrev pub told : NodeState → ℕ → ℕ → Effect

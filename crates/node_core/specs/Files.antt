@@ -8,7 +8,7 @@ use Rattle.node_core.specs.State.{FileState, first_file}
 
 -- what a row says of its file
 abbrev pub state_of : FileRow → FileState
-state_of r = record { token = token_of r.token; last = r.last; answer = answer_of r.answer; asked = r.asked }
+state_of r = record { token = token_of r.token; last = r.last; answer = answer_of r.answer; owes_freed = r.owes_freed }
 
 abbrev pub state_or : Option FileRow → FileState
 state_or None = first_file

@@ -5,22 +5,22 @@ use Rattle.model.specs.declared.reply.Reply.TheVariants.{Interrupted}
 use Rattle.messages.specs.declared.refusal.StepError.{StepError}
 use Rattle.messages.specs.declared.refusal.StepError.TheVariants.{Stranger}
 use Rattle.messages.specs.declared.outcome.Outcome.{Outcome}
-use Rattle.node_core.specs.declared.open_call.Intent.{Intent}
-use Rattle.node_core.specs.declared.open_call.Intent.TheVariants.{Wait}
+use Rattle.node_core.specs.declared.open_call.LockCommand.{LockCommand}
+use Rattle.node_core.specs.declared.open_call.LockCommand.TheVariants.{Wait}
 use Rattle.node_core.specs.declared.open_call.OpenCall.{OpenCall}
 use Rattle.node_core.specs.State.{NodeState, Effect, open_call_of, outcome, quiet}
 use Rattle.node_core.specs.Try.{answered_if}
 use Rattle.node_core.specs.Calls.{is_pid}
 
 -- what an interrupt answers: a call that waits alone
-abbrev pub interruption_of : Intent → Option Reply
+abbrev pub interruption_of : LockCommand → Option Reply
 interruption_of Wait = Some Interrupted
 interruption_of _ = None
 
 -- POSIX.1-2017 fcntl(), EINTR: a call that waits is answered and open no longer; to another, or to none, nothing happens
 abbrev pub interrupted : NodeState → Option OpenCall → Effect
 interrupted s None = quiet s
-interrupted s (Some c) = answered_if s c.number (interruption_of c.intent)
+interrupted s (Some c) = answered_if s c.number (interruption_of c.lock_command)
 
 abbrev pub interrupt_rule : NodeState → ℕ → Result (NodeState × Outcome) StepError
 interrupt_rule s pid = if is_pid pid then Ok (outcome None (interrupted s (open_call_of s pid))) else Err Stranger

@@ -92,12 +92,12 @@ IsCallOf s c = IsOwnCall s.shape.files s.node s.incarnation c
 
 -- what the grant makes of the node's knowledge of the file
 abbrev pub granted_file : FileState → Command → Range → FileState
-granted_file f c span = record { token = raised f.token span c.mode; last = c.number; answer = Some (Taken c.file c.number c.call); asked = f.asked }
+granted_file f c span = record { token = raised f.token span c.mode; last = c.number; answer = Some (Taken c.file c.number c.call); owes_freed = f.owes_freed }
 
 -- what the revoke makes of it, where the holder gives this up
 abbrev pub revoked_file : FileState → Command → Host → GaveUp → FileState
 revoked_file f c holder gives =
-    record { token = after_giving_up f.token c.mode gives; last = c.number; answer = Some (answer_to c.file c.number holder c.call gives); asked = is_conflict gives || f.asked }
+    record { token = after_giving_up f.token c.mode gives; last = c.number; answer = Some (answer_to c.file c.number holder c.call gives); owes_freed = is_conflict gives || f.owes_freed }
 
 -- a command that is not the next one: the last one done is answered again, others do nothing
 abbrev pub out_of_order : NodeState → ℕ → ℕ → Effect

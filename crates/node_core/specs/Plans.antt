@@ -41,7 +41,7 @@ numbered s = record s { calls = s.calls + 1 }
 
 -- what is known of a file once the command is done
 abbrev pub file_after : FileRow → FileEdit → FileState
-file_after r e = record { token = token_edited e.token r.token; last = e.last; answer = answer_of e.answer; asked = e.asked }
+file_after r e = record { token = token_edited e.token r.token; last = e.last; answer = answer_of e.answer; owes_freed = e.owes_freed }
 
 abbrev pub row_after : Option FileRow → FileEdit → FileState
 row_after None e = first_file
@@ -52,9 +52,9 @@ abbrev pub files_after : (ℕ → FileState) → List FileRow → Option FileEdi
 files_after files rows None = files
 files_after files rows (Some e) = λ f. if f == e.file then row_after (slice_get rows (e.file - 1)) e else files f
 
--- the files, of which one is asked no longer
+-- the files, for one of which no Freed is owed any longer
 abbrev pub told : (ℕ → FileState) → ℕ → ℕ → FileState
-told files file = λ f. if f == file then record (files file) { asked = false } else files f
+told files file = λ f. if f == file then record (files file) { owes_freed = false } else files f
 
 -- so are these, one after the other
 abbrev pub files_told : (ℕ → FileState) → List ℕ → ℕ → FileState

@@ -17,7 +17,7 @@ pub record FileState : Type 0 where
   pub token : Token
   pub last : ℕ
   pub answer : Option Message
-  pub asked : Bool
+  pub owes_freed : Bool
 
 -- a node in one incarnation: how many calls it took, its processes and their locks, its open calls in order of arrival, its files
 pub record NodeState : Type 0 where
@@ -30,7 +30,7 @@ pub record NodeState : Type 0 where
   pub files : ℕ → FileState
 
 abbrev pub first_file : FileState
-first_file = record { token = no_token; last = 0; answer = None; asked = false }
+first_file = record { token = no_token; last = 0; answer = None; owes_freed = false }
 
 -- a node that begins
 abbrev pub first_node : ShapeFields → ℕ → ℕ → NodeState

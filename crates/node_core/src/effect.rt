@@ -65,7 +65,7 @@ impl Effect {
         })
     }
 
-    /// One more file is asked no longer, and the message is sent after the others.
+    /// For one more file no Freed is owed any longer, and the message is sent after the others.
     pub fn before(self, file: u16, last: Message) -> Result<Effect, AllocError>
         ensures { IfOk result (λ effect. effect ≡ record { edit = record self.edit { freed = self.edit.freed ++ file ∷ [] }; reply = self.reply; sends = self.sends ++ last ∷ [] }) }
     {

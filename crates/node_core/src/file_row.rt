@@ -25,7 +25,7 @@ pub struct FileRow {
     pub token: TokenSet,
     pub last: u64,
     pub answer: Option<Answer>,
-    pub asked: bool,
+    pub owes_freed: bool,
 }
 
 /// What a command changes of what a node knows of a file: the token, the number of the last command and
@@ -36,7 +36,7 @@ pub struct FileEdit {
     pub token: TokenEdit,
     pub last: u64,
     pub answer: Option<Answer>,
-    pub asked: bool,
+    pub owes_freed: bool,
 }
 
 // Whether both are the same message, or none.
@@ -69,7 +69,7 @@ impl FileRow {
             token: TokenSet::new(alloc),
             last: 0,
             answer: None,
-            asked: false,
+            owes_freed: false,
         }
     }
 
@@ -90,7 +90,7 @@ impl FileRow {
             token: TokenEdit::Same,
             last,
             answer,
-            asked: self.asked,
+            owes_freed: self.owes_freed,
         }
     }
 
@@ -107,12 +107,12 @@ impl FileRow {
             token: self.token.plan_grant(span, command.mode)?,
             last: command.number.get(),
             answer: Some(command.taken()),
-            asked: self.asked,
+            owes_freed: self.owes_freed,
         })
     }
 
     /// What the revoke changes where the holder gives that: what it gives up is lowered in the token, the
-    /// answer is remembered, and the file is asked where one of the holder's locks was named.
+    /// answer is remembered, and a Freed is owed where one of the holder's locks was named.
     ///
     /// # Errors
     /// `AllocError` where a request for memory was refused.
@@ -130,7 +130,7 @@ impl FileRow {
             token: self.token.plan_give_up(command.mode, gives)?,
             last: command.number.get(),
             answer: Some(command.answer(holder, *gives)),
-            asked: is_conflict(gives) || self.asked,
+            owes_freed: is_conflict(gives) || self.owes_freed,
         })
     }
 
@@ -142,20 +142,20 @@ impl FileRow {
             token,
             last,
             answer,
-            asked,
+            owes_freed,
             ..
         } = edit;
         self.token.apply(token);
         self.last = last;
         self.answer = answer;
-        self.asked = asked;
+        self.owes_freed = owes_freed;
     }
 
-    /// The file is asked no longer.
-    pub fn clear_asked(&mut self)
-        ensures { state_of self.new ≡ record (state_of self.old) { asked = false } }
+    /// No Freed is owed for the file any longer.
+    pub fn clear_owed(&mut self)
+        ensures { state_of self.new ≡ record (state_of self.old) { owes_freed = false } }
     {
-        self.asked = false;
+        self.owes_freed = false;
     }
 
     /// An equal row.
@@ -166,7 +166,7 @@ impl FileRow {
             token: self.token.copy()?,
             last: self.last,
             answer: self.answer,
-            asked: self.asked,
+            owes_freed: self.owes_freed,
         })
     }
 
@@ -174,7 +174,7 @@ impl FileRow {
     pub fn same(&self, other: &FileRow) -> bool
         ensures { IsTrue result ↔ (state_of self.now ≡ state_of other.now) }
     {
-        if self.last != other.last || self.asked != other.asked {
+        if self.last != other.last || self.owes_freed != other.owes_freed {
             return false;
         }
         if !same_answers(self.answer, other.answer) {

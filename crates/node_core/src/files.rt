@@ -66,18 +66,18 @@ pub fn apply_command(files: &mut Vec<FileRow>, command: Option<FileEdit>)
     }
 }
 
-// The file is asked no longer.
+// No Freed is owed for the file any longer.
 fn clear_one(files: &mut Vec<FileRow>, file: u16)
     requires { IsNumber (length files.old.items) file }
     ensures state { file_state files.new.items ≡ told (file_state files.old.items) file }
     ensures count { length files.new.items ≡ length files.old.items }
 {
     let row = &mut files[file as usize - 1];
-    row.clear_asked();
+    row.clear_owed();
 }
 
-/// These files are asked no longer. Takes no memory.
-pub fn clear_asked(files: &mut Vec<FileRow>, freed: &[u16])
+/// No Freed is owed for these files any longer. Takes no memory.
+pub fn clear_owed(files: &mut Vec<FileRow>, freed: &[u16])
     requires { All (IsNumber (length files.old.items)) freed.now }
     ensures state { file_state files.new.items ≡ files_told (file_state files.old.items) freed.now }
     ensures count { length files.new.items ≡ length files.old.items }

@@ -13,7 +13,7 @@ use crate::change::Change;
 use crate::edit::{Draft, Edit, apply_table};
 use crate::event::NodeEvent;
 use crate::file_row::FileRow;
-use crate::files::{apply_command, clear_asked, copy_files, file_of, new_files, same_files};
+use crate::files::{apply_command, clear_owed, copy_files, file_of, new_files, same_files};
 use crate::numbers::calls_after;
 use crate::open_call::OpenCall;
 use crate::open_calls::OpenCalls;
@@ -249,7 +249,7 @@ impl Node {
         apply_table(&mut self.processes, &mut self.locks, host, table);
         self.pending.apply(calls);
         apply_command(&mut self.files, command);
-        clear_asked(&mut self.files, freed.as_slice());
+        clear_owed(&mut self.files, freed.as_slice());
     }
 
     /// Makes a planned change. Takes no memory.

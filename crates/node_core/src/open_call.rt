@@ -1,11 +1,11 @@
 //! Open calls.
 ghost use Rattle.std.specs.Prelude.{◌≡◌, ◌↔◌, IsTrue};
 ghost use Rattle.node_core.specs.State.{target_of};
-ghost use Rattle.node_core.specs.Try.{refusal_of, urgency_of};
+ghost use Rattle.node_core.specs.Try.{refusal_of, blocking_of};
 ghost use Rattle.node_core.specs.Interrupts.{interruption_of};
 
 use intervals::span::Span;
-use messages::message::Urgency;
+use messages::message::Blocking;
 use model::lock_info::LockInfo;
 use model::lock_target::LockTarget;
 use model::mode::Mode;
@@ -14,7 +14,7 @@ use model::reply::Reply;
 
 /// What an open call asks for: the lock, now or as soon as it is free, or whether it would be free.
 #[derive(Clone, Copy, Debug, PartialEq, Eq)]
-pub enum Intent {
+pub enum LockCommand {
     /// A lock, at once or not at all (POSIX.1-2017 `fcntl()`, F_SETLK).
     Set,
     /// A lock, as soon as none is in the way (POSIX.1-2017 `fcntl()`, F_SETLKW).
@@ -23,15 +23,15 @@ pub enum Intent {
     Query,
 }
 
-impl Intent {
+impl LockCommand {
     /// The reply that names a lock in the way; a wait stays open.
     pub fn refusal(self, lock: LockInfo) -> Option<Reply>
         ensures { result ≡ refusal_of self lock }
     {
         match self {
-            Intent::Set => Some(Reply::Again(lock)),
-            Intent::Wait => None,
-            Intent::Query => Some(Reply::Blocked(lock)),
+            LockCommand::Set => Some(Reply::Again(lock)),
+            LockCommand::Wait => None,
+            LockCommand::Query => Some(Reply::Blocked(lock)),
         }
     }
 
@@ -40,18 +40,18 @@ impl Intent {
         ensures { result ≡ interruption_of self }
     {
         match self {
-            Intent::Wait => Some(Reply::Interrupted),
-            Intent::Set | Intent::Query => None,
+            LockCommand::Wait => Some(Reply::Interrupted),
+            LockCommand::Set | LockCommand::Query => None,
         }
     }
 
-    /// Whether a server may put the request off, where a lock is in its way.
-    pub fn urgency(self) -> Urgency
-        ensures { result ≡ urgency_of self }
+    /// Whether the request for its token waits where a lock blocks it.
+    pub fn blocking(self) -> Blocking
+        ensures { result ≡ blocking_of self }
     {
         match self {
-            Intent::Wait => Urgency::Waits,
-            Intent::Set | Intent::Query => Urgency::Now,
+            LockCommand::Wait => Blocking::Yes,
+            LockCommand::Set | LockCommand::Query => Blocking::No,
         }
     }
 }
@@ -62,7 +62,7 @@ impl Intent {
 pub struct OpenCall {
     pub number: u32,
     pub pid: u16,
-    pub intent: Intent,
+    pub lock_command: LockCommand,
     pub file: u16,
     pub owner: Owner,
     pub mode: Mode,

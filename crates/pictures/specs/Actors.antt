@@ -44,7 +44,7 @@ takes_part actor e = same_actor (actor_of e.event) actor || (delivers (λ m. sam
 
 -- the word for a message
 abbrev pub message_word : Message → List ℕ
-message_word (Request file call urgency mode wanted) = codes "request"
+message_word (Request file call blocking mode wanted) = codes "request"
 message_word (Grant file number call mode span) = codes "grant"
 message_word (Revoke file number holder call mode wanted) = codes "revoke"
 message_word (Taken file number call) = codes "taken"

@@ -53,7 +53,7 @@ part_next false part next rest all p is before = ap (λ (qs : List PlacedFields)
 
 -- a message is about the call that it names
 pub is_about-named : (call : CallId) (m : Message) → is_about call m ≡ is_call call (call_named m)
-is_about-named call (Request file named urgency mode wanted) = refl
+is_about-named call (Request file named blocking mode wanted) = refl
 is_about-named call (Grant file number named mode span) = refl
 is_about-named call (Revoke file number holder named mode wanted) = refl
 is_about-named call (Taken file number named) = refl

@@ -12,7 +12,7 @@ use Rattle.messages.specs.Messages.{same_call, same_message}
 
 -- the message names the call
 abbrev pub is_about : CallId → Message → Bool
-is_about call (Request file named urgency mode wanted) = same_call named call
+is_about call (Request file named blocking mode wanted) = same_call named call
 is_about call (Grant file number named mode span) = same_call named call
 is_about call (Revoke file number holder named mode wanted) = same_call named call
 is_about call (Taken file number named) = same_call named call

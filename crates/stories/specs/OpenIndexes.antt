@@ -83,7 +83,7 @@ open_with entries ends (Some made) = if is_open entries made then Some (record {
 
 -- the call that a message names
 abbrev pub call_named : Message → Option CallId
-call_named (Request file call urgency mode wanted) = Some call
+call_named (Request file call blocking mode wanted) = Some call
 call_named (Grant file number call mode span) = Some call
 call_named (Revoke file number holder call mode wanted) = Some call
 call_named (Taken file number call) = Some call

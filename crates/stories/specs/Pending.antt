@@ -49,7 +49,7 @@ served before file = before
 abbrev pub after_word : Standing → Message → Standing
 after_word before (Conflict file number holder call lock) = Behind lock
 after_word before (Taken file number call) = AtNode
-after_word before (Request file call urgency mode wanted) = asked before
+after_word before (Request file call blocking mode wanted) = asked before
 after_word before (Grant file number call mode span) = served before file
 after_word before (Revoke file number holder call mode wanted) = served before file
 after_word before _ = before
@@ -60,7 +60,7 @@ after_message call before message = if is_about call message then after_word bef
 
 -- behind an event, by which its request may come to the server of a file
 abbrev pub after_event : CallId → Standing → Event → Standing
-after_event call before (Deliver (Request file named urgency mode wanted)) = if same_call named call then AtServer file else before
+after_event call before (Deliver (Request file named blocking mode wanted)) = if same_call named call then AtServer file else before
 after_event call before _ = before
 
 -- behind an entry

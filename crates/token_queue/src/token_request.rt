@@ -3,7 +3,7 @@ ghost use Rattle.std.specs.Prelude.{◌≡◌, ◌≤◌, ◌==◌};
 ghost use Rattle.token_queue.specs.Requests.{is_of_call, is_up_to, meets};
 
 use intervals::span::Span;
-use messages::message::Urgency;
+use messages::message::Blocking;
 use messages::wanted::Wanted;
 use model::call::CallId;
 use model::mode::Mode;
@@ -12,19 +12,19 @@ use model::mode::Mode;
 #[derive(Clone, Copy, Debug, PartialEq, Eq)]
 pub struct TokenRequest {
     pub call: CallId,
-    pub urgency: Urgency,
+    pub blocking: Blocking,
     pub mode: Mode,
     pub wanted: Wanted,
 }
 
 impl TokenRequest {
     /// A request of the call.
-    pub fn new(call: CallId, urgency: Urgency, mode: Mode, wanted: Wanted) -> TokenRequest
-        ensures { result ≡ record { call = call; urgency = urgency; mode = mode; wanted = wanted } }
+    pub fn new(call: CallId, blocking: Blocking, mode: Mode, wanted: Wanted) -> TokenRequest
+        ensures { result ≡ record { call = call; blocking = blocking; mode = mode; wanted = wanted } }
     {
         TokenRequest {
             call,
-            urgency,
+            blocking,
             mode,
             wanted,
         }

@@ -205,7 +205,7 @@ pub what_meets_none-served : ServesWhatMeetsNone
 what_meets_none-served s file r new out done is = by (is_server s.file (addressee m) && is_within s.shape.nodes (host_of m).node) (nat_le (host_of m).incarnation (s.dead (host_of m).node)) refl done
   where
     m : Message
-    m = Request file r.call r.urgency r.mode r.wanted
+    m = Request file r.call r.blocking r.mode r.wanted
 
     stays : TokenRequest → Bool
     stays q = not (is_up_to r.call.node (r.call.incarnation - 1) q)

@@ -4,8 +4,8 @@ use Rattle.std.specs.List.{list_any}
 use Rattle.std.proofs.Common.{refl}
 use Rattle.std.proofs.lemmas.List.Elements.{All-nil, All-cons, All-head, All-tail, All-append, All-push, All-filter, filter_passes}
 use Rattle.model.specs.declared.call.CallId.{CallId}
-use Rattle.messages.specs.declared.message.Urgency.TheVariants.{Waits}
-use Rattle.messages.specs.Messages.{same_urgency}
+use Rattle.messages.specs.declared.message.Blocking.TheVariants.{Yes}
+use Rattle.messages.specs.Messages.{same_blocking}
 use Rattle.token_queue.specs.declared.token_request.TokenRequest.{TokenRequest}
 use Rattle.token_queue.specs.Requests.{is_of_call, is_up_to}
 use Rattle.token_server.specs.State.{Row, ServerState, forgotten, requests, requeued}
@@ -93,7 +93,7 @@ ended-each P call s all =
 
 put_off-each : (P : TokenRequest → Type 0) (own : Option TokenRequest) → IfSome own P → All P (put_off own)
 put_off-each P None one = All-nil P
-put_off-each P (Some r) one = elim (same_urgency r.urgency Waits) as (λ b. All P (cond b (r ∷ []) [])) [ true ↦ All-cons P r [] one (All-nil P) | false ↦ All-nil P ]
+put_off-each P (Some r) one = elim (same_blocking r.blocking Yes) as (λ b. All P (cond b (r ∷ []) [])) [ true ↦ All-cons P r [] one (All-nil P) | false ↦ All-nil P ]
 
 -- or it waits from then on
 pub postponed-each : (P : TokenRequest → Type 0) (call : CallId) (s : ServerState) → All P (requests s) → All P (requests (postponed call s))

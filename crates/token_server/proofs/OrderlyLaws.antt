@@ -14,8 +14,8 @@ use Rattle.messages.specs.declared.message.Message.{Message}
 use Rattle.messages.specs.declared.message.Message.TheVariants.{Request, Grant, Revoke, Taken, Released, Conflict, Deny, Freed, Hello, Report}
 use Rattle.messages.specs.declared.token_run.TokenRun.{TokenRun}
 use Rattle.messages.specs.Reports.{reported}
-use Rattle.messages.specs.declared.message.Urgency.TheVariants.{Waits}
-use Rattle.messages.specs.Messages.{same_urgency, host_of}
+use Rattle.messages.specs.declared.message.Blocking.TheVariants.{Yes}
+use Rattle.messages.specs.Messages.{same_blocking, host_of}
 use Rattle.model.specs.Owners.{host_of_call}
 use Rattle.token_set.specs.Tokens.{Token}
 use Rattle.token_set.specs.Releases.{lowered}
@@ -95,7 +95,7 @@ put_off-few c call (r ∷ rs) = by (is_of_call call r) (put_off-few c call rs) (
     some false = let none : calls c [] ≡ 0 = refl in omega arith
 
     by : (b : Bool) → calls c rest + calls c (put_off (find (is_of_call call) rs)) ≤ calls c rs → calls c rest ≤ calls c rs → calls c (cond (not b) (r ∷ rest) rest) + calls c (put_off (cond b (Some r) (find (is_of_call call) rs))) ≤ calls c (r ∷ rs)
-    by true h less = let own = some (same_urgency r.urgency Waits) in let whole = all in omega arith
+    by true h less = let own = some (same_blocking r.blocking Yes) in let whole = all in omega arith
     by false h less = let one : calls c (r ∷ rest) ≡ cond (is_of_call c r) 1 0 + calls c rest = calls-cons c r rest in let whole = all in omega arith
 
 -- a request is living
@@ -354,8 +354,8 @@ host-counted s h o = by (s.rows h.node) (o.counted h.node)
     by (Some row) counted = elim (row.incarnation == h.incarnation) as (λ b. Counted s (cond b (Some row) None)) [ true ↦ counted | false ↦ tt ]
 
 pub orderly-delivered : (s : ServerState) (m : Message) (d : Change) → 1 ≤ (host_of m).incarnation → s.dead (host_of m).node < (host_of m).incarnation → delivered s m ≡ Some d → IsOrderly s → IsOrderly d.0
-orderly-delivered s (Request file call urgency mode wanted) d counted living is o =
-    let r : TokenRequest = record { call = call; urgency = urgency; mode = mode; wanted = wanted } in
+orderly-delivered s (Request file call blocking mode wanted) d counted living is o =
+    let r : TokenRequest = record { call = call; blocking = blocking; mode = mode; wanted = wanted } in
     let same : ◌≡◌ {A = Change} (asked s r, []) d = cc in
     subst (λ (c : Change). IsOrderly c.0) same (orderly-asked s r counted living o)
 orderly-delivered s (Taken file number call) d counted living is o = taken-orderly s number call _ d (host-counted s (host_of_call call) o) is o

@@ -185,7 +185,7 @@ mapped-leaves call changed None h = tt
 mapped-leaves call changed (Some mode) h = h
 
 delivered-leaves : (call : CallId) (s : ServerState) (m : Message) → Has call s.waiting → Leaves call (delivered s m)
-delivered-leaves call s (Request file own urgency mode wanted) h = asked-kept call s (record { call = own; urgency = urgency; mode = mode; wanted = wanted }) h
+delivered-leaves call s (Request file own blocking mode wanted) h = asked-kept call s (record { call = own; blocking = blocking; mode = mode; wanted = wanted }) h
 delivered-leaves call s (Grant file number own mode span) h = tt
 delivered-leaves call s (Revoke file number holder own mode wanted) h = tt
 delivered-leaves call s (Taken file number own) h = taken-leaves call s number own (row_of_host s (host_of_call own)) h

@@ -22,6 +22,6 @@ pub record MeetsNone (s : ServerState) (r : TokenRequest) : Type 0 where
 abbrev pub ServesWhatMeetsNone : Type 0
 ServesWhatMeetsNone =
     (s : ServerState) (file : ℕ) (r : TokenRequest) (new : ServerState) (out : Outcome)
-    → server_rule s (Deliver (Request file r.call r.urgency r.mode r.wanted)) ≡ Ok (new, out)
+    → server_rule s (Deliver (Request file r.call r.blocking r.mode r.wanted)) ≡ Ok (new, out)
     → MeetsNone s r
     → (before : List TokenRequest) × (new.active ≡ before ++ r ∷ [])

@@ -11,7 +11,7 @@ use Rattle.token_set.specs.Tokens.{Token}
 use Rattle.token_set.specs.Releases.{lowered}
 use Rattle.messages.specs.declared.refusal.StepError.{StepError}
 use Rattle.messages.specs.declared.refusal.StepError.TheVariants.{Stranger}
-use Rattle.messages.specs.declared.message.Urgency.TheVariants.{Now, Waits}
+use Rattle.messages.specs.declared.message.Blocking.TheVariants.{No, Yes}
 use Rattle.messages.specs.declared.message.Message.{Message}
 use Rattle.messages.specs.declared.message.Message.TheVariants.{Request, Grant, Revoke, Taken, Released, Conflict, Deny, Freed, Hello, Report}
 use Rattle.messages.specs.declared.token_run.TokenRun.{TokenRun}
@@ -19,7 +19,7 @@ use Rattle.messages.specs.Reports.{reported}
 use Rattle.messages.specs.declared.outcome.Outcome.{Outcome}
 use Rattle.messages.specs.declared.actor.Actor.{Actor}
 use Rattle.messages.specs.declared.actor.Actor.TheVariants.{Node as ANode, Server as AServer}
-use Rattle.messages.specs.Messages.{addressee, host_of, is_within, same_urgency, sending}
+use Rattle.messages.specs.Messages.{addressee, host_of, is_within, same_blocking, sending}
 use Rattle.token_queue.specs.declared.token_request.TokenRequest.{TokenRequest}
 use Rattle.token_server.specs.declared.event.ServerEvent.{ServerEvent}
 use Rattle.token_server.specs.declared.event.ServerEvent.TheVariants.{Deliver, Resend, Learn}
@@ -76,7 +76,7 @@ ended call s = record s { active = filter (λ r. not (is_of_call call r)) s.acti
 -- the request, if there is one and it may wait
 abbrev pub put_off : Option TokenRequest → List TokenRequest
 put_off None = []
-put_off (Some r) = if same_urgency r.urgency Waits then r ∷ [] else []
+put_off (Some r) = if same_blocking r.blocking Yes then r ∷ [] else []
 
 -- the request of the call is served no longer; where it may wait it comes last of those that do
 abbrev pub postponed : CallId → ServerState → ServerState
@@ -85,7 +85,7 @@ postponed call s = record (ended call s) { waiting = s.waiting ++ put_off (reque
 -- the denial of the request, if there is one and it may not wait
 abbrev pub denial : Message → Option TokenRequest → List Message
 denial deny None = []
-denial deny (Some r) = if same_urgency r.urgency Now then deny ∷ [] else []
+denial deny (Some r) = if same_blocking r.blocking No then deny ∷ [] else []
 
 -- the row is of that incarnation
 abbrev pub row_of_incarnation : ℕ → Option Row → Option Row
@@ -130,7 +130,7 @@ freed s (Some row) = requeued s
 
 -- what a message changes before the server serves, and what is sent for it, or nothing at all: an answer counts where the row is of its incarnation and waits for an answer of its kind with this number
 abbrev pub delivered : ServerState → Message → Option Change
-delivered s (Request file call urgency mode wanted) = Some (asked s (record { call = call; urgency = urgency; mode = mode; wanted = wanted }), [])
+delivered s (Request file call blocking mode wanted) = Some (asked s (record { call = call; blocking = blocking; mode = mode; wanted = wanted }), [])
 delivered s (Taken file number call) = taken s number call (row_of_host s (host_of_call call))
 delivered s (Released file number holder call span) = released s number holder span (row_of_host s holder)
 delivered s (Conflict file number holder call lock) = in_conflict s number holder call lock (row_of_host s holder)

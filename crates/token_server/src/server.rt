@@ -32,7 +32,7 @@ use messages::actor::Actor;
 use messages::command_number::CommandNumber;
 use messages::file_number::FileNumber;
 use messages::items::Items;
-use messages::message::{Message, Urgency};
+use messages::message::{Blocking, Message};
 use messages::outcome::Outcome;
 use messages::refusal::StepError;
 use messages::shape::Shape;
@@ -282,7 +282,7 @@ impl Server {
         let file = self.file_number();
         let own = self.active.find(call);
         let (moved, denial) = match own {
-            Some(request) if request.urgency == Urgency::Waits => (Moved::PutOff(request), None),
+            Some(request) if request.blocking == Blocking::Yes => (Moved::PutOff(request), None),
             Some(_) => {
                 let deny = Message::Deny {
                     file,
@@ -474,12 +474,12 @@ impl Server {
         match message {
             Message::Request {
                 call,
-                urgency,
+                blocking,
                 mode,
                 wanted,
                 ..
             } => {
-                let request = TokenRequest::new(*call, *urgency, *mode, *wanted);
+                let request = TokenRequest::new(*call, *blocking, *mode, *wanted);
                 Ok(silent(Some(self.ask(request))))
             }
             Message::Taken { .. } => Ok(self.on_answer(message)),

@@ -157,7 +157,7 @@ module _ (shape : ShapeFields) (past : List Entry) (w later : WorldState) (made 
       let B : Mode → Type 0 = λ m. Blocks ((union later).locks c.file) c.owner wanted.required m lock in
       let C : Range → Type 0 = λ x. Blocks ((union later).locks c.file) c.owner x c.mode lock in
       let blocks = subst C same.span_is (subst B same.mode_is (subst A same.file_is (blocks_now c.owner owned))) in
-      let step = about_step (union later) p o.op c.intent c.mode (target_of c) reply (union later) o.ready.is_for (subst Q (sym r.same) about) (blocked_step (union later) c.intent c.mode lock (target_of c) reply refuses blocks) in
+      let step = about_step (union later) p o.op c.lock_command c.mode (target_of c) reply (union later) o.ready.is_for (subst Q (sym r.same) about) (blocked_step (union later) c.lock_command c.mode lock (target_of c) reply refuses blocks) in
       let D : CallId → Type 0 = λ id. Step (union later) (caller id c.pid) o.op reply (union later) in
       let E : ℕ → Type 0 = λ pid. Step (union later) (caller call pid) o.op reply (union later) in
       let F : Op → Type 0 = λ op. Step (union later) (caller call r.asked.pid) op reply (union later) in

@@ -159,7 +159,7 @@ pub record IsDenied (s u : NodeState) (e : Entry) : Type 0 where
   pub there : Contains s.pending answering
   pub named : id_of s answering.number ≡ call
   pub reply : Reply
-  pub refuses : refusal_of answering.intent lock ≡ Some reply
+  pub refuses : refusal_of answering.lock_command lock ≡ Some reply
   pub is_reply : e.reply ≡ Some (call, reply)
   pub table : u.table ≡ s.table
 

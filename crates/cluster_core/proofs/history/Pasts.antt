@@ -71,7 +71,7 @@ use Rattle.cluster_core.proofs.history.Resting.{union_live, rests_after}
 use Rattle.cluster_core.proofs.history.Slots.{slotted_first, all_slotted_first, slots_fit, slots_legal, slots_at_their_places}
 use Rattle.cluster_core.proofs.history.Plain.{plain_slots, plain_legal, plain_items}
 use Rattle.cluster_core.proofs.history.Placing.{declared_node}
-use Rattle.cluster_core.proofs.history.Witnesses.{asked_ends, IsAskedBy, Denies, Backed, HeldFor, StaysOpen, backed-keeps, called_one, urgent}
+use Rattle.cluster_core.proofs.history.Witnesses.{asked_ends, IsAskedBy, Denies, Backed, HeldFor, StaysOpen, backed-keeps, called_one, not_blocking}
 use Rattle.cluster_core.proofs.history.Denials.{denies_now}
 use Rattle.cluster_core.proofs.history.Worlds.{Good, replied_named, server_good, servers_good, put_comes, node_good, declared_good, restarted_good, stays, asks, leads_on, union_stays, others_stay}
 
@@ -113,7 +113,7 @@ conflict_is file holder number (Conflict f k h call lock) is =
     let numbers = eqb-true k number second.0 in
     let holders = host_exact h holder second.1 in
     (call, lock, λ i. Conflict (files i) (numbers i) (holders i) call lock)
-conflict_is file holder number (Request f call urgency mode wanted) is = absurd (false≢true is)
+conflict_is file holder number (Request f call blocking mode wanted) is = absurd (false≢true is)
 conflict_is file holder number (Grant f k call mode span) is = absurd (false≢true is)
 conflict_is file holder number (Revoke f k h call mode wanted) is = absurd (false≢true is)
 conflict_is file holder number (Taken f k call) is = absurd (false≢true is)
@@ -338,7 +338,7 @@ module _ (shape : ShapeFields) (past : List Entry) (w : WorldState) (few : IsNum
 
     conflicts : (made_so : next w (Deliver m) ≡ Ok (recorded (with_node w n effect.state) (Deliver m) 0 told)) (x : Message) → m ≡ x → EntersConflicts (Backed shape run v) (freely run v) s x
     conflicts made_so (Revoke file number holder call mode wanted) is = λ lock next_one in_way. conflict_there file number holder call mode wanted is made_so lock next_one in_way
-    conflicts made_so (Request f call urgency mode wanted) is = tt
+    conflicts made_so (Request f call blocking mode wanted) is = tt
     conflicts made_so (Grant f number call mode span) is = tt
     conflicts made_so (Taken f number call) is = tt
     conflicts made_so (Released f number holder call span) is = tt
@@ -350,7 +350,7 @@ module _ (shape : ShapeFields) (past : List Entry) (w : WorldState) (few : IsNum
 
     short : (x : Message) → Backed shape past w x → IsShort x
     short (Grant f number call mode span) b = b
-    short (Request f call urgency mode wanted) b = tt
+    short (Request f call blocking mode wanted) b = tt
     short (Revoke f number holder call mode wanted) b = tt
     short (Taken f number call) b = tt
     short (Released f number holder call span) b = tt
@@ -457,13 +457,13 @@ module _ (shape : ShapeFields) (past : List Entry) (w : WorldState) (few : IsNum
       let m = Deny file call holder number lock in
       let both = and_parts (has_node w call.node) (is_among w.sent m) known in
       node_told call.node m p both.0 both.1 h
-  taken_good (Deliver (Request file call urgency mode wanted)) p known h =
-      let m = Request file call urgency mode wanted in
+  taken_good (Deliver (Request file call blocking mode wanted)) p known h =
+      let m = Request file call blocking mode wanted in
       told_good m file p (known_backed m (and_parts (has_actor w (addressee m)) (is_among w.sent m) known).1) h
   taken_good (Deliver (Conflict file number holder call lock)) p known h =
       let m = Conflict file number holder call lock in
       let behind = known_backed m (and_parts (has_actor w (addressee m)) (is_among w.sent m) known).1 in
-      told_good m file p (λ r held its now. (behind, urgent past call r its now held.1)) h
+      told_good m file p (λ r held its now. (behind, not_blocking past call r its now held.1)) h
   taken_good (Deliver (Taken file number call)) p known h = told_good (Taken file number call) file p tt h
   taken_good (Deliver (Released file number holder call span)) p known h = told_good (Released file number holder call span) file p tt h
   taken_good (Deliver (Freed file holder)) p known h = told_good (Freed file holder) file p tt h
@@ -596,5 +596,5 @@ module _ (shape : ShapeFields) (is_shape : IsShape shape) (Q : WorldState → Ty
   pub no_wait_after : (es : List Entry) (w : WorldState) (file : ℕ) (call : CallId) (holder : Host) (number : ℕ) (lock : LockInfo) (pid : ℕ) (op : Op) (at : ℕ) → Leads (first_world shape) es w → is_among w.sent (Deny file call holder number lock) ≡ true → IsCalledAt es call pid op at → is_wait op ≡ false
   no_wait_after es w file call holder number lock pid op at l sent called =
       let g = (both_after es w l).good in
-      let urgency = (all_among (Backed shape es w) w.sent (Deny file call holder number lock) g.backed sent).1 in
-      ap is_wait (called_one es call pid urgency.pid op urgency.op at urgency.at g.one_call called urgency.called).op_is ∙ urgency.waits
+      let blocking = (all_among (Backed shape es w) w.sent (Deny file call holder number lock) g.backed sent).1 in
+      ap is_wait (called_one es call pid blocking.pid op blocking.op at blocking.at g.one_call called blocking.called).op_is ∙ blocking.waits

@@ -10,17 +10,17 @@ use Rattle.model.specs.Replay.{NamesNoLock}
 use Rattle.model.specs.Table.{Table}
 use Rattle.model.specs.Step.{Step}
 use Rattle.model.proofs.ReadOnly.{only_done_change}
-use Rattle.node_core.specs.declared.open_call.Intent.{Intent}
-use Rattle.node_core.specs.declared.open_call.Intent.TheVariants as intent
+use Rattle.node_core.specs.declared.open_call.LockCommand.{LockCommand}
+use Rattle.node_core.specs.declared.open_call.LockCommand.TheVariants as lock_command
 use Rattle.node_core.specs.Try.{refusal_of}
 use Rattle.cluster_core.specs.declared.item.Item.{Item}
 use Rattle.cluster_core.specs.Histories.{caller, ItemStep, Legal, IsReadOnly, moved, QuietItemsMayStandEarlier}
 
 -- the reply to a call that is denied names a lock
-pub refusal_names : (i : Intent) (lock : LockInfo) (reply : Reply) → refusal_of i lock ≡ Some reply → NamesNoLock reply → ⊥
-refusal_names intent.Set lock reply is none = (none lock).0 (same_Some (Again lock) reply is)
-refusal_names intent.Wait lock reply is none = none-some reply is
-refusal_names intent.Query lock reply is none = (none lock).1 (same_Some (Blocked lock) reply is)
+pub refusal_names : (i : LockCommand) (lock : LockInfo) (reply : Reply) → refusal_of i lock ≡ Some reply → NamesNoLock reply → ⊥
+refusal_names lock_command.Set lock reply is none = (none lock).0 (same_Some (Again lock) reply is)
+refusal_names lock_command.Wait lock reply is none = none-some reply is
+refusal_names lock_command.Query lock reply is none = (none lock).1 (same_Some (Blocked lock) reply is)
 
 -- a call that names a lock leaves the table as it was
 pub again_stays : (t u : Table) (p : Process) (op : Op) (lock : LockInfo) → Step t p op (Again lock) u → u ≡ t

@@ -14,20 +14,20 @@ use Rattle.model.specs.declared.reply.Reply.{Reply}
 use Rattle.model.specs.Table.{Table, LockTarget}
 use Rattle.model.specs.Step.{Step}
 use Rattle.messages.specs.Shapes.{ShapeFields}
-use Rattle.messages.specs.Messages.{same_urgency}
-use Rattle.messages.specs.declared.message.Urgency.{Urgency}
-use Rattle.messages.specs.declared.message.Urgency.TheVariants.{Now, Waits}
+use Rattle.messages.specs.Messages.{same_blocking}
+use Rattle.messages.specs.declared.message.Blocking.{Blocking}
+use Rattle.messages.specs.declared.message.Blocking.TheVariants.{No, Yes}
 use Rattle.messages.proofs.SameMessages.{call_exact}
 use Rattle.messages.specs.declared.message.Message.{Message}
 use Rattle.messages.specs.declared.message.Message.TheVariants.{Request, Grant, Revoke, Taken, Released, Conflict, Deny, Freed, Hello, Report}
 use Rattle.messages.specs.declared.event.Event.{Event}
 use Rattle.messages.specs.declared.event.Event.TheVariants.{Call}
 use Rattle.messages.specs.declared.entry.Entry.{Entry}
-use Rattle.node_core.specs.declared.open_call.Intent.{Intent}
-use Rattle.node_core.specs.declared.open_call.Intent.TheVariants as intent
+use Rattle.node_core.specs.declared.open_call.LockCommand.{LockCommand}
+use Rattle.node_core.specs.declared.open_call.LockCommand.TheVariants as lock_command
 use Rattle.node_core.specs.declared.open_call.OpenCall.{OpenCall}
 use Rattle.node_core.specs.State.{NodeState, id_of}
-use Rattle.node_core.specs.Try.{urgency_of, refusal_of}
+use Rattle.node_core.specs.Try.{blocking_of, refusal_of}
 use Rattle.token_queue.specs.declared.token_request.TokenRequest.{TokenRequest}
 use Rattle.token_queue.specs.Requests.{is_of_call}
 use Rattle.cluster_core.specs.World.{WorldState, first_world}
@@ -152,33 +152,33 @@ IsAskedBy shape past s c = IsAsked shape past c.file (id_of s c.number) c.mode c
 
 -- if the open call is this one, the one table of the world may refuse it for the lock, as far as it is told of it
 abbrev pub MayRefuse : WorldState → CallId → ℕ → Op → LockInfo → NodeState → OpenCall → Type 0
-MayRefuse w call pid op lock s c = id_of s c.number ≡ call → (reply : Reply) → refusal_of c.intent lock ≡ Some reply → Step (union w) (caller call pid) op reply (union w)
+MayRefuse w call pid op lock s c = id_of s c.number ≡ call → (reply : Reply) → refusal_of c.lock_command lock ≡ Some reply → Step (union w) (caller call pid) op reply (union w)
 
 -- a call of the run, that waits where its requests may
-pub record IsOfUrgency (past : List Entry) (call : CallId) (urgency : Urgency) : Type 0 where
+pub record IsOfBlocking (past : List Entry) (call : CallId) (blocking : Blocking) : Type 0 where
   pub at : ℕ
   pub pid : ℕ
   pub op : Op
   pub called : IsCalledAt past call pid op at
-  pub waits : is_wait op ≡ same_urgency urgency Waits
+  pub waits : is_wait op ≡ same_blocking blocking Yes
 
-pub for_urgency : (i : Intent) (op : Op) → IsFor i op → is_wait op ≡ same_urgency (urgency_of i) Waits
-for_urgency intent.Set (Set fd kind mode start len) f = refl
-for_urgency intent.Wait (Wait fd kind mode start len) f = refl
-for_urgency intent.Query (Query fd kind mode start len) f = refl
-for_urgency i op f = absurd f
+pub for_blocking : (i : LockCommand) (op : Op) → IsFor i op → is_wait op ≡ same_blocking (blocking_of i) Yes
+for_blocking lock_command.Set (Set fd kind mode start len) f = refl
+for_blocking lock_command.Wait (Wait fd kind mode start len) f = refl
+for_blocking lock_command.Query (Query fd kind mode start len) f = refl
+for_blocking i op f = absurd f
 
-urgency-keeps : (past : List Entry) (e : Entry) (call : CallId) (urgency : Urgency) → IsOfUrgency past call urgency → IsOfUrgency (past ++ e ∷ []) call urgency
-urgency-keeps past e call urgency u = record { at = u.at; pid = u.pid; op = u.op; called = called_at-keeps past (e ∷ []) call u.pid u.op u.at u.called; waits = u.waits }
+blocking-keeps : (past : List Entry) (e : Entry) (call : CallId) (blocking : Blocking) → IsOfBlocking past call blocking → IsOfBlocking (past ++ e ∷ []) call blocking
+blocking-keeps past e call blocking u = record { at = u.at; pid = u.pid; op = u.op; called = called_at-keeps past (e ∷ []) call u.pid u.op u.at u.called; waits = u.waits }
 
--- a request of the call that is urgent
-is_now : (u : Urgency) → same_urgency u Now ≡ true → u ≡ Now
-is_now Now h = refl
-is_now Waits h = absurd (false≢true h)
+-- a request of the call that may not wait
+is_no : (u : Blocking) → same_blocking u No ≡ true → u ≡ No
+is_no No h = refl
+is_no Yes h = absurd (false≢true h)
 
-pub urgent : (past : List Entry) (call : CallId) (r : TokenRequest) → is_of_call call r ≡ true → same_urgency r.urgency Now ≡ true → IsOfUrgency past r.call r.urgency → IsOfUrgency past call Now
-urgent past call r its now h =
-    subst (IsOfUrgency past call) (is_now r.urgency now) (subst (λ (id : CallId). IsOfUrgency past id r.urgency) (call_exact r.call call its) h)
+pub not_blocking : (past : List Entry) (call : CallId) (r : TokenRequest) → is_of_call call r ≡ true → same_blocking r.blocking No ≡ true → IsOfBlocking past r.call r.blocking → IsOfBlocking past call No
+not_blocking past call r its now h =
+    subst (IsOfBlocking past call) (is_no r.blocking now) (subst (λ (id : CallId). IsOfBlocking past id r.blocking) (call_exact r.call call its) h)
 
 -- a conflict has its evidence; and while the call is open the one table may have refused it there
 pub record Denies (shape : ShapeFields) (past : List Entry) (w : WorldState) (file : ℕ) (call : CallId) (holder : Host) (number : ℕ) (lock : LockInfo) : Type 0 where
@@ -187,10 +187,10 @@ pub record Denies (shape : ShapeFields) (past : List Entry) (w : WorldState) (fi
 
 -- what stands behind a message
 abbrev pub Backed : ShapeFields → List Entry → WorldState → Message → Type 0
-Backed shape past w (Request file call urgency mode wanted) = IsAsked shape past file call mode wanted.required × IsOfUrgency past call urgency × (wanted.desired.hi ≤ greatest)
+Backed shape past w (Request file call blocking mode wanted) = IsAsked shape past file call mode wanted.required × IsOfBlocking past call blocking × (wanted.desired.hi ≤ greatest)
 Backed shape past w (Revoke file number holder call mode wanted) = IsAsked shape past file call mode wanted.required × (holder.node ≡ call.node → ⊥)
 Backed shape past w (Conflict file number holder call lock) = Denies shape past w file call holder number lock
-Backed shape past w (Deny file call holder number lock) = Denies shape past w file call holder number lock × IsOfUrgency past call Now
+Backed shape past w (Deny file call holder number lock) = Denies shape past w file call holder number lock × IsOfBlocking past call No
 Backed shape past w (Grant file number call mode span) = span.hi ≤ greatest
 Backed shape past w (Taken file number call) = Unit {0}
 Backed shape past w (Released file number holder call span) = Unit {0}
@@ -200,10 +200,10 @@ Backed shape past w (Report file number holder runs) = Unit {0}
 
 -- and behind a request that a server keeps
 abbrev pub HeldFor : ShapeFields → List Entry → ℕ → TokenRequest → Type 0
-HeldFor shape past file r = IsAsked shape past file r.call r.mode r.wanted.required × IsOfUrgency past r.call r.urgency × (r.wanted.desired.hi ≤ greatest)
+HeldFor shape past file r = IsAsked shape past file r.call r.mode r.wanted.required × IsOfBlocking past r.call r.blocking × (r.wanted.desired.hi ≤ greatest)
 
 pub held-keeps : (shape : ShapeFields) (past : List Entry) (e : Entry) (file : ℕ) (r : TokenRequest) → HeldFor shape past file r → HeldFor shape (past ++ e ∷ []) file r
-held-keeps shape past e file r h = (asked-keeps shape past e file r.call r.mode r.wanted.required h.0, urgency-keeps past e r.call r.urgency h.1, h.2)
+held-keeps shape past e file r h = (asked-keeps shape past e file r.call r.mode r.wanted.required h.0, blocking-keeps past e r.call r.blocking h.1, h.2)
 
 -- each open call was open before under its name, or is new
 abbrev pub StaysOpen : List Entry → NodeState → NodeState → Type 0
@@ -227,10 +227,10 @@ module _ (shape : ShapeFields) (past : List Entry) (e : Entry) (w v : WorldState
       }
 
   pub backed-keeps : (m : Message) → Backed shape past w m → Backed shape (past ++ e ∷ []) v m
-  backed-keeps (Request file call urgency mode wanted) b = (asked-keeps shape past e file call mode wanted.required b.0, urgency-keeps past e call urgency b.1, b.2)
+  backed-keeps (Request file call blocking mode wanted) b = (asked-keeps shape past e file call mode wanted.required b.0, blocking-keeps past e call blocking b.1, b.2)
   backed-keeps (Revoke file number holder call mode wanted) b = (asked-keeps shape past e file call mode wanted.required b.0, b.1)
   backed-keeps (Conflict file number holder call lock) b = denies-keeps file call holder number lock b
-  backed-keeps (Deny file call holder number lock) b = (denies-keeps file call holder number lock b.0, urgency-keeps past e call Now b.1)
+  backed-keeps (Deny file call holder number lock) b = (denies-keeps file call holder number lock b.0, blocking-keeps past e call No b.1)
   backed-keeps (Grant file number call mode span) b = b
   backed-keeps (Taken file number call) b = b
   backed-keeps (Released file number holder call span) b = b

@@ -46,7 +46,7 @@ use Rattle.cluster_core.proofs.history.Placing.{Placed, nothing_placed, gone_pla
 use Rattle.cluster_core.proofs.history.Quiet.{refusal_names}
 use Rattle.cluster_core.proofs.steps.Requested.{Comes, AnyNumber, comes-weaker}
 use Rattle.cluster_core.proofs.steps.Sends.{AsksFor}
-use Rattle.cluster_core.proofs.history.Witnesses.{asked_ends, IsAskedBy, MayRefuse, for_urgency, Denies, Backed, HeldFor, StaysOpen, asked-keeps, held-keeps, backed-keeps}
+use Rattle.cluster_core.proofs.history.Witnesses.{asked_ends, IsAskedBy, MayRefuse, for_blocking, Denies, Backed, HeldFor, StaysOpen, asked-keeps, held-keeps, backed-keeps}
 
 -- each message that an entry sent is among those that were sent
 abbrev pub Told : List Entry → List Message → Type 0
@@ -281,7 +281,7 @@ module _ (shape : ShapeFields) (past : List Entry) (w : WorldState) (n : ℕ) (u
       let a = All-contains (IsAskedBy shape run u) u.pending c (subst P after (all_asked n)) there in
       let its = All-contains (IsOpen run u) u.pending c moves.holds.waiting there in (
         subst (IsAsked shape run c.file (id_of u c.number) c.mode) (sym same) a,
-        record { at = its.called.at; pid = c.pid; op = its.op; called = its.called.there; waits = for_urgency c.intent its.op its.ready.is_for },
+        record { at = its.called.at; pid = c.pid; op = its.op; called = its.called.there; waits = for_blocking c.lock_command its.op its.ready.is_for },
         (let last = asked_ends shape run c.file (id_of u c.number) c.mode c.span a in omega arith),
       )
 
@@ -316,7 +316,7 @@ module _ (shape : ShapeFields) (past : List Entry) (w : WorldState) (n : ℕ) (u
         denial_placed shape past w later made g.slotted g.all g.leads leads_on d.call c.pid its.op d.reply d.is_reply d.file d.number d.holder d.lock ev d.is_deny
         (subst (λ (id : CallId). Called past id c.pid its.op) d.named its.called)
         (subst (Unanswered past) d.named its.unanswered)
-        g.one_call (refusal_names c.intent d.lock d.reply d.refuses) (sym (union_stays d.table))
+        g.one_call (refusal_names c.lock_command d.lock d.reply d.refuses) (sym (union_stays d.table))
         (subst (λ (id : CallId). IsProcess (caller id c.pid)) d.named its.is_process)
         step_there
 

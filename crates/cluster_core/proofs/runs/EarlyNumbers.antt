@@ -37,12 +37,12 @@ use Rattle.cluster_core.proofs.steps.NodeTokens.{Only, only_none, only_all, all_
 use Rattle.cluster_core.proofs.steps.Requested.{Comes, Makes, Tells, delivered-steps, resend-steps, learn-steps}
 use Rattle.cluster_core.proofs.steps.Sends.{Remembers, entered-remembers}
 use Rattle.cluster_core.proofs.steps.Steps.{next_taken, node_step, server_step, declare_step, restart_step}
-use Rattle.cluster_core.proofs.tokens.Talks.{IsAnswerOf, unasked}
+use Rattle.cluster_core.proofs.tokens.Talks.{IsAnswerOf, owing_nothing}
 use Rattle.cluster_core.proofs.tokens.TalkMoves.{done_file, is_answer}
 
 -- the number of the message, if it has one, is one of the first epoch; no server asks a node for its token
 abbrev pub IsEarly : Message → Type 0
-IsEarly (Request file call urgency mode wanted) = Unit {0}
+IsEarly (Request file call blocking mode wanted) = Unit {0}
 IsEarly (Grant file number call mode span) = number ≤ greatest_number
 IsEarly (Revoke file number holder call mode wanted) = number ≤ greatest_number
 IsEarly (Taken file number call) = number ≤ greatest_number
@@ -54,7 +54,7 @@ IsEarly (Hello file number holder) = ⊥
 IsEarly (Report file number holder runs) = ⊥
 
 asking_early : (n incarnation : ℕ) (m : Message) → IsAsking n incarnation m → IsEarly m
-asking_early n incarnation (Request file call urgency mode wanted) is = tt
+asking_early n incarnation (Request file call blocking mode wanted) is = tt
 asking_early n incarnation (Freed file holder) is = tt
 asking_early n incarnation m is = absurd is
 
@@ -78,7 +78,7 @@ asks_early s e a old = (
 does_early : (s : NodeState) (file number : ℕ) (command : Message) (e : Effect) → number ≤ greatest_number → Does s file number command e → Remembers IsEarly s → StaysEarly e
 does_early s file number command e few d old =
     let answer = answer_early file s.node s.incarnation number d.answer few d.answers_it d.of in (
-      λ f m there. at_number f file (λ b. (if b then done_file (s.files file) number command d.answer else unasked (s.files f)).answer ≡ Some m → IsEarly m)
+      λ f m there. at_number f file (λ b. (if b then done_file (s.files file) number command d.answer else owing_nothing (s.files f)).answer ≡ Some m → IsEarly m)
           (λ same h. subst IsEarly (same_Some d.answer m h) answer)
           (λ other h. old f m h)
           (ap (λ (x : FileState). x.answer) (sym (d.files_are f)) ∙ there),
@@ -118,7 +118,7 @@ makes_early file = record { grants = λ number r span few held bound. few; revok
 
 tells_early : (file : ℕ) (m : Message) → IsEarly m → Tells file AnyRequest IsEarly m
 tells_early file (Conflict f number holder call lock) few = λ r held own now. few
-tells_early file (Request f call urgency mode wanted) few = tt
+tells_early file (Request f call blocking mode wanted) few = tt
 tells_early file m few = tt
 
 -- all that is remembered, waits for an answer or was sent is so

@@ -174,7 +174,7 @@ module _ (past : List Entry) (s : NodeState) (holds : Holds past s) where
   -- a grant: the call that it was for is tried
   granted_receives : (event : Event) (file number : ℕ) (call : CallId) (mode : Mode) (span : Range) → IsNoDenial event → Receives past s (granted s file number call mode span).state (said event (granted s file number call mode span))
   granted_receives event file number call mode span undenied =
-      let next = after_command s file (raised (s.files file).token span mode) number (Taken file number call) (s.files file).asked in
+      let next = after_command s file (raised (s.files file).token span mode) number (Taken file number call) (s.files file).owes_freed in
       tried_receives next.files (λ c. c.number == call.number) (said event (granted s file number call mode span)) undenied refl refl
 
   -- a revoke answers no call
@@ -188,7 +188,7 @@ module _ (past : List Entry) (s : NodeState) (holds : Holds past s) where
       }
 
   -- a denial: the call is told of the lock
-  refused_receives : (file : ℕ) (call : CallId) (holder : Host) (number : ℕ) (lock : LockInfo) → IsTo s (Deny file call holder number lock) → (c : OpenCall) → find (λ d. d.number == call.number) s.pending ≡ Some c → (reply : Reply) → refusal_of c.intent lock ≡ Some reply → Receives past s (answered s c.number reply).state (said (Deliver (Deny file call holder number lock)) (answered s c.number reply))
+  refused_receives : (file : ℕ) (call : CallId) (holder : Host) (number : ℕ) (lock : LockInfo) → IsTo s (Deny file call holder number lock) → (c : OpenCall) → find (λ d. d.number == call.number) s.pending ≡ Some c → (reply : Reply) → refusal_of c.lock_command lock ≡ Some reply → Receives past s (answered s c.number reply).state (said (Deliver (Deny file call holder number lock)) (answered s c.number reply))
   refused_receives file call holder number lock to c h reply refuses =
       let test : OpenCall → Bool = λ d. d.number == call.number in
       let e = said (Deliver (Deny file call holder number lock)) (answered s c.number reply) in
@@ -231,7 +231,7 @@ module _ (past : List Entry) (s : NodeState) (holds : Holds past s) where
   denied_receives file call holder number lock to None h = quiet_receives (Deliver (Deny file call holder number lock)) (quiet s) refl refl
   denied_receives file call holder number lock to (Some c) h =
       let event = Deliver (Deny file call holder number lock) in
-      answered_if_either (λ e. Receives past s e.state (said event e)) s c.number (refusal_of c.intent lock) (refused_receives file call holder number lock to c h) (quiet_receives event (quiet s) refl refl)
+      answered_if_either (λ e. Receives past s e.state (said event e)) s c.number (refusal_of c.lock_command lock) (refused_receives file call holder number lock to c h) (quiet_receives event (quiet s) refl refl)
 
   -- a command: it is done, or the answer to the last one is sent again, or nothing
   in_order_receives : (event : Event) (file number : ℕ) (effect : Effect) → Receives past s effect.state (said event effect) → (let all = in_order s file number effect in Receives past s all.state (said event all))
@@ -264,7 +264,7 @@ module _ (past : List Entry) (s : NodeState) (holds : Holds past s) where
   delivered_receives (Grant file number call mode span) to =
       let event = Deliver (Grant file number call mode span) in
       let t = in_epoch s file number in
-      let next = after_command t file (raised (t.files file).token span mode) number (Taken file number call) (t.files file).asked in
+      let next = after_command t file (raised (t.files file).token span mode) number (Taken file number call) (t.files file).owes_freed in
       entered_receives event file number (granted t file number call mode span) (tried_receives next.files (λ c. c.number == call.number) (said event (granted t file number call mode span)) tt refl refl)
   delivered_receives (Revoke file number holder call mode wanted) to =
       let event = Deliver (Revoke file number holder call mode wanted) in
@@ -277,7 +277,7 @@ module _ (past : List Entry) (s : NodeState) (holds : Holds past s) where
       told_either (λ e. Receives past s e.state (said event e)) t file number (λ is. learned_receives t.files event (sent t (Report file number (host t) (runs_of (t.files file).token))) refl refl) (learned_receives t.files event (quiet t) refl refl)
   delivered_receives (Report file number holder runs) to = quiet_receives (Deliver (Report file number holder runs)) (quiet s) refl refl
   delivered_receives (Deny file call holder number lock) to = denied_receives file call holder number lock to (find (λ c. c.number == call.number) s.pending) refl
-  delivered_receives (Request file call urgency mode wanted) to = quiet_receives (Deliver (Request file call urgency mode wanted)) (quiet s) refl refl
+  delivered_receives (Request file call blocking mode wanted) to = quiet_receives (Deliver (Request file call blocking mode wanted)) (quiet s) refl refl
   delivered_receives (Taken file number call) to = quiet_receives (Deliver (Taken file number call)) (quiet s) refl refl
   delivered_receives (Released file number holder call span) to = quiet_receives (Deliver (Released file number holder call span)) (quiet s) refl refl
   delivered_receives (Conflict file number holder call lock) to = quiet_receives (Deliver (Conflict file number holder call lock)) (quiet s) refl refl

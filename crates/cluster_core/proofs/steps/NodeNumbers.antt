@@ -26,7 +26,7 @@ in_order-host s file number e kept =
 delivered-host : (s : NodeState) (m : Message) → OfOneHost s (delivered s m).state
 delivered-host s (Grant file number call mode span) =
     let t = in_epoch s file number in
-    let next = after_command t file (raised (t.files file).token span mode) number (Taken file number call) (t.files file).asked in
+    let next = after_command t file (raised (t.files file).token span mode) number (Taken file number call) (t.files file).owes_freed in
     let asks = tried_if_asks next (open_call next call.number) in
     in_order-host t file number (granted t file number call mode span) (asks.node_is, asks.incarnation_is)
 delivered-host s (Revoke file number holder call mode wanted) = let t = in_epoch s file number in in_order-host t file number (revoked t file number call mode wanted) (refl, refl)

@@ -12,8 +12,8 @@ use Rattle.messages.specs.Reports.{runs_of}
 use Rattle.messages.specs.declared.outcome.Outcome.{Outcome}
 use Rattle.messages.specs.declared.refusal.StepError.TheVariants.{Busy, Stranger, Spent}
 use Rattle.messages.specs.Messages.{addressee, host_of, file_of, is_within, greatest_number}
-use Rattle.node_core.specs.declared.open_call.Intent.{Intent}
-use Rattle.node_core.specs.declared.open_call.Intent.TheVariants as intent
+use Rattle.node_core.specs.declared.open_call.LockCommand.{LockCommand}
+use Rattle.node_core.specs.declared.open_call.LockCommand.TheVariants as lock_command
 use Rattle.node_core.specs.declared.open_call.OpenCall.{OpenCall}
 use Rattle.node_core.specs.State.{NodeState, Effect, host, quiet, sent, answered, outcome, open_call_of}
 use Rattle.node_core.specs.Try.{settled, may_free, with_freed, with_freed_of, answered_if, tried_if}
@@ -78,14 +78,14 @@ answered_if_either P s number None answers stays = stays
 answered_if_either P s number (Some reply) answers stays = answers reply refl
 
 -- an interrupt: a call that waits is answered, or nothing happens
-pub interrupted_either : (P : Effect → Type 0) (s : NodeState) (o : Option OpenCall) → ((c : OpenCall) → o ≡ Some c → c.intent ≡ intent.Wait → P (answered s c.number Interrupted)) → P (quiet s) → P (interrupted s o)
+pub interrupted_either : (P : Effect → Type 0) (s : NodeState) (o : Option OpenCall) → ((c : OpenCall) → o ≡ Some c → c.lock_command ≡ lock_command.Wait → P (answered s c.number Interrupted)) → P (quiet s) → P (interrupted s o)
 interrupted_either P s None waits stays = stays
-interrupted_either P s (Some c) waits stays = each c.intent refl
+interrupted_either P s (Some c) waits stays = each c.lock_command refl
   where
-    each : (i : Intent) → c.intent ≡ i → P (answered_if s c.number (interruption_of i))
-    each intent.Wait is = waits c refl is
-    each intent.Set is = stays
-    each intent.Query is = stays
+    each : (i : LockCommand) → c.lock_command ≡ i → P (answered_if s c.number (interruption_of i))
+    each lock_command.Wait is = waits c refl is
+    each lock_command.Set is = stays
+    each lock_command.Query is = stays
 
 -- an answer that is sent again leaves the node as it was
 pub remembered_state : (s : NodeState) (answer : Option Message) → (remembered s answer).state ≡ s

@@ -24,8 +24,8 @@ use Rattle.messages.specs.declared.message.Message.{Message}
 use Rattle.messages.specs.declared.message.Message.TheVariants.{Request, Grant, Revoke, Taken, Freed}
 use Rattle.messages.specs.Messages.{same_message, is_among, host_of}
 use Rattle.messages.proofs.SameMessages.{same_message-is-equality}
-use Rattle.node_core.specs.declared.open_call.Intent.{Intent}
-use Rattle.node_core.specs.declared.open_call.Intent.TheVariants as intent
+use Rattle.node_core.specs.declared.open_call.LockCommand.{LockCommand}
+use Rattle.node_core.specs.declared.open_call.LockCommand.TheVariants as lock_command
 use Rattle.node_core.specs.declared.open_call.OpenCall.{OpenCall}
 use Rattle.node_core.specs.State.{FileState, NodeState, Effect, quiet, answered, without_call_of, host, open_call, process, target_of}
 use Rattle.node_core.specs.Try.{settled as after_settling, may_free, with_freed, locked_by, answered_here, refusal_of, answered_if, tried, tried_against, tried_if, requested}
@@ -35,7 +35,7 @@ use Rattle.node_core.specs.Interrupts.{interruption_of, interrupted}
 use Rattle.cluster_core.proofs.common.Choices.{if_either, at_number}
 use Rattle.cluster_core.proofs.steps.KnownMessages.{sent_either}
 use Rattle.cluster_core.proofs.steps.NodeSteps.{in_order_either, shut_keeps}
-use Rattle.cluster_core.proofs.tokens.Talks.{settled, IsHostOf, IsCommandTo, IsAnswerOf, unasked}
+use Rattle.cluster_core.proofs.tokens.Talks.{settled, IsHostOf, IsCommandTo, IsAnswerOf, owing_nothing}
 use Rattle.cluster_core.proofs.tokens.TalkMoves.{done_file, is_answer}
 
 -- each of the messages is so
@@ -83,23 +83,23 @@ only_all P (x ∷ xs) each = All-cons P x xs (each x (first_among x xs)) (only_a
 
 -- the node in that incarnation asks for a token, or tells that locks may be gone
 abbrev pub IsAsking : ℕ → ℕ → Message → Type 0
-IsAsking n incarnation (Request file call urgency mode wanted) = (call.node ≡ n) × (call.incarnation ≡ incarnation)
+IsAsking n incarnation (Request file call blocking mode wanted) = (call.node ≡ n) × (call.incarnation ≡ incarnation)
 IsAsking n incarnation (Freed file holder) = (holder.node ≡ n) × (holder.incarnation ≡ incarnation)
 IsAsking n incarnation _ = ⊥
 
 -- that is no command and no answer
 pub asking_host : (n incarnation : ℕ) (m : Message) → IsAsking n incarnation m → IsHostOf n incarnation (host_of m)
-asking_host n incarnation (Request file call urgency mode wanted) is = is
+asking_host n incarnation (Request file call blocking mode wanted) is = is
 asking_host n incarnation (Freed file holder) is = is
 asking_host n incarnation m is = absurd is
 
 pub asking_command : (n incarnation file to i k : ℕ) (m : Message) → IsAsking n incarnation m → IsCommandTo file to i k m → ⊥
-asking_command n incarnation file to i k (Request f call urgency mode wanted) is command = command
+asking_command n incarnation file to i k (Request f call blocking mode wanted) is command = command
 asking_command n incarnation file to i k (Freed f holder) is command = command
 asking_command n incarnation file to i k m is command = is
 
 pub asking_answer : (n incarnation file of i k : ℕ) (m : Message) → IsAsking n incarnation m → IsAnswerOf file of i k m → ⊥
-asking_answer n incarnation file of i k (Request f call urgency mode wanted) is answer = answer
+asking_answer n incarnation file of i k (Request f call blocking mode wanted) is answer = answer
 asking_answer n incarnation file of i k (Freed f holder) is answer = answer
 asking_answer n incarnation file of i k m is answer = is
 
@@ -107,14 +107,14 @@ asking_answer n incarnation file of i k m is answer = is
 pub record Asks (node incarnation : ℕ) (files : ℕ → FileState) (e : Effect) : Type 0 where
   pub node_is : e.state.node ≡ node
   pub incarnation_is : e.state.incarnation ≡ incarnation
-  pub files_are : (file : ℕ) → unasked (e.state.files file) ≡ unasked (files file)
+  pub files_are : (file : ℕ) → owing_nothing (e.state.files file) ≡ owing_nothing (files file)
   pub sends : Only (IsAsking node incarnation) e.sends
 
 abbrev pub AsksFrom : NodeState → Effect → Type 0
 AsksFrom s e = Asks s.node s.incarnation s.files e
 
 -- nothing is sent
-says_nothing : (s : NodeState) (e : Effect) → e.state.node ≡ s.node → e.state.incarnation ≡ s.incarnation → ((file : ℕ) → unasked (e.state.files file) ≡ unasked (s.files file)) → e.sends ≡ [] → AsksFrom s e
+says_nothing : (s : NodeState) (e : Effect) → e.state.node ≡ s.node → e.state.incarnation ≡ s.incarnation → ((file : ℕ) → owing_nothing (e.state.files file) ≡ owing_nothing (s.files file)) → e.sends ≡ [] → AsksFrom s e
 says_nothing s e node incarnation files none = record {
   node_is = node;
   incarnation_is = incarnation;
@@ -130,11 +130,11 @@ answered_asks s number reply = says_nothing s (answered s number reply) refl ref
 
 -- the server hears that locks may be gone
 with_freed_asks : (s : NodeState) (file : ℕ) (e : Effect) → AsksFrom s e → AsksFrom s (with_freed file e)
-with_freed_asks s file e asks = elim ((e.state.files file).asked) as (λ b. AsksFrom s (told b)) [ true ↦ tells | false ↦ asks ]
+with_freed_asks s file e asks = elim ((e.state.files file).owes_freed) as (λ b. AsksFrom s (told b)) [ true ↦ tells | false ↦ asks ]
   where
     tell : Effect
     tell = record {
-      state = record e.state { files = λ f. if f == file then record (e.state.files file) { asked = false } else e.state.files f };
+      state = record e.state { files = λ f. if f == file then record (e.state.files file) { owes_freed = false } else e.state.files f };
       reply = e.reply;
       sends = e.sends ++ Freed file (host e.state) ∷ [];
     }
@@ -146,8 +146,8 @@ with_freed_asks s file e asks = elim ((e.state.files file).asked) as (λ b. Asks
     tells = record {
       node_is = asks.node_is;
       incarnation_is = asks.incarnation_is;
-      files_are = λ f. at_number f file (λ b. unasked (if b then record (e.state.files file) { asked = false } else e.state.files f) ≡ unasked (s.files f))
-          (λ same. subst (λ (k : ℕ). unasked (e.state.files file) ≡ unasked (s.files k)) (sym same) (asks.files_are file))
+      files_are = λ f. at_number f file (λ b. owing_nothing (if b then record (e.state.files file) { owes_freed = false } else e.state.files f) ≡ owing_nothing (s.files f))
+          (λ same. subst (λ (k : ℕ). owing_nothing (e.state.files file) ≡ owing_nothing (s.files k)) (sym same) (asks.files_are file))
           (λ other. asks.files_are f);
       sends = only_both (IsAsking s.node s.incarnation) e.sends (Freed file (host e.state) ∷ []) asks.sends (only_one (IsAsking s.node s.incarnation) (Freed file (host e.state)) (asks.node_is, asks.incarnation_is));
     }
@@ -163,18 +163,18 @@ locked_by_asks s number about mode =
 requested_asks : (s : NodeState) (c : OpenCall) → AsksFrom s (requested s c)
 requested_asks s c = record { node_is = refl; incarnation_is = refl; files_are = λ file. refl; sends = only_one (IsAsking s.node s.incarnation) _ (refl, refl) }
 
-answered_here_asks : (s : NodeState) (c : OpenCall) (i : Intent) → AsksFrom s (answered_here s c i)
-answered_here_asks s c intent.Set = locked_by_asks s c.number (target_of c) (Some c.mode)
-answered_here_asks s c intent.Wait = locked_by_asks s c.number (target_of c) (Some c.mode)
-answered_here_asks s c intent.Query = says_nothing s _ refl refl (λ file. refl) refl
+answered_here_asks : (s : NodeState) (c : OpenCall) (i : LockCommand) → AsksFrom s (answered_here s c i)
+answered_here_asks s c lock_command.Set = locked_by_asks s c.number (target_of c) (Some c.mode)
+answered_here_asks s c lock_command.Wait = locked_by_asks s c.number (target_of c) (Some c.mode)
+answered_here_asks s c lock_command.Query = says_nothing s _ refl refl (λ file. refl) refl
 
 answered_if_asks : (s : NodeState) (number : ℕ) (o : Option Reply) → AsksFrom s (answered_if s number o)
 answered_if_asks s number None = quiet_asks s
 answered_if_asks s number (Some reply) = answered_asks s number reply
 
 tried_against_asks : (s : NodeState) (c : OpenCall) (o : Option LockInfo) → AsksFrom s (tried_against s c o)
-tried_against_asks s c (Some lock) = answered_if_asks s c.number (refusal_of c.intent lock)
-tried_against_asks s c None = if_either (AsksFrom s) (covers (s.files c.file).token c.span c.mode) (answered_here s c c.intent) (requested s c) (answered_here_asks s c c.intent) (requested_asks s c)
+tried_against_asks s c (Some lock) = answered_if_asks s c.number (refusal_of c.lock_command lock)
+tried_against_asks s c None = if_either (AsksFrom s) (covers (s.files c.file).token c.span c.mode) (answered_here s c c.lock_command) (requested s c) (answered_here_asks s c c.lock_command) (requested_asks s c)
 
 -- a try of an open call
 pub tried_asks : (s : NodeState) (c : OpenCall) → AsksFrom s (tried s c)
@@ -184,10 +184,10 @@ pub tried_if_asks : (s : NodeState) (o : Option OpenCall) → AsksFrom s (tried_
 tried_if_asks s None = quiet_asks s
 tried_if_asks s (Some c) = tried_asks s c
 
-abbrev made : ℕ → ℕ → Intent → Mode → LockTarget → OpenCall
-made number pid i mode t = record { number = number; pid = pid; intent = i; file = t.file; owner = t.owner; mode = mode; span = t.span }
+abbrev made : ℕ → ℕ → LockCommand → Mode → LockTarget → OpenCall
+made number pid i mode t = record { number = number; pid = pid; lock_command = i; file = t.file; owner = t.owner; mode = mode; span = t.span }
 
-lock_call_asks : (s : NodeState) (number pid : ℕ) (i : Intent) (mode : Mode) (r : Result LockTarget Reply) → AsksFrom s (lock_call s number pid i mode r)
+lock_call_asks : (s : NodeState) (number pid : ℕ) (i : LockCommand) (mode : Mode) (r : Result LockTarget Reply) → AsksFrom s (lock_call s number pid i mode r)
 lock_call_asks s number pid i mode (Err refusal) = answered_asks s number refusal
 lock_call_asks s number pid i mode (Ok t) = tried_asks (record s { pending = s.pending ++ made number pid i mode t ∷ [] }) (made number pid i mode t)
 
@@ -210,20 +210,20 @@ called_asks s number pid (Close fd) = shut_asks s number (λ file. is_of_file fi
 called_asks s number pid Exit =
     let a = shut_asks (without_call_of s pid) number (has_open (around s.table (process s pid)) pid) (after_exit s.table (process s pid)) in
     record { node_is = a.node_is; incarnation_is = a.incarnation_is; files_are = a.files_are; sends = a.sends }
-called_asks s number pid (Set fd kind mode start len) = lock_call_asks s number pid intent.Set mode (target s.table (process s pid) (Some mode) fd kind start len)
-called_asks s number pid (Wait fd kind mode start len) = lock_call_asks s number pid intent.Wait mode (target s.table (process s pid) (Some mode) fd kind start len)
+called_asks s number pid (Set fd kind mode start len) = lock_call_asks s number pid lock_command.Set mode (target s.table (process s pid) (Some mode) fd kind start len)
+called_asks s number pid (Wait fd kind mode start len) = lock_call_asks s number pid lock_command.Wait mode (target s.table (process s pid) (Some mode) fd kind start len)
 called_asks s number pid (Unlock fd kind start len) = unlock_call_asks s number (target s.table (process s pid) None fd kind start len)
-called_asks s number pid (Query fd kind mode start len) = lock_call_asks s number pid intent.Query mode (target s.table (process s pid) None fd kind start len)
+called_asks s number pid (Query fd kind mode start len) = lock_call_asks s number pid lock_command.Query mode (target s.table (process s pid) None fd kind start len)
 
 -- a call is denied
 pub denied_asks : (s : NodeState) (lock : LockInfo) (o : Option OpenCall) → AsksFrom s (denied s lock o)
 denied_asks s lock None = quiet_asks s
-denied_asks s lock (Some c) = answered_if_asks s c.number (refusal_of c.intent lock)
+denied_asks s lock (Some c) = answered_if_asks s c.number (refusal_of c.lock_command lock)
 
 -- a wait is interrupted
 pub interrupted_asks : (s : NodeState) (o : Option OpenCall) → AsksFrom s (interrupted s o)
 interrupted_asks s None = quiet_asks s
-interrupted_asks s (Some c) = answered_if_asks s c.number (interruption_of c.intent)
+interrupted_asks s (Some c) = answered_if_asks s c.number (interruption_of c.lock_command)
 
 -- an answer that it remembers is sent again
 pub record Repeats (s : NodeState) (e : Effect) : Type 0 where
@@ -241,7 +241,7 @@ pub record Does (s : NodeState) (file number : ℕ) (command : Message) (e : Eff
   pub is_next : number ≡ (s.files file).last + 1
   pub node_is : e.state.node ≡ s.node
   pub incarnation_is : e.state.incarnation ≡ s.incarnation
-  pub files_are : (f : ℕ) → unasked (e.state.files f) ≡ (if f == file then done_file (s.files file) number command answer else unasked (s.files f))
+  pub files_are : (f : ℕ) → owing_nothing (e.state.files f) ≡ (if f == file then done_file (s.files file) number command answer else owing_nothing (s.files f))
   pub sends : Only (λ m. (m ≡ answer) ⊎ IsAsking s.node s.incarnation m) e.sends
   pub told : is_among e.sends answer ≡ true
 
@@ -249,15 +249,15 @@ pub record Does (s : NodeState) (file number : ℕ) (command : Message) (e : Eff
 abbrev pub Receives : NodeState → ℕ → ℕ → Message → Effect → Type 0
 Receives s file number command e = Does s file number command e ⊎ (Repeats s e ⊎ AsksFrom s e)
 
-unasked_if : (b : Bool) (x y : FileState) → unasked (if b then x else y) ≡ (if b then unasked x else unasked y)
-unasked_if true x y = refl
-unasked_if false x y = refl
+owing_nothing_if : (b : Bool) (x y : FileState) → owing_nothing (if b then x else y) ≡ (if b then owing_nothing x else owing_nothing y)
+owing_nothing_if true x y = refl
+owing_nothing_if false x y = refl
 
 granted_does : (s : NodeState) (file number : ℕ) (call : CallId) (mode : Mode) (span : Range) → call.node ≡ s.node → call.incarnation ≡ s.incarnation → number ≡ (s.files file).last + 1 → Does s file number (Grant file number call mode span) (granted s file number call mode span)
 granted_does s file number call mode span node incarnation is_next =
     let f = s.files file in
     let answer = Taken file number call in
-    let next = after_command s file (raised f.token span mode) number answer f.asked in
+    let next = after_command s file (raised f.token span mode) number answer f.owes_freed in
     let effect = tried_if next (open_call next call.number) in
     let asks = tried_if_asks next (open_call next call.number) in
     let P : Message → Type 0 = λ m. (m ≡ answer) ⊎ IsAsking s.node s.incarnation m in
@@ -268,7 +268,7 @@ granted_does s file number call mode span node incarnation is_next =
       is_next = is_next;
       node_is = asks.node_is;
       incarnation_is = asks.incarnation_is;
-      files_are = λ g. asks.files_are g ∙ unasked_if (g == file) (record { token = raised f.token span mode; last = number; answer = Some answer; asked = f.asked }) (s.files g);
+      files_are = λ g. asks.files_are g ∙ owing_nothing_if (g == file) (record { token = raised f.token span mode; last = number; answer = Some answer; owes_freed = f.owes_freed }) (s.files g);
       sends = only_more P answer effect.sends (inl refl) (λ m there. inr (asks.sends m there));
       told = first_among answer effect.sends;
     }
@@ -298,8 +298,8 @@ revoked_does s file number holder call mode wanted is_next =
       node_is = refl;
       incarnation_is = refl;
       files_are = λ g.
-          unasked_if (g == file) (record { token = after_giving_up (s.files file).token mode up; last = number; answer = Some answer; asked = is_conflict up || (s.files file).asked }) (s.files g)
-          ∙ ap (λ (t : Token). if g == file then record { token = t; last = number; answer = Some answer; asked = false } else unasked (s.files g)) (given_up (s.files file).token file number holder (host s) call mode wanted up);
+          owing_nothing_if (g == file) (record { token = after_giving_up (s.files file).token mode up; last = number; answer = Some answer; owes_freed = is_conflict up || (s.files file).owes_freed }) (s.files g)
+          ∙ ap (λ (t : Token). if g == file then record { token = t; last = number; answer = Some answer; owes_freed = false } else owing_nothing (s.files g)) (given_up (s.files file).token file number holder (host s) call mode wanted up);
       sends = only_one (λ m. (m ≡ answer) ⊎ IsAsking s.node s.incarnation m) answer (inl refl);
       told = first_among answer [];
     }

@@ -16,7 +16,7 @@ use Rattle.model.specs.Owners.{host_of_call}
 use Rattle.token_set.specs.Tokens.{Token, raised}
 use Rattle.token_set.specs.Releases.{lowered}
 use Rattle.messages.specs.Wants.{Wants}
-use Rattle.messages.specs.declared.message.Urgency.TheVariants.{Now}
+use Rattle.messages.specs.declared.message.Blocking.TheVariants.{No}
 use Rattle.messages.specs.declared.message.Message.{Message}
 use Rattle.messages.specs.declared.message.Message.TheVariants.{Request, Grant, Revoke, Taken, Released, Conflict, Deny, Freed, Hello, Report}
 use Rattle.messages.specs.declared.token_run.TokenRun.{TokenRun}
@@ -24,7 +24,7 @@ use Rattle.messages.specs.Reports.{reported}
 use Rattle.messages.specs.declared.outcome.Outcome.{Outcome}
 use Rattle.messages.specs.declared.refusal.StepError.{StepError}
 use Rattle.messages.specs.declared.refusal.StepError.TheVariants.{Stranger, Spent}
-use Rattle.messages.specs.Messages.{addressee, host_of, is_within, greatest_number, same_urgency, sending}
+use Rattle.messages.specs.Messages.{addressee, host_of, is_within, greatest_number, same_blocking, sending}
 use Rattle.token_queue.specs.declared.token_request.TokenRequest.{TokenRequest}
 use Rattle.token_server.specs.declared.event.ServerEvent.TheVariants.{Deliver, Resend, Learn}
 use Rattle.token_queue.specs.Requests.{is_of_call}
@@ -102,11 +102,11 @@ pub record Makes (file : ℕ) (K : ℕ → Type 0) (H : TokenRequest → Type 0)
 
 -- it may send the denial of a call whose request it serves, where that may not wait
 abbrev pub MayDeny : (TokenRequest → Type 0) → (Message → Type 0) → CallId → Message → Type 0
-MayDeny H C call deny = (r : TokenRequest) → H r → is_of_call call r ≡ true → same_urgency r.urgency Now ≡ true → C deny
+MayDeny H C call deny = (r : TokenRequest) → H r → is_of_call call r ≡ true → same_blocking r.blocking No ≡ true → C deny
 
 -- what a message tells it
 abbrev pub Tells : ℕ → (TokenRequest → Type 0) → (Message → Type 0) → Message → Type 0
-Tells file H C (Request f call urgency mode wanted) = H (record { call = call; urgency = urgency; mode = mode; wanted = wanted })
+Tells file H C (Request f call blocking mode wanted) = H (record { call = call; blocking = blocking; mode = mode; wanted = wanted })
 Tells file H C (Conflict f number holder call lock) = MayDeny H C call (Deny file call holder number lock)
 Tells file H C _ = Unit {0}
 
@@ -198,7 +198,7 @@ module _ (file : ℕ) (K : ℕ → Type 0) (H : TokenRequest → Type 0) (C : Me
   denial-sends : (call : CallId) (deny : Message) (o : Option TokenRequest) → IfSome o H → IfSome o (λ r. is_of_call call r ≡ true) → MayDeny H C call deny → All C (denial deny o)
   denial-sends call deny None held own told = All-nil C
   denial-sends call deny (Some r) held own told =
-      elim (same_urgency r.urgency Now) as (λ b. same_urgency r.urgency Now ≡ b → All C (if b then deny ∷ [] else [])) [
+      elim (same_blocking r.blocking No) as (λ b. same_blocking r.blocking No ≡ b → All C (if b then deny ∷ [] else [])) [
         | true ↦ λ is. All-cons C deny [] (told r held own is) (All-nil C)
         | false ↦ λ is. All-nil C
       ] refl
@@ -225,8 +225,8 @@ module _ (file : ℕ) (K : ℕ → Type 0) (H : TokenRequest → Type 0) (C : Me
       ]
 
   delivered-changes : (t : ServerState) (m : Message) → Tells file H C m → Comes file K H C t → Changes (delivered t m)
-  delivered-changes t (Request f call urgency mode wanted) told c =
-      let r : TokenRequest = record { call = call; urgency = urgency; mode = mode; wanted = wanted } in
+  delivered-changes t (Request f call blocking mode wanted) told c =
+      let r : TokenRequest = record { call = call; blocking = blocking; mode = mode; wanted = wanted } in
       changes_one (asked t r, []) (asked-comes t r told c, All-nil C)
   delivered-changes t (Taken f number call) told c = taken-changes t number call (row_of_host t (host_of_call call)) c
   delivered-changes t (Released f number holder call span) told c = released-changes t number holder span (row_of_host t holder) c

@@ -24,11 +24,11 @@ use Rattle.messages.specs.declared.message.Message.TheVariants.{Request, Grant, 
 use Rattle.messages.specs.declared.token_run.TokenRun.{TokenRun}
 use Rattle.messages.specs.Epochs.{begin_of}
 use Rattle.messages.specs.Reports.{runs_of}
-use Rattle.node_core.specs.declared.open_call.Intent.{Intent}
-use Rattle.node_core.specs.declared.open_call.Intent.TheVariants as intent
+use Rattle.node_core.specs.declared.open_call.LockCommand.{LockCommand}
+use Rattle.node_core.specs.declared.open_call.LockCommand.TheVariants as lock_command
 use Rattle.node_core.specs.declared.open_call.OpenCall.{OpenCall}
 use Rattle.node_core.specs.State.{FileState, NodeState, Effect, quiet, with_file, without_call_of, host, process, id_of, target_of, open_call}
-use Rattle.node_core.specs.Try.{settled, urgency_of, requested, refusal_of, answered_if, may_free, with_freed, locked_by, answered_here, tried, tried_against, tried_if}
+use Rattle.node_core.specs.Try.{settled, blocking_of, requested, refusal_of, answered_if, may_free, with_freed, locked_by, answered_here, tried, tried_against, tried_if}
 use Rattle.node_core.specs.Calls.{lock_call, unlock_call, called, shut_by}
 use Rattle.node_core.specs.Commands.{renewed, in_epoch, remembered, in_order, after_command, granted, answer_to, revoked, denied, delivered}
 use Rattle.node_core.specs.Interrupts.{interruption_of, interrupted}
@@ -50,7 +50,7 @@ pub record IsFreely (P : Message → Type 0) : Type 0 where
 
 -- what is asked for an open call
 abbrev pub AsksFor : (Message → Type 0) → NodeState → Type 0
-AsksFor P u = (c : OpenCall) (wanted : Wants) → Contains u.pending c → wanted.required ≡ c.span → wanted.desired.hi ≤ max greatest c.span.hi → P (Request c.file (id_of u c.number) (urgency_of c.intent) c.mode wanted)
+AsksFor P u = (c : OpenCall) (wanted : Wants) → Contains u.pending c → wanted.required ≡ c.span → wanted.desired.hi ≤ max greatest c.span.hi → P (Request c.file (id_of u c.number) (blocking_of c.lock_command) c.mode wanted)
 
 -- the answers that a node remembers
 abbrev pub Remembers : (Message → Type 0) → NodeState → Type 0
@@ -75,8 +75,8 @@ module _ (P : Message → Type 0) (free : IsFreely P) where
 
   with_freed-sends : (file : ℕ) (e : Effect) → SendsOnly e → SendsOnly (with_freed file e)
   with_freed-sends file e so_far =
-      let told : Effect = record { state = with_file e.state file (record (e.state.files file) { asked = false }); reply = e.reply; sends = e.sends ++ Freed file (host e.state) ∷ [] } in
-      if_either SendsOnly (e.state.files file).asked told e
+      let told : Effect = record { state = with_file e.state file (record (e.state.files file) { owes_freed = false }); reply = e.reply; sends = e.sends ++ Freed file (host e.state) ∷ [] } in
+      if_either SendsOnly (e.state.files file).owes_freed told e
       (λ asks. All-push P e.sends (Freed file (host e.state)) (so_far asks) (free.freed file (host e.state)))
       so_far
 
@@ -87,22 +87,22 @@ module _ (P : Message → Type 0) (free : IsFreely P) where
       (with_freed-sends c.file (settled s number answer) (nothing_sent (settled s number answer) refl))
       (nothing_sent (settled s number answer) refl)
 
-  answered_here-sends : (s : NodeState) (c : OpenCall) (i : Intent) → SendsOnly (answered_here s c i)
-  answered_here-sends s c intent.Set = locked_by-sends s c.number (target_of c) (Some c.mode)
-  answered_here-sends s c intent.Wait = locked_by-sends s c.number (target_of c) (Some c.mode)
-  answered_here-sends s c intent.Query = λ asks. All-nil P
+  answered_here-sends : (s : NodeState) (c : OpenCall) (i : LockCommand) → SendsOnly (answered_here s c i)
+  answered_here-sends s c lock_command.Set = locked_by-sends s c.number (target_of c) (Some c.mode)
+  answered_here-sends s c lock_command.Wait = locked_by-sends s c.number (target_of c) (Some c.mode)
+  answered_here-sends s c lock_command.Query = λ asks. All-nil P
 
   answered_if-sends : (s : NodeState) (number : ℕ) (o : Option Reply) → SendsOnly (answered_if s number o)
   answered_if-sends s number None = λ asks. All-nil P
   answered_if-sends s number (Some reply) = λ asks. All-nil P
 
   tried_against-sends : (s : NodeState) (c : OpenCall) (o : Option LockInfo) → Contains s.pending c → SendsOnly (tried_against s c o)
-  tried_against-sends s c (Some lock) there = answered_if-sends s c.number (refusal_of c.intent lock)
+  tried_against-sends s c (Some lock) there = answered_if-sends s c.number (refusal_of c.lock_command lock)
   tried_against-sends s c None there =
       let wanted : Wants = record { required = c.span; desired = desired s.shape.policy (s.files c.file).token c.span } in
-      if_either SendsOnly (covers (s.files c.file).token c.span c.mode) (answered_here s c c.intent) (requested s c)
-      (answered_here-sends s c c.intent)
-      (λ asks. All-cons P (Request c.file (id_of s c.number) (urgency_of c.intent) c.mode wanted) [] (asks c wanted there refl (desired_end s.shape.policy (s.files c.file).token c.span)) (All-nil P))
+      if_either SendsOnly (covers (s.files c.file).token c.span c.mode) (answered_here s c c.lock_command) (requested s c)
+      (answered_here-sends s c c.lock_command)
+      (λ asks. All-cons P (Request c.file (id_of s c.number) (blocking_of c.lock_command) c.mode wanted) [] (asks c wanted there refl (desired_end s.shape.policy (s.files c.file).token c.span)) (All-nil P))
 
   pub tried-sends : (s : NodeState) (c : OpenCall) → Contains s.pending c → SendsOnly (tried s c)
   tried-sends s c there = tried_against-sends s c (lowest_blocker (s.table.locks c.file) c.owner c.span c.mode) there
@@ -111,10 +111,10 @@ module _ (P : Message → Type 0) (free : IsFreely P) where
   tried_if-sends s None there = λ asks. All-nil P
   tried_if-sends s (Some c) there = tried-sends s c (there c refl)
 
-  lock_call-sends : (s : NodeState) (number pid : ℕ) (i : Intent) (mode : Mode) (found : Result LockTarget Reply) → SendsOnly (lock_call s number pid i mode found)
+  lock_call-sends : (s : NodeState) (number pid : ℕ) (i : LockCommand) (mode : Mode) (found : Result LockTarget Reply) → SendsOnly (lock_call s number pid i mode found)
   lock_call-sends s number pid i mode (Err refusal) = λ asks. All-nil P
   lock_call-sends s number pid i mode (Ok about) =
-      let c : OpenCall = record { number = number; pid = pid; intent = i; file = about.file; owner = about.owner; mode = mode; span = about.span } in
+      let c : OpenCall = record { number = number; pid = pid; lock_command = i; file = about.file; owner = about.owner; mode = mode; span = about.span } in
       tried-sends (record s { pending = s.pending ++ c ∷ [] }) c (Contains-push s.pending c)
 
   unlock_call-sends : (s : NodeState) (number : ℕ) (found : Result LockTarget Reply) → SendsOnly (unlock_call s number found)
@@ -131,10 +131,10 @@ module _ (P : Message → Type 0) (free : IsFreely P) where
   called-sends s number pid (Dup fd) = λ asks. All-nil P
   called-sends s number pid (Close fd) = shut-sends s number (λ file. is_of_file file (descriptor s.table (process s pid) fd)) (after_close s.table (process s pid) fd)
   called-sends s number pid Exit = shut-sends (without_call_of s pid) number (has_open (around s.table (process s pid)) pid) (after_exit s.table (process s pid))
-  called-sends s number pid (Set fd kind mode start len) = lock_call-sends s number pid intent.Set mode (target s.table (process s pid) (Some mode) fd kind start len)
-  called-sends s number pid (Wait fd kind mode start len) = lock_call-sends s number pid intent.Wait mode (target s.table (process s pid) (Some mode) fd kind start len)
+  called-sends s number pid (Set fd kind mode start len) = lock_call-sends s number pid lock_command.Set mode (target s.table (process s pid) (Some mode) fd kind start len)
+  called-sends s number pid (Wait fd kind mode start len) = lock_call-sends s number pid lock_command.Wait mode (target s.table (process s pid) (Some mode) fd kind start len)
   called-sends s number pid (Unlock fd kind start len) = unlock_call-sends s number (target s.table (process s pid) None fd kind start len)
-  called-sends s number pid (Query fd kind mode start len) = lock_call-sends s number pid intent.Query mode (target s.table (process s pid) None fd kind start len)
+  called-sends s number pid (Query fd kind mode start len) = lock_call-sends s number pid lock_command.Query mode (target s.table (process s pid) None fd kind start len)
 
   remembered-sends : (s : NodeState) (file : ℕ) → Remembers P s → SendsOnly (remembered s (s.files file).answer)
   remembered-sends s file old = each (s.files file).answer refl
@@ -148,7 +148,7 @@ module _ (P : Message → Type 0) (free : IsFreely P) where
 
   granted-sends : (s : NodeState) (file number : ℕ) (call : CallId) (mode : Mode) (span : Range) → SendsOnly (granted s file number call mode span)
   granted-sends s file number call mode span asks =
-      let next = after_command s file (raised (s.files file).token span mode) number (Taken file number call) (s.files file).asked in
+      let next = after_command s file (raised (s.files file).token span mode) number (Taken file number call) (s.files file).owes_freed in
       let test : OpenCall → Bool = λ c. c.number == call.number in
       let e = tried_if next (open_call next call.number) in
       All-cons P (Taken file number call) e.sends (free.taken file number call) (tried_if-sends next (open_call next call.number) (λ c h. (found_open test s.pending c h).0) asks)
@@ -170,11 +170,11 @@ module _ (P : Message → Type 0) (free : IsFreely P) where
 
   denied-sends : (s : NodeState) (lock : LockInfo) (o : Option OpenCall) → SendsOnly (denied s lock o)
   denied-sends s lock None = λ asks. All-nil P
-  denied-sends s lock (Some c) = answered_if-sends s c.number (refusal_of c.intent lock)
+  denied-sends s lock (Some c) = answered_if-sends s c.number (refusal_of c.lock_command lock)
 
   pub interrupted-sends : (s : NodeState) (o : Option OpenCall) → SendsOnly (interrupted s o)
   interrupted-sends s None = λ asks. All-nil P
-  interrupted-sends s (Some c) = answered_if-sends s c.number (interruption_of c.intent)
+  interrupted-sends s (Some c) = answered_if-sends s c.number (interruption_of c.lock_command)
 
   -- a revoke that names a lock does so once the node has heard of its epoch
   abbrev pub EntersConflicts : NodeState → Message → Type 0
@@ -193,7 +193,7 @@ module _ (P : Message → Type 0) (free : IsFreely P) where
       told_either SendsOnly t file number (λ is asks. All-cons P (Report file number (host t) (runs_of (t.files file).token)) [] (free.report file number (host t) (runs_of (t.files file).token)) (All-nil P)) (nothing_sent (quiet t) refl)
   delivered-sends s (Report file number holder runs) old conflict = nothing_sent (quiet s) refl
   delivered-sends s (Deny file call holder number lock) old conflict = denied-sends s lock (open_call s call.number)
-  delivered-sends s (Request file call urgency mode wanted) old conflict = nothing_sent (quiet s) refl
+  delivered-sends s (Request file call blocking mode wanted) old conflict = nothing_sent (quiet s) refl
   delivered-sends s (Taken file number call) old conflict = nothing_sent (quiet s) refl
   delivered-sends s (Released file number holder call span) old conflict = nothing_sent (quiet s) refl
   delivered-sends s (Conflict file number holder call lock) old conflict = nothing_sent (quiet s) refl

@@ -21,11 +21,11 @@ use Rattle.messages.specs.declared.message.Message.TheVariants.{Request, Grant, 
 use Rattle.messages.specs.declared.token_run.TokenRun.{TokenRun}
 use Rattle.messages.specs.Reports.{reported}
 use Rattle.messages.specs.declared.refusal.StepError.{StepError}
-use Rattle.messages.specs.declared.message.Urgency.TheVariants.{Now}
+use Rattle.messages.specs.declared.message.Blocking.TheVariants.{No}
 use Rattle.messages.specs.declared.actor.Actor.TheVariants.{Server as AServer}
 use Rattle.messages.specs.declared.refusal.StepError.TheVariants.{Spent}
 use Rattle.messages.specs.declared.outcome.Outcome.{Outcome}
-use Rattle.messages.specs.Messages.{addressee, host_of, same_urgency, greatest_number, is_within, sending}
+use Rattle.messages.specs.Messages.{addressee, host_of, same_blocking, greatest_number, is_within, sending}
 use Rattle.messages.specs.Shapes.{ShapeFields}
 use Rattle.node_core.specs.State.{NodeState}
 use Rattle.token_queue.specs.declared.token_request.TokenRequest.{TokenRequest}
@@ -43,14 +43,14 @@ use Rattle.cluster_core.proofs.common.Lists.{All-both}
 use Rattle.cluster_core.proofs.steps.ServerMoves.{WhateverRequests, enqueued-stays, freed-stays, ready-stays}
 use Rattle.cluster_core.proofs.steps.Requested.{change_done}
 use Rattle.cluster_core.proofs.tokens.Clearing.{around_free}
-use Rattle.cluster_core.proofs.tokens.Talks.{Sent, IsCommandTo, IsAnswerOf, IsHostOf, promised, settled, unasked, in_epoch, Talk}
+use Rattle.cluster_core.proofs.tokens.Talks.{Sent, IsCommandTo, IsAnswerOf, IsHostOf, promised, settled, owing_nothing, in_epoch, Talk}
 use Rattle.cluster_core.proofs.tokens.TalkMoves.{is_answer}
 use Rattle.cluster_core.proofs.tokens.RowMoves.{talk-forgets, talk-row, talk-answered, talk-heard, cleared_row, answered_row, commanded_row}
 use Rattle.cluster_core.proofs.steps.NodeTokens.{Only, only_none, only_one}
 
 -- what a server and the nodes know of each other
 abbrev pub TalkOf : Sent → (ℕ → NodeState) → ℕ → ServerState → ℕ → Type 0
-TalkOf was nodes file t n = Talk was file n (nodes n).incarnation (unasked ((nodes n).files file)) (t.rows n) (t.dead n) (begin t)
+TalkOf was nodes file t n = Talk was file n (nodes n).incarnation (owing_nothing ((nodes n).files file)) (t.rows n) (t.dead n) (begin t)
 
 -- the request is of the incarnation after those that are known as dead, of a node of the shape that has a row
 pub record IsCurrent (t : ServerState) (r : TokenRequest) : Type 0 where
@@ -165,10 +165,10 @@ module _ (was : Sent) (nodes : ℕ → NodeState) (shape : ShapeFields) (file : 
       file_is = serves.file_is;
       shape_is = serves.shape_is;
       from = serves.from;
-      talks = λ m. at_number m n (λ b. Talk was file m (nodes m).incarnation (unasked ((nodes m).files file)) (if b then row_above j (t.rows m) else t.rows m) (if b then max (t.dead m) j else t.dead m) (begin t))
+      talks = λ m. at_number m n (λ b. Talk was file m (nodes m).incarnation (owing_nothing ((nodes m).files file)) (if b then row_above j (t.rows m) else t.rows m) (if b then max (t.dead m) j else t.dead m) (begin t))
           (λ same.
           let before : j < (nodes m).incarnation = subst (λ (k : ℕ). j < (nodes k).incarnation) (sym same) older in
-          talk-forgets was file m (nodes m).incarnation (unasked ((nodes m).files file)) (t.dead m) (begin t) j before (t.rows m) (serves.talks m))
+          talk-forgets was file m (nodes m).incarnation (owing_nothing ((nodes m).files file)) (t.dead m) (begin t) j before (t.rows m) (serves.talks m))
           (λ other. serves.talks m);
       held = All-both (IsCurrent t) (λ r. not (is_up_to n j r) ≡ true) (IsCurrent (forgotten t n j)) (λ r c young. current_forgets r c (not-true (is_up_to n j r) young)) (requests (forgotten t n j)) (forgotten-each (IsCurrent t) t n j serves.held) (forgotten-young t n j);
     }
@@ -181,23 +181,23 @@ module _ (was : Sent) (nodes : ℕ → NodeState) (shape : ShapeFields) (file : 
     has_row = at_number r.call.node n (λ b. is_some (if b then Some row else t.rows r.call.node) ≡ true) (λ same. refl) (λ other. c.has_row);
   }
 
-  put_row : (n : ℕ) (row : Row) → Talk was file n (nodes n).incarnation (unasked ((nodes n).files file)) (Some row) (t.dead n) (begin t) → Serves was nodes shape file (with_row t n (Some row))
+  put_row : (n : ℕ) (row : Row) → Talk was file n (nodes n).incarnation (owing_nothing ((nodes n).files file)) (Some row) (t.dead n) (begin t) → Serves was nodes shape file (with_row t n (Some row))
   put_row n row talk = record {
     file_is = serves.file_is;
     shape_is = serves.shape_is;
     from = serves.from;
-    talks = λ m. at_number m n (λ b. Talk was file m (nodes m).incarnation (unasked ((nodes m).files file)) (if b then Some row else t.rows m) (t.dead m) (begin t))
-        (λ same. subst (λ (k : ℕ). Talk was file k (nodes k).incarnation (unasked ((nodes k).files file)) (Some row) (t.dead k) (begin t)) (sym same) talk)
+    talks = λ m. at_number m n (λ b. Talk was file m (nodes m).incarnation (owing_nothing ((nodes m).files file)) (if b then Some row else t.rows m) (t.dead m) (begin t))
+        (λ same. subst (λ (k : ℕ). Talk was file k (nodes k).incarnation (owing_nothing ((nodes k).files file)) (Some row) (t.dead k) (begin t)) (sym same) talk)
         (λ other. serves.talks m);
     held = All-weaker (IsCurrent t) (IsCurrent (with_row t n (Some row))) (current_row n row) (requests t) serves.held;
   }
 
-  talk_with : (n : ℕ) (row : Option Row) → t.rows n ≡ row → Talk was file n (nodes n).incarnation (unasked ((nodes n).files file)) row (t.dead n) (begin t)
-  talk_with n row is = subst (λ (o : Option Row). Talk was file n (nodes n).incarnation (unasked ((nodes n).files file)) o (t.dead n) (begin t)) is (serves.talks n)
+  talk_with : (n : ℕ) (row : Option Row) → t.rows n ≡ row → Talk was file n (nodes n).incarnation (owing_nothing ((nodes n).files file)) row (t.dead n) (begin t)
+  talk_with n row is = subst (λ (o : Option Row). Talk was file n (nodes n).incarnation (owing_nothing ((nodes n).files file)) o (t.dead n) (begin t)) is (serves.talks n)
 
   -- a row for a node that has none
   pub makes_row : (call : CallId) (row : Option Row) → t.rows call.node ≡ row → call.incarnation ≡ t.dead call.node + 1 → (m : Message) × was m × IsHostOf call.node call.incarnation (host_of m) → Serves was nodes shape file (with_a_row t call row)
-  makes_row call None is of name = put_row call.node (empty_row (begin t) call.incarnation) (talk-row was file call.node (nodes call.node).incarnation (unasked ((nodes call.node).files file)) (t.dead call.node) (begin t) call.incarnation of (talk_with call.node None is) name)
+  makes_row call None is of name = put_row call.node (empty_row (begin t) call.incarnation) (talk-row was file call.node (nodes call.node).incarnation (owing_nothing ((nodes call.node).files file)) (t.dead call.node) (begin t) call.incarnation of (talk_with call.node None is) name)
   makes_row call (Some row) is of name = serves
 
   -- other requests of the incarnations after the dead ones
@@ -232,14 +232,14 @@ module _ (was : Sent) (nodes : ℕ → NodeState) (shape : ShapeFields) (file : 
       let P : Token → Type 0 = λ x. Serves was nodes shape file (acknowledged t n row x) in
       let sent = ((serves.talks n).waits row w.command there w.waiting).1 in
       subst P w.token (put_row n (answered_row row w.command answer)
-      (talk-answered was file n (nodes n).incarnation (unasked ((nodes n).files file)) row (t.dead n) (begin t) k w.command answer told answers_it of w.waiting w.plain (w.number file n row.incarnation row.number sent) (talk_with n (Some row) there)))
+      (talk-answered was file n (nodes n).incarnation (owing_nothing ((nodes n).files file)) row (t.dead n) (begin t) k w.command answer told answers_it of w.waiting w.plain (w.number file n row.incarnation row.number sent) (talk_with n (Some row) there)))
 
   -- a node that is asked for its token tells it
   pub hears : (n k : ℕ) (row : Row) (h : Host) (runs : List TokenRun) → was (Report file k h runs) → IsHostOf n row.incarnation h → t.rows n ≡ Some row → (command : Message) → row.outstanding ≡ Some command → is_hello (Some command) ≡ true → ((f l i j : ℕ) → IsCommandTo f l i j command → k ≡ j) → Serves was nodes shape file (acknowledged t n row (reported runs))
   hears n k row h runs told of there command waiting hello number =
       let sent = ((serves.talks n).waits row command there waiting).1 in
       put_row n (cleared_row row (reported runs))
-      (talk-heard was file n (nodes n).incarnation (unasked ((nodes n).files file)) row (t.dead n) (begin t) k h runs told of (ap is_hello waiting ∙ hello) (number file n row.incarnation row.number sent) (talk_with n (Some row) there))
+      (talk-heard was file n (nodes n).incarnation (owing_nothing ((nodes n).files file)) row (t.dead n) (begin t) k h runs told of (ap is_hello waiting ∙ hello) (number file n row.incarnation row.number sent) (talk_with n (Some row) there))
 
   -- a request is served no longer, or waits from then on
   pub ends : (call : CallId) → Serves was nodes shape file (ended call t)
@@ -262,7 +262,7 @@ module _ (was : Sent) (nodes : ℕ → NodeState) (shape : ShapeFields) (file : 
       let nodes_are : (host_of name.0).node ≡ call.node = name.2.0 ∙ node in
       let incarnations_are : (host_of name.0).incarnation ≡ call.incarnation = name.2.1 ∙ (aged ∙ (sym current.of ∙ incarnation)) in
       let host_is : host_of name.0 ≡ host_of_call call = λ i. record { node = nodes_are i; incarnation = incarnations_are i } in
-      if_either (Only (IsDenial known)) (same_urgency r.urgency Now) _ _ (only_one (IsDenial known) deny (subst known host_is (all_known name.0 name.1))) (only_none (IsDenial known))
+      if_either (Only (IsDenial known)) (same_blocking r.blocking No) _ _ (only_one (IsDenial known) deny (subst known host_is (all_known name.0 name.1))) (only_none (IsDenial known))
 
 -- a row is there once it was made
 row_made : (t : ServerState) (call : CallId) (row : Option Row) → t.rows call.node ≡ row → is_some ((with_a_row t call row).rows call.node) ≡ true
@@ -372,9 +372,9 @@ module _ (was : Sent) (known_host : Host → Type 0) (all_known : (m : Message) 
 
   -- what a message changes
   pub changes : (m : Message) → was m → addressee m ≡ AServer file → (host_of m).incarnation ≤ (nodes (host_of m).node).incarnation → is_within t.shape.nodes (host_of m).node ≡ true → t.dead (host_of m).node < (host_of m).incarnation → (x : Change) → delivered t m ≡ Some x → IsServing was known_host nodes shape file x
-  changes (Request f call urgency mode wanted) told to known within alive x h =
-      let r : TokenRequest = record { call = call; urgency = urgency; mode = mode; wanted = wanted } in
-      subst (IsServing was known_host nodes shape file) (same_Some (asked t r, []) x h) (asks r (Request f call urgency mode wanted, told, (refl, refl)) within alive known, only_none (IsDenial known_host))
+  changes (Request f call blocking mode wanted) told to known within alive x h =
+      let r : TokenRequest = record { call = call; blocking = blocking; mode = mode; wanted = wanted } in
+      subst (IsServing was known_host nodes shape file) (same_Some (asked t r, []) x h) (asks r (Request f call blocking mode wanted, told, (refl, refl)) within alive known, only_none (IsDenial known_host))
   changes (Taken f number call) told to known within alive x h =
       let same : f ≡ file = cc in
       answers_taken number call (row_of_host t (host_of_call call)) x (subst (λ (g : ℕ). was (Taken g number call)) same told) refl h

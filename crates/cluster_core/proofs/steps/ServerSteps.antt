@@ -126,7 +126,7 @@ freed-epoch s None = refl
 freed-epoch s (Some row) = refl
 
 delivered-epoch : (s : ServerState) (m : Message) → Stays s.epoch (delivered s m)
-delivered-epoch s (Request file call urgency mode wanted) = asked-epoch s (record { call = call; urgency = urgency; mode = mode; wanted = wanted })
+delivered-epoch s (Request file call blocking mode wanted) = asked-epoch s (record { call = call; blocking = blocking; mode = mode; wanted = wanted })
 delivered-epoch s (Taken file number call) = taken-epoch s number call (row_of_host s (host_of_call call))
 delivered-epoch s (Released file number holder call span) = released-epoch s number holder span (row_of_host s holder)
 delivered-epoch s (Conflict file number holder call lock) = in_conflict-epoch s number holder call lock (row_of_host s holder)

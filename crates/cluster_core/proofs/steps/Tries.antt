@@ -25,8 +25,8 @@ use Rattle.model.specs.Table.{Table, LockTarget, around, descriptor, beside, tar
 use Rattle.model.specs.Step.{Step, SetStep, WaitStep, QueryStep, Is, AfterTests, Unblocked}
 use Rattle.token_set.specs.Tokens.{Token, covers}
 use Rattle.messages.specs.declared.message.Message.TheVariants.{Freed}
-use Rattle.node_core.specs.declared.open_call.Intent.{Intent}
-use Rattle.node_core.specs.declared.open_call.Intent.TheVariants as intent
+use Rattle.node_core.specs.declared.open_call.LockCommand.{LockCommand}
+use Rattle.node_core.specs.declared.open_call.LockCommand.TheVariants as lock_command
 use Rattle.node_core.specs.declared.open_call.OpenCall.{OpenCall}
 use Rattle.node_core.specs.State.{NodeState, Effect, answered, without_call, without_call_of, with_file, host, process, id_of, target_of}
 use Rattle.node_core.specs.Try.{settled, requested, refusal_of, answered_if, may_free, with_freed, locked_by, answered_here, tried, tried_against}
@@ -40,15 +40,15 @@ use Rattle.cluster_core.proofs.steps.NodeSteps.{shut_keeps, answered_if_either}
 use Rattle.cluster_core.proofs.common.Numbered.{within_is}
 
 -- what an open call asks for
-abbrev pub IsFor : Intent → Op → Type 0
-IsFor intent.Set (Set fd kind mode start len) = Unit {0}
-IsFor intent.Wait (Wait fd kind mode start len) = Unit {0}
-IsFor intent.Query (Query fd kind mode start len) = Unit {0}
+abbrev pub IsFor : LockCommand → Op → Type 0
+IsFor lock_command.Set (Set fd kind mode start len) = Unit {0}
+IsFor lock_command.Wait (Wait fd kind mode start len) = Unit {0}
+IsFor lock_command.Query (Query fd kind mode start len) = Unit {0}
 IsFor _ _ = ⊥
 
 -- the open call is this call of its process, and passes its tests
 pub record IsReady (t : Table) (p : Process) (op : Op) (c : OpenCall) : Type 0 where
-  pub is_for : IsFor c.intent op
+  pub is_for : IsFor c.lock_command op
   pub passes : IsAbout t p op c.mode (target_of c)
 
 -- a call is about one thing
@@ -99,22 +99,22 @@ about_maps t u p Exit mode c same a = absurd a
 about_maps t u p (Unlock fd kind start len) mode c same a = absurd a
 
 -- what the one table may answer to it
-abbrev pub LockStep : Table → Intent → Mode → Reply → Table → LockTarget → Type 0
-LockStep t intent.Set = SetStep t
-LockStep t intent.Wait = WaitStep t
-LockStep t intent.Query = QueryStep t
+abbrev pub LockStep : Table → LockCommand → Mode → Reply → Table → LockTarget → Type 0
+LockStep t lock_command.Set = SetStep t
+LockStep t lock_command.Wait = WaitStep t
+LockStep t lock_command.Query = QueryStep t
 
 -- a call that passes its tests is answered as its answer says
-pub about_step : (t : Table) (p : Process) (op : Op) (i : Intent) (mode : Mode) (c : LockTarget) (reply : Reply) (u : Table) → IsFor i op → IsAbout t p op mode c → LockStep t i mode reply u c → Step t p op reply u
-about_step t p (Set fd kind m start len) intent.Set mode c reply u f a step =
+pub about_step : (t : Table) (p : Process) (op : Op) (i : LockCommand) (mode : Mode) (c : LockTarget) (reply : Reply) (u : Table) → IsFor i op → IsAbout t p op mode c → LockStep t i mode reply u c → Step t p op reply u
+about_step t p (Set fd kind m start len) lock_command.Set mode c reply u f a step =
     let P : Mode → Type 0 = λ k. SetStep t k reply u c in
     let Q : Result LockTarget Reply → Type 0 = λ x. AfterTests t x reply u (SetStep t m reply u) in
     subst Q (sym a.1) (subst P (sym a.0) step)
-about_step t p (Wait fd kind m start len) intent.Wait mode c reply u f a step =
+about_step t p (Wait fd kind m start len) lock_command.Wait mode c reply u f a step =
     let P : Mode → Type 0 = λ k. WaitStep t k reply u c in
     let Q : Result LockTarget Reply → Type 0 = λ x. AfterTests t x reply u (WaitStep t m reply u) in
     subst Q (sym a.1) (subst P (sym a.0) step)
-about_step t p (Query fd kind m start len) intent.Query mode c reply u f a step =
+about_step t p (Query fd kind m start len) lock_command.Query mode c reply u f a step =
     let P : Mode → Type 0 = λ k. QueryStep t k reply u c in
     let Q : Result LockTarget Reply → Type 0 = λ x. AfterTests t x reply u (QueryStep t m reply u) in
     subst Q (sym a.1) (subst P (sym a.0) step)
@@ -130,10 +130,10 @@ about_step t p Exit i mode c reply u f a step = absurd a
 about_step t p (Unlock fd kind start len) i mode c reply u f a step = absurd a
 
 -- a lock in the way is named, but to a call that waits
-pub blocked_step : (t : Table) (i : Intent) (mode : Mode) (lock : LockInfo) (c : LockTarget) (reply : Reply) → refusal_of i lock ≡ Some reply → Blocks (t.locks c.file) c.owner c.span mode lock → LockStep t i mode reply t c
-blocked_step t intent.Set mode lock c reply is b = subst (λ (r : Reply). SetStep t mode r t c) (same_Some (Again lock) reply is) (b, refl)
-blocked_step t intent.Wait mode lock c reply is b = absurd (none-some reply is)
-blocked_step t intent.Query mode lock c reply is b = subst (λ (r : Reply). QueryStep t mode r t c) (same_Some (Blocked lock) reply is) (b, refl)
+pub blocked_step : (t : Table) (i : LockCommand) (mode : Mode) (lock : LockInfo) (c : LockTarget) (reply : Reply) → refusal_of i lock ≡ Some reply → Blocks (t.locks c.file) c.owner c.span mode lock → LockStep t i mode reply t c
+blocked_step t lock_command.Set mode lock c reply is b = subst (λ (r : Reply). SetStep t mode r t c) (same_Some (Again lock) reply is) (b, refl)
+blocked_step t lock_command.Wait mode lock c reply is b = absurd (none-some reply is)
+blocked_step t lock_command.Query mode lock c reply is b = subst (λ (r : Reply). QueryStep t mode r t c) (same_Some (Blocked lock) reply is) (b, refl)
 
 -- the reply tells that no lock is in the way
 abbrev pub IsUnhindered : Reply → Type 0
@@ -142,10 +142,10 @@ IsUnhindered NoLocks = Unit {0}
 IsUnhindered Free = Unit {0}
 IsUnhindered _ = ⊥
 
-hindered : (i : Intent) (lock : LockInfo) (reply : Reply) → refusal_of i lock ≡ Some reply → IsUnhindered reply → ⊥
-hindered intent.Set lock reply is u = subst IsUnhindered (sym (same_Some (Again lock) reply is)) u
-hindered intent.Wait lock reply is u = none-some reply is
-hindered intent.Query lock reply is u = subst IsUnhindered (sym (same_Some (Blocked lock) reply is)) u
+hindered : (i : LockCommand) (lock : LockInfo) (reply : Reply) → refusal_of i lock ≡ Some reply → IsUnhindered reply → ⊥
+hindered lock_command.Set lock reply is u = subst IsUnhindered (sym (same_Some (Again lock) reply is)) u
+hindered lock_command.Wait lock reply is u = none-some reply is
+hindered lock_command.Query lock reply is u = subst IsUnhindered (sym (same_Some (Blocked lock) reply is)) u
 
 -- the node goes on: its name stays, its table stays its own, and the processes that have an open call go on
 pub record Continues (s u : NodeState) : Type 0 where
@@ -237,14 +237,14 @@ settled_settles s number answer = record { node = refl; incarnation = refl; call
 -- that locks may be gone is told at most
 freed_settles : (s : NodeState) (number : ℕ) (answer : Table × Reply) (file : ℕ) (e : Effect) → Settles s number answer e → Settles s number answer (with_freed file e)
 freed_settles s number answer file e h =
-    let told : Effect = record { state = with_file e.state file (record (e.state.files file) { asked = false }); reply = e.reply; sends = e.sends ++ Freed file (host e.state) ∷ [] } in
-    elim (e.state.files file).asked as (λ b. Settles s number answer (if b then told else e)) [
+    let told : Effect = record { state = with_file e.state file (record (e.state.files file) { owes_freed = false }); reply = e.reply; sends = e.sends ++ Freed file (host e.state) ∷ [] } in
+    elim (e.state.files file).owes_freed as (λ b. Settles s number answer (if b then told else e)) [
       | true ↦ record { node = h.node; incarnation = h.incarnation; calls = h.calls; table = h.table; is_reply = h.is_reply; closed = h.closed; tokens = λ f. token f ∙ h.tokens f }
       | false ↦ h
     ]
   where
-    token : (f : ℕ) → (if f == file then record (e.state.files file) { asked = false } else e.state.files f).token ≡ (e.state.files f).token
-    token f = at_number f file (λ b. (if b then record (e.state.files file) { asked = false } else e.state.files f).token ≡ (e.state.files f).token) (λ same. ap (λ (k : ℕ). (e.state.files k).token) (sym same)) (λ other. refl)
+    token : (f : ℕ) → (if f == file then record (e.state.files file) { owes_freed = false } else e.state.files f).token ≡ (e.state.files f).token
+    token f = at_number f file (λ b. (if b then record (e.state.files file) { owes_freed = false } else e.state.files f).token ≡ (e.state.files f).token) (λ same. ap (λ (k : ℕ). (e.state.files k).token) (sym same)) (λ other. refl)
 
 pub locked_by_settles : (s : NodeState) (number : ℕ) (c : LockTarget) (mode : Option Mode) → Settles s number (lock_within s.table c mode) (locked_by s number c mode)
 locked_by_settles s number c mode =
@@ -338,14 +338,14 @@ lock_ends s c op is own about given step =
     }
 
 -- a call that the token covers is answered by the node's own table
-here_ends : (s : NodeState) (c : OpenCall) (op : Op) (i : Intent) → IsTarget s.node s.incarnation (target_of c) → IsOwn s.table s.node s.incarnation → IsFor i op → IsAbout s.table (process s c.pid) op c.mode (target_of c) → Unblocked s.table (target_of c) c.mode → covers (s.files c.file).token c.span c.mode ≡ true → Tried s c.number c.pid op (answered_here s c i).state (answered_here s c i).reply
-here_ends s c op intent.Set is own is_for about free given =
+here_ends : (s : NodeState) (c : OpenCall) (op : Op) (i : LockCommand) → IsTarget s.node s.incarnation (target_of c) → IsOwn s.table s.node s.incarnation → IsFor i op → IsAbout s.table (process s c.pid) op c.mode (target_of c) → Unblocked s.table (target_of c) c.mode → covers (s.files c.file).token c.span c.mode ≡ true → Tried s c.number c.pid op (answered_here s c i).state (answered_here s c i).reply
+here_ends s c op lock_command.Set is own is_for about free given =
     let answer = lock_within s.table (target_of c) (Some c.mode) in
-    lock_ends s c op is own about given (about_step s.table (process s c.pid) op intent.Set c.mode (target_of c) answer.1 answer.0 is_for about (lock_step s.table (target_of c) c.mode free).0)
-here_ends s c op intent.Wait is own is_for about free given =
+    lock_ends s c op is own about given (about_step s.table (process s c.pid) op lock_command.Set c.mode (target_of c) answer.1 answer.0 is_for about (lock_step s.table (target_of c) c.mode free).0)
+here_ends s c op lock_command.Wait is own is_for about free given =
     let answer = lock_within s.table (target_of c) (Some c.mode) in
-    lock_ends s c op is own about given (about_step s.table (process s c.pid) op intent.Wait c.mode (target_of c) answer.1 answer.0 is_for about (lock_step s.table (target_of c) c.mode free).1)
-here_ends s c op intent.Query is own is_for about free given =
+    lock_ends s c op is own about given (about_step s.table (process s c.pid) op lock_command.Wait c.mode (target_of c) answer.1 answer.0 is_for about (lock_step s.table (target_of c) c.mode free).1)
+here_ends s c op lock_command.Query is own is_for about free given =
     let p = process s c.pid in
     record {
       continues = same_continues s (without_call s c.number).pending own;
@@ -353,7 +353,7 @@ here_ends s c op intent.Query is own is_for about free given =
       ends = inl (record {
         reply = Free;
         is_reply = refl;
-        step = about_step s.table p op intent.Query c.mode (target_of c) Free s.table is_for about (free, refl);
+        step = about_step s.table p op lock_command.Query c.mode (target_of c) Free s.table is_for about (free, refl);
         served = served_by s.table p op c.mode (target_of c) Free s about given;
         closed = stays_closed s.pending c.number;
       });
@@ -364,17 +364,17 @@ stays_open : (s : NodeState) (number pid : ℕ) (op : Op) → IsOwn s.table s.no
 stays_open s number pid op own = record { continues = same_continues s s.pending own; calls = refl; ends = inr (record { no_reply = refl; table = refl }, refl) }
 
 -- a lock is in its way: it is told so, unless it waits
-blocked_ends : (s : NodeState) (c : OpenCall) (op : Op) → IsOwn s.table s.node s.incarnation → IsReady s.table (process s c.pid) op c → (lock : LockInfo) → Blocks (s.table.locks c.file) c.owner c.span c.mode lock → (let e = answered_if s c.number (refusal_of c.intent lock) in Tried s c.number c.pid op e.state e.reply)
+blocked_ends : (s : NodeState) (c : OpenCall) (op : Op) → IsOwn s.table s.node s.incarnation → IsReady s.table (process s c.pid) op c → (lock : LockInfo) → Blocks (s.table.locks c.file) c.owner c.span c.mode lock → (let e = answered_if s c.number (refusal_of c.lock_command lock) in Tried s c.number c.pid op e.state e.reply)
 blocked_ends s c op own ready lock blocks =
-    answered_if_either (λ e. Tried s c.number c.pid op e.state e.reply) s c.number (refusal_of c.intent lock)
+    answered_if_either (λ e. Tried s c.number c.pid op e.state e.reply) s c.number (refusal_of c.lock_command lock)
     (λ reply is. record {
       continues = same_continues s (without_call s c.number).pending own;
       calls = refl;
       ends = inl (record {
         reply = reply;
         is_reply = refl;
-        step = about_step s.table (process s c.pid) op c.intent c.mode (target_of c) reply s.table ready.is_for ready.passes (blocked_step s.table c.intent c.mode lock (target_of c) reply is blocks);
-        served = λ mode d free about. absurd (hindered c.intent lock reply is free);
+        step = about_step s.table (process s c.pid) op c.lock_command c.mode (target_of c) reply s.table ready.is_for ready.passes (blocked_step s.table c.lock_command c.mode lock (target_of c) reply is blocks);
+        served = λ mode d free about. absurd (hindered c.lock_command lock reply is free);
         closed = stays_closed s.pending c.number;
       });
     })
@@ -389,19 +389,19 @@ tried_ends s c op pid_in own ready =
     elim (lowest_blocker h c.owner c.span c.mode) as (λ x. MatchOption x (IsFree h c.owner c.span c.mode) (IsLowestBlocker h c.owner c.span c.mode) → Tried s c.number c.pid op (tried_against s c x).state (tried_against s c x).reply) [
       | Some lock ↦ λ found. blocked_ends s c op own ready lock found.blocks
       | None ↦ λ free.
-          let out : Bool → Effect = λ b. if b then answered_here s c c.intent else requested s c in
+          let out : Bool → Effect = λ b. if b then answered_here s c c.lock_command else requested s c in
           elim (covers (s.files c.file).token c.span c.mode) as (λ b. covers (s.files c.file).token c.span c.mode ≡ b → Tried s c.number c.pid op (out b).state (out b).reply) [
-            | true ↦ λ given. here_ends s c op c.intent is own ready.is_for ready.passes free given
+            | true ↦ λ given. here_ends s c op c.lock_command is own ready.is_for ready.passes free given
             | false ↦ λ other. stays_open s c.number c.pid op own
           ] refl
     ] (lowest_is_lowest h c.owner c.span c.mode (of_owner s.table s.node s.incarnation c.file c.owner.node c.owner.incarnation is.owner.node_is is.owner.incarnation_is own) is.span.ordered is.span.ends)
 
 -- a wait is interrupted
-pub interrupted_ends : (s : NodeState) (c : OpenCall) (op : Op) → c.intent ≡ intent.Wait → IsReady s.table (process s c.pid) op c → (let e = answered s c.number Interrupted in IsAnswered s c.number c.pid op e.state e.reply)
+pub interrupted_ends : (s : NodeState) (c : OpenCall) (op : Op) → c.lock_command ≡ lock_command.Wait → IsReady s.table (process s c.pid) op c → (let e = answered s c.number Interrupted in IsAnswered s c.number c.pid op e.state e.reply)
 interrupted_ends s c op waits ready = record {
   reply = Interrupted;
   is_reply = refl;
-  step = about_step s.table (process s c.pid) op intent.Wait c.mode (target_of c) Interrupted s.table (subst (λ (i : Intent). IsFor i op) waits ready.is_for) ready.passes refl;
+  step = about_step s.table (process s c.pid) op lock_command.Wait c.mode (target_of c) Interrupted s.table (subst (λ (i : LockCommand). IsFor i op) waits ready.is_for) ready.passes refl;
   served = λ mode d free about. absurd free;
   closed = stays_closed s.pending c.number;
 }
@@ -422,7 +422,7 @@ pub record IsRefused (t : Table) (p : Process) (op : Op) (refusal : Reply) : Typ
   pub about_none : (mode : Mode) (c : LockTarget) → IsAbout t p op mode c → ⊥
 
 -- a call about a lock
-lock_taken : (s : NodeState) (number pid : ℕ) (op : Op) (i : Intent) (mode : Mode) (found : Result LockTarget Reply) → IsNumber most_processes pid → IsOwn s.table s.node s.incarnation → ((refusal : Reply) → found ≡ Err refusal → IsRefused s.table (process s pid) op refusal) → ((c : LockTarget) → found ≡ Ok c → IsFor i op × IsAbout s.table (process s pid) op mode c) → Taken s number pid op (lock_call s number pid i mode found).state (lock_call s number pid i mode found).reply
+lock_taken : (s : NodeState) (number pid : ℕ) (op : Op) (i : LockCommand) (mode : Mode) (found : Result LockTarget Reply) → IsNumber most_processes pid → IsOwn s.table s.node s.incarnation → ((refusal : Reply) → found ≡ Err refusal → IsRefused s.table (process s pid) op refusal) → ((c : LockTarget) → found ≡ Ok c → IsFor i op × IsAbout s.table (process s pid) op mode c) → Taken s number pid op (lock_call s number pid i mode found).state (lock_call s number pid i mode found).reply
 lock_taken s number pid op i mode (Err refusal) pid_in own fails passes =
     let refused = fails refusal refl in
     record {
@@ -431,7 +431,7 @@ lock_taken s number pid op i mode (Err refusal) pid_in own fails passes =
       ends = inl (record { reply = refusal; is_reply = refl; step = refused.step; served = λ m c free about. absurd (refused.about_none m c about); closed = stays_closed s.pending number });
     }
 lock_taken s number pid op i mode (Ok about) pid_in own fails passes =
-    let c : OpenCall = record { number = number; pid = pid; intent = i; file = about.file; owner = about.owner; mode = mode; span = about.span } in
+    let c : OpenCall = record { number = number; pid = pid; lock_command = i; file = about.file; owner = about.owner; mode = mode; span = about.span } in
     let next = record s { pending = s.pending ++ c ∷ [] } in
     let asks = passes about refl in
     let ready : IsReady s.table (process s pid) op c = record { is_for = asks.0; passes = asks.1 } in
@@ -497,21 +497,21 @@ called_ends s number pid (Set fd kind mode start len) pid_in known idle own =
     let p = process s pid in
     let found = target s.table p (Some mode) fd kind start len in
     let Q : Reply → Result LockTarget Reply → Type 0 = λ reply x. AfterTests s.table x reply s.table (SetStep s.table mode reply s.table) in
-    lock_taken s number pid (Set fd kind mode start len) intent.Set mode found pid_in own
+    lock_taken s number pid (Set fd kind mode start len) lock_command.Set mode found pid_in own
     (λ refusal h. record { step = subst (Q refusal) (sym h) (refl, refl); about_none = λ m c a. found_err found refusal c h a.1 })
     (λ c h. (tt, (refl, h)))
 called_ends s number pid (Wait fd kind mode start len) pid_in known idle own =
     let p = process s pid in
     let found = target s.table p (Some mode) fd kind start len in
     let Q : Reply → Result LockTarget Reply → Type 0 = λ reply x. AfterTests s.table x reply s.table (WaitStep s.table mode reply s.table) in
-    lock_taken s number pid (Wait fd kind mode start len) intent.Wait mode found pid_in own
+    lock_taken s number pid (Wait fd kind mode start len) lock_command.Wait mode found pid_in own
     (λ refusal h. record { step = subst (Q refusal) (sym h) (refl, refl); about_none = λ m c a. found_err found refusal c h a.1 })
     (λ c h. (tt, (refl, h)))
 called_ends s number pid (Query fd kind mode start len) pid_in known idle own =
     let p = process s pid in
     let found = target s.table p None fd kind start len in
     let Q : Reply → Result LockTarget Reply → Type 0 = λ reply x. AfterTests s.table x reply s.table (QueryStep s.table mode reply s.table) in
-    lock_taken s number pid (Query fd kind mode start len) intent.Query mode found pid_in own
+    lock_taken s number pid (Query fd kind mode start len) lock_command.Query mode found pid_in own
     (λ refusal h. record { step = subst (Q refusal) (sym h) (refl, refl); about_none = λ m c a. found_err found refusal c h a.1 })
     (λ c h. (tt, (refl, h)))
 called_ends s number pid (Unlock fd kind start len) pid_in known idle own =

@@ -48,7 +48,7 @@ use Rattle.cluster_core.proofs.steps.KnownMessages.{sent_before, sent_now, sent_
 use Rattle.cluster_core.proofs.steps.NodeSteps.{call_done, deliver_done, interrupt_done, retry_done, told_either}
 use Rattle.cluster_core.proofs.steps.Steps.{next_taken, next_unfenced, node_step, server_step, declare_step, restart_step, fail_step, start_step}
 use Rattle.cluster_core.proofs.tokens.Lowering.{IsWithin, within_itself, within_excludes}
-use Rattle.cluster_core.proofs.tokens.Talks.{Sent, IsHostOf, IsCommandTo, IsAnswerOf, same_answer_of, no_answer, command_host, answer_host, unasked, IsLast, Talk, MayHold, counted_live}
+use Rattle.cluster_core.proofs.tokens.Talks.{Sent, IsHostOf, IsCommandTo, IsAnswerOf, same_answer_of, no_answer, command_host, answer_host, owing_nothing, IsLast, Talk, MayHold, counted_live}
 use Rattle.cluster_core.proofs.tokens.Epochs.{EndsOf, entered_ends, begin_of_upto}
 use Rattle.cluster_core.proofs.tokens.Starts.{failed_present, started_present}
 use Rattle.cluster_core.proofs.tokens.TalkMoves.{NoNews, talk-no_news, may_hold-no_news, talk-renewed, may_hold-renewed, IsTelling, talk-tells, may_hold-tells, IsDoing, done_file, talk-does, may_hold-does}
@@ -218,13 +218,13 @@ module _ (w : WorldState) (p : Present w) (n : ℕ) (u : NodeState) (event : Eve
   after = (recorded (with_node w n u) event 0 o).0
 
   abbrev known : ℕ → ℕ → FileState
-  known m file = unasked ((w.nodes m).files file)
+  known m file = owing_nothing ((w.nodes m).files file)
 
   -- what is to be shown of it, for each file
   pub record Goes : Type 0 where
     pub young : (m : Message) → is_among o.sends m ≡ true → IsBegun w (host_of m)
-    pub talk : (file : ℕ) → Talk (Was after) file n (w.nodes n).incarnation (unasked (u.files file)) ((w.servers file).rows n) ((w.servers file).dead n) (begin (w.servers file))
-    pub no_more : (file : ℕ) (t : Token) → MayHold (Was after) file n (w.nodes n).incarnation (unasked (u.files file)) t → IsHeldWithin (Was w) w.nodes file n t
+    pub talk : (file : ℕ) → Talk (Was after) file n (w.nodes n).incarnation (owing_nothing (u.files file)) ((w.servers file).rows n) ((w.servers file).dead n) (begin (w.servers file))
+    pub no_more : (file : ℕ) (t : Token) → MayHold (Was after) file n (w.nodes n).incarnation (owing_nothing (u.files file)) t → IsHeldWithin (Was w) w.nodes file n t
     pub others : (file m : ℕ) → (m ≡ n → ⊥) → NoNews (Was w) (Was after) file m (w.nodes m).incarnation
 
   same_incarnation : (m : ℕ) → (after.nodes m).incarnation ≡ (w.nodes m).incarnation
@@ -247,9 +247,9 @@ module _ (w : WorldState) (p : Present w) (n : ℕ) (u : NodeState) (event : Eve
           file_is = s.file_is;
           shape_is = s.shape_is;
           from = s.from;
-          talks = λ m. at_number m n (λ b. Talk (Was after) file m (if b then u else w.nodes m).incarnation (unasked ((if b then u else w.nodes m).files file)) ((w.servers file).rows m) ((w.servers file).dead m) (begin (w.servers file)))
-              (λ same. subst (λ (k : ℕ). Talk (Was after) file k u.incarnation (unasked (u.files file)) ((w.servers file).rows k) ((w.servers file).dead k) (begin (w.servers file))) (sym same)
-              (subst (λ (i : ℕ). Talk (Was after) file n i (unasked (u.files file)) ((w.servers file).rows n) ((w.servers file).dead n) (begin (w.servers file))) (sym incarnation_is) (g.talk file)))
+          talks = λ m. at_number m n (λ b. Talk (Was after) file m (if b then u else w.nodes m).incarnation (owing_nothing ((if b then u else w.nodes m).files file)) ((w.servers file).rows m) ((w.servers file).dead m) (begin (w.servers file)))
+              (λ same. subst (λ (k : ℕ). Talk (Was after) file k u.incarnation (owing_nothing (u.files file)) ((w.servers file).rows k) ((w.servers file).dead k) (begin (w.servers file))) (sym same)
+              (subst (λ (i : ℕ). Talk (Was after) file n i (owing_nothing (u.files file)) ((w.servers file).rows n) ((w.servers file).dead n) (begin (w.servers file))) (sym incarnation_is) (g.talk file)))
               (λ other. talk-no_news (Was w) (Was after) file m (w.nodes m).incarnation (known m file) ((w.servers file).rows m) ((w.servers file).dead m) (begin (w.servers file)) (g.others file m other) (s.talks m));
           held = s.held;
         };
@@ -260,13 +260,13 @@ module _ (w : WorldState) (p : Present w) (n : ℕ) (u : NodeState) (event : Eve
   }
     where
       before : (file m : ℕ) (t : Token) → Holding (Was after) after.nodes file m t → IsHeldWithin (Was w) w.nodes file m t
-      before file m t = at_number m n (λ b. MayHold (Was after) file m (if b then u else w.nodes m).incarnation (unasked ((if b then u else w.nodes m).files file)) t → IsHeldWithin (Was w) w.nodes file m t)
-          (λ same. subst (λ (k : ℕ). MayHold (Was after) file k u.incarnation (unasked (u.files file)) t → IsHeldWithin (Was w) w.nodes file k t) (sym same)
-          (subst (λ (i : ℕ). MayHold (Was after) file n i (unasked (u.files file)) t → IsHeldWithin (Was w) w.nodes file n t) (sym incarnation_is) (g.no_more file t)))
+      before file m t = at_number m n (λ b. MayHold (Was after) file m (if b then u else w.nodes m).incarnation (owing_nothing ((if b then u else w.nodes m).files file)) t → IsHeldWithin (Was w) w.nodes file m t)
+          (λ same. subst (λ (k : ℕ). MayHold (Was after) file k u.incarnation (owing_nothing (u.files file)) t → IsHeldWithin (Was w) w.nodes file k t) (sym same)
+          (subst (λ (i : ℕ). MayHold (Was after) file n i (owing_nothing (u.files file)) t → IsHeldWithin (Was w) w.nodes file n t) (sym incarnation_is) (g.no_more file t)))
           (λ other h. (t, may_hold-no_news (Was w) (Was after) file m (w.nodes m).incarnation (known m file) t (g.others file m other) h, within_itself t))
 
   -- its tokens stay, and nothing new is said of tokens
-  keeps : ((file : ℕ) → unasked (u.files file) ≡ known n file) → ((m : Message) → is_among o.sends m ≡ true → IsBegun w (host_of m)) → ((file m : ℕ) → NoNews (Was w) (Was after) file m (w.nodes m).incarnation) → Goes
+  keeps : ((file : ℕ) → owing_nothing (u.files file) ≡ known n file) → ((m : Message) → is_among o.sends m ≡ true → IsBegun w (host_of m)) → ((file m : ℕ) → NoNews (Was w) (Was after) file m (w.nodes m).incarnation) → Goes
   keeps files young news =
       let i = (w.nodes n).incarnation in
       record {
@@ -288,7 +288,7 @@ module _ (w : WorldState) (p : Present w) (n : ℕ) (u : NodeState) (event : Eve
   asked_young m is = own_young m (asking_host (w.nodes n).node (w.nodes n).incarnation m is)
 
   -- it asks
-  pub asks_goes : ((file : ℕ) → unasked (u.files file) ≡ known n file) → Only (IsAsking (w.nodes n).node (w.nodes n).incarnation) o.sends → Goes
+  pub asks_goes : ((file : ℕ) → owing_nothing (u.files file) ≡ known n file) → Only (IsAsking (w.nodes n).node (w.nodes n).incarnation) o.sends → Goes
   asks_goes files asks = keeps files (λ m new. asked_young m (asks m new)) (λ file m. record {
     kept = sent_before w.sent o.sends;
     commands = λ i k x h to. elim (sent_either w.sent o.sends x h) [ inl old ↦ old | inr new ↦ absurd (asking_command (w.nodes n).node (w.nodes n).incarnation file m i k x (asks x new) to) ];
@@ -296,7 +296,7 @@ module _ (w : WorldState) (p : Present w) (n : ℕ) (u : NodeState) (event : Eve
   })
 
   -- it answers again
-  pub repeats_goes : (file : ℕ) (answer : Message) → ((w.nodes n).files file).answer ≡ Some answer → ((f : ℕ) → unasked (u.files f) ≡ known n f) → Only (λ m. m ≡ answer) o.sends → Goes
+  pub repeats_goes : (file : ℕ) (answer : Message) → ((w.nodes n).files file).answer ≡ Some answer → ((f : ℕ) → owing_nothing (u.files f) ≡ known n f) → Only (λ m. m ≡ answer) o.sends → Goes
   repeats_goes file answer there files again =
       let told : Was w answer = (((p.serves file).talks n).remembered answer there).0 in
       let old : (m : Message) → is_among o.sends m ≡ true → Was w m = λ m new. subst (Was w) (sym (again m new)) told in
@@ -366,16 +366,16 @@ module _ (w : WorldState) (p : Present w) (n : ℕ) (e : Effect) (event : Event)
     ];
     talk = λ f.
         let P : FileState → Type 0 = λ x. Talk (Was next_world) f n i x ((w.servers f).rows n) ((w.servers f).dead n) (begin (w.servers f)) in
-        subst P (sym (d.files_are f)) (at_number f file (λ b. P (if b then done else unasked (s.files f)))
+        subst P (sym (d.files_are f)) (at_number f file (λ b. P (if b then done else owing_nothing (s.files f)))
         (λ same. subst (λ (k : ℕ). Talk (Was next_world) k n i done ((w.servers k).rows n) ((w.servers k).dead n) (begin (w.servers k))) (sym same)
-        (talk-does (Was w) (Was next_world) file n i (unasked (s.files file)) ((w.servers file).rows n) ((w.servers file).dead n) (begin (w.servers file)) ((p.serves file).talks n) number command d.answer sent plain to of_node d.answers_it d.is_next doing))
-        (λ other. talk-no_news (Was w) (Was next_world) f n i (unasked (s.files f)) ((w.servers f).rows n) ((w.servers f).dead n) (begin (w.servers f)) (elsewhere f n (λ x y. other x)) ((p.serves f).talks n)));
+        (talk-does (Was w) (Was next_world) file n i (owing_nothing (s.files file)) ((w.servers file).rows n) ((w.servers file).dead n) (begin (w.servers file)) ((p.serves file).talks n) number command d.answer sent plain to of_node d.answers_it d.is_next doing))
+        (λ other. talk-no_news (Was w) (Was next_world) f n i (owing_nothing (s.files f)) ((w.servers f).rows n) ((w.servers f).dead n) (begin (w.servers f)) (elsewhere f n (λ x y. other x)) ((p.serves f).talks n)));
     no_more = λ f t.
         let P : FileState → Type 0 = λ x. MayHold (Was next_world) f n i x t → IsHeldWithin (Was w) w.nodes f n t in
-        subst P (sym (d.files_are f)) (at_number f file (λ b. P (if b then done else unasked (s.files f)))
+        subst P (sym (d.files_are f)) (at_number f file (λ b. P (if b then done else owing_nothing (s.files f)))
         (λ same. subst (λ (k : ℕ). MayHold (Was next_world) k n i done t → IsHeldWithin (Was w) w.nodes k n t) (sym same)
-        (may_hold-does (Was w) (Was next_world) file n i (unasked (s.files file)) ((w.servers file).rows n) ((w.servers file).dead n) (begin (w.servers file)) ((p.serves file).talks n) number command d.answer sent plain to of_node d.answers_it d.is_next doing t))
-        (λ other h. (t, may_hold-no_news (Was w) (Was next_world) f n i (unasked (s.files f)) t (elsewhere f n (λ x y. other x)) h, within_itself t)));
+        (may_hold-does (Was w) (Was next_world) file n i (owing_nothing (s.files file)) ((w.servers file).rows n) ((w.servers file).dead n) (begin (w.servers file)) ((p.serves file).talks n) number command d.answer sent plain to of_node d.answers_it d.is_next doing t))
+        (λ other h. (t, may_hold-no_news (Was w) (Was next_world) f n i (owing_nothing (s.files f)) t (elsewhere f n (λ x y. other x)) h, within_itself t)));
     others = λ f m other. elsewhere f m (λ x y. other y);
   }
 
@@ -428,23 +428,23 @@ module _ (w : WorldState) (p : Present w) (n file : ℕ) (event : Event) (o : Ou
     tells_goes : Goes w p n own event o here refl refl
     tells_goes = record {
       young = λ m new. subst (λ (x : Message). IsBegun w (host_of x)) (sym (only m new)) (known_host w (host own) n own.incarnation (p.named n, refl) (omega arith, λ same. here));
-      talk = λ f. at_number f file (λ b. Talk (Was told_world) f n own.incarnation (unasked (own.files f)) ((w.servers f).rows n) ((w.servers f).dead n) (begin (w.servers f)))
-          (λ same. subst (λ (k : ℕ). Talk (Was told_world) k n own.incarnation (unasked (own.files k)) ((w.servers k).rows n) ((w.servers k).dead n) (begin (w.servers k))) (sym same)
-          (talk-tells (Was w) (Was told_world) file n own.incarnation (unasked (own.files file)) ((w.servers file).rows n) ((w.servers file).dead n) (begin (w.servers file)) telling ((p.serves file).talks n)))
-          (λ other. talk-no_news (Was w) (Was told_world) f n own.incarnation (unasked (own.files f)) ((w.servers f).rows n) ((w.servers f).dead n) (begin (w.servers f)) (not_there f n (λ x y. other x)) ((p.serves f).talks n));
-      no_more = λ f t h. (t, may_hold-tells (Was w) (Was told_world) f n own.incarnation (unasked (own.files f)) t (λ i k m sent to. its_old f n i k m sent to) h, within_itself t);
+      talk = λ f. at_number f file (λ b. Talk (Was told_world) f n own.incarnation (owing_nothing (own.files f)) ((w.servers f).rows n) ((w.servers f).dead n) (begin (w.servers f)))
+          (λ same. subst (λ (k : ℕ). Talk (Was told_world) k n own.incarnation (owing_nothing (own.files k)) ((w.servers k).rows n) ((w.servers k).dead n) (begin (w.servers k))) (sym same)
+          (talk-tells (Was w) (Was told_world) file n own.incarnation (owing_nothing (own.files file)) ((w.servers file).rows n) ((w.servers file).dead n) (begin (w.servers file)) telling ((p.serves file).talks n)))
+          (λ other. talk-no_news (Was w) (Was told_world) f n own.incarnation (owing_nothing (own.files f)) ((w.servers f).rows n) ((w.servers f).dead n) (begin (w.servers f)) (not_there f n (λ x y. other x)) ((p.serves f).talks n));
+      no_more = λ f t h. (t, may_hold-tells (Was w) (Was told_world) f n own.incarnation (owing_nothing (own.files f)) t (λ i k m sent to. its_old f n i k m sent to) h, within_itself t);
       others = λ f m other. not_there f m (λ x y. other y);
     }
 
     pub tells_present : Present told_world
     tells_present = node_present w p n own event o here refl refl tells_goes
 
-unasked_if : (b : Bool) (x y : FileState) → unasked (if b then x else y) ≡ (if b then unasked x else unasked y)
-unasked_if true x y = refl
-unasked_if false x y = refl
+owing_nothing_if : (b : Bool) (x y : FileState) → owing_nothing (if b then x else y) ≡ (if b then owing_nothing x else owing_nothing y)
+owing_nothing_if true x y = refl
+owing_nothing_if false x y = refl
 
-renewed_unasked : (f : FileState) (number : ℕ) → unasked (renewed f number) ≡ renewed (unasked f) number
-renewed_unasked f number = unasked_if (nat_lt f.last (begin_of number)) (record f { last = begin_of number; answer = None }) f
+renewed_owing_nothing : (f : FileState) (number : ℕ) → owing_nothing (renewed f number) ≡ renewed (owing_nothing f) number
+renewed_owing_nothing f number = owing_nothing_if (nat_lt f.last (begin_of number)) (record f { last = begin_of number; answer = None }) f
 
 -- a node hears of an epoch that its server has come to
 module _ (w : WorldState) (p : Present w) (n file number : ℕ) (here : is_alive w n ≡ true) (upto : begin_of number ≤ begin (w.servers file)) where
@@ -463,8 +463,8 @@ module _ (w : WorldState) (p : Present w) (n file number : ℕ) (here : is_alive
   nothing_said : (f m : ℕ) → NoNews (Was w) (Was entered_world) f m (w.nodes m).incarnation
   nothing_said f m = nothing_new (Was w) (Was entered_world) f m (w.nodes m).incarnation (sent_before w.sent []) (λ x h. elim (sent_either w.sent [] x h) [ inl before ↦ before | inr new ↦ absurd (only_none (λ m. ⊥) x new) ])
 
-  files_are : (f : ℕ) → unasked (entered.files f) ≡ (if f == file then renewed (unasked ((w.nodes n).files file)) number else unasked ((w.nodes n).files f))
-  files_are f = unasked_if (f == file) (renewed ((w.nodes n).files file) number) ((w.nodes n).files f) ∙ ap (λ (x : FileState). if f == file then x else unasked ((w.nodes n).files f)) (renewed_unasked ((w.nodes n).files file) number)
+  files_are : (f : ℕ) → owing_nothing (entered.files f) ≡ (if f == file then renewed (owing_nothing ((w.nodes n).files file)) number else owing_nothing ((w.nodes n).files f))
+  files_are f = owing_nothing_if (f == file) (renewed ((w.nodes n).files file) number) ((w.nodes n).files f) ∙ ap (λ (x : FileState). if f == file then x else owing_nothing ((w.nodes n).files f)) (renewed_owing_nothing ((w.nodes n).files file) number)
 
   enters_goes : Goes w p n entered some_event quietly here refl refl
   enters_goes =
@@ -473,22 +473,22 @@ module _ (w : WorldState) (p : Present w) (n file number : ℕ) (here : is_alive
         young = λ m new. absurd (only_none (λ x. ⊥) m new);
         talk = λ f.
             let P : FileState → Type 0 = λ x. Talk (Was entered_world) f n i x ((w.servers f).rows n) ((w.servers f).dead n) (begin (w.servers f)) in
-            let old = talk-no_news (Was w) (Was entered_world) f n i (unasked ((w.nodes n).files f)) ((w.servers f).rows n) ((w.servers f).dead n) (begin (w.servers f)) (nothing_said f n) ((p.serves f).talks n) in
-            subst P (sym (files_are f)) (at_number f file (λ b. P (if b then renewed (unasked ((w.nodes n).files file)) number else unasked ((w.nodes n).files f)))
-            (λ same. subst (λ (k : ℕ). Talk (Was entered_world) k n i (renewed (unasked ((w.nodes n).files file)) number) ((w.servers k).rows n) ((w.servers k).dead n) (begin (w.servers k))) (sym same)
-            (talk-renewed (Was entered_world) file n i (unasked ((w.nodes n).files file)) ((w.servers file).rows n) ((w.servers file).dead n) (begin (w.servers file)) number upto
-            (talk-no_news (Was w) (Was entered_world) file n i (unasked ((w.nodes n).files file)) ((w.servers file).rows n) ((w.servers file).dead n) (begin (w.servers file)) (nothing_said file n) ((p.serves file).talks n))))
+            let old = talk-no_news (Was w) (Was entered_world) f n i (owing_nothing ((w.nodes n).files f)) ((w.servers f).rows n) ((w.servers f).dead n) (begin (w.servers f)) (nothing_said f n) ((p.serves f).talks n) in
+            subst P (sym (files_are f)) (at_number f file (λ b. P (if b then renewed (owing_nothing ((w.nodes n).files file)) number else owing_nothing ((w.nodes n).files f)))
+            (λ same. subst (λ (k : ℕ). Talk (Was entered_world) k n i (renewed (owing_nothing ((w.nodes n).files file)) number) ((w.servers k).rows n) ((w.servers k).dead n) (begin (w.servers k))) (sym same)
+            (talk-renewed (Was entered_world) file n i (owing_nothing ((w.nodes n).files file)) ((w.servers file).rows n) ((w.servers file).dead n) (begin (w.servers file)) number upto
+            (talk-no_news (Was w) (Was entered_world) file n i (owing_nothing ((w.nodes n).files file)) ((w.servers file).rows n) ((w.servers file).dead n) (begin (w.servers file)) (nothing_said file n) ((p.serves file).talks n))))
             (λ other. old));
         no_more = λ f t.
             let P : FileState → Type 0 = λ x. MayHold (Was entered_world) f n i x t → IsHeldWithin (Was w) w.nodes f n t in
-            let old : MayHold (Was entered_world) f n i (unasked ((w.nodes n).files f)) t → IsHeldWithin (Was w) w.nodes f n t = λ h. (t, may_hold-no_news (Was w) (Was entered_world) f n i (unasked ((w.nodes n).files f)) t (nothing_said f n) h, within_itself t) in
-            subst P (sym (files_are f)) (at_number f file (λ b. P (if b then renewed (unasked ((w.nodes n).files file)) number else unasked ((w.nodes n).files f)))
-            (λ same. subst (λ (k : ℕ). MayHold (Was entered_world) k n i (renewed (unasked ((w.nodes n).files file)) number) t → IsHeldWithin (Was w) w.nodes k n t) (sym same)
+            let old : MayHold (Was entered_world) f n i (owing_nothing ((w.nodes n).files f)) t → IsHeldWithin (Was w) w.nodes f n t = λ h. (t, may_hold-no_news (Was w) (Was entered_world) f n i (owing_nothing ((w.nodes n).files f)) t (nothing_said f n) h, within_itself t) in
+            subst P (sym (files_are f)) (at_number f file (λ b. P (if b then renewed (owing_nothing ((w.nodes n).files file)) number else owing_nothing ((w.nodes n).files f)))
+            (λ same. subst (λ (k : ℕ). MayHold (Was entered_world) k n i (renewed (owing_nothing ((w.nodes n).files file)) number) t → IsHeldWithin (Was w) w.nodes k n t) (sym same)
             (λ h. (
               t,
-              may_hold-no_news (Was w) (Was entered_world) file n i (unasked ((w.nodes n).files file)) t (nothing_said file n)
-                  (may_hold-renewed (Was entered_world) file n i (unasked ((w.nodes n).files file)) ((w.servers file).rows n) ((w.servers file).dead n) (begin (w.servers file)) number upto
-                  (talk-no_news (Was w) (Was entered_world) file n i (unasked ((w.nodes n).files file)) ((w.servers file).rows n) ((w.servers file).dead n) (begin (w.servers file)) (nothing_said file n) ((p.serves file).talks n)) t h),
+              may_hold-no_news (Was w) (Was entered_world) file n i (owing_nothing ((w.nodes n).files file)) t (nothing_said file n)
+                  (may_hold-renewed (Was entered_world) file n i (owing_nothing ((w.nodes n).files file)) ((w.servers file).rows n) ((w.servers file).dead n) (begin (w.servers file)) number upto
+                  (talk-no_news (Was w) (Was entered_world) file n i (owing_nothing ((w.nodes n).files file)) ((w.servers file).rows n) ((w.servers file).dead n) (begin (w.servers file)) (nothing_said file n) ((p.serves file).talks n)) t h),
               within_itself t,
             )))
             (λ other. old));
@@ -539,7 +539,7 @@ module _ (w : WorldState) (p : Present w) where
       let node_is = ap (λ (x : NodeState). x.node) r.state in
       let incarnation_is = ap (λ (x : NodeState). x.incarnation) r.state in
       node_present w p n e.state event (outcome None e).1 here node_is incarnation_is
-      (repeats_goes w p n e.state event (outcome None e).1 here node_is incarnation_is r.file r.answer r.there (λ f. ap (λ (x : NodeState). unasked (x.files f)) r.state) r.sends)
+      (repeats_goes w p n e.state event (outcome None e).1 here node_is incarnation_is r.file r.answer r.there (λ f. ap (λ (x : NodeState). owing_nothing (x.files f)) r.state) r.sends)
   command_present n file number command here sent plain to event e (inr (inr a)) = asking_present n event None e here a
 
   abbrev Done : ℕ → Event → Effect → Type 0
@@ -573,7 +573,7 @@ known_epoch : (w : WorldState) → Present w → (n file number : ℕ) (m : Mess
 known_epoch w p n file number m sent to =
     let t = w.servers file in
     let talk = (p.serves file).talks n in
-    let c = counted_live (Was w) file n (w.nodes n).incarnation (unasked ((w.nodes n).files file)) (t.rows n) (t.dead n) (begin t) talk number m sent to in
+    let c = counted_live (Was w) file n (w.nodes n).incarnation (owing_nothing ((w.nodes n).files file)) (t.rows n) (t.dead n) (begin t) talk number m sent to in
     let few = (talk.numbered c.counting c.there).1 in
     let up = c.up_to in
     begin_of_upto number t.epoch (omega arith)
@@ -708,7 +708,7 @@ module _ (shape : ShapeFields) where
   not_sent : (m : Message) → Was begun m → ⊥
   not_sent m h = cc
 
-  first_talk : (file n : ℕ) → Talk (Was begun) file n 1 (unasked ((begun.nodes n).files file)) None 0 0
+  first_talk : (file n : ℕ) → Talk (Was begun) file n 1 (owing_nothing ((begun.nodes n).files file)) None 0 0
   first_talk file n = record {
     lives = omega arith;
     aged = λ r h. absurd (none-some r h);

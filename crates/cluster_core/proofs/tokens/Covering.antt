@@ -34,8 +34,8 @@ use Rattle.messages.specs.Epochs.{begin_of}
 use Rattle.messages.specs.declared.outcome.Outcome.{Outcome}
 use Rattle.node_core.specs.declared.event.NodeEvent.{NodeEvent}
 use Rattle.node_core.specs.declared.event.NodeEvent.TheVariants.{Call, Deliver, Interrupt, Retry}
-use Rattle.node_core.specs.declared.open_call.Intent.{Intent}
-use Rattle.node_core.specs.declared.open_call.Intent.TheVariants as intent
+use Rattle.node_core.specs.declared.open_call.LockCommand.{LockCommand}
+use Rattle.node_core.specs.declared.open_call.LockCommand.TheVariants as lock_command
 use Rattle.node_core.specs.declared.open_call.OpenCall.{OpenCall}
 use Rattle.node_core.specs.State.{NodeState, FileState, Effect, first_node, process, host, open_call, open_call_of, without_call_of, target_of}
 use Rattle.node_core.specs.Try.{requested, refusal_of, answered_if, locked_by, answered_here, tried, tried_against, tried_if}
@@ -145,10 +145,10 @@ locked_by_covered s number about mode given old file o b m held =
     subst (λ (t : Token). serves (t b) m ≡ true) (sym (settles.tokens file))
     (lock_within_covered s.files s.table about mode given old file o b m (subst (λ (t : Table). t.locks file o b ≡ Some m) settles.table held))
 
-answered_here_covered : (s : NodeState) (c : OpenCall) (i : Intent) → covers (s.files c.file).token c.span c.mode ≡ true → Covered s → Covered (answered_here s c i).state
-answered_here_covered s c intent.Set given old = locked_by_covered s c.number (target_of c) (Some c.mode) given old
-answered_here_covered s c intent.Wait given old = locked_by_covered s c.number (target_of c) (Some c.mode) given old
-answered_here_covered s c intent.Query given old = old
+answered_here_covered : (s : NodeState) (c : OpenCall) (i : LockCommand) → covers (s.files c.file).token c.span c.mode ≡ true → Covered s → Covered (answered_here s c i).state
+answered_here_covered s c lock_command.Set given old = locked_by_covered s c.number (target_of c) (Some c.mode) given old
+answered_here_covered s c lock_command.Wait given old = locked_by_covered s c.number (target_of c) (Some c.mode) given old
+answered_here_covered s c lock_command.Query given old = old
 
 answered_if_covered : (s : NodeState) (number : ℕ) (o : Option Reply) → Covered s → Covered (answered_if s number o).state
 answered_if_covered s number None old = old
@@ -158,9 +158,9 @@ answered_if_covered s number (Some reply) old = old
 pub tried_covered : (s : NodeState) (c : OpenCall) → Covered s → Covered (tried s c).state
 tried_covered s c old =
     elim (lowest_blocker (s.table.locks c.file) c.owner c.span c.mode) as (λ x. Covered (tried_against s c x).state) [
-      | Some lock ↦ answered_if_covered s c.number (refusal_of c.intent lock) old
-      | None ↦ elim (covers (s.files c.file).token c.span c.mode) as (λ x. covers (s.files c.file).token c.span c.mode ≡ x → Covered (if x then answered_here s c c.intent else requested s c).state) [
-        | true ↦ λ given. answered_here_covered s c c.intent given old
+      | Some lock ↦ answered_if_covered s c.number (refusal_of c.lock_command lock) old
+      | None ↦ elim (covers (s.files c.file).token c.span c.mode) as (λ x. covers (s.files c.file).token c.span c.mode ≡ x → Covered (if x then answered_here s c c.lock_command else requested s c).state) [
+        | true ↦ λ given. answered_here_covered s c c.lock_command given old
         | false ↦ λ other. old
       ] refl
     ]
@@ -169,10 +169,10 @@ pub tried_if_covered : (s : NodeState) (c : Option OpenCall) → Covered s → C
 tried_if_covered s None old = old
 tried_if_covered s (Some c) old = tried_covered s c old
 
-lock_call_covered : (s : NodeState) (number pid : ℕ) (i : Intent) (mode : Mode) (found : Result LockTarget Reply) → Covered s → Covered (lock_call s number pid i mode found).state
+lock_call_covered : (s : NodeState) (number pid : ℕ) (i : LockCommand) (mode : Mode) (found : Result LockTarget Reply) → Covered s → Covered (lock_call s number pid i mode found).state
 lock_call_covered s number pid i mode (Err refusal) old = old
 lock_call_covered s number pid i mode (Ok about) old =
-    let c : OpenCall = record { number = number; pid = pid; intent = i; file = about.file; owner = about.owner; mode = mode; span = about.span } in
+    let c : OpenCall = record { number = number; pid = pid; lock_command = i; file = about.file; owner = about.owner; mode = mode; span = about.span } in
     tried_covered (record s { pending = s.pending ++ c ∷ [] }) c old
 
 unlock_call_covered : (s : NodeState) (number : ℕ) (found : Result LockTarget Reply) → Covered s → Covered (unlock_call s number found).state
@@ -194,10 +194,10 @@ called_covered s number pid (Fork child) old = beside_covered s.files s.table (p
 called_covered s number pid (Dup fd) old = beside_covered s.files s.table (process s pid) (after_dup (around s.table (process s pid)) pid fd) old
 called_covered s number pid (Close fd) old = shut_covered s number (λ file. is_of_file file (descriptor s.table (process s pid) fd)) (after_close s.table (process s pid) fd) (fewer_after_close (process s pid) s.table fd) old
 called_covered s number pid Exit old = shut_covered (without_call_of s pid) number (has_open (around s.table (process s pid)) pid) (after_exit s.table (process s pid)) (fewer_after_exit (process s pid) s.table) old
-called_covered s number pid (Set fd kind mode start len) old = lock_call_covered s number pid intent.Set mode (target s.table (process s pid) (Some mode) fd kind start len) old
-called_covered s number pid (Wait fd kind mode start len) old = lock_call_covered s number pid intent.Wait mode (target s.table (process s pid) (Some mode) fd kind start len) old
+called_covered s number pid (Set fd kind mode start len) old = lock_call_covered s number pid lock_command.Set mode (target s.table (process s pid) (Some mode) fd kind start len) old
+called_covered s number pid (Wait fd kind mode start len) old = lock_call_covered s number pid lock_command.Wait mode (target s.table (process s pid) (Some mode) fd kind start len) old
 called_covered s number pid (Unlock fd kind start len) old = unlock_call_covered s number (target s.table (process s pid) None fd kind start len) old
-called_covered s number pid (Query fd kind mode start len) old = lock_call_covered s number pid intent.Query mode (target s.table (process s pid) None fd kind start len) old
+called_covered s number pid (Query fd kind mode start len) old = lock_call_covered s number pid lock_command.Query mode (target s.table (process s pid) None fd kind start len) old
 
 pub after_call_covered : (s : NodeState) (pid : ℕ) (op : Op) → Covered s → Covered (after_call s pid op).0
 after_call_covered s pid op old = called_covered (record s { calls = s.calls + 1 }) (s.calls + 1) pid op old
@@ -205,20 +205,20 @@ after_call_covered s pid op old = called_covered (record s { calls = s.calls + 1
 -- the file has another token, that covers its locks too
 after_command_covered : (s : NodeState) (file : ℕ) (token : Token) (number : ℕ) (answer : Message) (asked : Bool) → IsCovered token (s.table.locks file) → Covered s → Covered (after_command s file token number answer asked)
 after_command_covered s file token number answer asked new old f o b m held =
-    let done : FileState = record { token = token; last = number; answer = Some answer; asked = asked } in
+    let done : FileState = record { token = token; last = number; answer = Some answer; owes_freed = asked } in
     at_number f file (λ x. serves ((if x then done else s.files f).token b) m ≡ true)
     (λ same. new o b m (subst (λ (k : ℕ). s.table.locks k o b ≡ Some m) same held))
     (λ other. old f o b m held)
 
 -- a grant raises the token
-pub after_grant_covered : (s : NodeState) (file number : ℕ) (call : CallId) (mode : Mode) (span : Range) → Covered s → Covered (after_command s file (raised (s.files file).token span mode) number (Taken file number call) (s.files file).asked)
+pub after_grant_covered : (s : NodeState) (file number : ℕ) (call : CallId) (mode : Mode) (span : Range) → Covered s → Covered (after_command s file (raised (s.files file).token span mode) number (Taken file number call) (s.files file).owes_freed)
 after_grant_covered s file number call mode span old =
-    after_command_covered s file (raised (s.files file).token span mode) number (Taken file number call) (s.files file).asked
+    after_command_covered s file (raised (s.files file).token span mode) number (Taken file number call) (s.files file).owes_freed
     (λ o b m held. raised-serves (s.files file).token span mode m b (old file o b m held)) old
 
 pub granted_covered : (s : NodeState) (file number : ℕ) (call : CallId) (mode : Mode) (span : Range) → Covered s → Covered (granted s file number call mode span).state
 granted_covered s file number call mode span old =
-    let next = after_command s file (raised (s.files file).token span mode) number (Taken file number call) (s.files file).asked in
+    let next = after_command s file (raised (s.files file).token span mode) number (Taken file number call) (s.files file).owes_freed in
     tried_if_covered next (open_call next call.number) (after_grant_covered s file number call mode span old)
 
 -- all locks of the node are of owners that it can have
@@ -234,7 +234,7 @@ given_up_covered s file mode wanted (Conflict lock) is own old = old file
 pub revoked_covered : (s : NodeState) (file number : ℕ) (call : CallId) (mode : Mode) (wanted : Wants) → OwnLocks s → Covered s → Covered (revoked s file number call mode wanted).state
 revoked_covered s file number call mode wanted own old =
     let gives = gave_up (s.table.locks file) s.node s.incarnation mode wanted.required wanted.desired in
-    after_command_covered s file (after_giving_up (s.files file).token mode gives) number (answer_to file number (host s) call gives) (is_conflict gives || (s.files file).asked) (given_up_covered s file mode wanted gives refl own old) old
+    after_command_covered s file (after_giving_up (s.files file).token mode gives) number (answer_to file number (host s) call gives) (is_conflict gives || (s.files file).owes_freed) (given_up_covered s file mode wanted gives refl own old) old
 
 pub in_order_covered : (s : NodeState) (file number : ℕ) (effect : Effect) → Covered s → Covered effect.state → Covered (in_order s file number effect).state
 in_order_covered s file number effect old new =
@@ -242,11 +242,11 @@ in_order_covered s file number effect old new =
 
 denied_covered : (s : NodeState) (lock : LockInfo) (c : Option OpenCall) → Covered s → Covered (denied s lock c).state
 denied_covered s lock None old = old
-denied_covered s lock (Some c) old = answered_if_covered s c.number (refusal_of c.intent lock) old
+denied_covered s lock (Some c) old = answered_if_covered s c.number (refusal_of c.lock_command lock) old
 
 interrupted_covered : (s : NodeState) (c : Option OpenCall) → Covered s → Covered (interrupted s c).state
 interrupted_covered s None old = old
-interrupted_covered s (Some c) old = answered_if_covered s c.number (interruption_of c.intent) old
+interrupted_covered s (Some c) old = answered_if_covered s c.number (interruption_of c.lock_command) old
 
 -- to hear of an epoch changes no token
 entered_covered : (s : NodeState) (file number : ℕ) → Covered s → Covered (in_epoch s file number)

@@ -14,7 +14,7 @@ use Rattle.node_core.specs.Commands.{in_epoch, in_order, granted, revoked, deliv
 use Rattle.cluster_core.proofs.common.Choices.{if_either, at_number}
 use Rattle.cluster_core.proofs.steps.NodeSteps.{IsTo, told_either}
 use Rattle.cluster_core.proofs.steps.NodeTokens.{Does, Receives, AsksFrom, denied_asks, grant_receives, revoke_receives}
-use Rattle.cluster_core.proofs.tokens.Talks.{promised, settled, unasked}
+use Rattle.cluster_core.proofs.tokens.Talks.{promised, settled, owing_nothing}
 use Rattle.cluster_core.proofs.tokens.TalkMoves.{done_file}
 use Rattle.messages.proofs.Reports.{Ends}
 use Rattle.cluster_core.proofs.tokens.Epochs.{EndsOf, entered_ends}
@@ -47,7 +47,7 @@ settled_ends t (Revoke file number holder call mode wanted) (Released f k h c sp
 settled_ends t command answer ends = ends
 
 -- tokens that are the same but for what is asked
-same_ends : (x y : FileState) → unasked x ≡ unasked y → Ends y.token → Ends x.token
+same_ends : (x y : FileState) → owing_nothing x ≡ owing_nothing y → Ends y.token → Ends x.token
 same_ends x y same ends = subst Ends (sym (ap (λ (z : FileState). z.token) same)) ends
 
 pub asks_ends : (s : NodeState) (e : Effect) → AsksFrom s e → EndsOf s → EndsOf e.state
@@ -57,7 +57,7 @@ does_ends : (s : NodeState) (file number : ℕ) (command : Message) (e : Effect)
 does_ends s file number command e short d ends f =
     let done = done_file (s.files file) number command d.answer in
     let Q : FileState → Type 0 = λ x. Ends x.token in
-    let P : Bool → Type 0 = λ b. Q (if b then done else unasked (s.files f)) in
+    let P : Bool → Type 0 = λ b. Q (if b then done else owing_nothing (s.files f)) in
     let there : P (f == file) = at_number f file P
     (λ same. settled_ends (promised (s.files file).token command) command d.answer (promised_ends (s.files file).token command short (ends file)))
     (λ other. ends f) in

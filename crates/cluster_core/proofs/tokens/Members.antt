@@ -12,7 +12,7 @@ use Rattle.token_server.specs.State.{Row, begin}
 use Rattle.cluster_core.specs.World.{WorldState, has_node}
 use Rattle.cluster_core.specs.Next.{declared, restarted, silent}
 use Rattle.cluster_core.proofs.common.Choices.{at_number}
-use Rattle.cluster_core.proofs.tokens.Talks.{Sent, command_host, answer_host, unasked, Talk, MayHold}
+use Rattle.cluster_core.proofs.tokens.Talks.{Sent, command_host, answer_host, owing_nothing, Talk, MayHold}
 use Rattle.cluster_core.proofs.steps.ServerRows.{Serves}
 use Rattle.cluster_core.proofs.tokens.Present.{Was, Holding, StayApart, Present}
 
@@ -21,7 +21,7 @@ abbrev pub NoneLater : Sent → ℕ → ℕ → Type 0
 NoneLater was n incarnation = (m : Message) → was m → (host_of m).node ≡ n → (host_of m).incarnation ≤ incarnation
 
 -- of its next incarnation nothing was said yet: no row is of it, no command was sent to it, and it answered none
-pub talk-begins : (was : Sent) (file n incarnation : ℕ) (f : FileState) (row : Option Row) (dead begin : ℕ) → NoneLater was n incarnation → Talk was file n incarnation f row dead begin → Talk was file n (incarnation + 1) (unasked first_file) row dead begin
+pub talk-begins : (was : Sent) (file n incarnation : ℕ) (f : FileState) (row : Option Row) (dead begin : ℕ) → NoneLater was n incarnation → Talk was file n incarnation f row dead begin → Talk was file n (incarnation + 1) (owing_nothing first_file) row dead begin
 talk-begins was file n incarnation f row dead begin later t = record {
   lives = let lives = t.lives in omega arith;
   aged = t.aged;
@@ -44,7 +44,7 @@ talk-begins was file n incarnation f row dead begin later t = record {
 }
 
 -- and it can hold nothing
-pub may_hold-begins : (was : Sent) (file n incarnation : ℕ) (t : Token) → NoneLater was n incarnation → MayHold was file n (incarnation + 1) (unasked first_file) t → t ≡ no_token
+pub may_hold-begins : (was : Sent) (file n incarnation : ℕ) (t : Token) → NoneLater was n incarnation → MayHold was file n (incarnation + 1) (owing_nothing first_file) t → t ≡ no_token
 may_hold-begins was file n incarnation t later (inl same) = same
 may_hold-begins was file n incarnation t later (inr p) =
     let a = p.ahead in
@@ -74,17 +74,17 @@ module _ (w : WorldState) (p : Present w) (n : ℕ) where
         file_is = s.file_is;
         shape_is = s.shape_is;
         from = s.from;
-        talks = λ m. at_number m n (λ b. Talk (Was w) file m (if b then fresh else w.nodes m).incarnation (unasked ((if b then fresh else w.nodes m).files file)) (t.rows m) (t.dead m) (begin t))
-            (λ same. subst (λ (k : ℕ). Talk (Was w) file k (i + 1) (unasked first_file) (t.rows k) (t.dead k) (begin t)) (sym same)
-            (talk-begins (Was w) file n i (unasked ((w.nodes n).files file)) (t.rows n) (t.dead n) (begin t) none_later (s.talks n)))
+        talks = λ m. at_number m n (λ b. Talk (Was w) file m (if b then fresh else w.nodes m).incarnation (owing_nothing ((if b then fresh else w.nodes m).files file)) (t.rows m) (t.dead m) (begin t))
+            (λ same. subst (λ (k : ℕ). Talk (Was w) file k (i + 1) (owing_nothing first_file) (t.rows k) (t.dead k) (begin t)) (sym same)
+            (talk-begins (Was w) file n i (owing_nothing ((w.nodes n).files file)) (t.rows n) (t.dead n) (begin t) none_later (s.talks n)))
             (λ other. s.talks m);
         held = s.held;
       }
 
   -- what a node may hold then is nothing, or what it may have held
   holding_either : (file m : ℕ) (t : Token) → Holding (Was w) next_nodes file m t → (t ≡ no_token) ⊎ Holding (Was w) w.nodes file m t
-  holding_either file m t = at_number m n (λ b. MayHold (Was w) file m (if b then fresh else w.nodes m).incarnation (unasked ((if b then fresh else w.nodes m).files file)) t → (t ≡ no_token) ⊎ Holding (Was w) w.nodes file m t)
-      (λ same. subst (λ (k : ℕ). MayHold (Was w) file k (i + 1) (unasked first_file) t → (t ≡ no_token) ⊎ Holding (Was w) w.nodes file k t) (sym same)
+  holding_either file m t = at_number m n (λ b. MayHold (Was w) file m (if b then fresh else w.nodes m).incarnation (owing_nothing ((if b then fresh else w.nodes m).files file)) t → (t ≡ no_token) ⊎ Holding (Was w) w.nodes file m t)
+      (λ same. subst (λ (k : ℕ). MayHold (Was w) file k (i + 1) (owing_nothing first_file) t → (t ≡ no_token) ⊎ Holding (Was w) w.nodes file k t) (sym same)
       (λ h. inl (may_hold-begins (Was w) file n i t none_later h)))
       (λ other h. inr h)
 

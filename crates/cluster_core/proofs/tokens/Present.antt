@@ -18,7 +18,7 @@ use Rattle.token_server.specs.Serve.{row_conflicts_at}
 use Rattle.cluster_core.specs.World.{WorldState, is_alive}
 use Rattle.cluster_core.specs.Safe.{Excludes}
 use Rattle.cluster_core.proofs.common.Choices.{at_number}
-use Rattle.cluster_core.proofs.tokens.Talks.{Sent, IsCommandTo, same_command, promised, unasked, Talk, MayHold, held}
+use Rattle.cluster_core.proofs.tokens.Talks.{Sent, IsCommandTo, same_command, promised, owing_nothing, Talk, MayHold, held}
 use Rattle.cluster_core.proofs.tokens.TalkMoves.{NoNews, talk-no_news, may_hold-no_news}
 use Rattle.cluster_core.proofs.tokens.RowMoves.{commanded_row, IsCommanding, talk-commanded, may_hold-commanded}
 use Rattle.cluster_core.proofs.steps.ServerRows.{IsCurrent, Serves, IsFreeFor, Commands, current_row}
@@ -29,7 +29,7 @@ Was w m = is_among w.sent m ≡ true
 
 -- what the node's token of the file is or may become
 abbrev pub Holding : Sent → (ℕ → NodeState) → ℕ → ℕ → Token → Type 0
-Holding was nodes file n t = MayHold was file n (nodes n).incarnation (unasked ((nodes n).files file)) t
+Holding was nodes file n t = MayHold was file n (nodes n).incarnation (owing_nothing ((nodes n).files file)) t
 
 -- tokens of two nodes, as they are or may become, never conflict
 abbrev pub StayApart : Sent → (ℕ → NodeState) → ShapeFields → ℕ → Type 0
@@ -65,15 +65,15 @@ serves-no_news was now nodes shape file t news s = record {
   file_is = s.file_is;
   shape_is = s.shape_is;
   from = s.from;
-  talks = λ n. talk-no_news was now file n (nodes n).incarnation (unasked ((nodes n).files file)) (t.rows n) (t.dead n) (begin t) (news n) (s.talks n);
+  talks = λ n. talk-no_news was now file n (nodes n).incarnation (owing_nothing ((nodes n).files file)) (t.rows n) (t.dead n) (begin t) (news n) (s.talks n);
   held = s.held;
 }
 
 pub apart-no_news : (was now : Sent) (nodes : ℕ → NodeState) (shape : ShapeFields) (file : ℕ) → ((n : ℕ) → NoNews was now file n (nodes n).incarnation) → StayApart was nodes shape file → StayApart now nodes shape file
 apart-no_news was now nodes shape file news apart m n t u m_in n_in other a b =
     apart m n t u m_in n_in other
-    (may_hold-no_news was now file m (nodes m).incarnation (unasked ((nodes m).files file)) t (news m) a)
-    (may_hold-no_news was now file n (nodes n).incarnation (unasked ((nodes n).files file)) u (news n) b)
+    (may_hold-no_news was now file m (nodes m).incarnation (owing_nothing ((nodes m).files file)) t (news m) a)
+    (may_hold-no_news was now file n (nodes n).incarnation (owing_nothing ((nodes n).files file)) u (news n) b)
 
 -- nothing new was sent
 pub nothing_new : (was now : Sent) (file n incarnation : ℕ) → ((m : Message) → was m → now m) → ((m : Message) → now m → was m) → NoNews was now file n incarnation
@@ -96,7 +96,7 @@ excludes_promised t u command apart free = apart
 -- a server's command about a file
 module _ (was now : Sent) (nodes : ℕ → NodeState) (shape : ShapeFields) (file : ℕ) (v : ServerState) (sends : List Message) (g : Commands was nodes shape file v sends) (news : IsCommanding was now g.command) where
   abbrev heard : ℕ → FileState
-  heard n = unasked ((nodes n).files file)
+  heard n = owing_nothing ((nodes n).files file)
 
   -- it tells nothing of another file, nor to another node
   tells_no_other : (f n : ℕ) → (f ≡ file → n ≡ g.node → ⊥) → NoNews was now f n (nodes n).incarnation

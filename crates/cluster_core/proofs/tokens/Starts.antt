@@ -20,7 +20,7 @@ use Rattle.cluster_core.proofs.steps.KnownMessages.{sent_before, sent_now, sent_
 use Rattle.cluster_core.proofs.steps.NodeTokens.{Only, only_mapped, first_among}
 use Rattle.cluster_core.proofs.steps.ServerRows.{IsCurrent, Serves}
 use Rattle.cluster_core.proofs.tokens.Epochs.{next_epoch}
-use Rattle.cluster_core.proofs.tokens.Talks.{IsHostOf, IsCommandTo, IsAnswerOf, in_epoch, unasked}
+use Rattle.cluster_core.proofs.tokens.Talks.{IsHostOf, IsCommandTo, IsAnswerOf, in_epoch, owing_nothing}
 use Rattle.cluster_core.proofs.tokens.TalkMoves.{NoNews, may_hold-no_news}
 use Rattle.cluster_core.proofs.tokens.TalkStarts.{IsStarting, talk-starts, may_hold-starts}
 use Rattle.cluster_core.proofs.tokens.Present.{Was, Holding, IsBegun, Present, serves-no_news}
@@ -137,15 +137,15 @@ module _ (w : WorldState) (p : Present w) (file : ℕ) where
       file_is = refl;
       shape_is = refl;
       from = omega arith;
-      talks = λ n. talk-starts (Was w) (Was later) file n (w.nodes n).incarnation (unasked ((w.nodes n).files file)) (t.rows n) (t.dead n) (begin t) (begin made) after (is_alive w n) (starting n) ((p.serves file).talks n);
+      talks = λ n. talk-starts (Was w) (Was later) file n (w.nodes n).incarnation (owing_nothing ((w.nodes n).files file)) (t.rows n) (t.dead n) (begin t) (begin made) after (is_alive w n) (starting n) ((p.serves file).talks n);
       held = All-nil (IsCurrent made);
     }
 
     holds_no_more : (f n : ℕ) (u : Token) → Holding (Was later) w.nodes f n u → Holding (Was w) w.nodes f n u
     holds_no_more f n u = at_number f file (λ b. Holding (Was later) w.nodes f n u → Holding (Was w) w.nodes f n u)
         (λ same. subst (λ (k : ℕ). Holding (Was later) w.nodes k n u → Holding (Was w) w.nodes k n u) (sym same)
-        (may_hold-starts (Was w) (Was later) file n (w.nodes n).incarnation (unasked ((w.nodes n).files file)) (t.rows n) (t.dead n) (begin t) (begin made) after (is_alive w n) (starting n) ((p.serves file).talks n) u))
-        (λ other h. may_hold-no_news (Was w) (Was later) f n (w.nodes n).incarnation (unasked ((w.nodes n).files f)) u (elsewhere f n other) h)
+        (may_hold-starts (Was w) (Was later) file n (w.nodes n).incarnation (owing_nothing ((w.nodes n).files file)) (t.rows n) (t.dead n) (begin t) (begin made) after (is_alive w n) (starting n) ((p.serves file).talks n) u))
+        (λ other h. may_hold-no_news (Was w) (Was later) f n (w.nodes n).incarnation (owing_nothing ((w.nodes n).files f)) u (elsewhere f n other) h)
 
     pub started_present : Present later
     started_present = record {

@@ -188,7 +188,7 @@ pub record IsDoing (was now : Sent) (file n incarnation : ℕ) (answer : Message
 
 -- what the node knows of the file once the command is done
 abbrev pub done_file : FileState → ℕ → Message → Message → FileState
-done_file f number command answer = record { token = settled (promised f.token command) command answer; last = number; answer = Some answer; asked = false }
+done_file f number command answer = record { token = settled (promised f.token command) command answer; last = number; answer = Some answer; owes_freed = false }
 
 -- an answer to a command, and no report
 abbrev pub is_answer : Message → Bool

@@ -92,9 +92,9 @@ abbrev pub settled : Token → Message → Message → Token
 settled t (Revoke file number holder call mode wanted) (Released f k h c span) = lowered t span mode
 settled t _ _ = t
 
--- what a server and a node speak of: all that the node knows of the file, but whether it is asked to tell of freed locks
-abbrev pub unasked : FileState → FileState
-unasked f = record f { asked = false }
+-- what a server and a node speak of: all that the node knows of the file, but whether it owes a Freed
+abbrev pub owing_nothing : FileState → FileState
+owing_nothing f = record f { owes_freed = false }
 
 -- the server has a row of that incarnation, with a number that is as great
 pub record IsCountedIn (row : Option Row) (incarnation number : ℕ) : Type 0 where

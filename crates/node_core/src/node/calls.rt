@@ -16,7 +16,7 @@ use crate::change::Change;
 use crate::edit::{Draft, TableEdit};
 use crate::effect::Effect;
 use crate::numbers::is_pid;
-use crate::open_call::{Intent, OpenCall};
+use crate::open_call::{LockCommand, OpenCall};
 use descriptors::call::ProcessCall;
 use fcntl_table::target::target_at;
 use intervals::span::Span;
@@ -141,7 +141,7 @@ impl Node {
         &self,
         alloc: Global,
         pid: u16,
-        intent: Intent,
+        lock_command: LockCommand,
         mode: Mode,
         target: Result<LockTarget, Reply>,
     ) -> Result<Effect, AllocError>
@@ -149,7 +149,7 @@ impl Node {
         requires own { IfOk target (λ t. IsOwn (node_state self.now).node (node_state self.now).incarnation t.owner) }
         requires file { IfOk target (λ t. IsNumber (node_state self.now).shape.files t.file) }
         requires span { IfOk target (λ t. IsSpan t.span) }
-        ensures value { IfOk result (λ effect. lock_call (numbered (node_state self.now)) ((node_state self.now).calls + 1) pid intent mode target ≡ effect_of self.now effect) }
+        ensures value { IfOk result (λ effect. lock_call (numbered (node_state self.now)) ((node_state self.now).calls + 1) pid lock_command mode target ≡ effect_of self.now effect) }
         ensures fits { IfOk result (λ effect. PartsFit self.now effect.edit) }
     {
         match target {
@@ -157,7 +157,7 @@ impl Node {
                 let call = OpenCall {
                     number: self.next_number(),
                     pid,
-                    intent,
+                    lock_command,
                     file: target.file,
                     owner: target.owner,
                     mode,
@@ -205,7 +205,7 @@ impl Node {
                 len,
             } => {
                 let target = self.target(pid, Some(mode), fd, kind, start, len);
-                self.call_lock(alloc, pid, Intent::Set, mode, target)
+                self.call_lock(alloc, pid, LockCommand::Set, mode, target)
             }
             Op::Wait {
                 fd,
@@ -215,7 +215,7 @@ impl Node {
                 len,
             } => {
                 let target = self.target(pid, Some(mode), fd, kind, start, len);
-                self.call_lock(alloc, pid, Intent::Wait, mode, target)
+                self.call_lock(alloc, pid, LockCommand::Wait, mode, target)
             }
             _ => unreachable!(),
         }
@@ -253,7 +253,7 @@ impl Node {
                 len,
             } => {
                 let target = self.target(pid, None, fd, kind, start, len);
-                self.call_lock(alloc, pid, Intent::Query, mode, target)
+                self.call_lock(alloc, pid, LockCommand::Query, mode, target)
             }
         }
     }

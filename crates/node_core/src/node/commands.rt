@@ -202,7 +202,7 @@ impl Node {
     {
         match call {
             None => Effect::quiet(alloc, Edit::none(alloc)),
-            Some(call) => self.answer_if(alloc, call.number, call.intent.refusal(lock)),
+            Some(call) => self.answer_if(alloc, call.number, call.lock_command.refusal(lock)),
         }
     }
 

@@ -22,7 +22,7 @@ impl Node {
     {
         match call {
             None => Effect::quiet(alloc, Edit::none(alloc)),
-            Some(call) => self.answer_if(alloc, call.number, call.intent.interruption()),
+            Some(call) => self.answer_if(alloc, call.number, call.lock_command.interruption()),
         }
     }
 

@@ -63,7 +63,7 @@ impl Node {
         ensures fits { IfOk result (λ told. PartsFit self.now told.edit) }
         ensures rises { IfOk result (λ told. All (λ f. f < file + 1) told.edit.freed) }
     {
-        if !self.is_asked(&effect.edit.draft, file) {
+        if !self.owes_freed(&effect.edit.draft, file) {
             return Ok(effect);
         }
         if !self.processes.has_open(pid, file) {

@@ -17,7 +17,7 @@ use super::Node;
 use crate::edit::{Draft, Edit, TableEdit};
 use crate::effect::Effect;
 use crate::locks::may_free;
-use crate::open_call::{Intent, OpenCall};
+use crate::open_call::{LockCommand, OpenCall};
 use crate::open_calls::CallsEdit;
 use fcntl_table::locks::lock_reply;
 use messages::message::Message;
@@ -40,15 +40,15 @@ impl Node {
             .blocker(call.owner, call.file, call.span, call.mode)
     }
 
-    // Whether a lock of the file was named to its server, with the draft.
-    pub(super) fn is_asked(&self, draft: &Draft, file: u16) -> bool
+    // Whether the server of the file is owed a Freed, with the draft: a lock was named to it.
+    pub(super) fn owes_freed(&self, draft: &Draft, file: u16) -> bool
         requires { IsNumber (node_state self.now).shape.files file }
-        ensures { result ≡ ((drafted self.now draft.now).files file).asked }
+        ensures { result ≡ ((drafted self.now draft.now).files file).owes_freed }
     {
         let row = self.file(file);
         match &draft.command {
-            Some(edit) if edit.file == file => edit.asked,
-            _ => row.asked,
+            Some(edit) if edit.file == file => edit.owes_freed,
+            _ => row.owes_freed,
         }
     }
 
@@ -113,7 +113,7 @@ impl Node {
         let request = Message::Request {
             file: self.file_number(call.file),
             call: self.id(call.number),
-            urgency: call.intent.urgency(),
+            blocking: call.lock_command.blocking(),
             mode: call.mode,
             wanted: self.wanted(&draft, call)?,
         };
@@ -229,7 +229,7 @@ impl Node {
         ensures fits { IfOk result (λ told. PartsFit self.now told.edit) }
         ensures rises { IfOk result (λ told. All (λ f. f < file + 1) told.edit.freed) }
     {
-        if !self.is_asked(&effect.edit.draft, file) {
+        if !self.owes_freed(&effect.edit.draft, file) {
             return Ok(effect);
         }
         effect.before(file, self.freed(file))
@@ -270,18 +270,18 @@ impl Node {
     ) -> Result<Effect, AllocError>
         requires own { IsCallOf (node_state self.now) call.now }
         requires draft { DraftFits self.now draft }
-        ensures value { IfOk result (λ effect. answered_here (drafted self.now draft) call.now call.now.intent ≡ effect_of self.now effect) }
+        ensures value { IfOk result (λ effect. answered_here (drafted self.now draft) call.now call.now.lock_command ≡ effect_of self.now effect) }
         ensures fits { IfOk result (λ effect. PartsFit self.now effect.edit) }
     {
-        match call.intent {
-            Intent::Set | Intent::Wait => self.lock(
+        match call.lock_command {
+            LockCommand::Set | LockCommand::Wait => self.lock(
                 alloc,
                 draft,
                 call.number,
                 call.target(),
                 Some(call.mode),
             ),
-            Intent::Query => Ok(self.answer(
+            LockCommand::Query => Ok(self.answer(
                 alloc,
                 draft,
                 TableEdit::Nothing,
@@ -305,7 +305,7 @@ impl Node {
         ensures fits { IfOk result (λ effect. PartsFit self.now effect.edit) }
     {
         if let Some(lock) = self.blocker(call) {
-            return self.refuse(alloc, draft, call, call.intent.refusal(lock));
+            return self.refuse(alloc, draft, call, call.lock_command.refusal(lock));
         }
         if self.is_covered(&draft, call)? {
             return self.answer_here(alloc, draft, call);

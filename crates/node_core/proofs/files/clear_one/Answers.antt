@@ -8,6 +8,6 @@ use Rattle.node_core.proofs.files.clear_one.Goals as goal
 pub returns-clause-state : goal.returns-clause-state
 returns-clause-state c =
     let files = c.args.files.now.items in
-    let clear : FileState → FileState = λ f. record f { asked = false } in
-    let made = c.clear_asked.ensures ∙ ap (λ r. clear (state_of r)) c.index_mut-row.ensures.value in
-    file_state-change files c.args.file c.index_mut-row.result.now c.clear_asked.new.self clear c.requires c.index_mut-row.ensures.value made
+    let clear : FileState → FileState = λ f. record f { owes_freed = false } in
+    let made = c.clear_owed.ensures ∙ ap (λ r. clear (state_of r)) c.index_mut-row.ensures.value in
+    file_state-change files c.args.file c.index_mut-row.result.now c.clear_owed.new.self clear c.requires c.index_mut-row.ensures.value made

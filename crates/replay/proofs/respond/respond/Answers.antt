@@ -36,10 +36,10 @@ returns-in-Ok-clause-fault g c = λ task asks failed.
     subst P (asks_one words asked task c.in-Ok.ensures.asked asks) (told.0, fault-weaker old new (g.S.Store.ran_short c.perform.new.store) Refuses asked told.0 told.1, told.2, told.3, told.4)
 
 pub returns-in-Ok-clause-files : goal.returns-in-Ok-clause-files
-returns-in-Ok-clause-files g c = λ path file unasked.
+returns-in-Ok-clause-files g c = λ path file owing_nothing.
     let words = map g.W.AsStr.text c.args.words.now in
     same-unless (g.S.Store.holds c.args.store.now) (g.S.Store.holds c.perform.new.store) (task_of c.in-Ok.line) path file c.perform.ensures.files
-    (unasked (task_of c.in-Ok.line) c.in-Ok.ensures.asked)
+    (owing_nothing (task_of c.in-Ok.line) c.in-Ok.ensures.asked)
 
 pub returns-in-Err-clause-fault : goal.returns-in-Err-clause-fault
 returns-in-Err-clause-fault g c = λ task asks failed.

@@ -17,9 +17,9 @@ invariant_of-self c =
     let fits = subst (λ (q : NodeParts). Fits q e) (sym c.self.view_is) c.requires in
     let me = c.host-host.ensures ∙ ap (λ (q : NodeParts). host (node_state q)) (sym c.self.view_is) in
     let leaves = subst (λ (h : Host). Leaves h n.processes n.locks e.table c.apply_table.new.processes c.apply_table.new.locks) me c.apply_table.ensures in
-    let known = c.clear_asked.ensures.state ∙ (λ i. files_told (c.apply_command.ensures.state i) (c.as_slice.ensures i)) in
-    let is = node-planned p e c.calls_after-self-inside.result c.apply_table.new.processes c.apply_table.new.locks c.apply.new.self c.clear_asked.new.files.items c.calls_after-self-inside.ensures leaves c.apply.ensures known in
-    node-edited p e c.calls_after-self-inside.result c.apply_table.new.processes c.apply_table.new.locks c.apply.new.self c.clear_asked.new.files.items c.apply.ensures (c.clear_asked.ensures.count ∙ c.apply_command.ensures.count) is fits c.self.invariant
+    let known = c.clear_owed.ensures.state ∙ (λ i. files_told (c.apply_command.ensures.state i) (c.as_slice.ensures i)) in
+    let is = node-planned p e c.calls_after-self-inside.result c.apply_table.new.processes c.apply_table.new.locks c.apply.new.self c.clear_owed.new.files.items c.calls_after-self-inside.ensures leaves c.apply.ensures known in
+    node-edited p e c.calls_after-self-inside.result c.apply_table.new.processes c.apply_table.new.locks c.apply.new.self c.clear_owed.new.files.items c.apply.ensures (c.clear_owed.ensures.count ∙ c.apply_command.ensures.count) is fits c.self.invariant
 
 pub returns : goal.returns
 returns c =
@@ -28,6 +28,6 @@ returns c =
     let e = c.args.edit in
     let me = c.host-host.ensures ∙ ap (λ (q : NodeParts). host (node_state q)) (sym c.self.view_is) in
     let leaves = subst (λ (h : Host). Leaves h n.processes n.locks e.table c.apply_table.new.processes c.apply_table.new.locks) me c.apply_table.ensures in
-    let known = c.clear_asked.ensures.state ∙ (λ i. files_told (c.apply_command.ensures.state i) (c.as_slice.ensures i)) in
-    node-planned p e c.calls_after-self-inside.result c.apply_table.new.processes c.apply_table.new.locks c.apply.new.self c.clear_asked.new.files.items c.calls_after-self-inside.ensures leaves c.apply.ensures known
+    let known = c.clear_owed.ensures.state ∙ (λ i. files_told (c.apply_command.ensures.state i) (c.as_slice.ensures i)) in
+    node-planned p e c.calls_after-self-inside.result c.apply_table.new.processes c.apply_table.new.locks c.apply.new.self c.clear_owed.new.files.items c.calls_after-self-inside.ensures leaves c.apply.ensures known
     ∙ ap (λ (q : NodeParts). planned q e) c.self.view_is

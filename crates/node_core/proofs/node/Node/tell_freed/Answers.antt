@@ -2,11 +2,11 @@ use Rattle.std.proofs.Common.{sym, ◌∙◌}
 use Rattle.node_core.proofs.PlanLaws.{told-effect, told-fits, told-nothing, told-rises}
 use Rattle.node_core.proofs.node.Node.tell_freed.Goals as goal
 
-pub returns-then-not-is_asked-clause-value : goal.returns-then-not-is_asked-clause-value
-returns-then-not-is_asked-clause-value c = told-nothing c.args.self.now c.args.effect c.args.file c.requires.rises (sym c.is_asked.ensures ∙ c.if-not-is_asked.true)
+pub returns-then-not-owes_freed-clause-value : goal.returns-then-not-owes_freed-clause-value
+returns-then-not-owes_freed-clause-value c = told-nothing c.args.self.now c.args.effect c.args.file c.requires.rises (sym c.owes_freed.ensures ∙ c.if-not-owes_freed.true)
 
 pub returns-clause-value : goal.returns-clause-value
-returns-clause-value c = told-effect c.args.self.now c.args.effect c.args.file c.before-2.result c.requires.rises (sym c.is_asked.ensures ∙ c.if-not-is_asked.false) (rw (← c.freed.ensures) c.before-2.ensures)
+returns-clause-value c = told-effect c.args.self.now c.args.effect c.args.file c.before-2.result c.requires.rises (sym c.owes_freed.ensures ∙ c.if-not-owes_freed.false) (rw (← c.freed.ensures) c.before-2.ensures)
 
 pub returns-clause-fits : goal.returns-clause-fits
 returns-clause-fits c = told-fits c.args.self.now c.args.effect c.args.file _ c.before-2.result c.requires.fits c.requires.file c.before-2.ensures

@@ -1,6 +1,6 @@
 use Rattle.std.proofs.Common.{◌≡◌, ℕ, arith, length, subst}
-use Rattle.cluster_core.specs.Known.{KnowsFirst}
-use Rattle.cluster_core.proofs.known.Known.note_from.Goals as goal
+use Rattle.cluster_core.specs.SentIndexes.{KnowsFirst}
+use Rattle.cluster_core.proofs.sent_index.SentIndex.note_from.Goals as goal
 
 pub returns : goal.returns
 returns c = λ known.

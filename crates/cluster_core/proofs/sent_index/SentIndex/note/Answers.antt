@@ -1,7 +1,7 @@
 use Rattle.std.proofs.Common.{ap, is_some, nat_eq, sym, ◌∙◌}
 use Rattle.std.specs.HashMap.{get}
 use Rattle.cluster_core.proofs.steps.KnownMessages.{knows_stands, knows_placed, read_there}
-use Rattle.cluster_core.proofs.known.Known.note.Goals as goal
+use Rattle.cluster_core.proofs.sent_index.SentIndex.note.Goals as goal
 
 pub returns-in-Some-clause-knows : goal.returns-in-Some-clause-knows
 returns-in-Some-clause-knows c = λ known.

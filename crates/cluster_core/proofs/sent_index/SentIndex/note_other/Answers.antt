@@ -1,7 +1,7 @@
 use Rattle.std.proofs.Common.{◌≡◌, true, List, ℕ, sym, ap, ◌∙◌}
-use Rattle.cluster_core.specs.Known.{stands_among}
+use Rattle.cluster_core.specs.SentIndexes.{stands_among}
 use Rattle.cluster_core.proofs.steps.KnownMessages.{knows_other, knows_among, read_there}
-use Rattle.cluster_core.proofs.known.Known.note_other.Goals as goal
+use Rattle.cluster_core.proofs.sent_index.SentIndex.note_other.Goals as goal
 
 pub returns-then-not-stands_among-clause-knows : goal.returns-then-not-stands_among-clause-knows
 returns-then-not-stands_among-clause-knows c = λ known.

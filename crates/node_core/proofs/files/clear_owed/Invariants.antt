@@ -1,7 +1,7 @@
 use Rattle.std.proofs.Common.{◌≡◌, length, take}
 use Rattle.node_core.specs.Files.{file_state}
 use Rattle.node_core.specs.Plans.{files_told}
-use Rattle.node_core.proofs.files.clear_asked.Given as goal
+use Rattle.node_core.proofs.files.clear_owed.Given as goal
 
 abbrev pub invariant-loop-file : goal.invariant-loop-file
 invariant-loop-file l = record {

@@ -2,7 +2,7 @@
 ghost use Rattle.std.specs.Prelude.{◌≡◌, ◌+◌, ◌<◌, ◌≤◌, [], nat_eq, length, Some, OnOk};
 ghost use Rattle.std.specs.HashMap.{get, spare as spare_places};
 ghost use Rattle.std.specs.Vec.{vec_capacity};
-ghost use Rattle.cluster_core.specs.Known.{fingerprint, has, stands_at, stands_among, KnowsFirst, SaysTheSame};
+ghost use Rattle.cluster_core.specs.SentIndexes.{fingerprint, has, stands_at, stands_among, KnowsFirst, SaysTheSame};
 
 use messages::message::Message;
 use std::alloc::{AllocError, Global};
@@ -12,7 +12,7 @@ use std::hash::{FoldHasher, Hash, Hasher};
 /// Which messages were sent: by its fingerprint the place of a message in the order of sending; and the
 /// places of messages whose fingerprint is that of another.
 #[derive(Drop)]
-pub(crate) struct Known {
+pub(crate) struct SentIndex {
     places: HashMap<u32, u32>,
     others: Vec<usize>,
 }
@@ -43,12 +43,12 @@ fn stands_among(sent: &[Message], message: &Message, places: &[usize]) -> bool
     places.iter().any(|place| stands_at(sent, message, *place))
 }
 
-impl Known {
+impl SentIndex {
     /// No message.
-    pub(crate) fn new(alloc: Global) -> Known
+    pub(crate) fn new(alloc: Global) -> SentIndex
         ensures { KnowsFirst result.places result.others.items [] 0 }
     {
-        Known {
+        SentIndex {
             places: HashMap::new(alloc),
             others: Vec::new(alloc),
         }

@@ -7,7 +7,7 @@ use Rattle.cluster_core.specs.World.{WorldState}
 use Rattle.cluster_core.specs.Next.{next}
 use Rattle.cluster_core.specs.Parts.{world_state}
 use Rattle.cluster_core.specs.Changes.{Makes}
-use Rattle.cluster_core.proofs.world.World.settle.Goals as goal
+use Rattle.cluster_core.proofs.world.World.apply.Goals as goal
 
 pub returns-in-Started-clause-err : goal.returns-in-Started-clause-err
 returns-in-Started-clause-err c =

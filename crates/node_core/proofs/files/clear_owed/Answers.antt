@@ -4,7 +4,7 @@ use Rattle.std.proofs.lemmas.List.{take_more}
 use Rattle.node_core.specs.Files.{file_state}
 use Rattle.node_core.specs.Plans.{told, files_told}
 use Rattle.node_core.proofs.PlanLaws.{told-push}
-use Rattle.node_core.proofs.files.clear_asked.Goals as goal
+use Rattle.node_core.proofs.files.clear_owed.Goals as goal
 
 pub loop-file-preserved : goal.loop-file-preserved
 loop-file-preserved c =

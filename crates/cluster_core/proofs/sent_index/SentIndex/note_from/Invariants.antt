@@ -1,8 +1,8 @@
 use Rattle.std.proofs.Common.{◌+◌, ◌≤◌, length}
 use Rattle.std.specs.HashMap.{spare as spare_places}
 use Rattle.std.specs.Vec.{vec_capacity}
-use Rattle.cluster_core.specs.Known.{KnowsFirst}
-use Rattle.cluster_core.proofs.known.Known.note_from.Given as goal
+use Rattle.cluster_core.specs.SentIndexes.{KnowsFirst}
+use Rattle.cluster_core.proofs.sent_index.SentIndex.note_from.Given as goal
 
 abbrev pub invariant-loop-place : goal.invariant-loop-place
 invariant-loop-place l = record {

@@ -1,6 +1,6 @@
 use Rattle.std.proofs.Common.{Some, refl}
 use Rattle.cluster_core.proofs.steps.KnownMessages.{stands_there, stands_nowhere, read_there}
-use Rattle.cluster_core.proofs.known.stands_at.Goals as goal
+use Rattle.cluster_core.proofs.sent_index.stands_at.Goals as goal
 
 pub returns-in-Some : goal.returns-in-Some
 returns-in-Some c =
