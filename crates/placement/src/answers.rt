@@ -1,5 +1,5 @@
 //! What a single machine's table may answer.
-ghost use Rattle.std.specs.Prelude.{◌≡◌, ◌≢◌, true, false, IsTrue, ◌↔◌, IfOk};
+ghost use Rattle.std.specs.Prelude.{◌≡◌, ◌≢◌, true, false, IsTrue, ◌↔◌, IfOk, IsOkAnd};
 ghost use Rattle.model.specs.declared.op.Op.TheVariants.{Set, Wait, Unlock, Query};
 ghost use Rattle.model.specs.declared.reply.Reply.TheVariants.{Again, Blocked, Interrupted};
 ghost use Rattle.model.specs.Step.{BlocksCall, IsPossible, Step};
@@ -82,20 +82,19 @@ fn may_deny(table: &FcntlTable, process: Process, op: Op, lock: LockInfo) -> boo
     ensures may { result ≡ true → Step (table_of table.now) process op (Again lock) (table_of table.now) }
     ensures never { result ≡ false → NeverAnswers (table_of table.now) process op (Again lock) }
 {
-    let Op::Set {
-        fd,
-        kind,
-        mode,
-        start,
-        len,
-    } = op
-    else {
-        return false;
-    };
-    let Ok(call) = table.target(process, Some(mode), fd, kind, start, len) else {
-        return false;
-    };
-    is_blocked_by(table, call, mode, &lock)
+    match op {
+        Op::Set {
+            fd,
+            kind,
+            mode,
+            start,
+            len,
+        } => {
+            let target = table.target(process, Some(mode), fd, kind, start, len);
+            is_blocked_at(table, target, mode, &lock)
+        }
+        _ => false,
+    }
 }
 
 // Whether the query may be answered by this lock, as one that would be in the way.
@@ -103,20 +102,34 @@ fn may_block(table: &FcntlTable, process: Process, op: Op, lock: LockInfo) -> bo
     ensures may { result ≡ true → Step (table_of table.now) process op (Blocked lock) (table_of table.now) }
     ensures never { result ≡ false → NeverAnswers (table_of table.now) process op (Blocked lock) }
 {
-    let Op::Query {
-        fd,
-        kind,
-        mode,
-        start,
-        len,
-    } = op
-    else {
-        return false;
-    };
-    let Ok(call) = table.target(process, None, fd, kind, start, len) else {
-        return false;
-    };
-    is_blocked_by(table, call, mode, &lock)
+    match op {
+        Op::Query {
+            fd,
+            kind,
+            mode,
+            start,
+            len,
+        } => {
+            let target = table.target(process, None, fd, kind, start, len);
+            is_blocked_at(table, target, mode, &lock)
+        }
+        _ => false,
+    }
+}
+
+// Whether a call with this target passes its tests, and the lock is a region of another owner that blocks it.
+fn is_blocked_at(
+    table: &FcntlTable,
+    target: Result<LockTarget, Reply>,
+    mode: Mode,
+    lock: &LockInfo,
+) -> bool
+    ensures { IsTrue result ↔ IsOkAnd target (λ call. BlocksCall (table_of table.now) call mode lock.now) }
+{
+    match target {
+        Ok(call) => is_blocked_by(table, call, mode, lock),
+        Err(_) => false,
+    }
 }
 
 // Whether the call may be answered so: it waits, and passes its tests.
