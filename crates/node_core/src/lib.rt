@@ -11,7 +11,7 @@ pub mod file_row;
 mod files;
 mod hints;
 pub mod laws;
-pub mod locks;
+mod locks;
 pub mod node;
 mod numbers;
 pub mod open_call;

@@ -1,19 +1,12 @@
 //! Nodes, by messages that no server sends and calls that no script has.
 use crate::journals::{is_of, read};
-use intervals::span::Span;
-use lock_table::error::LockError;
-use lock_table::lock_table::LockTable;
 use messages::entry::Entry;
 use messages::event::Event;
 use messages::outcome::Outcome;
 use messages::refusal::StepError;
 use messages::shape::Shape;
-use model::lock_target::LockTarget;
-use model::mode::Mode;
 use model::op::Op;
-use model::owner::{Kind, Owner};
 use node_core::event::NodeEvent;
-use node_core::locks::change_locks;
 use node_core::node::Node;
 use std::alloc::Global;
 use std::test::Fail;
@@ -152,44 +145,5 @@ fn refuses_events_of_strangers(rt: HostRuntime) -> Result<(), Fail> {
     let node = begins(rt.alloc(), shape)?;
     let are_foreign = are_foreign(rt.alloc(), &node, &entries);
     assert!(rt; are_foreign && lacks(rt.alloc(), &node, 0) && lacks(rt.alloc(), &node, 257));
-    Ok(())
-}
-
-const OWNER: Owner = Owner {
-    node: 1,
-    incarnation: 1,
-    kind: Kind::OfProcess,
-    number: 1,
-};
-
-// Whether the bytes are then locked in the mode, or free, and there are so many regions.
-fn changes(
-    locks: &mut LockTable,
-    span: Span,
-    mode: Option<Mode>,
-    regions: usize,
-) -> Result<bool, LockError> {
-    let target = LockTarget {
-        file: 1,
-        owner: OWNER,
-        span,
-    };
-    change_locks(locks, target, mode)?;
-    Ok(locks.locks(1)?.len() == regions)
-}
-
-// Whether bytes are locked, and one of them is freed.
-fn locks_and_frees(locks: &mut LockTable) -> Result<bool, LockError> {
-    Ok(
-        changes(locks, Span { lo: 0, hi: 99 }, Some(Mode::Write), 1)?
-            && changes(locks, Span { lo: 4, hi: 5 }, None, 2)?,
-    )
-}
-
-#[test]
-fn locks_and_frees_bytes(rt: HostRuntime) -> Result<(), Fail> {
-    let mut locks = Box::new(rt.alloc(), LockTable::new(rt.alloc(), 1024))?;
-    let is_right = locks_and_frees(&mut locks)?;
-    assert!(rt; is_right);
     Ok(())
 }
