@@ -32,8 +32,8 @@ use Rattle.token_server.specs.Obstacles.{obstacle, are_apart, is_idle}
 use Rattle.token_server.specs.Admitting.{all_but, all_stay}
 use Rattle.token_server.specs.Parts.{ServerParts, server_state, rows_of, deaths_of}
 use Rattle.token_server.specs.Ready.{AreDistinct, IsOrderly, IsReady, IsServer}
-use Rattle.token_server.specs.Sketches.{rows_after, deaths_after, dropped, without, still_active, queue_moved, waiting_moved, sketched}
-use Rattle.token_server.specs.Edits.{overlaid, held_still, held_without, held_after, queue_after, waiting_after, AreListed, drafted, given_rows, with_given, many_moved, many_put_off, HasRoom, HeldHasRoom, IsNewCall, PartsFit, Fits, made}
+use Rattle.token_server.specs.Sketches.{dropped, without, still_active, queue_moved, waiting_moved, sketched}
+use Rattle.token_server.specs.Edits.{overlaid, held_still, held_without, held_after, queue_after, waiting_after, IsDrafted, drafted, given_rows, with_given, many_moved, many_put_off, HasRoom, HeldHasRoom, IsNewCall, PartsFit, Fits, made}
 use Rattle.token_server.proofs.AdmitLaws.{ready-is}
 use Rattle.token_server.proofs.AskedLaws.{none-after, served-awaits, served-counted}
 use Rattle.token_server.proofs.AdmittingLaws.{all_but-none, calls, calls-append, calls-cons, apart-fewer, admitted-keeps_apart, admitted-leaves}
@@ -133,33 +133,33 @@ abbrev Answer : Type 0
 Answer = Result (ServerState × List Message) StepError
 
 -- a step whose rows and requests change as the sketch has it
-module _ (p : ServerParts) (k : Sketch) (d : Draft) (listed : AreListed p k d.rows d.lists) (rows : rows_of (overlaid p.known_nodes d.rows) ≡ rows_after k.changed (rows_of p.known_nodes)) (deaths : deaths_of (overlaid p.known_nodes d.rows) ≡ deaths_after k.changed (deaths_of p.known_nodes)) (before : IsReady (server_state p) p.active.held) where
+module _ (p : ServerParts) (k : Sketch) (d : Draft) (so : IsDrafted p k d) where
   active-is : requests_of (held_after d.lists p.active.held) ≡ (sketched p k).active ++ requests_of d.lists.fresh.items
-  active-is = held_after-requests d.lists p.active.held ∙ ap (λ (xs : List TokenRequest). xs ++ requests_of d.lists.fresh.items) listed.served
+  active-is = held_after-requests d.lists p.active.held ∙ ap (λ (xs : List TokenRequest). xs ++ requests_of d.lists.fresh.items) so.listed.served
 
   queue-is : queue_after d.lists p.queue.requests p.waiting.requests ≡ all_but (requests_of d.lists.fresh.items) (sketched p k).queue
-  queue-is = ap (all_but (requests_of d.lists.fresh.items)) listed.queued
+  queue-is = ap (all_but (requests_of d.lists.fresh.items)) so.listed.queued
 
   -- which awaits a token awaited one before, and serves none
   rests : awaits (sketched p k) ≡ true → (sketched p k).active ≡ []
   rests awaited = by (awaits (server_state p)) refl
     where
       by : (b : Bool) → awaits (server_state p) ≡ b → (sketched p k).active ≡ []
-      by true is = ap (λ (rs : List TokenRequest). still_active k.ended (without (dropped k.changed) rs)) (before.resting is) ∙ none-left k.ended (dropped k.changed)
+      by true is = ap (λ (rs : List TokenRequest). still_active k.ended (without (dropped k.changed) rs)) (so.before.resting is) ∙ none-left k.ended (dropped k.changed)
       by false is = absurd (both_ways (awaits (sketched p k)) (none-after k.changed (rows_of p.known_nodes) p.shape.nodes is) awaited)
 
   -- is the sketched state, with requests from the queue unless it awaits a token
   drafted-awaiting : awaits (sketched p k) ≡ true → drafted p d ≡ sketched p k
   drafted-awaiting awaited =
-      let none : d.lists.fresh.items ≡ [] = listed.rests awaited in
+      let none : d.lists.fresh.items ≡ [] = so.listed.rests awaited in
       let active : requests_of (held_after d.lists p.active.held) ≡ (sketched p k).active = active-is ∙ ap (λ (hs : List Held). (sketched p k).active ++ requests_of hs) none ∙ append-nil (sketched p k).active in
       let queue : queue_after d.lists p.queue.requests p.waiting.requests ≡ (sketched p k).queue = queue-is ∙ ap (λ (hs : List Held). all_but (requests_of hs) (sketched p k).queue) none ∙ all_but-none (sketched p k).queue in
-      λ i. record { shape = p.shape; file = p.file; epoch = p.epoch; rows = rows i; dead = deaths i; queue = queue i; active = active i; waiting = listed.put_off i }
+      λ i. record { shape = p.shape; file = p.file; epoch = p.epoch; rows = so.rows i; dead = so.deaths i; queue = queue i; active = active i; waiting = so.listed.put_off i }
 
   drafted-ready : awaits (sketched p k) ≡ false → drafted p d ≡ ready (sketched p k)
   drafted-ready told =
-      (λ i. record { shape = p.shape; file = p.file; epoch = p.epoch; rows = rows i; dead = deaths i; queue = queue-is i; active = active-is i; waiting = listed.put_off i })
-      ∙ sym (ready-is (sketched p k) ((sketched p k).active ++ requests_of d.lists.fresh.items) (all_but (requests_of d.lists.fresh.items) (sketched p k).queue) (listed.comes told).comes)
+      (λ i. record { shape = p.shape; file = p.file; epoch = p.epoch; rows = so.rows i; dead = so.deaths i; queue = queue-is i; active = active-is i; waiting = so.listed.put_off i })
+      ∙ sym (ready-is (sketched p k) ((sketched p k).active ++ requests_of d.lists.fresh.items) (all_but (requests_of d.lists.fresh.items) (sketched p k).queue) (so.listed.comes told).comes)
 
   -- serves what it has to
   pub drafted-serves : serve (sketched p k) ≡ each_served (drafted p d).active (drafted p d)
@@ -175,15 +175,15 @@ module _ (p : ServerParts) (k : Sketch) (d : Draft) (listed : AreListed p k d.ro
       by true is = whole true is ∙ sym (ap (λ (t : ServerState). each_served t.active t) (drafted-awaiting is) ∙ ap (λ (rs : List TokenRequest). each_served rs s) (rests is))
       by false is = whole false is ∙ sym (ap (λ (t : ServerState). each_served t.active t) (drafted-ready is))
 
-  pub drafted-orderly : IsOrderly (sketched p k) → IsOrderly (drafted p d)
-  drafted-orderly orderly = by (awaits (sketched p k)) refl
+  pub drafted-orderly : IsOrderly (drafted p d)
+  drafted-orderly = by (awaits (sketched p k)) refl
     where
       by : (b : Bool) → awaits (sketched p k) ≡ b → IsOrderly (drafted p d)
-      by true is = subst IsOrderly (sym (drafted-awaiting is)) orderly
-      by false is = subst IsOrderly (sym (drafted-ready is)) (orderly-ready (sketched p k) orderly)
+      by true is = subst IsOrderly (sym (drafted-awaiting is)) so.orderly
+      by false is = subst IsOrderly (sym (drafted-ready is)) (orderly-ready (sketched p k) so.orderly)
 
   drafted-awaits : awaits (drafted p d) ≡ awaits (sketched p k)
-  drafted-awaits = ap (λ (f : ℕ → Option Row). some_passes (λ n. is_awaited (f n)) 1 p.shape.nodes) rows
+  drafted-awaits = ap (λ (f : ℕ → Option Row). some_passes (λ n. is_awaited (f n)) 1 p.shape.nodes) so.rows
 
   drafted-rests : awaits (sketched p k) ≡ true → (drafted p d).active ≡ []
   drafted-rests is = ap (λ (t : ServerState). t.active) (drafted-awaiting is) ∙ rests is
@@ -195,21 +195,21 @@ module _ (p : ServerParts) (k : Sketch) (d : Draft) (listed : AreListed p k d.ro
       by true is = ap are_apart (drafted-rests is)
       by false is =
           ap are_apart active-is
-          ∙ admitted-keeps_apart (sketched p k).active (sketched p k).queue (requests_of d.lists.fresh.items) (listed.comes is) (still-apart k.ended (dropped k.changed) (requests_of p.active.held) before.apart)
+          ∙ admitted-keeps_apart (sketched p k).active (sketched p k).queue (requests_of d.lists.fresh.items) (so.listed.comes is) (still-apart k.ended (dropped k.changed) (requests_of p.active.held) so.before.apart)
 
   drafted-settled : awaits (sketched p k) ≡ false → all_stay (drafted p d).active [] (drafted p d).queue ≡ true
   drafted-settled is =
       (λ i. all_stay (active-is i) [] (queue-is i))
-      ∙ stay-all ((sketched p k).active ++ requests_of d.lists.fresh.items) [] (all_but (requests_of d.lists.fresh.items) (sketched p k).queue) (admitted-leaves (sketched p k).active (sketched p k).queue (requests_of d.lists.fresh.items) (listed.comes is))
+      ∙ stay-all ((sketched p k).active ++ requests_of d.lists.fresh.items) [] (all_but (requests_of d.lists.fresh.items) (sketched p k).queue) (admitted-leaves (sketched p k).active (sketched p k).queue (requests_of d.lists.fresh.items) (so.listed.comes is))
 
   -- and holds all that a server has to, once nodes are told what comes of it
   module _ (ts : List Told) (out : List Message) (comes : each_served (drafted p d).active (drafted p d) ≡ Ok (with_told ts (drafted p d), out)) where
     pub told-awaits : awaits (with_told ts (drafted p d)) ≡ awaits (drafted p d)
     told-awaits = served-awaits (drafted p d).active (drafted p d) (with_told ts (drafted p d)) out refl comes
 
-    pub told-ready : IsOrderly (sketched p k) → All (λ h. obstacle (with_told ts (drafted p d)) h.request ≡ h.at) (held_after d.lists p.active.held) → All (λ h. is_idle ((with_told ts (drafted p d)).rows h.at) ≡ false) (held_after d.lists p.active.held) → IsReady (with_told ts (drafted p d)) (held_after d.lists p.active.held)
-    told-ready orderly waits quiet =
-        let o : IsOrderly (drafted p d) = drafted-orderly orderly in
+    pub told-ready : All (λ h. obstacle (with_told ts (drafted p d)) h.request ≡ h.at) (held_after d.lists p.active.held) → All (λ h. is_idle ((with_told ts (drafted p d)).rows h.at) ≡ false) (held_after d.lists p.active.held) → IsReady (with_told ts (drafted p d)) (held_after d.lists p.active.held)
+    told-ready waits quiet =
+        let o : IsOrderly (drafted p d) = drafted-orderly in
         record {
           waits = waits;
           quiet = quiet;

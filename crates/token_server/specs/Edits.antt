@@ -1,7 +1,8 @@
 -- What a planned step changes of a server, and no more.
-use Rattle.std.specs.Prelude.{◌≡◌, ℕ, ◌+◌, ◌-◌, ◌≤◌, Bool, true, false, ◌&&◌, not, ◌==◌, if◌then◌else◌, List, [], ◌∷◌, ◌++◌, filter, find, length, All, slice_get, slice_set, Option, Some, None, Vec}
+use Rattle.std.specs.Prelude.{◌≡◌, ℕ, ◌+◌, ◌≤◌, Bool, true, false, ◌&&◌, not, ◌==◌, if◌then◌else◌, List, [], ◌∷◌, ◌++◌, filter, find, length, All, slice_get, slice_set, Option, Some, None, Ok, Vec}
 use Rattle.std.specs.Global.{Global}
 use Rattle.model.specs.declared.call.CallId.{CallId}
+use Rattle.messages.specs.declared.message.Message.{Message}
 use Rattle.std.specs.Vec.{vec_capacity}
 use Rattle.token_set.specs.declared.edit.TokenEdit.{TokenEdit}
 use Rattle.token_set.specs.Edits.{edited as edited_token}
@@ -24,12 +25,13 @@ use Rattle.token_server.specs.declared.lists.Lists.{Lists}
 use Rattle.token_server.specs.declared.sketch.Moved.{Moved}
 use Rattle.token_server.specs.declared.sketch.Moved.TheVariants.{Nothing, New, Again, Waiting, PutOff}
 use Rattle.token_server.specs.State.{Commands, Row, ServerState, awaits}
+use Rattle.token_server.specs.Serve.{serve}
 use Rattle.token_server.specs.Admitting.{all_but, IsAdmitted}
 use Rattle.token_server.specs.declared.sketch.Sketch.{Sketch}
 use Rattle.token_server.specs.Obstacles.{obstacle}
-use Rattle.token_server.specs.Sketches.{without, still_active, queue_moved, waiting_moved, sketched}
-use Rattle.token_server.specs.Parts.{ServerParts, row_in, rows_of, deaths_of, known_node_at}
-use Rattle.token_server.specs.Ready.{IsReady}
+use Rattle.token_server.specs.Sketches.{rows_after, deaths_after, without, still_active, queue_moved, waiting_moved, sketched}
+use Rattle.token_server.specs.Parts.{ServerParts, server_state, row_in, rows_of, deaths_of, known_node_at}
+use Rattle.token_server.specs.Ready.{IsOrderly, IsReady}
 
 -- a row that is read, as a value
 abbrev pub seen : RowView → TokenHolder
@@ -127,6 +129,15 @@ drafted p d = record {
   waiting = waiting_after d.lists p.waiting.requests;
 }
 
+-- the draft is of what the sketch changes of a server that holds what it has to
+pub record IsDrafted (p : ServerParts) (k : Sketch) (d : Draft) : Type 0 where
+  pub before : IsReady (server_state p) p.active.held
+  pub orderly : IsOrderly (sketched p k)
+  pub rows : rows_of (overlaid p.known_nodes d.rows) ≡ rows_after k.changed (rows_of p.known_nodes)
+  pub deaths : deaths_of (overlaid p.known_nodes d.rows) ≡ deaths_after k.changed (deaths_of p.known_nodes)
+  pub listed : AreListed p k d.rows d.lists
+  pub awaited : d.awaits ≡ awaits (drafted p d)
+
 -- the row with those commands, and with its token changed
 abbrev pub given_row : Commands → TokenEdit → TokenHolder → Row
 given_row commands token row = row_in commands (edited_token token row.token)
@@ -151,9 +162,19 @@ given_rows (g ∷ gs) known_nodes n = if n == g.place + 1 then given_to_known_no
 abbrev pub with_given : List Given → List KnownNode → ServerState → ServerState
 with_given gs known_nodes s = record s { rows = given_rows gs known_nodes }
 
--- the state of a server once these parts of an edit are made
+-- the state of a server once the draft is made and nodes are given that
+abbrev pub made_of : ServerParts → Draft → List Given → ServerState
+made_of p d gs = with_given gs (overlaid p.known_nodes d.rows) (drafted p d)
+
+-- serving the draft comes to that, and to those messages
+pub record IsServed (p : ServerParts) (k : Sketch) (d : Draft) (gs : List Given) (out : List Message) : Type 0 where
+  pub comes : serve (sketched p k) ≡ Ok (made_of p d gs, out)
+  pub awaited : d.awaits ≡ awaits (made_of p d gs)
+  pub ready : IsReady (made_of p d gs) (held_after d.lists p.active.held)
+
+-- the state once these parts of an edit are made
 abbrev pub made : ServerParts → Parts → ServerState
-made p v = with_given v.given.items (overlaid p.known_nodes v.draft.rows) (drafted p v.draft)
+made p v = made_of p v.draft v.given.items
 
 -- and once an edit is
 abbrev pub planned : ServerParts → Edit → ServerState

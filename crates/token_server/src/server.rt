@@ -14,7 +14,7 @@ ghost use Rattle.token_server.specs.Server.{server_rule, learn_rule, asked, row_
 ghost use Rattle.token_server.specs.Parts.{server_state, rows_of};
 ghost use Rattle.token_server.specs.Ready.{IsOrderly};
 ghost use Rattle.token_server.specs.Sketches.{is_answer, dropped, without, moved_for, rows_after, sketched};
-ghost use Rattle.token_server.specs.Edits.{overlaid, reached, planned, AreListed, Fits, HasRoom, HeldHasRoom, many_moved, many_put_off};
+ghost use Rattle.token_server.specs.Edits.{overlaid, reached, planned, AreListed, IsDrafted, Fits, HasRoom, HeldHasRoom, many_moved, many_put_off};
 
 use crate::change::{Change, Draft, Edit, Parts};
 use crate::commands::before_epoch;
@@ -406,6 +406,22 @@ impl Server {
         sketch.touched()
     }
 
+    // What the event changes before the server serves.
+    fn draft(&self, sketch: &Sketch, alloc: Global) -> Result<Draft, AllocError>
+        requires in_cluster { IfSome sketch.now.changed (λ c. IsNumber self.now.shape.nodes c.node) }
+        requires orderly { IsOrderly (sketched self.now sketch.now) }
+        ensures { IfOk result (λ draft. IsDrafted self.now sketch.now draft) }
+    {
+        let rows = self.known_nodes.edit(alloc, &sketch.changed)?;
+        let awaits = self.awaits_after(&rows);
+        let lists = self.lists(alloc, &rows, awaits, sketch)?;
+        Ok(Draft {
+            rows,
+            lists,
+            awaits,
+        })
+    }
+
     // Serves the requests: each is granted, but where other nodes' rows conflict with it, the token of the
     // least such node is revoked first. None is served before each node has told its token.
     fn serve(&self, sketch: &Sketch, alloc: Global) -> Result<(Edit, Items<Message>), StepError>
@@ -415,22 +431,10 @@ impl Server {
         ensures fits { IfOk result (λ r. Fits self.now r.0) }
         ensures err { IfErr result (λ e. e ≢ StepError.NoMemory → serve (sketched self.now sketch.now) ≡ Err e) }
     {
-        let rows = self.known_nodes.edit(alloc, &sketch.changed)?;
-        let awaits = self.awaits_after(&rows);
-        let lists = self.lists(alloc, &rows, awaits, sketch)?;
-        let spares = self.spares(&lists)?;
-        let draft = Draft {
-            rows,
-            lists,
-            awaits,
-        };
-        let touched = self.touched(&draft.rows, sketch);
-        let told = self.commands(&draft, touched, alloc)?;
-        let given = self.given(&draft, alloc, told.as_slice())?;
-        Ok((
-            Edit::new(alloc, draft, given, spares)?,
-            commands_told(alloc, told.as_slice())?,
-        ))
+        let draft = self.draft(sketch, alloc)?;
+        let (given, commands) = self.serve_draft(&draft, sketch, alloc)?;
+        let spares = self.spares(&draft.lists)?;
+        Ok((Edit::new(alloc, draft, given, spares)?, commands))
     }
 
     // What an answer to a command changes before the server serves, and what is sent for it, or `None` where

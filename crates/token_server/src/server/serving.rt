@@ -6,25 +6,28 @@ ghost use Rattle.model.specs.Limits.{IsNumber, most_nodes};
 ghost use Rattle.intervals.specs.Bytes.{largest_around};
 ghost use Rattle.messages.specs.Epochs.{before_epoch};
 ghost use Rattle.token_queue.specs.Actives.{requests_of};
-ghost use Rattle.token_server.specs.Serve.{narrowed, row_conflicts, row_conflicts_at, granted_span, conflicting_node, granted_to, revoked_from, served, each_served};
+ghost use Rattle.token_server.specs.Serve.{narrowed, row_conflicts, row_conflicts_at, granted_span, conflicting_node, granted_to, revoked_from, served, each_served, serve};
 ghost use Rattle.token_server.specs.Told.{promised, row_told, with_told, commands_told, cut, cut_all};
 ghost use Rattle.token_server.specs.Obstacles.{obstacle, are_apart, is_idle};
 ghost use Rattle.token_server.specs.Parts.{server_state, row_state, known_node_at, rows_of};
 ghost use Rattle.token_server.specs.Ready.{AreOfEpoch};
-ghost use Rattle.token_server.specs.Sketches.{commands_of, without, still_active};
-ghost use Rattle.token_server.specs.Edits.{overlaid, keeps, held_after, drafted, seen, given_to_known_node, with_given};
+ghost use Rattle.token_server.specs.Sketches.{commands_of, without, still_active, sketched};
+ghost use Rattle.token_server.specs.Edits.{overlaid, keeps, held_after, drafted, seen, given_to_known_node, with_given, IsDrafted, IsServed};
 ghost use Rattle.token_server.specs.Turns.{kept_of, IsTurn, AreServed};
 ghost use Rattle.token_set.specs.Sets.{token_of};
 ghost use Rattle.token_set.specs.Edits.{edited as edited_token};
 
-use super::Server;
+use super::{Server, commands_told};
 use crate::change::{Draft, Given};
 use crate::command::{Command, Order};
 use crate::commands::Commands;
 use crate::lists::Lists;
+use crate::sketch::Sketch;
 use crate::token_holder::RowView;
 use crate::told::{Told, cut, told_to};
 use intervals::span::Span;
+use messages::items::Items;
+use messages::message::Message;
 use messages::refusal::StepError;
 use messages::wanted::Wanted;
 use model::host::Host;
@@ -252,7 +255,7 @@ impl Server {
     }
 
     // What comes of serving each request in order: first those that are served on, then those that come.
-    pub(super) fn commands(
+    fn commands(
         &self,
         draft: &Draft,
         touched: Option<u8>,
@@ -275,13 +278,25 @@ impl Server {
         Ok(told)
     }
 
-    // What nodes are given by their commands.
-    pub(super) fn given(
+    // Serves the requests of a draft: what nodes are given by their commands, and the commands.
+    pub(super) fn serve_draft(
         &self,
         draft: &Draft,
+        sketch: &Sketch,
         alloc: Global,
-        told: &[Told],
-    ) -> Result<Vec<Given>, AllocError>
+    ) -> Result<(Vec<Given>, Items<Message>), StepError>
+        requires { IsDrafted self.now sketch.now draft.now }
+        ensures ok { IfOk result (λ r. IsServed self.now sketch.now draft.now r.0.items r.1) }
+        ensures err { IfErr result (λ e. e ≢ StepError.NoMemory → serve (sketched self.now sketch.now) ≡ Err e) }
+    {
+        let touched = self.touched(&draft.rows, sketch);
+        let told = self.commands(draft, touched, alloc)?;
+        let given = self.given(draft, alloc, told.as_slice())?;
+        Ok((given, commands_told(alloc, told.as_slice())?))
+    }
+
+    // What nodes are given by their commands.
+    fn given(&self, draft: &Draft, alloc: Global, told: &[Told]) -> Result<Vec<Given>, AllocError>
         requires { All (λ t. 1 ≤ t.node) told.now }
         ensures { IfOk result (λ given. with_given given.items (overlaid self.now.known_nodes draft.now.rows) (drafted self.now draft.now) ≡ with_told told.now (drafted self.now draft.now)) }
     {
