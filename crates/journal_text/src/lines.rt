@@ -8,7 +8,7 @@ use crate::named_event::NamedEvent;
 use crate::operands::AnswerFields;
 use message_text::edition::{Edition, FirstEdition, SecondEdition};
 use message_text::message::message_in;
-use message_text::numbers::Counted;
+use message_text::numbers::{CountField, Counted};
 use message_text::written_message::WrittenMessage;
 use messages::version::Version;
 use model::call::CallId;
@@ -58,7 +58,7 @@ fn line_in<V: Edition>(line: &str) -> Option<JournalLine<'_>>
             reply,
         }),
         "send" => message_in::<V>(operands).map(|message| JournalLine::Send(message)),
-        "end" => u32::read(operands).map(|count| JournalLine::End { count }),
+        "end" => CountField::read(operands).map(|count| JournalLine::End { count }),
         _ => None,
     }
 }

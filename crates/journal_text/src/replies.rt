@@ -7,6 +7,7 @@ ghost use Rattle.journal_text.specs.Served.{IsServedReply};
 
 use lockscript::replies::push_reply;
 use message_text::fields::LockText;
+use message_text::numbers::DescriptorField;
 use model::reply::Reply;
 use std::alloc::AllocError;
 use texts::text::{Text, split_field};
@@ -27,7 +28,7 @@ fn reply_with(word: &str, operand: &str) -> Option<Reply>
     ensures { Reads reply_text IsServedReply (word.now ++ space ∷ operand.now) result }
 {
     match word {
-        "fd" => u8::read(operand).map(|fd| Reply::Fd(fd)),
+        "fd" => DescriptorField::read(operand).map(|fd| Reply::Fd(fd)),
         "again" => LockText::read(operand).map(|lock| Reply::Again(lock)),
         "blocked" => LockText::read(operand).map(|lock| Reply::Blocked(lock)),
         _ => None,

@@ -5,7 +5,7 @@ ghost use Rattle.texts.specs.Reads.{IsOneField, Lacks, Reads};
 ghost use Rattle.lockscript.specs.Served.{IsServedOp};
 ghost use Rattle.lockscript.specs.Texts.{op_text};
 
-use message_text::numbers::{FileField, PidField};
+use message_text::numbers::{DescriptorField, FileField, PidField};
 use message_text::writing::push;
 use model::access::Access;
 use model::mode::Mode;
@@ -21,10 +21,10 @@ type Opened = (FileField, Access);
 type Segment = (i64, i64);
 
 /// `FD KIND MODE START LEN`.
-type AskedLock = (u8, (Kind, (Mode, Segment)));
+type AskedLock = (DescriptorField, (Kind, (Mode, Segment)));
 
 /// `FD KIND START LEN`.
-type Unlocked = (u8, (Kind, Segment));
+type Unlocked = (DescriptorField, (Kind, Segment));
 
 /// An operation.
 pub struct Operation;
@@ -48,8 +48,8 @@ impl Text for Operation {
             Op::Spawn => out.push_str("spawn"),
             Op::Fork { child } => push::<PidField>(out, "fork ", &child),
             Op::Open { file, access } => push::<Opened>(out, "open ", &(file, access)),
-            Op::Dup { fd } => push::<u8>(out, "dup ", &fd),
-            Op::Close { fd } => push::<u8>(out, "close ", &fd),
+            Op::Dup { fd } => push::<DescriptorField>(out, "dup ", &fd),
+            Op::Close { fd } => push::<DescriptorField>(out, "close ", &fd),
             Op::Exit => out.push_str("exit"),
             Op::Set {
                 fd,
@@ -90,8 +90,8 @@ fn op_with(word: &str, operands: &str) -> Option<Op>
     match word {
         "fork" => PidField::read(operands).map(|child| Op::Fork { child }),
         "open" => Opened::read(operands).map(|(file, access)| Op::Open { file, access }),
-        "dup" => u8::read(operands).map(|fd| Op::Dup { fd }),
-        "close" => u8::read(operands).map(|fd| Op::Close { fd }),
+        "dup" => DescriptorField::read(operands).map(|fd| Op::Dup { fd }),
+        "close" => DescriptorField::read(operands).map(|fd| Op::Close { fd }),
         "set" => AskedLock::read(operands).map(|(fd, (kind, (mode, (start, len))))| Op::Set {
             fd,
             kind,

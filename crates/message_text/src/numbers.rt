@@ -3,37 +3,58 @@ use intervals::span::GREATEST;
 use messages::command_number::MOST_EPOCHS;
 use messages::shape::MOST_FILES;
 use model::limits::{MOST_DESCRIPTIONS, MOST_NODES, MOST_PROCESSES};
-use texts::number::{Medium, Short, Tiny, UpTo};
+use texts::number::Within;
+
+/// The greatest number of a node.
+const GREATEST_NODE: u64 = MOST_NODES as u64;
+
+/// The greatest number of a file.
+const GREATEST_FILE: u64 = MOST_FILES as u64;
+
+/// The greatest number of a process.
+const GREATEST_PID: u64 = MOST_PROCESSES as u64;
+
+/// The greatest number of an open file description.
+const GREATEST_DESCRIPTION: u64 = MOST_DESCRIPTIONS as u64;
 
 /// The greatest incarnation of a node.
-const GREATEST_INCARNATION: u16 = 65_535;
+const GREATEST_INCARNATION: u64 = 65_535;
 
-/// The greatest number of a call, a command or a message.
-const GREATEST_NUMBER: u32 = 4_294_967_295;
+/// The greatest epoch of a server.
+const GREATEST_EPOCH: u64 = MOST_EPOCHS as u64;
+
+/// The greatest number of a call, a command, a message or an entry.
+const GREATEST_NUMBER: u64 = 4_294_967_295;
 
 /// The number of a node.
-pub type NodeField = Tiny<1, MOST_NODES>;
+pub type NodeField = Within<u8, 1, GREATEST_NODE>;
 
 /// The number of a file.
-pub type FileField = Short<1, MOST_FILES>;
+pub type FileField = Within<u16, 1, GREATEST_FILE>;
 
 /// The number of a process.
-pub type PidField = Short<1, MOST_PROCESSES>;
+pub type PidField = Within<u16, 1, GREATEST_PID>;
 
-/// The number of an incarnation.
-pub type IncarnationField = Short<1, GREATEST_INCARNATION>;
-
-/// The number of a call, a command or a message.
-pub type Counted = Medium<1, GREATEST_NUMBER>;
-
-/// The epoch of a server.
-pub type EpochField = Short<1, MOST_EPOCHS>;
-
-/// The epoch of a server that was rebuilt.
-pub(crate) type RebuiltField = Short<2, MOST_EPOCHS>;
+/// The number of a descriptor, open or not.
+pub type DescriptorField = Within<u8, 0, 255>;
 
 /// The number of an open file description.
-pub(crate) type DescriptionField = Short<1, MOST_DESCRIPTIONS>;
+pub(crate) type DescriptionField = Within<u16, 1, GREATEST_DESCRIPTION>;
+
+/// The number of an incarnation.
+pub type IncarnationField = Within<u16, 1, GREATEST_INCARNATION>;
+
+/// The epoch of a server.
+pub type EpochField = Within<u16, 1, GREATEST_EPOCH>;
+
+/// The epoch of a server that was rebuilt.
+pub(crate) type RebuiltField = Within<u16, 2, GREATEST_EPOCH>;
+
+/// The number of a call, a command, a message or an entry.
+pub type Counted = Within<u32, 1, GREATEST_NUMBER>;
+
+/// How many entries there are.
+pub type CountField = Within<u32, 0, GREATEST_NUMBER>;
 
 /// The offset of a byte.
-pub(crate) type Offset = UpTo<GREATEST>;
+pub(crate) type Offset = Within<u64, 0, GREATEST>;

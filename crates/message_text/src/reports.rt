@@ -13,11 +13,11 @@ use model::level::Level;
 use std::alloc::{AllocError, Global};
 use std::fmt::Write;
 use std::marker::Model;
-use texts::number::UpTo;
+use texts::number::Within;
 use texts::text::{Text, split_field};
 
 // How many runs there are.
-type Total = UpTo<18_446_744_073_709_551_615>;
+type Total = Within<u64, 0, 18_446_744_073_709_551_615>;
 
 /// The words of a text that are left.
 #[derive(Drop)]

@@ -2,6 +2,7 @@ pub mod OneField
 pub mod Plain
 pub mod Pairs
 pub mod SingleWords
+pub mod Within
 pub mod Outcomes
 pub mod OfKinds
 pub mod FirstWords

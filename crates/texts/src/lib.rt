@@ -4,4 +4,5 @@
 pub mod front;
 pub mod number;
 pub mod text;
+pub mod unsigned;
 pub mod words;

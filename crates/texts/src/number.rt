@@ -1,12 +1,14 @@
 //! Numbers in texts.
-ghost use Rattle.std.specs.Prelude.{◌≤◌, ◌<◌, ◌^◌, decimal, FitsSigned, MatchBool};
+ghost use Rattle.std.specs.Prelude.{◌≤◌, ◌<◌, ◌^◌, min, decimal, FitsSigned, MatchBool};
 ghost use Rattle.std.specs.Fmt.{signed_decimal};
 ghost use Rattle.std.specs.Int.{w64};
-ghost use Rattle.texts.specs.Reads.{IsPlain, IsPlainSigned, Reads};
+ghost use Rattle.texts.specs.Reads.{IsPlain, IsPlainSigned, IsWithin, Reads};
 
 use crate::text::{Text, Word};
+use crate::unsigned::Unsigned;
 use std::alloc::AllocError;
 use std::fmt::Write;
+use std::marker::PhantomData;
 
 // Whether the word has no `+` in front, and no zero in front of other digits.
 fn is_plain(word: &str) -> bool
@@ -75,104 +77,32 @@ pub fn offset_of(word: &str) -> Option<i64>
     }
 }
 
-/// A number of 8 bits, from `LEAST` to `MOST`.
-pub struct Tiny<const LEAST: u8, const MOST: u8>;
+/// A number from `LEAST` to `MOST`, of those that the type has.
+pub struct Within<T, const LEAST: u64, const MOST: u64> {
+    of: PhantomData<T>,
+}
 
-impl<const LEAST: u8, const MOST: u8> Text for Tiny<LEAST, MOST> {
-    type Value = u8;
+impl<T: Unsigned, const LEAST: u64, const MOST: u64> Text for Within<T, LEAST, MOST> {
+    type Value = T;
 
-    ghost text_of = { decimal };
+    ghost text_of = { λ value. decimal (T.number value) };
 
-    ghost is_served = { λ n. (LEAST ≤ n) × (n ≤ MOST) };
+    ghost is_served = { λ value. IsWithin LEAST (min MOST T.greatest) (T.number value) };
 
-    fn read(text: &str) -> Option<u8> {
-        match number_of(text, LEAST as u64, MOST as u64) {
-            Some(number) => Some(number as u8),
+    fn read(text: &str) -> Option<T> {
+        match number_of(text, LEAST, MOST) {
+            Some(number) => T::of(number),
             None => None,
         }
     }
 
-    fn write(value: &u8, out: &mut String) -> Result<(), AllocError> {
-        write!(out, "{value}")
+    fn write(value: &T, out: &mut String) -> Result<(), AllocError> {
+        let number = value.number();
+        write!(out, "{number}")
     }
 }
 
-impl<const LEAST: u8, const MOST: u8> Word for Tiny<LEAST, MOST> {
-    fn is_one_field() {}
-}
-
-/// A number of 16 bits, from `LEAST` to `MOST`.
-pub struct Short<const LEAST: u16, const MOST: u16>;
-
-impl<const LEAST: u16, const MOST: u16> Text for Short<LEAST, MOST> {
-    type Value = u16;
-
-    ghost text_of = { decimal };
-
-    ghost is_served = { λ n. (LEAST ≤ n) × (n ≤ MOST) };
-
-    fn read(text: &str) -> Option<u16> {
-        match number_of(text, LEAST as u64, MOST as u64) {
-            Some(number) => Some(number as u16),
-            None => None,
-        }
-    }
-
-    fn write(value: &u16, out: &mut String) -> Result<(), AllocError> {
-        write!(out, "{value}")
-    }
-}
-
-impl<const LEAST: u16, const MOST: u16> Word for Short<LEAST, MOST> {
-    fn is_one_field() {}
-}
-
-/// A number of 32 bits, from `LEAST` to `MOST`.
-pub struct Medium<const LEAST: u32, const MOST: u32>;
-
-impl<const LEAST: u32, const MOST: u32> Text for Medium<LEAST, MOST> {
-    type Value = u32;
-
-    ghost text_of = { decimal };
-
-    ghost is_served = { λ n. (LEAST ≤ n) × (n ≤ MOST) };
-
-    fn read(text: &str) -> Option<u32> {
-        match number_of(text, LEAST as u64, MOST as u64) {
-            Some(number) => Some(number as u32),
-            None => None,
-        }
-    }
-
-    fn write(value: &u32, out: &mut String) -> Result<(), AllocError> {
-        write!(out, "{value}")
-    }
-}
-
-impl<const LEAST: u32, const MOST: u32> Word for Medium<LEAST, MOST> {
-    fn is_one_field() {}
-}
-
-/// A number of 64 bits, up to `MOST`.
-pub struct UpTo<const MOST: u64>;
-
-impl<const MOST: u64> Text for UpTo<MOST> {
-    type Value = u64;
-
-    ghost text_of = { decimal };
-
-    ghost is_served = { λ n. n ≤ MOST };
-
-    fn read(text: &str) -> Option<u64> {
-        number_of(text, 0, MOST)
-    }
-
-    fn write(value: &u64, out: &mut String) -> Result<(), AllocError> {
-        write!(out, "{value}")
-    }
-}
-
-impl<const MOST: u64> Word for UpTo<MOST> {
+impl<T: Unsigned, const LEAST: u64, const MOST: u64> Word for Within<T, LEAST, MOST> {
     fn is_one_field() {}
 }
 
@@ -194,53 +124,5 @@ impl Text for i64 {
 }
 
 impl Word for i64 {
-    fn is_one_field() {}
-}
-
-/// Any number of 8 bits.
-impl Text for u8 {
-    type Value = u8;
-
-    ghost text_of = { decimal };
-
-    ghost is_served = { λ n. n ≤ 255 };
-
-    fn read(text: &str) -> Option<u8> {
-        match number_of(text, 0, 255) {
-            Some(number) => Some(number as u8),
-            None => None,
-        }
-    }
-
-    fn write(value: &u8, out: &mut String) -> Result<(), AllocError> {
-        write!(out, "{value}")
-    }
-}
-
-impl Word for u8 {
-    fn is_one_field() {}
-}
-
-/// Any number of 32 bits.
-impl Text for u32 {
-    type Value = u32;
-
-    ghost text_of = { decimal };
-
-    ghost is_served = { λ n. n ≤ 4294967295 };
-
-    fn read(text: &str) -> Option<u32> {
-        match number_of(text, 0, 4_294_967_295) {
-            Some(number) => Some(number as u32),
-            None => None,
-        }
-    }
-
-    fn write(value: &u32, out: &mut String) -> Result<(), AllocError> {
-        write!(out, "{value}")
-    }
-}
-
-impl Word for u32 {
     fn is_one_field() {}
 }
