@@ -13,7 +13,7 @@ use crate::named_event::NamedEvent::{
 use crate::operands::{CallFields, LearnFields, ProcessFields};
 use message_text::edition::Edition;
 use message_text::message::message_in;
-use message_text::names::{host_of, server_of};
+use message_text::names::{HostName, server_of};
 use message_text::numbers::FileField;
 use texts::text::{Text, split_field};
 
@@ -28,8 +28,8 @@ pub(crate) fn event_in<V: Edition>(text: &str) -> Option<NamedEvent<'_>>
         "interrupt" => ProcessFields::read(operands).map(|(host, pid)| Interrupt { host, pid }),
         "retry" => ProcessFields::read(operands).map(|(host, pid)| Retry { host, pid }),
         "resend" => FileField::read(operands).map(|file| Resend { file }),
-        "declare" => host_of(operands).map(|host| Declare { host }),
-        "restart" => host_of(operands).map(|host| Restart { host }),
+        "declare" => HostName::read(operands).map(|host| Declare { host }),
+        "restart" => HostName::read(operands).map(|host| Restart { host }),
         "learn" => LearnFields::read(operands).map(|(file, host)| Learn { file, host }),
         "fail-server" => epoch_in::<V>(operands).map(|(file, epoch)| FailServer { file, epoch }),
         "start-server" => epoch_in::<V>(operands).map(|(file, epoch)| StartServer { file, epoch }),

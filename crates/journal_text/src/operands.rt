@@ -1,7 +1,7 @@
 //! The fields of lines of journals.
 use crate::replies::ReplyText;
 use lockscript::operations::Operation;
-use message_text::fields::{CallName, HostName};
+use message_text::names::{CallName, HostName};
 use message_text::numbers::{FileField, PidField};
 
 /// `CALL PID OP`.

@@ -6,8 +6,7 @@ ghost use Rattle.lockscript.specs.Listing.{placed, span_columns};
 ghost use Rattle.message_text.specs.Names.{call_text, host_text};
 
 use intervals::span::Span;
-use message_text::fields::CallName;
-use message_text::names::push_host;
+use message_text::names::{CallName, push_host};
 use model::call::CallId;
 use std::alloc::AllocError;
 use std::fmt::Write;

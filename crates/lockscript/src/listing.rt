@@ -11,7 +11,7 @@ use crate::replies::push_reply;
 use cluster_core::held_lock::HeldLock;
 use cluster_core::item::Item;
 use cluster_core::token_run::TokenRun;
-use message_text::fields::OwnerName;
+use message_text::names::OwnerName;
 use messages::entry::Entry;
 use model::call::CallId;
 use model::op::Op;

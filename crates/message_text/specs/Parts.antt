@@ -1,5 +1,5 @@
 -- Parts of the names of nodes, calls and owners.
-use Rattle.std.specs.Prelude.{ℕ, List, decimal}
+use Rattle.std.specs.Prelude.{◌≢◌, ℕ, ◌≤◌, List, decimal}
 use Rattle.model.specs.declared.host.Host.{Host}
 use Rattle.model.specs.Limits.{IsNumber, most_nodes}
 use Rattle.messages.specs.Epochs.{IsEpoch}
@@ -10,6 +10,10 @@ use Rattle.message_text.specs.Served.{IsCounted, IsFile, IsHolder}
 -- `@`
 abbrev pub at_sign : ℕ
 at_sign = 64
+
+-- it stands in no number
+abbrev pub IsNoDigit : ℕ → Type 0
+IsNoDigit byte = (digit : ℕ) → 48 ≤ digit → digit ≤ 57 → digit ≢ byte
 
 -- a node and its incarnation
 abbrev pub node_parts_text : ℕ × ℕ → List ℕ

@@ -1,16 +1,15 @@
 //! The fields of messages.
 ghost use Rattle.std.specs.Prelude.{◌≡◌, ◌≢◌, ◌++◌, ◌∷◌, ℕ, List, decimal, string_bytes, MatchOption, OnOk, ⊤};
-ghost use Rattle.model.specs.Limits.{IsCall, IsOwner};
 ghost use Rattle.messages.specs.Epochs.{IsRebuilt};
 ghost use Rattle.messages.specs.declared.version.Version.TheVariants.{First, Second};
 ghost use Rattle.texts.specs.Layout.{space};
 ghost use Rattle.texts.specs.Reads.{Both, Reads};
-ghost use Rattle.message_text.specs.Names.{call_text, lock_text, owner_text, holder_text};
-ghost use Rattle.message_text.specs.Served.{AreServedWants, IsCommandNumber, IsFile, IsHolder, IsServedLock, IsServedSpan};
+ghost use Rattle.message_text.specs.Names.{lock_text};
+ghost use Rattle.message_text.specs.Served.{AreServedWants, IsCommandNumber, IsFile, IsServedLock, IsServedSpan};
 ghost use Rattle.message_text.specs.Texts.{command_text, epoch_text, span_text, blocking_text, wants_text};
 
 use crate::edition::Edition;
-use crate::names::{call_of, host_of, owner_of, push_call, push_host, push_lock, push_owner};
+use crate::names::{OwnerName, push_lock};
 use crate::numbers::{Counted, EpochField, FileField, Offset, RebuiltField};
 use intervals::span::Span;
 use messages::command_number::CommandNumber;
@@ -19,11 +18,8 @@ use messages::file_number::FileNumber;
 use messages::message::Blocking;
 use messages::version::Version;
 use messages::wanted::Wanted;
-use model::call::CallId;
-use model::host::Host;
 use model::lock_info::LockInfo;
 use model::mode::Mode;
-use model::owner::Owner;
 use std::alloc::AllocError;
 use std::fmt::Write;
 use std::marker::PhantomData;
@@ -152,52 +148,6 @@ pub(crate) fn first_field<A: Word>(text: &str) -> Option<(A::Value, &str)>
     Some((value, rest))
 }
 
-/// `N.I`.
-pub struct HostName;
-
-impl Text for HostName {
-    type Value = Host;
-
-    ghost text_of = { holder_text };
-
-    ghost is_served = { IsHolder };
-
-    fn read(text: &str) -> Option<Host> {
-        host_of(text)
-    }
-
-    fn write(value: &Host, out: &mut String) -> Result<(), AllocError> {
-        push_host(out, value.node, value.incarnation)
-    }
-}
-
-impl Word for HostName {
-    fn is_one_field() {}
-}
-
-/// `N.I.C`.
-pub struct CallName;
-
-impl Text for CallName {
-    type Value = CallId;
-
-    ghost text_of = { call_text };
-
-    ghost is_served = { IsCall };
-
-    fn read(text: &str) -> Option<CallId> {
-        call_of(text)
-    }
-
-    fn write(value: &CallId, out: &mut String) -> Result<(), AllocError> {
-        push_call(out, value)
-    }
-}
-
-impl Word for CallName {
-    fn is_one_field() {}
-}
-
 /// What a word says of a request: `now` or `wait`.
 pub(crate) struct BlockingWord;
 
@@ -282,25 +232,6 @@ impl Text for WantsText {
         SpanText::write(&value.required, out)?;
         out.push_str(" ")?;
         SpanText::write(&value.desired, out)
-    }
-}
-
-/// `pPID@N.I` or `dNUMBER@N.I`.
-pub struct OwnerName;
-
-impl Text for OwnerName {
-    type Value = Owner;
-
-    ghost text_of = { owner_text };
-
-    ghost is_served = { IsOwner };
-
-    fn read(text: &str) -> Option<Owner> {
-        owner_of(text)
-    }
-
-    fn write(value: &Owner, out: &mut String) -> Result<(), AllocError> {
-        push_owner(out, value)
     }
 }
 

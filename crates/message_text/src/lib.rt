@@ -4,6 +4,7 @@
 pub mod edition;
 pub mod fields;
 pub mod fits;
+mod joined;
 pub mod laws;
 pub mod message;
 pub mod names;

@@ -5,7 +5,8 @@ ghost use Rattle.message_text.specs.Served.{IsServedMessage};
 ghost use Rattle.message_text.specs.Texts.{message_text};
 
 use crate::edition::{Edition, FirstEdition, SecondEdition};
-use crate::fields::{EpochName, FileName, HostName, first_field};
+use crate::fields::{EpochName, FileName, first_field};
+use crate::names::HostName;
 use crate::operands::{
     ConflictFields, DenyFields, FreedFields, GrantFields, HelloFields, ReleasedFields,
     RequestFields, RevokeFields, TakenFields,

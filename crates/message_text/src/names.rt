@@ -1,11 +1,12 @@
 //! Names of nodes, calls, owners and servers, and their texts.
-ghost use Rattle.std.specs.Prelude.{◌≡◌, ◌≢◌, ◌∷◌, ◌++◌, List, ℕ, codes, string_bytes, MatchOption, OnOk};
-ghost use Rattle.model.specs.Limits.{IsCall, IsOwner, most_descriptions, most_processes};
-ghost use Rattle.texts.specs.Reads.{Lacks, Reads};
-ghost use Rattle.message_text.specs.Names.{call_text, dot, holder_text, host_text, lock_text, owner_letter, owner_text, server_text};
-ghost use Rattle.message_text.specs.Parts.{AreCallParts, AreCounted, AreNodeParts, AreNumbered, AreServerParts, at_sign, call_parts_text, counted_text, node_parts_text, numbered_text};
+ghost use Rattle.std.specs.Prelude.{◌≡◌, ◌++◌, codes, string_bytes, OnOk};
+ghost use Rattle.model.specs.Limits.{IsCall, IsOwner};
+ghost use Rattle.texts.specs.Reads.{Reads};
+ghost use Rattle.message_text.specs.Names.{call_text, holder_text, host_text, lock_text, owner_letter, owner_text, server_text};
+ghost use Rattle.message_text.specs.Parts.{AreServerParts};
 ghost use Rattle.message_text.specs.Served.{IsHolder};
 
+use crate::joined::{AtSign, Dot, Joined};
 use crate::numbers::{
     Counted, DescriptionField, EpochField, FileField, IncarnationField, NodeField, PidField,
 };
@@ -15,7 +16,7 @@ use model::lock_info::LockInfo;
 use model::owner::{Kind, Owner};
 use std::alloc::AllocError;
 use std::fmt::Write;
-use texts::text::{Text, after};
+use texts::text::{Text, Word, after};
 use texts::words::mode_word;
 
 // `p` for a process, `d` for an open file description.
@@ -65,56 +66,45 @@ pub fn push_lock(out: &mut String, lock: &LockInfo) -> Result<(), AllocError>
     push_owner(out, &lock.owner)
 }
 
-// What stands before the first dot of a word, and behind it.
-fn split_dot(word: &str) -> Option<(&str, &str)>
-    ensures { MatchOption result
-        ((front rest : List ℕ) → Lacks dot front → word.now ≢ front ++ dot ∷ rest)
-        (λ parts. Lacks dot parts.0.now × (word.now ≡ parts.0.now ++ dot ∷ parts.1.now)) }
-{
-    word.split_once('.')
-}
+/// `N.I`.
+pub struct HostName;
 
-// What stands before the first `@` of a word, and behind it.
-fn split_at_sign(word: &str) -> Option<(&str, &str)>
-    ensures { MatchOption result
-        ((front rest : List ℕ) → Lacks at_sign front → word.now ≢ front ++ at_sign ∷ rest)
-        (λ parts. Lacks at_sign parts.0.now × (word.now ≡ parts.0.now ++ at_sign ∷ parts.1.now)) }
-{
-    word.split_once('@')
-}
+impl Text for HostName {
+    type Value = Host;
 
-/// The node, in one incarnation, of `N.I`.
-pub fn host_of(word: &str) -> Option<Host>
-    ensures { Reads holder_text IsHolder word.now result }
-{
-    let (node, incarnation) = node_parts(word)?;
-    Some(Host { node, incarnation })
-}
+    ghost text_of = { holder_text };
 
-fn node_parts(word: &str) -> Option<(u8, u16)>
-    ensures { Reads node_parts_text AreNodeParts word.now result }
-{
-    match split_dot(word) {
-        Some((node, incarnation)) => NodeField::read(node).zip(IncarnationField::read(incarnation)),
-        None => None,
+    ghost is_served = { IsHolder };
+
+    fn read(text: &str) -> Option<Host> {
+        let (node, incarnation) = <Joined<NodeField, Dot, IncarnationField>>::read(text)?;
+        Some(Host { node, incarnation })
     }
+
+    fn write(value: &Host, out: &mut String) -> Result<(), AllocError> {
+        push_host(out, value.node, value.incarnation)
+    }
+}
+
+impl Word for HostName {
+    fn is_one_field() {}
 }
 
 /// The file and the epoch of its server, of `F.E`.
 pub fn server_of(word: &str) -> Option<(u16, u16)>
     ensures { Reads server_text AreServerParts word.now result }
 {
-    match split_dot(word) {
-        Some((file, epoch)) => FileField::read(file).zip(EpochField::read(epoch)),
-        None => None,
-    }
+    <Joined<FileField, Dot, EpochField>>::read(word)
 }
+
+// `N.I.C` in its parts.
+type CallParts = Joined<NodeField, Dot, Joined<IncarnationField, Dot, Counted>>;
 
 /// The call of `N.I.C`.
 pub fn call_of(word: &str) -> Option<CallId>
     ensures { Reads call_text IsCall word.now result }
 {
-    let (node, (incarnation, number)) = call_parts(word)?;
+    let (node, (incarnation, number)) = CallParts::read(word)?;
     Some(CallId {
         node,
         incarnation,
@@ -122,37 +112,51 @@ pub fn call_of(word: &str) -> Option<CallId>
     })
 }
 
-fn call_parts(word: &str) -> Option<(u8, (u16, u32))>
-    ensures { Reads call_parts_text AreCallParts word.now result }
-{
-    match split_dot(word) {
-        Some((node, counted)) => NodeField::read(node).zip(counted_parts(counted)),
-        None => None,
+/// `N.I.C`.
+pub struct CallName;
+
+impl Text for CallName {
+    type Value = CallId;
+
+    ghost text_of = { call_text };
+
+    ghost is_served = { IsCall };
+
+    fn read(text: &str) -> Option<CallId> {
+        call_of(text)
+    }
+
+    fn write(value: &CallId, out: &mut String) -> Result<(), AllocError> {
+        push_call(out, value)
     }
 }
 
-// `I.C`.
-fn counted_parts(word: &str) -> Option<(u16, u32)>
-    ensures { Reads counted_text AreCounted word.now result }
-{
-    match split_dot(word) {
-        Some((incarnation, number)) => IncarnationField::read(incarnation).zip(Counted::read(
-            number,
-        )),
-        None => None,
-    }
+impl Word for CallName {
+    fn is_one_field() {}
 }
 
-/// The owner of `pPID@N.I` or `dNUMBER@N.I`.
-pub(crate) fn owner_of(word: &str) -> Option<Owner>
-    ensures { Reads owner_text IsOwner word.now result }
-{
-    if let Some(rest) = after(word, "p") {
-        return process_owner(rest);
+/// `pPID@N.I` or `dNUMBER@N.I`.
+pub struct OwnerName;
+
+impl Text for OwnerName {
+    type Value = Owner;
+
+    ghost text_of = { owner_text };
+
+    ghost is_served = { IsOwner };
+
+    fn read(text: &str) -> Option<Owner> {
+        if let Some(rest) = after(text, "p") {
+            return process_owner(rest);
+        }
+        match after(text, "d") {
+            Some(rest) => description_owner(rest),
+            None => None,
+        }
     }
-    match after(word, "d") {
-        Some(rest) => description_owner(rest),
-        None => None,
+
+    fn write(value: &Owner, out: &mut String) -> Result<(), AllocError> {
+        push_owner(out, value)
     }
 }
 
@@ -160,7 +164,7 @@ pub(crate) fn owner_of(word: &str) -> Option<Owner>
 fn process_owner(rest: &str) -> Option<Owner>
     ensures { Reads owner_text IsOwner (codes "p" ++ rest.now) result }
 {
-    let (number, host) = numbered_process(rest)?;
+    let (number, host) = <Joined<PidField, AtSign, HostName>>::read(rest)?;
     Some(Owner {
         node: host.node,
         incarnation: host.incarnation,
@@ -173,31 +177,11 @@ fn process_owner(rest: &str) -> Option<Owner>
 fn description_owner(rest: &str) -> Option<Owner>
     ensures { Reads owner_text IsOwner (codes "d" ++ rest.now) result }
 {
-    let (number, host) = numbered_description(rest)?;
+    let (number, host) = <Joined<DescriptionField, AtSign, HostName>>::read(rest)?;
     Some(Owner {
         node: host.node,
         incarnation: host.incarnation,
         kind: Kind::OfDescription,
         number,
     })
-}
-
-// `PID@N.I`.
-fn numbered_process(text: &str) -> Option<(u16, Host)>
-    ensures { Reads numbered_text (AreNumbered most_processes) text.now result }
-{
-    match split_at_sign(text) {
-        Some((pid, host)) => PidField::read(pid).zip(host_of(host)),
-        None => None,
-    }
-}
-
-// `NUMBER@N.I`.
-fn numbered_description(text: &str) -> Option<(u16, Host)>
-    ensures { Reads numbered_text (AreNumbered most_descriptions) text.now result }
-{
-    match split_at_sign(text) {
-        Some((number, host)) => DescriptionField::read(number).zip(host_of(host)),
-        None => None,
-    }
 }

@@ -1,7 +1,6 @@
 //! The fields of each kind of message.
-use crate::fields::{
-    BlockingWord, CallName, EpochName, FileName, HostName, LockText, Numbered, SpanText, WantsText,
-};
+use crate::fields::{BlockingWord, EpochName, FileName, LockText, Numbered, SpanText, WantsText};
+use crate::names::{CallName, HostName};
 use model::mode::Mode;
 
 /// `F CALL KIND MODE R D`.

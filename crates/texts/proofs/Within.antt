@@ -17,8 +17,11 @@ module _ {A : Type 0} (number : A → ℕ) (greatest least most : ℕ) (small : 
   abbrev Fits : A → Type 0
   Fits value = IsWithin least (min most greatest) (number value)
 
+  pub within_is_small : (value : A) → Fits value → number value < 2 ^ 64
+  within_is_small value fits = omega (arith, small, (limits least (min most greatest) (number value) fits).1)
+
   pub within_is_one_field : (value : A) → Fits value → has_no_space (decimal (number value)) ≡ true
-  within_is_one_field value fits = decimal_is_one_field (number value) (omega (arith, small, (limits least (min most greatest) (number value) fits).1))
+  within_is_one_field value fits = decimal_is_one_field (number value) (within_is_small value fits)
 
   pub value-within : (bytes : List ℕ) (n : ℕ) → least ≤ n → n ≤ most → bytes ≡ decimal n → (value : Option A) → MatchOption value (greatest < n) (λ v. (number v ≡ n) × (n ≤ greatest))
       → Reads (λ v. decimal (number v)) Fits bytes value

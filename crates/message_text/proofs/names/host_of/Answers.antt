@@ -1,6 +1,0 @@
-use Rattle.message_text.proofs.Views.{view-none}
-use Rattle.message_text.proofs.NameTexts.{hosts}
-use Rattle.message_text.proofs.names.host_of.Goals as goal
-
-pub returns-in_err-node : goal.returns-in_err-node
-returns-in_err-node c = rw c.from_residual.ensures (view-none hosts c.args.word.now c.in_err-node.ensures)

@@ -1,0 +1,89 @@
+//! A number and what stands behind it, with a mark between them.
+ghost use Rattle.std.specs.Prelude.{◌≡◌, ◌≢◌, ◌<◌, ◌∷◌, ◌++◌, ℕ, List, MatchOption};
+ghost use Rattle.texts.specs.Reads.{Both, Lacks, joined_text};
+ghost use Rattle.message_text.specs.Names.{dot};
+ghost use Rattle.message_text.specs.Parts.{IsNoDigit, at_sign};
+
+use std::alloc::AllocError;
+use std::marker::PhantomData;
+use texts::number::Within;
+use texts::text::Text;
+use texts::unsigned::Unsigned;
+
+/// A character that is no digit.
+pub(crate) trait Mark {
+    ghost mark: { ℕ };
+
+    fn mark() -> char
+        ensures value { result ≡ mark }
+        ensures ascii { mark < 128 }
+        ensures no_digit { IsNoDigit mark };
+}
+
+pub(crate) struct Dot;
+
+impl Mark for Dot {
+    ghost mark = { dot };
+
+    fn mark() -> char {
+        '.'
+    }
+}
+
+pub(crate) struct AtSign;
+
+impl Mark for AtSign {
+    ghost mark = { at_sign };
+
+    fn mark() -> char {
+        '@'
+    }
+}
+
+/// A way to write values in digits.
+pub(crate) trait Digits: Text {
+    /// No text of a value has a byte that is no digit: a law of the type.
+    fn are_digits()
+        ensures { (value : Self.Value) → Self.is_served value → (byte : ℕ) → IsNoDigit byte → Lacks byte (Self.text_of value) };
+}
+
+impl<T: Unsigned, const LEAST: u64, const MOST: u64> Digits for Within<T, LEAST, MOST> {
+    fn are_digits() {}
+}
+
+/// What `A` writes, the mark, and what `B` writes.
+pub(crate) struct Joined<A, M, B> {
+    of: PhantomData<(A, M, B)>,
+}
+
+impl<A: Digits, M: Mark, B: Text> Text for Joined<A, M, B> {
+    type Value = (A::Value, B::Value);
+
+    ghost text_of = { joined_text M.mark A.text_of B.text_of };
+
+    ghost is_served = { Both A.is_served B.is_served };
+
+    fn read(text: &str) -> Option<(A::Value, B::Value)> {
+        A::are_digits();
+        match split_mark::<M>(text) {
+            Some((first, rest)) => A::read(first).zip(B::read(rest)),
+            None => None,
+        }
+    }
+
+    fn write(value: &(A::Value, B::Value), out: &mut String) -> Result<(), AllocError> {
+        A::write(&value.0, out)?;
+        out.push(M::mark())?;
+        B::write(&value.1, out)
+    }
+}
+
+// What stands before the first mark of a text, and behind it.
+fn split_mark<M: Mark>(text: &str) -> Option<(&str, &str)>
+    ensures no_digit { IsNoDigit M.mark }
+    ensures parts { MatchOption result
+        ((front rest : List ℕ) → Lacks M.mark front → text.now ≢ front ++ M.mark ∷ rest)
+        (λ parts. Lacks M.mark parts.0.now × (text.now ≡ parts.0.now ++ M.mark ∷ parts.1.now)) }
+{
+    text.split_once(M::mark())
+}
