@@ -267,15 +267,10 @@ pub fn with_cluster<
     ensures one_table { IfOk result (λ made. HasOneHistory made.1.shape made.1.entries) }
 {
     let (book, seats) = Book::new(alloc, shape, None)?;
-    let (begun, workers) = begin(alloc, shape, seats, weathers)?;
     let book = Mutex::new(book);
-    match run_body(rt, gate, &book, &begun, workers, body) {
-        Some(made) => {
-            let (journal, _) = book.into_inner().into_journal();
-            Ok((made, journal))
-        }
-        None => Err(AllocError),
-    }
+    let made = run_body(rt, alloc, shape, gate, &book, seats, weathers, body)?;
+    let (journal, _) = book.into_inner().into_journal();
+    Ok((made, journal))
 }
 
 /// What a cluster begins with beside its book and its workers: a mailbox and a desk for each actor, nodes first, a
@@ -377,7 +372,7 @@ fn desks_of<J: Name>(alloc: Global, seats: Vec<Seat<J>>) -> Result<Vec<Desk<J>>,
     Ok(desks)
 }
 
-// Starts the threads, calls the body and stops the threads. (As `run_begun` of `threads.rt`, which takes no body: a bound on one can't
+// Starts the threads, calls the body and stops the threads. (As `run_on` of `threads.rt`, which takes no body: a bound on one can't
 // name a trail.)
 fn run_body<
     G: Gate + Sync,
@@ -387,19 +382,27 @@ fn run_body<
     F: FnOnce(&Cluster<'_, Brand>) -> T,
 >(
     rt: &R,
+    alloc: Global,
+    shape: Shape,
     gate: &G,
     book: &Mutex<Book<Brand>>,
-    begun: &Begun<Brand>,
-    workers: Vec<Worker<W>>,
+    seats: Vec<Seat<Brand>>,
+    weathers: Vec<W>,
     body: F,
-) -> Option<T>
-    requires { F.IsAlwaysCallable body }
+) -> Result<T, AllocError>
+    requires seats { length seats.items ≡ shape.nodes + shape.files }
+    requires body { F.IsAlwaysCallable body }
 {
+    let (begun, workers) = begin(alloc, shape, seats, weathers)?;
     let shared = begun.shared(book, gate);
     let cluster = begun.cluster(book, gate);
     thread::scope(thread::scope_env(), rt, |scope| {
         let all = start_all(scope, rt, &shared, workers);
-        let made = if all { Some(body(&cluster)) } else { None };
+        let made = if all {
+            Ok(body(&cluster))
+        } else {
+            Err(AllocError)
+        };
         cluster.stop();
         made
     })

@@ -1,5 +1,5 @@
 //! Scripts on threads.
-ghost use Rattle.std.specs.Prelude.{◌≡◌, ◌↔◌, Some, IsErrOf, IsTrue, IfOk, length};
+ghost use Rattle.std.specs.Prelude.{◌≡◌, ◌+◌, ◌↔◌, Some, IsErrOf, IsTrue, IfOk, length};
 ghost use Rattle.actors.specs.Runs.{IsFullJournal, IsOfScript};
 ghost use Rattle.actors.specs.declared.run_error.RunError.{RunError};
 ghost use Rattle.cluster_core.specs.Histories.{HasOneHistory};
@@ -10,7 +10,7 @@ ghost use Rattle.cluster_core.specs.Safe.{IsSafe};
 ghost use Rattle.cluster_core.specs.World.{first_world};
 ghost use Rattle.lockscript.specs.ThreadLines.{bad_line};
 
-use crate::cluster::{Begun, Cluster, begin, start_all};
+use crate::cluster::{Cluster, begin, start_all};
 use crate::full::is_full;
 use crate::gate::Gate;
 use crate::manner::Manner;
@@ -20,9 +20,9 @@ use crate::run_error::RunError;
 use crate::run_watcher::RunWatcher;
 use crate::seeded::Seeded;
 use crate::thread_run::ThreadRun;
-use crate::worker::Worker;
 use book::book::Book;
 use book::new_trail::NewTrail;
+use book::seat::Seat;
 use cluster_core::journal::Journal;
 use cluster_core::world::World;
 use lockscript::play_error::PlayError;
@@ -166,44 +166,41 @@ fn run_script<
     ensures safe { IfOk result (λ run. IsSafe (world_state run.world)) }
 {
     let shape = script.shape();
-    let actors = u32::from(shape.nodes()) + u32::from(shape.files());
-    let weathers = weathers_of(alloc, seed, actors)?;
     let (book, seats) = Book::new(alloc, shape, Some(trail))?;
-    let (begun, workers) = begin(alloc, shape, seats, weathers)?;
     let book = Mutex::new(book);
     let lines = script.lines();
-    let Some(lines) = run_begun::<J, _, _, _>(
-        rt, gate, &book, &begun, workers, lines, manner, watcher,
-    ) else {
-        return Err(AllocError);
-    };
+    let lines = run_on::<J, _, _, _>(
+        rt, alloc, shape, gate, &book, seats, seed, lines, manner, watcher,
+    );
     Ended::of(book.into_inner(), shape, lines)
 }
 
-// Starts the threads, runs the lines and stops the threads. None where a thread can't be made.
-fn run_begun<
-    J: Name + Send + Sync,
-    G: Gate + Sync,
-    R: Threads + Wait + Clock + Sync,
-    V: RunWatcher,
->(
+// Starts the threads on these seats, with the weathers of the seed, runs the lines and stops the threads.
+fn run_on<J: Name + Send + Sync, G: Gate + Sync, R: Threads + Wait + Clock + Sync, V: RunWatcher>(
     rt: &R,
+    alloc: Global,
+    shape: Shape,
     gate: &G,
     book: &Mutex<Book<J>>,
-    begun: &Begun<J>,
-    workers: Vec<Worker<Seeded>>,
+    seats: Vec<Seat<J>>,
+    seed: u32,
     lines: &[ScriptLine],
     manner: Manner,
     watcher: &mut V,
-) -> Option<Result<Vec<PlayedLine>, PlayError>> {
+) -> Result<Vec<PlayedLine>, PlayError>
+    requires { length seats.items ≡ shape.nodes + shape.files }
+{
+    let actors = u32::from(shape.nodes()) + u32::from(shape.files());
+    let weathers = weathers_of(alloc, seed, actors)?;
+    let (begun, workers) = begin(alloc, shape, seats, weathers)?;
     let shared = begun.shared(book, gate);
     let cluster = begun.cluster(book, gate);
     thread::scope(thread::scope_env(), rt, |scope| {
         let all = start_all(scope, rt, &shared, workers);
         let played = if all {
-            Some(run_lines(rt, &cluster, lines, manner, watcher))
+            run_lines(rt, &cluster, lines, manner, watcher)
         } else {
-            None
+            Err(PlayError::NoMemory)
         };
         cluster.stop();
         played
