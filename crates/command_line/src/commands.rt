@@ -2,7 +2,7 @@
 ghost use Rattle.std.specs.Prelude.{◌≡◌, codes, fold, map, IfOk, IsOkAnd, List, true};
 ghost use Rattle.std.specs.List.{list_all};
 ghost use Rattle.clap.specs.Words.{AddsSubcommand, Rule, app_of, new_app, rule_of, with_rule};
-ghost use Rattle.command_line.specs.Program.{bare_app, check_app, explain_app, explore_app, path_rule, picture_app, program_app, run_app, schedule_app, strace_app, threads_app};
+ghost use Rattle.command_line.specs.Program.{bare_app, check_app, explain_app, explore_app, path_rule, picture_app, program_app, readers_app, run_app, runners_app, schedule_app, strace_app, threads_app};
 
 use crate::arguments::{
     failures_argument, file_argument, flag_argument, journal_argument, option_argument,
@@ -14,7 +14,7 @@ use crate::notes::{
 };
 use crate::values::{GREATEST_SEED, MOST_NODES};
 use clap::{Arg, Command};
-use std::alloc::{AllocError, Global};
+use std::alloc::{AllocError, AllocFailed, Global};
 
 /// The program's command line.
 pub(crate) fn program<'a>(alloc: Global) -> Result<Command<'a>, AllocError>
@@ -22,6 +22,20 @@ pub(crate) fn program<'a>(alloc: Global) -> Result<Command<'a>, AllocError>
 {
     let program = with_command(Ok(bare_program(alloc)), run_command(alloc));
     let program = with_command(program, threads_command(alloc));
+    let program = with_readers(alloc, program);
+    let program = with_command(program, strace_command(alloc));
+    let program = with_command(program, explore_command(alloc));
+    with_command(program, schedule_command(alloc))
+}
+
+// The program that runs scripts with the commands that read a script or a journal and change neither, if there
+// was memory for all.
+fn with_readers<'a>(
+    alloc: Global,
+    program: Result<Command<'a>, AllocError>,
+) -> Result<Command<'a>, AllocError>
+    ensures { IfOk program.entry (λ command. app_of command ≡ runners_app) → IfOk result (λ command. app_of command ≡ readers_app) }
+{
     let about = "Say whether a journal is one of a run";
     let audit = journal_command(alloc, "audit", about, AUDIT_NOTES);
     let program = with_command(program, audit);
@@ -33,10 +47,7 @@ pub(crate) fn program<'a>(alloc: Global) -> Result<Command<'a>, AllocError>
     let open = journal_command(alloc, "open", about, OPEN_NOTES);
     let program = with_command(program, open);
     let program = with_command(program, check_command(alloc));
-    let program = with_command(program, picture_command(alloc));
-    let program = with_command(program, strace_command(alloc));
-    let program = with_command(program, explore_command(alloc));
-    with_command(program, schedule_command(alloc))
+    with_command(program, picture_command(alloc))
 }
 
 // The program's command line without its commands.
@@ -61,7 +72,10 @@ fn with_command<'a>(
 ) -> Result<Command<'a>, AllocError>
     ensures { IfOk result (λ r. IsOkAnd program.entry (λ old. IsOkAnd command.entry (λ added. AddsSubcommand old added r))) }
 {
-    program?.subcommand(command?)
+    let (Ok(program), Ok(command)) = (program, command) else {
+        return Err(AllocError);
+    };
+    program.subcommand(command)
 }
 
 // A command without arguments, with what its help says.
@@ -73,16 +87,17 @@ fn bare_command<'a>(alloc: Global, name: &'a str, about: &'a str, notes: &'a str
         .after_long_help(notes)
 }
 
-// A command with these arguments, if there was memory for it.
-fn command_with<'a>(
+// A command with these arguments, if there was memory for both.
+fn command_with<'a, Given: Drop>(
     alloc: Global,
     name: &'a str,
     about: &'a str,
     notes: &'a str,
-    arguments: Vec<Arg<'a>>,
+    arguments: Result<Vec<Arg<'a>>, AllocFailed<Given>>,
 ) -> Result<Command<'a>, AllocError>
-    ensures { (rules : List Rule) → map rule_of arguments.entry.items ≡ rules → list_all (λ r. r.is_simple) rules ≡ true → IfOk result (λ command. app_of command ≡ fold with_rule (new_app name.entry.now) rules) }
+    ensures { (rules : List Rule) → IfOk arguments.entry (λ given. map rule_of given.items ≡ rules) → list_all (λ r. r.is_simple) rules ≡ true → IfOk result (λ command. app_of command ≡ fold with_rule (new_app name.entry.now) rules) }
 {
+    let arguments = arguments?;
     bare_command(alloc, name, about, notes).args(arguments)
 }
 
@@ -95,7 +110,7 @@ fn journal_command<'a>(
 ) -> Result<Command<'a>, AllocError>
     ensures { IfOk result (λ command. app_of command ≡ with_rule (new_app name.entry.now) (path_rule (codes "JOURNAL"))) }
 {
-    let arguments = vec![in alloc; journal_argument(alloc)]?;
+    let arguments = vec![in alloc; journal_argument(alloc)];
     command_with(alloc, name, about, notes, arguments)
 }
 
@@ -114,7 +129,7 @@ fn run_command<'a>(alloc: Global) -> Result<Command<'a>, AllocError>
         file_argument(alloc),
         open,
         quiet,
-    ]?;
+    ];
     let about = "Run each line of a script in order and print the listing";
     command_with(alloc, "run", about, RUN_NOTES, arguments)
 }
@@ -134,7 +149,7 @@ fn threads_command<'a>(alloc: Global) -> Result<Command<'a>, AllocError>
         stop,
         no_join,
         file_argument(alloc),
-    ]?;
+    ];
     let about = "Run a script on threads and print the listing";
     command_with(alloc, "threads", about, THREADS_NOTES, arguments)
 }
@@ -144,7 +159,7 @@ fn explain_command<'a>(alloc: Global) -> Result<Command<'a>, AllocError>
 {
     let help = "The call, by its name in replies and history, as 2.1.3";
     let call = path_argument(alloc, "CALL", help);
-    let arguments = vec![in alloc; journal_argument(alloc), call]?;
+    let arguments = vec![in alloc; journal_argument(alloc), call];
     let about = "Tell the story of a call of a journal";
     command_with(alloc, "explain", about, EXPLAIN_NOTES, arguments)
 }
@@ -152,7 +167,7 @@ fn explain_command<'a>(alloc: Global) -> Result<Command<'a>, AllocError>
 fn check_command<'a>(alloc: Global) -> Result<Command<'a>, AllocError>
     ensures { IfOk result (λ command. app_of command ≡ check_app) }
 {
-    let arguments = vec![in alloc; script_argument(alloc)]?;
+    let arguments = vec![in alloc; script_argument(alloc)];
     let about = "Say what is wrong in a script";
     command_with(alloc, "check", about, CHECK_NOTES, arguments)
 }
@@ -178,7 +193,7 @@ fn picture_command<'a>(alloc: Global) -> Result<Command<'a>, AllocError>
     );
     let help = "Draw it as svg, mermaid or trace";
     let format = option_argument(alloc, "FORMAT", "format", help).default_value("svg");
-    let arguments = vec![in alloc; journal_argument(alloc), around, from, to, format]?;
+    let arguments = vec![in alloc; journal_argument(alloc), around, from, to, format];
     let about = "Draw a journal, as SVG, Mermaid or a trace";
     command_with(alloc, "picture", about, PICTURE_NOTES, arguments)
 }
@@ -195,7 +210,7 @@ fn strace_command<'a>(alloc: Global) -> Result<Command<'a>, AllocError>
         1,
         MOST_NODES,
     );
-    let arguments = vec![in alloc; recording, nodes]?;
+    let arguments = vec![in alloc; recording, nodes];
     let about = "Turn the output of strace into a script";
     command_with(alloc, "from-strace", about, STRACE_NOTES, arguments)
 }
@@ -217,7 +232,7 @@ fn explore_command<'a>(alloc: Global) -> Result<Command<'a>, AllocError>
         seeds,
         first,
         failures_argument(alloc),
-    ]?;
+    ];
     let about = "Run a script under many schedules and tell the outcomes";
     command_with(alloc, "explore", about, EXPLORE_NOTES, arguments)
 }
@@ -227,7 +242,7 @@ fn schedule_command<'a>(alloc: Global) -> Result<Command<'a>, AllocError>
 {
     let help = "The seed of the schedule, up to 4294967295";
     let seed = seed_argument(alloc, "seed", help);
-    let arguments = vec![in alloc; script_argument(alloc), seed, failures_argument(alloc)]?;
+    let arguments = vec![in alloc; script_argument(alloc), seed, failures_argument(alloc)];
     let about = "Print the script of a schedule";
     command_with(alloc, "schedule", about, SCHEDULE_NOTES, arguments)
 }
