@@ -11,4 +11,5 @@ pub mod RunWords
 pub mod ScheduleWords
 pub mod StraceWords
 pub mod ThreadsWords
+pub mod MetLine
 pub mod Tables

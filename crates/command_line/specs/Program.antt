@@ -95,14 +95,10 @@ schedule_app = with_rule (with_rule (with_rule (new_app (codes "schedule")) (pat
 abbrev pub bare_app : App
 bare_app = on_top (λ s. record s { has_version = true; subcommand_required = true; arg_required_else_help = true }) (new_app (codes "lockreplay"))
 
--- the commands that run a script
-abbrev pub runners_app : App
-runners_app = with_subcommand (with_subcommand bare_app run_app.top) threads_app.top
-
 -- the commands that read a script or a journal and change neither, behind those that run a script
 abbrev pub readers_app : App
 readers_app =
-    with_subcommand (with_subcommand (with_subcommand (with_subcommand (with_subcommand (with_subcommand runners_app audit_app.top) history_app.top) explain_app.top) open_app.top) check_app.top) picture_app.top
+    with_subcommand (with_subcommand (with_subcommand (with_subcommand (with_subcommand (with_subcommand (with_subcommand (with_subcommand bare_app run_app.top) threads_app.top) audit_app.top) history_app.top) explain_app.top) open_app.top) check_app.top) picture_app.top
 
 abbrev pub program_app : App
 program_app = with_subcommand (with_subcommand (with_subcommand readers_app strace_app.top) explore_app.top) schedule_app.top

@@ -2,7 +2,7 @@
 ghost use Rattle.std.specs.Prelude.{◌≡◌, codes, fold, map, IfOk, IsOkAnd, List, true};
 ghost use Rattle.std.specs.List.{list_all};
 ghost use Rattle.clap.specs.Words.{AddsSubcommand, Rule, app_of, new_app, rule_of, with_rule};
-ghost use Rattle.command_line.specs.Program.{bare_app, check_app, explain_app, explore_app, path_rule, picture_app, program_app, readers_app, run_app, runners_app, schedule_app, strace_app, threads_app};
+ghost use Rattle.command_line.specs.Program.{bare_app, check_app, explain_app, explore_app, path_rule, picture_app, program_app, run_app, schedule_app, strace_app, threads_app};
 
 use crate::arguments::{
     failures_argument, file_argument, flag_argument, journal_argument, option_argument,
@@ -22,20 +22,6 @@ pub(crate) fn program<'a>(alloc: Global) -> Result<Command<'a>, AllocError>
 {
     let program = with_command(Ok(bare_program(alloc)), run_command(alloc));
     let program = with_command(program, threads_command(alloc));
-    let program = with_readers(alloc, program);
-    let program = with_command(program, strace_command(alloc));
-    let program = with_command(program, explore_command(alloc));
-    with_command(program, schedule_command(alloc))
-}
-
-// The program that runs scripts with the commands that read a script or a journal and change neither, if there
-// was memory for all.
-fn with_readers<'a>(
-    alloc: Global,
-    program: Result<Command<'a>, AllocError>,
-) -> Result<Command<'a>, AllocError>
-    ensures { IfOk program.entry (λ command. app_of command ≡ runners_app) → IfOk result (λ command. app_of command ≡ readers_app) }
-{
     let about = "Say whether a journal is one of a run";
     let audit = journal_command(alloc, "audit", about, AUDIT_NOTES);
     let program = with_command(program, audit);
@@ -47,7 +33,10 @@ fn with_readers<'a>(
     let open = journal_command(alloc, "open", about, OPEN_NOTES);
     let program = with_command(program, open);
     let program = with_command(program, check_command(alloc));
-    with_command(program, picture_command(alloc))
+    let program = with_command(program, picture_command(alloc));
+    let program = with_command(program, strace_command(alloc));
+    let program = with_command(program, explore_command(alloc));
+    with_command(program, schedule_command(alloc))
 }
 
 // The program's command line without its commands.
@@ -72,10 +61,7 @@ fn with_command<'a>(
 ) -> Result<Command<'a>, AllocError>
     ensures { IfOk result (λ r. IsOkAnd program.entry (λ old. IsOkAnd command.entry (λ added. AddsSubcommand old added r))) }
 {
-    let (Ok(program), Ok(command)) = (program, command) else {
-        return Err(AllocError);
-    };
-    program.subcommand(command)
+    program?.subcommand(command?)
 }
 
 // A command without arguments, with what its help says.

@@ -7,7 +7,7 @@ use std::alloc::Global;
 use thiserror::Error;
 
 /// Why words are no command line. Its text is what is shown in place of a run.
-#[derive(Debug, PartialEq, Eq, Drop, Error)]
+#[derive(Debug, Drop, Error)]
 pub enum Refusal {
     /// They ask for help or for the version, which is this text.
     #[error("{0}")]
