@@ -3,7 +3,7 @@ ghost use Rattle.std.specs.Prelude.{◌≡◌, OnOk};
 ghost use Rattle.model.specs.Limits.{IsNumber, most_nodes};
 ghost use Rattle.lockscript.specs.Served.{IsServedOp};
 ghost use Rattle.recordings.specs.Known.{file_of, running_of};
-ghost use Rattle.recordings.specs.Steps.{arrived, asked_by, asked_through, asks, before_child, begun, bound, closed, closed_in_turn, closes, closes_range, copied, duplicated, duplicates, ended, executes, exited, forked, forks, given_up, gone, happened, held_of, left_out, node_after, op_of, opened, opens, returned, shut, start, starts_thread, step, why_not, with_call, with_held, with_left, with_line, with_locked, with_note, with_running};
+ghost use Rattle.recordings.specs.Steps.{arrived, asked_by, asks, before_child, bound, closed, closed_in_turn, closes, closes_range, copied, duplicates, ended, executes, forks, given_up, gone, happened, held_of, left_out, node_after, op_of, opens, returned, shut, start, starts_thread, step, why_not, with_call, with_held, with_left, with_line, with_locked, with_note, with_running};
 
 use crate::asked::{Asked, Wish};
 use crate::held::Held;
@@ -107,7 +107,7 @@ impl Known {
                 self.start_thread(self.running(pid), *thread)
             }
             Happening::Exits { whole } => self.end_pid(pid, *whole),
-            Happening::Asks { fd, asked } => self.ask_of(line, pid, *fd, asked),
+            Happening::Asks { fd, asked } => self.ask(line, pid, *fd, asked),
             Happening::Returns { fd } => self.settle(self.held(pid, *fd)),
             Happening::GivesUp { fd } => self.give_up(self.held(pid, *fd)),
             Happening::Unserved(reason) => self.push_note(line, *reason),
@@ -202,8 +202,8 @@ impl Known {
         self.push_left(pid)
     }
 
-    // The process of that PID runs, stays out, or begins.
-    #[tactic(auto, unfolding(crate::specs::Steps::arrived))]
+    // The process of that PID runs or stays out; else it begins, or stays out where its node has no room.
+    #[tactic(auto, unfolding(crate::specs::Steps::arrived, crate::specs::Steps::begun))]
     fn arrive(&mut self, line: u64, pid: u32) -> Result<(), AllocError>
         ensures { OnOk result (self.new ≡ arrived line pid self.old) }
     {
@@ -211,16 +211,7 @@ impl Known {
             return Ok(());
         }
         let next = self.next;
-        let place = free_place(&self.running, next);
-        self.begin(line, pid, place)
-    }
-
-    // A process that no other made begins, or stays out where its node has no room.
-    #[tactic(auto, unfolding(crate::specs::Steps::begun))]
-    fn begin(&mut self, line: u64, pid: u32, place: Option<Place>) -> Result<(), AllocError>
-        ensures { OnOk result (self.new ≡ begun line pid place self.old) }
-    {
-        let Some(place) = place else {
+        let Some(place) = free_place(&self.running, next) else {
             return self.leave_out(line, pid, Reason::TooManyProcesses);
         };
         self.push_line(Line::Begins { place, pid })?;
@@ -242,7 +233,7 @@ impl Known {
     }
 
     // The process or thread opens a file.
-    #[tactic(auto, unfolding(crate::specs::Steps::opens))]
+    #[tactic(auto, unfolding(crate::specs::Steps::opens, crate::specs::Steps::opened))]
     fn open(
         &mut self,
         by: Option<Running>,
@@ -252,27 +243,13 @@ impl Known {
     ) -> Result<(), AllocError>
         ensures { OnOk result (self.new ≡ opens by fd path access self.old) }
     {
-        match by {
-            Some(one) => self.open_at(one.place, fd, path, access),
-            None => Ok(()),
-        }
-    }
-
-    // The process opens a file.
-    #[tactic(auto, unfolding(crate::specs::Steps::opened))]
-    fn open_at(
-        &mut self,
-        place: Place,
-        fd: u32,
-        path: u32,
-        access: Access,
-    ) -> Result<(), AllocError>
-        ensures { OnOk result (self.new ≡ opened place fd path access self.old) }
-    {
-        self.close_at(place, fd)?;
+        let Some(one) = by else {
+            return Ok(());
+        };
+        self.close_at(one.place, fd)?;
         let file = file_of(&self.files, path);
-        let slot = free_slot(&self.held, place);
-        self.bind(place, fd, path, access, file, slot)
+        let slot = free_slot(&self.held, one.place);
+        self.bind(one.place, fd, path, access, file, slot)
     }
 
     // The process gets the descriptor.
@@ -298,31 +275,23 @@ impl Known {
     }
 
     // The process or thread gets a descriptor of what another refers to.
-    #[tactic(auto, unfolding(crate::specs::Steps::duplicates))]
+    #[tactic(auto, unfolding(crate::specs::Steps::duplicates, crate::specs::Steps::duplicated))]
     fn duplicate(&mut self, by: Option<Running>, fd: u32, to: u32) -> Result<(), AllocError>
         ensures { OnOk result (self.new ≡ duplicates by fd to self.old) }
     {
-        match by {
-            Some(_) if fd == to => Ok(()),
-            Some(one) => {
-                let from = held_by(&self.held, one.place, fd);
-                self.duplicate_at(one.place, from, to)
-            }
-            None => Ok(()),
+        let Some(one) = by else {
+            return Ok(());
+        };
+        if fd == to {
+            return Ok(());
         }
-    }
-
-    // The process gets a descriptor of what that one refers to.
-    #[tactic(auto, unfolding(crate::specs::Steps::duplicated))]
-    fn duplicate_at(&mut self, place: Place, from: Option<Held>, to: u32) -> Result<(), AllocError>
-        ensures { OnOk result (self.new ≡ duplicated place from to self.old) }
-    {
-        self.close_at(place, to)?;
+        let from = held_by(&self.held, one.place, fd);
+        self.close_at(one.place, to)?;
         let Some(from) = from else {
             return Ok(());
         };
-        let slot = free_slot(&self.held, place);
-        self.copy(place, to, from.path, from.slot, slot)
+        let slot = free_slot(&self.held, one.place);
+        self.copy(one.place, to, from.path, from.slot, slot)
     }
 
     // The process gets the descriptor, which refers to what that of the script does.
@@ -426,39 +395,22 @@ impl Known {
         self.end_pid(child, true)
     }
 
-    // The process or thread makes a process, which stays out where that one does.
-    #[tactic(auto, unfolding(crate::specs::Steps::forks))]
-    fn fork(&mut self, line: u64, by: Option<Running>, child: u32) -> Result<(), AllocError>
-        ensures { OnOk result (self.new ≡ forks line by child self.old) }
+    // The process or thread makes a process, which stays out where that one does, or where its node has no room.
+    #[tactic(auto, unfolding(crate::specs::Steps::forks, crate::specs::Steps::forked))]
+    fn fork(&mut self, line: u64, by: Option<Running>, pid: u32) -> Result<(), AllocError>
+        ensures { OnOk result (self.new ≡ forks line by pid self.old) }
     {
-        match by {
-            Some(one) => {
-                let place = free_place(&self.running, one.place.node());
-                self.fork_at(line, one.place, child, place)
-            }
-            None => self.leave_out(line, child, Reason::LeftOut),
-        }
-    }
-
-    // The process makes another one, which stays out where its node has no room.
-    #[tactic(auto, unfolding(crate::specs::Steps::forked))]
-    fn fork_at(
-        &mut self,
-        line: u64,
-        parent: Place,
-        pid: u32,
-        place: Option<Place>,
-    ) -> Result<(), AllocError>
-        ensures { OnOk result (self.new ≡ forked line parent pid place self.old) }
-    {
-        let Some(place) = place else {
+        let Some(parent) = by else {
+            return self.leave_out(line, pid, Reason::LeftOut);
+        };
+        let Some(place) = free_place(&self.running, parent.place.node()) else {
             return self.leave_out(line, pid, Reason::TooManyProcesses);
         };
         let child = place.number();
         self.push_line(Line::Begins { place, pid })?;
-        self.push_call(parent, Op::Fork { child })?;
+        self.push_call(parent.place, Op::Fork { child })?;
         self.push_running(pid, place, false)?;
-        inherit(&mut self.held, parent, place)
+        inherit(&mut self.held, parent.place, place)
     }
 
     // The process or thread makes a thread, which stays out where that one does.
@@ -473,21 +425,12 @@ impl Known {
     }
 
     // The process or thread of that PID exits, if it runs, or stays out no more.
-    #[tactic(auto, unfolding(crate::specs::Steps::gone))]
+    #[tactic(auto, unfolding(crate::specs::Steps::gone, crate::specs::Steps::exited))]
     fn end_pid(&mut self, pid: u32, whole: bool) -> Result<(), AllocError>
         ensures { OnOk result (self.new ≡ gone pid whole self.old) }
     {
         remove_left(&mut self.left, pid);
-        let one = self.running(pid);
-        self.exit(pid, whole, one)
-    }
-
-    // What has that PID exits: a thread, or its process.
-    #[tactic(auto, unfolding(crate::specs::Steps::exited))]
-    fn exit(&mut self, pid: u32, whole: bool, one: Option<Running>) -> Result<(), AllocError>
-        ensures { OnOk result (self.new ≡ exited pid whole one self.old) }
-    {
-        let Some(one) = one else {
+        let Some(one) = self.running(pid) else {
             return Ok(());
         };
         if one.is_thread && !whole {
@@ -508,24 +451,15 @@ impl Known {
         Ok(())
     }
 
-    // The process or thread of that PID makes a lock call.
-    #[tactic(auto, unfolding(crate::specs::Steps::asks))]
-    fn ask_of(&mut self, line: u64, pid: u32, fd: u32, asked: &Asked) -> Result<(), AllocError>
+    // The process or thread of that PID makes a lock call through the descriptor.
+    #[tactic(auto, unfolding(crate::specs::Steps::asks, crate::specs::Steps::asked_through))]
+    fn ask(&mut self, line: u64, pid: u32, fd: u32, asked: &Asked) -> Result<(), AllocError>
         ensures { OnOk result (self.new ≡ asks line pid fd asked.now self.old) }
     {
         if is_left(&self.left, pid) {
             return self.push_note(line, Reason::LeftOut);
         }
-        let held = self.held(pid, fd);
-        self.ask(line, asked, held)
-    }
-
-    // A lock call is made through a descriptor.
-    #[tactic(auto, unfolding(crate::specs::Steps::asked_through))]
-    fn ask(&mut self, line: u64, asked: &Asked, held: Option<Held>) -> Result<(), AllocError>
-        ensures { OnOk result (self.new ≡ asked_through line asked.now held self.old) }
-    {
-        let Some(held) = held else {
+        let Some(held) = self.held(pid, fd) else {
             return self.push_note(line, Reason::NotOpen);
         };
         self.lock(held.path)?;
