@@ -58,12 +58,31 @@ fn answers_by(
     let mut answers = Vec::new(alloc);
     for line in lines {
         let command = line.command();
-        let tried = next_try(&tries, &earlier, &command);
-        answers.push(answer_by(&told, &taken, tried, &command))?;
-        note_call(&mut earlier, alloc, &command)?;
-        note_taken(&mut taken, alloc, tried, &command)?;
+        let answer = note_line(&mut earlier, &mut taken, alloc, &tries, &told, &command)?;
+        answers.push(answer)?;
     }
     Ok(answers)
+}
+
+// What the command of the next line comes to, which is noted among the calls so far, and among those that were
+// taken, if it was.
+fn note_line(
+    earlier: &mut Calls,
+    taken: &mut Calls,
+    alloc: Global,
+    tries: &Tries,
+    told: &Told<'_>,
+    command: &Command,
+) -> Result<Answer, AllocError>
+    ensures answer { IfOk result (λ answer. answer ≡ answer_by told.now taken.old (next_try tries.now earlier.old command.now) command.now) }
+    ensures earlier { OnOk result ((node pid : ℕ) → list_in earlier.new node pid ≡ list_in earlier.old node pid ++ op_of node pid command.now) }
+    ensures taken { OnOk result ((node pid : ℕ) → list_in taken.new node pid ≡ list_in taken.old node pid ++ (if option_map_or is_taken (next_try tries.now earlier.old command.now) false then op_of node pid command.now else [])) }
+{
+    let tried = next_try(tries, earlier, command);
+    let answer = answer_by(told, taken, tried, command);
+    note_call(earlier, alloc, command)?;
+    note_taken(taken, alloc, tried, command)?;
+    Ok(answer)
 }
 
 // What became of the next call of the command's process behind those, if it is a call and was made.

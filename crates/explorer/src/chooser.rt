@@ -58,17 +58,14 @@ pub(crate) struct Chooser<'a> {
 }
 
 impl<'a> Chooser<'a> {
-    /// Before the first line.
-    ///
-    /// # Errors
-    /// `AllocError` where a request for memory was refused.
+    /// Before the first phase.
     pub(crate) fn new(
         alloc: Global,
         lines: &'a [ScriptLine],
         seed: u32,
         failures: bool,
-    ) -> Result<Chooser<'a>, AllocError> {
-        let mut chooser = Chooser {
+    ) -> Chooser<'a> {
+        Chooser {
             alloc,
             lines,
             chance: Chance::new(seed),
@@ -86,9 +83,7 @@ impl<'a> Chooser<'a> {
             failed: Failed::new(alloc),
             may_fail_node: failures,
             may_fail_server: failures,
-        };
-        chooser.begin_phase()?;
-        Ok(chooser)
+        }
     }
 
     /// What comes next behind this run. None where the schedule is over.
@@ -272,8 +267,11 @@ impl<'a> Chooser<'a> {
         Ok(())
     }
 
-    // The calls up to the next line that is no call are to be made.
-    fn begin_phase(&mut self) -> Result<(), AllocError> {
+    /// The calls up to the next line that is no call are to be made.
+    ///
+    /// # Errors
+    /// `AllocError` where a request for memory was refused.
+    pub(crate) fn begin_phase(&mut self) -> Result<(), AllocError> {
         self.rounds = 0;
         let lines = self.lines;
         for line in lines.iter().skip(self.taken) {

@@ -1,7 +1,7 @@
 //! The text of outcomes.
 ghost use Rattle.std.specs.Prelude.{◌≡◌, ◌++◌, codes, count_by, option_map, slice_get, string_bytes, IfOk, OnOk};
 ghost use Rattle.explorer.specs.Expectations.{expected};
-ghost use Rattle.explorer.specs.Reports.{answer_part, blocks, breaking, call_part, counts, differs, ending, expected_count, expecting, first_of, first_seed, heading, is_other, place, report_text, share, told, told_lines, totals};
+ghost use Rattle.explorer.specs.Reports.{answer_part, blocks, call_part, counts, differs, ending, expected_count, first_of, heading, is_other, report_text, told, told_lines};
 
 use crate::answer::{Answer, push_answer};
 use crate::expectations::{expected, is_broken};
@@ -56,7 +56,7 @@ fn push_blocks(
 }
 
 // Writes the line above an outcome: to it so many of the seeds came, this one first.
-#[tactic(auto, unfolding(crate::specs::Reports::heading))]
+#[tactic(auto, unfolding(crate::specs::Reports::heading, crate::specs::Reports::place, crate::specs::Reports::share, crate::specs::Reports::first_seed))]
 fn push_heading(
     out: &mut String,
     number: u64,
@@ -66,33 +66,10 @@ fn push_heading(
 ) -> Result<(), AllocError>
     ensures { OnOk result (string_bytes out.new ≡ string_bytes out.old ++ heading number count seeds first) }
 {
-    push_place(out, number)?;
-    push_share(out, count, seeds)?;
-    push_first(out, first)
-}
-
-// Writes the place of an outcome among all.
-#[tactic(auto, unfolding(crate::specs::Reports::place))]
-fn push_place(out: &mut String, number: u64) -> Result<(), AllocError>
-    ensures { OnOk result (string_bytes out.new ≡ string_bytes out.old ++ place number) }
-{
-    write!(out, "outcome {number}: ")
-}
-
-// Writes how many of the seeds came to an outcome.
-#[tactic(auto, unfolding(crate::specs::Reports::share))]
-fn push_share(out: &mut String, count: usize, seeds: u32) -> Result<(), AllocError>
-    ensures { OnOk result (string_bytes out.new ≡ string_bytes out.old ++ share count seeds) }
-{
-    write!(out, "{count} of {seeds} seeds, ")
-}
-
-// Writes the first seed of an outcome.
-#[tactic(auto, unfolding(crate::specs::Reports::first_seed))]
-fn push_first(out: &mut String, first: u32) -> Result<(), AllocError>
-    ensures { OnOk result (string_bytes out.new ≡ string_bytes out.old ++ first_seed first) }
-{
-    writeln!(out, "first {first}")
+    writeln!(
+        out,
+        "outcome {number}: {count} of {seeds} seeds, first {first}"
+    )
 }
 
 // The first of the seeds; 0 where there is none.
@@ -227,7 +204,7 @@ fn push_ending(out: &mut String, broken: bool, words: Option<&str>) -> Result<()
 }
 
 // Writes how many outcomes there are, seeds, lines of which something is expected, and outcomes that break that.
-#[tactic(auto, unfolding(crate::specs::Reports::counts))]
+#[tactic(auto, unfolding(crate::specs::Reports::counts, crate::specs::Reports::totals, crate::specs::Reports::expecting, crate::specs::Reports::breaking))]
 fn push_counts(
     out: &mut String,
     outcomes: usize,
@@ -237,33 +214,10 @@ fn push_counts(
 ) -> Result<(), AllocError>
     ensures { OnOk result (string_bytes out.new ≡ string_bytes out.old ++ counts outcomes seeds expected broken) }
 {
-    push_totals(out, outcomes, seeds)?;
-    push_expecting(out, expected)?;
-    push_breaking(out, broken)
-}
-
-// Writes how many outcomes there are, and seeds.
-#[tactic(auto, unfolding(crate::specs::Reports::totals))]
-fn push_totals(out: &mut String, outcomes: usize, seeds: u32) -> Result<(), AllocError>
-    ensures { OnOk result (string_bytes out.new ≡ string_bytes out.old ++ totals outcomes seeds) }
-{
-    write!(out, "outcomes {outcomes}, seeds {seeds}")
-}
-
-// Writes of how many lines something is expected.
-#[tactic(auto, unfolding(crate::specs::Reports::expecting))]
-fn push_expecting(out: &mut String, count: usize) -> Result<(), AllocError>
-    ensures { OnOk result (string_bytes out.new ≡ string_bytes out.old ++ expecting count) }
-{
-    write!(out, ", expected {count}")
-}
-
-// Writes how many outcomes break what is expected.
-#[tactic(auto, unfolding(crate::specs::Reports::breaking))]
-fn push_breaking(out: &mut String, count: usize) -> Result<(), AllocError>
-    ensures { OnOk result (string_bytes out.new ≡ string_bytes out.old ++ breaking count) }
-{
-    writeln!(out, ", breaking {count}")
+    writeln!(
+        out,
+        "outcomes {outcomes}, seeds {seeds}, expected {expected}, breaking {broken}"
+    )
 }
 
 // Of how many of the lines it is said what is expected.

@@ -94,7 +94,7 @@ fn choose(
     ensures runs { IfOk result (λ made. RunsTo (progress player.old) (numbered made.items) (Some (progress player.new))) }
     ensures full { IfErr result (λ error. error ≡ JournalFull → IsFullFrom failures lines.now (progress player.old)) }
 {
-    let mut chooser = Chooser::new(alloc, lines, seed, failures)?;
+    let mut chooser = Chooser::new(alloc, lines, seed, failures);
     choose_lines(alloc, failures, lines, &mut chooser, player)
 }
 
@@ -111,6 +111,7 @@ fn choose_lines(
     ensures runs { IfOk result (λ made. RunsTo (progress player.old) (numbered made.items) (Some (progress player.new))) }
     ensures full { IfErr result (λ error. error ≡ JournalFull → IsFullFrom failures lines.now (progress player.old)) }
 {
+    chooser.begin_phase()?;
     let calls = calls_in(alloc, lines)?;
     let mut made = HashMap::new(alloc);
     let mut commands = Vec::new(alloc);

@@ -7,7 +7,7 @@ use Rattle.lockscript.specs.declared.script_line.Command.{Command}
 use Rattle.lockscript.specs.Scripts.{LineFields}
 use Rattle.explorer.specs.Answers.{answer_behind, answers_behind, count_taken, is_taken}
 use Rattle.explorer.specs.ByProcess.{list_in}
-use Rattle.explorer.specs.Indexes.{answer_by}
+use Rattle.explorer.specs.Indexes.{answer_by, next_try}
 use Rattle.explorer.specs.Schedules.{calls_of, op_of}
 use Rattle.explorer.proofs.Walks.{answer-here, answers-next, calls-push, commands-more, commands_of, drop_here, taken-next}
 use Rattle.explorer.proofs.answers.answers_by.Goals as goal
@@ -19,16 +19,17 @@ loop-line-preserved c =
     let i = c.loop-line.line-index in
     let l = c.line-item.result in
     let command = c.command-command.result in
-    let tried = c.next_try-tried.result in
     let made = c.in_ok-tries.tries in
     let known = c.loop-line.earlier in
+    let tried = next_try made known command in
+    let noted = c.in_ok-answer.ensures in
     let taken = c.loop-line.taken in
     let earlier = commands_of (take i lines) in
     let more = commands-more lines i l c.loop-line-test.true c.line-item.is in
     let inv = c.loop-line.invariant in
     record {
       known = λ node pid.
-          c.in_ok-note_call.ensures node pid
+          noted.earlier node pid
           ∙ ap (λ (ops : List Op). ops ++ op_of node pid command) (inv.known node pid)
           ∙ ap (λ (d : Command). calls_of node pid earlier ++ op_of node pid d) c.command-command.ensures.value
           ∙ sym (calls-push node pid earlier l.command)
@@ -36,18 +37,17 @@ loop-line-preserved c =
       counted = λ node pid.
           let ops = list_in taken node pid in
           let ts = list_in made node pid in
-          ap length (c.in_ok-note_taken.ensures node pid ∙ ap (λ (t : Option (Option ℕ)). ops ++ (if option_map_or is_taken t false then op_of node pid command else [])) c.next_try-tried.ensures)
+          ap length (noted.taken node pid)
           ∙ taken-next made known ops node pid command (inv.counted node pid)
-          ∙ sym (ap (λ (os : List Op). count_taken (take (length os) ts)) (c.in_ok-note_call.ensures node pid));
+          ∙ sym (ap (λ (os : List Op). count_taken (take (length os) ts)) (noted.earlier node pid));
       answered =
           let here =
-          c.answer_by.ensures
+          noted.answer
           ∙ ap (λ (es : List EntryFields). answer_by es taken tried command) c.in_ok-told.ensures
-          ∙ ap (λ (t : Option (Option ℕ)). answer_by entries taken t command) c.next_try-tried.ensures
           ∙ answer-here made known taken earlier command c.args.commands.now c.args.refused.now entries c.in_ok-tries.ensures inv.known inv.counted
           ∙ ap (λ (d : Command). answer_behind earlier d c.args.commands.now c.args.refused.now entries) c.command-command.ensures.value in
           let before =
           ap (λ (ls : List LineFields). c.loop-line.answers.items ++ answers_behind earlier ls c.args.commands.now c.args.refused.now entries) (sym (drop_here lines i l c.loop-line-test.true c.line-item.is))
           ∙ inv.answered in
-          answers-next earlier _ l (drop (i + 1) lines) c.args.commands.now c.args.refused.now entries c.loop-line.answers.items c.push.new.self.items c.answer_by.result _ c.in_ok-push.ensures.items here more before;
+          answers-next earlier _ l (drop (i + 1) lines) c.args.commands.now c.args.refused.now entries c.loop-line.answers.items c.push.new.self.items c.in_ok-answer.answer _ c.in_ok-push.ensures.items here more before;
     }
