@@ -4,3 +4,4 @@ pub mod LastToPass
 pub mod Grows
 pub mod Glue
 pub mod LastBars
+pub mod HeldStretches

@@ -6,6 +6,7 @@ pub mod Outcomes
 pub mod Bars
 pub mod Indexes
 pub mod Rows
+pub mod Holdings
 pub mod Pieces
 pub mod Shares
 pub mod Tracks

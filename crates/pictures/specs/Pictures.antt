@@ -14,7 +14,7 @@ use Rattle.messages.specs.Messages.{addressee}
 use Rattle.messages.specs.Shapes.{ShapeFields}
 use Rattle.cluster_core.specs.declared.item.Item.{Item}
 use Rattle.cluster_core.specs.declared.item.Item.TheVariants.{Answered, Gone}
-use Rattle.holdings.specs.Holdings.{HoldingsFields}
+use Rattle.pictures.specs.Holdings.{HoldingsFields}
 use Rattle.message_text.specs.Names.{call_text, host_text}
 use Rattle.lockscript.specs.Texts.{op_text, reply_text}
 use Rattle.journal_text.specs.Texts.{event_text}

@@ -4,7 +4,7 @@ use Rattle.model.specs.Owners.{same_mode, same_owner}
 use Rattle.messages.specs.TokenRuns.{same_level}
 use Rattle.cluster_core.specs.declared.held_lock.HeldLock.{HeldLock}
 use Rattle.cluster_core.specs.declared.token_run.TokenRun.{TokenRun}
-use Rattle.holdings.specs.Holdings.{HoldingsFields}
+use Rattle.pictures.specs.Holdings.{HoldingsFields}
 use Rattle.pictures.specs.declared.held.Held.{Held}
 use Rattle.pictures.specs.declared.held.Held.TheVariants.{Token, Lock}
 use Rattle.pictures.specs.declared.piece.Piece.{Piece}

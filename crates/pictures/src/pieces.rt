@@ -3,10 +3,10 @@ ghost use Rattle.std.specs.Prelude.{◌≡◌, ◌++◌, flat_map, filter, map, 
 ghost use Rattle.pictures.specs.Pieces.{covers, is_of_file, lock_piece, pieces, token_piece};
 
 use crate::held::Held;
+use crate::holdings::Holdings;
 use crate::piece::Piece;
 use cluster_core::held_lock::HeldLock;
 use cluster_core::token_run::TokenRun;
-use holdings::holdings::Holdings;
 use std::alloc::{AllocError, Global};
 
 /// All tokens, entry by entry, and then all locks.

@@ -4,7 +4,6 @@ use Rattle.command_line.specs.declared.format.Format.{Format}
 use Rattle.command_line.specs.declared.format.Format.TheVariants.{Svg, Mermaid, Trace}
 use Rattle.diagrams.specs.Sequences.{sequence_text}
 use Rattle.diagrams.specs.Traces.{trace_text}
-use Rattle.holdings.specs.Holdings.{AreHeldBehind, HoldingsFields, positions_within}
 use Rattle.model.specs.declared.call.CallId.{CallId}
 use Rattle.model.specs.Limits.{IsCall}
 use Rattle.cluster_core.specs.declared.item.Item.{Item}
@@ -17,6 +16,7 @@ use Rattle.lockscript.specs.Scripts.{ScriptFields, IsScript}
 use Rattle.message_text.specs.Names.{call_text}
 use Rattle.pictures.specs.declared.window.Window.{Window}
 use Rattle.pictures.specs.Around.{around}
+use Rattle.pictures.specs.Holdings.{AreHeldBehind, HoldingsFields, positions_within}
 use Rattle.pictures.specs.Pictures.{picture_text}
 use Rattle.stories.specs.OpenCalls.{open_text}
 use Rattle.stories.specs.Stories.{is_made, story_text}

@@ -6,10 +6,10 @@ use Rattle.messages.specs.declared.entry.Entry.{Entry}
 use Rattle.cluster_core.specs.Parts.{world_state}
 use Rattle.cluster_core.specs.World.{first_world}
 use Rattle.cluster_core.proofs.runs.Replayed.{replayed_count, replayed_more, replayed_next, replayed_none}
-use Rattle.holdings.specs.Holdings.{AreHeldBehind, HoldingsFields}
-use Rattle.holdings.proofs.Stretches.{held_now, left-take, left_within, left_next, read-take, within}
-use Rattle.holdings.proofs.stretch.holdings.Goals as goal
-use Rattle.holdings.proofs.stretch.holdings.Goals.{then-from-position+in_ok-of+in_ok-push, else-from-position}
+use Rattle.pictures.specs.Holdings.{AreHeldBehind, HoldingsFields}
+use Rattle.pictures.proofs.HeldStretches.{held_now, left-take, left_within, left_next, read-take, within}
+use Rattle.pictures.proofs.stretch.holdings.Goals as goal
+use Rattle.pictures.proofs.stretch.holdings.Goals.{then-from-position+in_ok-of+in_ok-push, else-from-position}
 
 pub loop-entry-init : goal.loop-entry-init
 loop-entry-init c =

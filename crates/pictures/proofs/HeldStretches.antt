@@ -9,7 +9,7 @@ use Rattle.cluster_core.specs.Runs.{Leads}
 use Rattle.cluster_core.specs.World.{WorldState, first_world}
 use Rattle.cluster_core.proofs.common.Places.{drop_read}
 use Rattle.cluster_core.proofs.runs.Replayed.{Replayed}
-use Rattle.holdings.specs.Holdings.{AreHeldBehind, HoldingsFields}
+use Rattle.pictures.specs.Holdings.{AreHeldBehind, HoldingsFields}
 
 -- the position is one from the first to the last
 abbrev pub within : ℕ → ℕ → ℕ → Bool

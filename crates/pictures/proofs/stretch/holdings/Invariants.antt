@@ -3,8 +3,8 @@ use Rattle.std.specs.List.{enumerate_from}
 use Rattle.messages.specs.declared.entry.Entry.{Entry}
 use Rattle.cluster_core.specs.Parts.{world_state}
 use Rattle.cluster_core.proofs.runs.Replayed.{Replayed}
-use Rattle.holdings.specs.Holdings.{AreHeldBehind, HoldingsFields, positions_within}
-use Rattle.holdings.proofs.stretch.holdings.Given as goal
+use Rattle.pictures.specs.Holdings.{AreHeldBehind, HoldingsFields, positions_within}
+use Rattle.pictures.proofs.stretch.holdings.Given as goal
 
 abbrev pub invariant-loop-entry : goal.invariant-loop-entry
 invariant-loop-entry l = record {

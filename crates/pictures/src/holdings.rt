@@ -21,7 +21,7 @@ pub struct Holdings {
 }
 
 impl Model for Holdings {
-    ghost use Rattle.holdings.specs.Holdings.{HoldingsFields};
+    ghost use Rattle.pictures.specs.Holdings.{HoldingsFields};
 
     ghost Value = { HoldingsFields };
 

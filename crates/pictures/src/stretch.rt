@@ -3,7 +3,7 @@ ghost use Rattle.std.specs.Prelude.{◌≡◌, ◌<◌, All, Ok, map, take, IfOk
 ghost use Rattle.cluster_core.specs.Next.{next};
 ghost use Rattle.cluster_core.specs.Parts.{world_state};
 ghost use Rattle.cluster_core.specs.World.{WorldState, journal_limit};
-ghost use Rattle.holdings.specs.Holdings.{AreHeldBehind, positions_within};
+ghost use Rattle.pictures.specs.Holdings.{AreHeldBehind, positions_within};
 
 use crate::holdings::Holdings;
 use cluster_core::journal::{Journal, comes_next};
