@@ -1,7 +1,6 @@
 //! What a call without a reply waits for.
-ghost use Rattle.std.specs.Prelude.{◌≡◌, ◌++◌, codes, decimal, filter, fold, not, string_bytes, IfOk, OnOk};
+ghost use Rattle.std.specs.Prelude.{◌≡◌, ◌++◌, filter, fold, not, string_bytes, IfOk, OnOk};
 ghost use Rattle.messages.specs.Messages.{same_message};
-ghost use Rattle.message_text.specs.Names.{lock_text};
 ghost use Rattle.stories.specs.About.{delivers};
 ghost use Rattle.stories.specs.Pending.{is_on_way, pending_told, under_way, waits_told, way_told, way_with};
 
@@ -15,7 +14,6 @@ use messages::event::Event;
 use messages::message::Message;
 use messages::version::Version;
 use model::call::CallId;
-use model::lock_info::LockInfo;
 use std::alloc::{AllocError, Global};
 use std::fmt::Write;
 
@@ -103,29 +101,18 @@ fn is_on_way(way: &[NumberedMessage<'_>], message: &Message) -> bool
 fn push_waits(out: &mut String, call: &CallId, standing: &Standing) -> Result<(), AllocError>
     ensures { OnOk result (string_bytes out.new ≡ string_bytes out.old ++ waits_told call.now standing.now) }
 {
+    let node = call.node;
     match standing {
-        Standing::Behind(lock) => push_behind(out, lock),
+        Standing::Behind(lock) => {
+            out.push_str("  waits: behind ")?;
+            push_lock(out, lock)?;
+            out.push_str("\n")
+        }
         Standing::AtServer(file) => writeln!(out, "  waits: at server {file}"),
         Standing::Requested => Ok(()), // the line of its message tells it
-        Standing::AtNode => push_at_node(out, call.node),
+        Standing::AtNode => writeln!(
+            out,
+            "  waits: at node {node}, for a lock or a call of its own"
+        ),
     }
-}
-
-// Writes the line of a call that waits at its node.
-fn push_at_node(out: &mut String, node: u8) -> Result<(), AllocError>
-    ensures { OnOk result (string_bytes out.new ≡ string_bytes out.old ++ codes "  waits: at node " ++ decimal node ++ codes ", for a lock or a call of its own\n") }
-{
-    writeln!(
-        out,
-        "  waits: at node {node}, for a lock or a call of its own"
-    )
-}
-
-// Writes the line of a call that waits for a lock to go.
-fn push_behind(out: &mut String, lock: &LockInfo) -> Result<(), AllocError>
-    ensures { OnOk result (string_bytes out.new ≡ string_bytes out.old ++ codes "  waits: behind " ++ lock_text lock.now ++ codes "\n") }
-{
-    out.push_str("  waits: behind ")?;
-    push_lock(out, lock)?;
-    out.push_str("\n")
 }

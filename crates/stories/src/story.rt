@@ -1,7 +1,6 @@
 //! The story of a call.
 ghost use Rattle.std.specs.Prelude.{◌≡◌, ◌++◌, codes, decimal, flat_map, is_some, string_bytes, IfOk, IfSome, OnOk};
 ghost use Rattle.message_text.specs.Names.{call_text, lock_text};
-ghost use Rattle.lockscript.specs.Texts.{reply_text};
 ghost use Rattle.stories.specs.About.{answers, makes, sent_by};
 ghost use Rattle.stories.specs.OpenCalls.{ended_by};
 ghost use Rattle.stories.specs.Stories.{answered_at, coming_text, end_told, entry_told, happening_text, is_made, lock_told, part_text, passes_at, place_in, plain_text, reply_told, role_text, send_told, story_text};
@@ -197,18 +196,13 @@ fn push_replied(
     ensures { OnOk result (string_bytes out.new ≡ string_bytes out.old ++ reply_told call.now answer.now) }
 {
     match answer {
-        Some((answered, reply)) if answered == call => push_reply_line(out, reply),
+        Some((answered, reply)) if answered == call => {
+            out.push_str("  reply: ")?;
+            push_reply(out, reply)?;
+            out.push_str("\n")
+        }
         _ => Ok(()),
     }
-}
-
-// Writes the line of a reply.
-fn push_reply_line(out: &mut String, reply: &Reply) -> Result<(), AllocError>
-    ensures { OnOk result (string_bytes out.new ≡ string_bytes out.old ++ codes "  reply: " ++ reply_text reply.now ++ codes "\n") }
-{
-    out.push_str("  reply: ")?;
-    push_reply(out, reply)?;
-    out.push_str("\n")
 }
 
 // Writes the lines of the messages about the call that an entry sends.
