@@ -5,7 +5,7 @@ ghost use Rattle.intervals.specs.Bytes.{greatest};
 
 use intervals::replay::{Command, replay};
 use intervals::span::{GREATEST, Span};
-use intervals::span_map::SpanMap;
+use intervals::span_map::{Exact, SpanMap};
 use intervals::tree_map::TreeMap;
 use intervals::vec_map::VecMap;
 use model::mode::Mode;
@@ -165,20 +165,21 @@ fn each_map_takes_steps(rt: HostRuntime) -> Result<(), Fail> {
 }
 
 // Whether a write that was planned for fewer runs changes nothing.
-fn is_stale(map: &mut TreeMap<Mode>) -> Result<bool, AllocError> {
-    write(map, 10, 14, A)?;
-    let edit = map.plan(Span { lo: 0, hi: 4 }, A)?;
+fn is_stale<V: Exact>(map: &mut TreeMap<V>, value: V) -> Result<bool, AllocError> {
+    map.set(Span { lo: 10, hi: 14 }, value)?;
+    let edit = map.plan(Span { lo: 0, hi: 4 }, Some(value))?;
     let did_fit = map.fits(&edit);
-    write(map, 20, 24, B)?;
+    map.set(Span { lo: 20, hi: 24 }, value)?;
     let fits = map.fits(&edit);
     map.apply(edit);
-    Ok(did_fit && !fits && has(map, 2, 10, Some((10, 14, Mode::Read))))
+    let is_kept = map.starts() == 2 && map.covers(Span { lo: 10, hi: 14 }, value);
+    Ok(did_fit && !fits && is_kept && map.get(4).is_none())
 }
 
 #[test]
 fn a_write_that_was_planned_for_fewer_runs_changes_nothing(rt: HostRuntime) -> Result<(), Fail> {
-    let mut map = Box::new(rt.alloc(), TreeMap::new(rt.alloc()))?;
-    assert!(rt; is_stale(&mut map)?);
+    let is_stale = is_stale(&mut TreeMap::new(rt.alloc()), Mode::Read)?;
+    assert!(rt; is_stale);
     Ok(())
 }
 

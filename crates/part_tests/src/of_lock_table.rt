@@ -9,43 +9,59 @@ use std::test::Fail;
 
 const FILE: u16 = 1;
 
-// A process of node 1.
-const FIRST: Owner = Owner {
-    node: 1,
-    incarnation: 1,
-    kind: Kind::OfProcess,
-    number: 1,
-};
-
 const TEN: Span = Span { lo: 10, hi: 19 };
 
 const BYTE: Span = Span { lo: 15, hi: 15 };
 
-// The lock of a process of the node's next incarnation, which comes after all owners of the one before.
-const LAST: LockInfo = LockInfo {
-    owner: Owner {
-        incarnation: 2,
-        ..FIRST
-    },
-    ..LOW
-};
-
-// The lock of a description, which comes after the processes of its node.
-const MIDDLE: LockInfo = LockInfo {
-    owner: Owner {
-        kind: Kind::OfDescription,
-        ..FIRST
-    },
-    span: TEN,
-    ..LOW
-};
+// A process of node 1.
+fn first() -> Owner {
+    Owner {
+        node: 1,
+        incarnation: 1,
+        kind: Kind::OfProcess,
+        number: 1,
+    }
+}
 
 // The lock of the second process.
-const LOW: LockInfo = LockInfo {
-    owner: Owner { number: 2, ..FIRST },
-    mode: Mode::Read,
-    span: Span { lo: 10, hi: 29 },
-};
+fn low() -> LockInfo {
+    LockInfo {
+        owner: Owner {
+            number: 2,
+            ..first()
+        },
+        mode: Mode::Read,
+        span: Span { lo: 10, hi: 29 },
+    }
+}
+
+// The lock of a description, which comes after the processes of its node.
+fn middle() -> LockInfo {
+    LockInfo {
+        owner: Owner {
+            kind: Kind::OfDescription,
+            ..first()
+        },
+        span: TEN,
+        ..low()
+    }
+}
+
+// The lock of a process of the node's next incarnation, which comes after all owners of the one before.
+fn last() -> LockInfo {
+    LockInfo {
+        owner: Owner {
+            incarnation: 2,
+            ..first()
+        },
+        ..low()
+    }
+}
+
+// The lock on that span alone.
+fn on(lock: LockInfo, span: Span) -> LockInfo {
+    LockInfo { span, ..lock }
+}
 
 fn copy_again(table: &LockTable) -> Result<LockTable, AllocError> {
     match table.copy() {
@@ -103,39 +119,25 @@ fn is_blocked_by(table: &LockTable, owner: Owner, lock: LockInfo) -> bool {
         && table.blocker(owner, FILE + 1, BYTE, Mode::Write).is_none()
 }
 
-const SETS: [(LockInfo, bool); 3] = [(LAST, true), (MIDDLE, true), (LOW, true)];
-
-// Bytes that are unlocked: one within a lock, and the first half of another.
-const UNLOCKS: [(LockInfo, bool); 2] = [
-    (LockInfo { span: BYTE, ..LOW }, false),
-    (LockInfo { span: TEN, ..LAST }, false),
-];
-
-// What is left of the last lock.
-const REST: LockInfo = LockInfo {
-    span: Span { lo: 20, hi: 29 },
-    ..LAST
-};
-
-// Each list of locks is the only one in its function, since each statement there is proved beside it.
 fn sets(table: &mut LockTable) -> Result<bool, LockError> {
-    all_change(table, &SETS)
+    all_change(table, &[(last(), true), (middle(), true), (low(), true)])
 }
 
+// Unlocks a byte within a lock, and the first half of another.
 fn unlocks(table: &mut LockTable) -> Result<bool, LockError> {
-    all_change(table, &UNLOCKS)
+    all_change(table, &[(on(low(), BYTE), false), (on(last(), TEN), false)])
 }
 
 fn has_all(table: &LockTable) -> Result<bool, AllocError> {
-    has_locks(table, &[LOW, MIDDLE, LAST])
+    has_locks(table, &[low(), middle(), last()])
 }
 
 fn has_rest(table: &LockTable) -> Result<bool, AllocError> {
-    has_locks(table, &[MIDDLE, REST])
+    has_locks(table, &[middle(), on(last(), Span { lo: 20, hi: 29 })])
 }
 
 fn are_blocked(table: &LockTable) -> bool {
-    is_blocked_by(table, FIRST, LOW) && is_blocked_by(table, LOW.owner, MIDDLE)
+    is_blocked_by(table, first(), low()) && is_blocked_by(table, low().owner, middle())
 }
 
 // (An owner who is gone may go again.)
@@ -147,7 +149,7 @@ fn goes_twice(table: &mut LockTable, owner: Owner) {
 // Whether the locks are in their order as they are set, name what blocks, and are freed.
 fn is_right(table: &mut LockTable) -> Result<bool, LockError> {
     let is_free = sets(table)? && has_all(table)? && are_blocked(table) && unlocks(table)?;
-    goes_twice(table, LOW.owner);
+    goes_twice(table, low().owner);
     Ok(is_free && has_rest(table)?)
 }
 

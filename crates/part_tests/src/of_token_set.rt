@@ -17,33 +17,35 @@ const WHOLE: Span = Span {
 
 const FILE: u16 = 1;
 
-const FIRST: Owner = Owner {
-    node: 1,
-    incarnation: 1,
-    kind: Kind::OfProcess,
-    number: 1,
-};
-
 // Locks of a process and of a description of the node.
-const LOW: LockInfo = LockInfo {
-    owner: FIRST,
-    mode: Mode::Write,
-    span: Span { lo: 0, hi: 99 },
-};
+fn low() -> LockInfo {
+    LockInfo {
+        owner: Owner {
+            node: 1,
+            incarnation: 1,
+            kind: Kind::OfProcess,
+            number: 1,
+        },
+        mode: Mode::Write,
+        span: Span { lo: 0, hi: 99 },
+    }
+}
 
-const HIGH: LockInfo = LockInfo {
-    owner: Owner {
-        kind: Kind::OfDescription,
-        ..FIRST
-    },
-    mode: Mode::Read,
-    span: Span { lo: 300, hi: 399 },
-};
+fn high() -> LockInfo {
+    LockInfo {
+        owner: Owner {
+            kind: Kind::OfDescription,
+            ..low().owner
+        },
+        mode: Mode::Read,
+        span: Span { lo: 300, hi: 399 },
+    }
+}
 
 // The node's locks of the file: both. (In a box, since that is dropped in fewer steps, each of which the check proves.)
 fn both_locks(alloc: Global) -> Result<Box<LockTable>, Fail> {
     let mut locks = Box::new(alloc, LockTable::new(alloc, 1024))?;
-    for lock in [HIGH, LOW] {
+    for lock in [high(), low()] {
         locks.set(lock.owner, FILE, lock.span, lock.mode)?;
     }
     Ok(locks)
@@ -56,36 +58,8 @@ fn of_all(alloc: Global) -> Result<Box<TokenSet>, AllocError> {
     Ok(token)
 }
 
-const ABOVE: Span = Span {
-    lo: 100,
-    hi: GREATEST,
-};
-
-const BETWEEN: Span = Span { lo: 100, hi: 299 };
-
-// What is required in which mode, where every byte is desired, and the answer. A conflict changes nothing; a Revoke for read
-// leaves a shared token, and one for write takes all.
+// What is required in which mode, where every byte is desired, and the answer.
 type Revoke = (Mode, Span, GaveUp);
-
-const REVOKES: [Revoke; 5] = [
-    (Mode::Read, Span { lo: 50, hi: 59 }, GaveUp::Conflict(LOW)),
-    (Mode::Write, Span { lo: 99, hi: 300 }, GaveUp::Conflict(LOW)),
-    (
-        Mode::Write,
-        Span { lo: 399, hi: 400 },
-        GaveUp::Conflict(HIGH),
-    ),
-    (
-        Mode::Read,
-        Span { lo: 200, hi: 209 },
-        GaveUp::Released(ABOVE),
-    ),
-    (
-        Mode::Write,
-        Span { lo: 200, hi: 209 },
-        GaveUp::Released(BETWEEN),
-    ),
-];
 
 const LEFT: [(Span, Level); 2] = [
     (Span { lo: 0, hi: 99 }, Level::Exclusive),
@@ -113,8 +87,35 @@ fn gives_up(
     Ok(true)
 }
 
+// A conflict changes nothing; a Revoke for read leaves a shared token, and one for write takes all.
 fn gives_all_up(locks: &LockTable, token: &mut TokenSet) -> Result<bool, AllocError> {
-    gives_up(locks, token, &REVOKES)
+    let revokes = [
+        (Mode::Read, Span { lo: 50, hi: 59 }, GaveUp::Conflict(low())),
+        (
+            Mode::Write,
+            Span { lo: 99, hi: 300 },
+            GaveUp::Conflict(low()),
+        ),
+        (
+            Mode::Write,
+            Span { lo: 399, hi: 400 },
+            GaveUp::Conflict(high()),
+        ),
+        (
+            Mode::Read,
+            Span { lo: 200, hi: 209 },
+            GaveUp::Released(Span {
+                lo: 100,
+                hi: GREATEST,
+            }),
+        ),
+        (
+            Mode::Write,
+            Span { lo: 200, hi: 209 },
+            GaveUp::Released(Span { lo: 100, hi: 299 }),
+        ),
+    ];
+    gives_up(locks, token, &revokes)
 }
 
 fn is_left(alloc: Global, token: &TokenSet) -> Result<bool, AllocError> {
