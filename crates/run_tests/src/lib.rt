@@ -7,6 +7,8 @@ mod gates;
 #[cfg(test)]
 mod journals;
 #[cfg(test)]
+mod machines;
+#[cfg(test)]
 mod of_actors;
 #[cfg(test)]
 mod of_book;

@@ -1,15 +1,42 @@
 //! Nodes, by messages that no server sends and calls that no script has.
-use crate::journals::{is_of, read};
-use messages::entry::Entry;
+use crate::machines::{Machine, are_foreign, is_foreign, takes_all};
 use messages::event::Event;
 use messages::outcome::Outcome;
 use messages::refusal::StepError;
 use messages::shape::Shape;
 use model::op::Op;
+use model::policy::Policy;
 use node_core::event::NodeEvent;
 use node_core::node::Node;
-use std::alloc::Global;
+use std::alloc::{AllocError, Global};
 use std::test::Fail;
+
+impl Machine for Node {
+    type Taken = NodeEvent;
+
+    fn first(alloc: Global, shape: Shape) -> Result<Node, AllocError> {
+        let _ = shape.nodes(); // tells the proof that there is one
+        Node::new(alloc, shape, 1, 1)
+    }
+
+    fn taken(alloc: Global, event: &Event) -> Option<NodeEvent> {
+        match event {
+            Event::Call { pid, op, .. } => Some(NodeEvent::Call { pid: *pid, op: *op }),
+            Event::Deliver(message) => Some(NodeEvent::Deliver(message.copy(alloc).ok()?)),
+            Event::Interrupt { pid, .. } => Some(NodeEvent::Interrupt { pid: *pid }),
+            Event::Retry { pid, .. } => Some(NodeEvent::Retry { pid: *pid }),
+            _ => None,
+        }
+    }
+
+    fn step(&self, alloc: Global, event: &NodeEvent) -> Result<(Node, Outcome), StepError> {
+        Node::step(self, alloc, event)
+    }
+
+    fn same(&self, other: &Node) -> bool {
+        Node::same(self, other)
+    }
+}
 
 // What node 1 takes. Commands with other numbers (4, 8) or for another incarnation (5, 9) do nothing, a wait is not denied (11), and
 // the node names its lock where another node needs its bytes (15), and gives them up once that is gone.
@@ -50,9 +77,14 @@ reply 1.1.8 done
 end 18
 ";
 
-// Whether the node stays as it is at the entry in that place, from 0.
-fn stays(place: usize) -> bool {
-    matches!(place, 3 | 4 | 6 | 7 | 8 | 10)
+// Where the node stays as it is.
+const STAYING: [usize; 6] = [4, 5, 7, 8, 9, 11];
+
+#[test]
+fn takes_its_own(rt: HostRuntime) -> Result<(), Fail> {
+    let is_right = takes_all::<Node>(rt.alloc(), TAKEN, &STAYING)?;
+    assert!(rt; is_right);
+    Ok(())
 }
 
 // Events that no node 1 of that shape takes.
@@ -62,88 +94,28 @@ entry 2 deliver taken 1 1 1 1.1.3
 end 2
 ";
 
-// The node before any event, in a box. (A test keeps no other, since one is dropped in fewer steps, each of which the check proves.)
-fn begins(alloc: Global, shape: Shape) -> Result<Box<Node>, Fail> {
-    let _ = shape.nodes(); // tells the proof that there is one
-    Ok(Box::new(alloc, Node::new(alloc, shape, 1, 1)?)?)
-}
-
-// The event as a node takes it, if one does.
-fn own(alloc: Global, event: &Event) -> Option<NodeEvent> {
-    match event {
-        Event::Call { pid, op, .. } => Some(NodeEvent::Call { pid: *pid, op: *op }),
-        Event::Deliver(message) => Some(NodeEvent::Deliver(message.copy(alloc).ok()?)),
-        Event::Interrupt { pid, .. } => Some(NodeEvent::Interrupt { pid: *pid }),
-        _ => None,
-    }
-}
-
-// What the event gives.
-fn stepped(
-    alloc: Global,
-    node: &Node,
-    event: &NodeEvent,
-) -> Result<(Box<Node>, Outcome), StepError> {
-    let (next, outcome) = node.step(alloc, event)?;
-    Ok((Box::new(alloc, next)?, outcome))
-}
-
-// Whether the event gives what the entry says, and leaves the node as it is, or not.
-fn takes(alloc: Global, node: &mut Box<Node>, entry: &Entry, stays: bool) -> Option<bool> {
-    let event = own(alloc, entry.event())?;
-    let (next, outcome) = stepped(alloc, node, &event).ok()?;
-    let is_right = next.same(node) == stays && is_of(entry, &outcome);
-    *node = next;
-    Some(is_right)
-}
-
-// The same of each entry, one after the other.
-fn takes_all(alloc: Global, node: &mut Box<Node>, entries: &[Entry]) -> bool {
-    for place in 0..entries.len() {
-        if takes(alloc, node, &entries[place], stays(place)) != Some(true) {
-            return false;
-        }
-    }
-    true
-}
-
-#[test]
-fn takes_its_own(rt: HostRuntime) -> Result<(), Fail> {
-    let (shape, entries) = read(rt.alloc(), TAKEN)?;
-    let mut node = begins(rt.alloc(), shape)?;
-    let is_right = takes_all(rt.alloc(), &mut node, &entries);
-    assert!(rt; is_right);
-    Ok(())
-}
-
-// Whether the node refuses the event as one of a stranger.
-fn is_foreign(alloc: Global, node: &Node, event: &NodeEvent) -> bool {
-    node.step(alloc, event).err() == Some(StepError::Stranger)
-}
-
-fn are_foreign(alloc: Global, node: &Node, entries: &[Entry]) -> bool {
-    for entry in entries {
-        match &own(alloc, entry.event()) {
-            Some(event) if is_foreign(alloc, node, event) => {}
-            _ => return false,
-        }
-    }
-    true
-}
-
 // Whether the node has no process of that number.
-fn lacks(alloc: Global, node: &Node, pid: u16) -> bool {
-    let spawn = NodeEvent::Call { pid, op: Op::Spawn };
+fn lacks<M: Machine>(alloc: Global, node: &M, pid: u16) -> bool {
+    let spawn = Event::Call {
+        node: 1,
+        pid,
+        op: Op::Spawn,
+    };
     is_foreign(alloc, node, &spawn)
-        && is_foreign(alloc, node, &NodeEvent::Retry { pid })
-        && is_foreign(alloc, node, &NodeEvent::Interrupt { pid })
+        && is_foreign(alloc, node, &Event::Retry { node: 1, pid })
+        && is_foreign(alloc, node, &Event::Interrupt { node: 1, pid })
+}
+
+// Whether it has none outside 1 to 256.
+fn lacks_strangers<M: Machine>(alloc: Global) -> Result<bool, Fail> {
+    let node = M::first(alloc, Shape::new(1, 1, Policy::Exact)?)?;
+    Ok(lacks(alloc, &node, 0) && lacks(alloc, &node, 257))
 }
 
 #[test]
 fn refuses_events_of_strangers(rt: HostRuntime) -> Result<(), Fail> {
-    let (shape, entries) = read(rt.alloc(), FOREIGN)?;
-    let node = begins(rt.alloc(), shape)?;
-    let are_foreign = are_foreign(rt.alloc(), &node, &entries);
-    assert!(rt; are_foreign && lacks(rt.alloc(), &node, 0) && lacks(rt.alloc(), &node, 257));
+    let alloc = rt.alloc();
+    let are_foreign = are_foreign::<Node>(alloc, FOREIGN)? && lacks_strangers::<Node>(alloc)?;
+    assert!(rt; are_foreign);
     Ok(())
 }

@@ -1,14 +1,46 @@
 //! Servers, by messages that no node sends.
-use crate::journals::{is_of, read};
-use messages::entry::Entry;
+use crate::machines::{Machine, are_foreign, takes_all};
 use messages::event::Event;
 use messages::outcome::Outcome;
 use messages::refusal::StepError;
 use messages::shape::Shape;
-use std::alloc::Global;
+use std::alloc::{AllocError, Global};
 use std::test::Fail;
 use token_server::event::ServerEvent;
 use token_server::server::Server;
+
+impl Machine for Server {
+    type Taken = ServerEvent;
+
+    fn first(alloc: Global, shape: Shape) -> Result<Server, AllocError> {
+        let _ = shape.files(); // tells the proof that there is one
+        Server::new(alloc, shape, 1)
+    }
+
+    fn taken(alloc: Global, event: &Event) -> Option<ServerEvent> {
+        match event {
+            Event::Deliver(message) => Some(ServerEvent::Deliver(message.copy(alloc).ok()?)),
+            Event::Resend { .. } => Some(ServerEvent::Resend),
+            Event::Learn {
+                node,
+                incarnation,
+                ..
+            } => Some(ServerEvent::Learn {
+                node: *node,
+                incarnation: *incarnation,
+            }),
+            _ => None,
+        }
+    }
+
+    fn step(&self, alloc: Global, event: &ServerEvent) -> Result<(Server, Outcome), StepError> {
+        Server::step(self, alloc, event)
+    }
+
+    fn same(&self, other: &Server) -> bool {
+        Server::same(self, other)
+    }
+}
 
 // What the server of file 1 takes. An answer with another number (4, 13), of another kind (5, 12) or of another call (14) ends nothing, and
 // is asked for again where it was the holder's. A call that waits is asked for as it was first: when it asks again (19), when locks may be gone (21) and
@@ -57,12 +89,14 @@ entry 29 resend 1
 end 29
 ";
 
-// Whether the server stays as it is at the entry in that place, from 0.
-fn stays(place: usize) -> bool {
-    matches!(
-        place,
-        0 | 3 | 4 | 5 | 9 | 10 | 11 | 12 | 15 | 23 | 25 | 26 | 28
-    )
+// Where the server stays as it is.
+const STAYING: [usize; 13] = [1, 4, 5, 6, 10, 11, 12, 13, 16, 24, 26, 27, 29];
+
+#[test]
+fn takes_its_own(rt: HostRuntime) -> Result<(), Fail> {
+    let is_right = takes_all::<Server>(rt.alloc(), TAKEN, &STAYING)?;
+    assert!(rt; is_right);
+    Ok(())
 }
 
 // Messages that are not for the server of file 1, or of no node of that shape.
@@ -74,83 +108,9 @@ entry 4 deliver revoke 1 1 1 1.1 2.1.3 write 0 9 0 9223372036854775807
 end 4
 ";
 
-// The server before any event, in a box. (A test keeps no other, since one is dropped in fewer steps, each of which the check proves.)
-fn begins(alloc: Global, shape: Shape) -> Result<Box<Server>, Fail> {
-    let _ = shape.files(); // tells the proof that there is one
-    Ok(Box::new(alloc, Server::new(alloc, shape, 1)?)?)
-}
-
-// The event as a server takes it, if one does.
-fn own(alloc: Global, event: &Event) -> Option<ServerEvent> {
-    match event {
-        Event::Deliver(message) => Some(ServerEvent::Deliver(message.copy(alloc).ok()?)),
-        Event::Resend { .. } => Some(ServerEvent::Resend),
-        Event::Learn {
-            node,
-            incarnation,
-            ..
-        } => Some(ServerEvent::Learn {
-            node: *node,
-            incarnation: *incarnation,
-        }),
-        _ => None,
-    }
-}
-
-// What the event gives.
-fn stepped(
-    alloc: Global,
-    server: &Server,
-    event: &ServerEvent,
-) -> Result<(Box<Server>, Outcome), StepError> {
-    let (next, outcome) = server.step(alloc, event)?;
-    Ok((Box::new(alloc, next)?, outcome))
-}
-
-// Whether the event gives what the entry says, and leaves the server as it is, or not.
-fn takes(alloc: Global, server: &mut Box<Server>, entry: &Entry, stays: bool) -> Option<bool> {
-    let event = own(alloc, entry.event())?;
-    let (next, outcome) = stepped(alloc, server, &event).ok()?;
-    let is_right = next.same(server) == stays && is_of(entry, &outcome);
-    *server = next;
-    Some(is_right)
-}
-
-// The same of each entry, one after the other.
-fn takes_all(alloc: Global, server: &mut Box<Server>, entries: &[Entry]) -> bool {
-    for place in 0..entries.len() {
-        if takes(alloc, server, &entries[place], stays(place)) != Some(true) {
-            return false;
-        }
-    }
-    true
-}
-
-#[test]
-fn takes_its_own(rt: HostRuntime) -> Result<(), Fail> {
-    let (shape, entries) = read(rt.alloc(), TAKEN)?;
-    let mut server = begins(rt.alloc(), shape)?;
-    let is_right = takes_all(rt.alloc(), &mut server, &entries);
-    assert!(rt; is_right);
-    Ok(())
-}
-
-// Whether the server refuses each of the events as one of a stranger.
-fn are_foreign(alloc: Global, server: &Server, entries: &[Entry]) -> bool {
-    for entry in entries {
-        match &own(alloc, entry.event()) {
-            Some(event) if server.step(alloc, event).err() == Some(StepError::Stranger) => {}
-            _ => return false,
-        }
-    }
-    true
-}
-
 #[test]
 fn refuses_messages_for_others(rt: HostRuntime) -> Result<(), Fail> {
-    let (shape, entries) = read(rt.alloc(), FOREIGN)?;
-    let server = begins(rt.alloc(), shape)?;
-    let are_foreign = are_foreign(rt.alloc(), &server, &entries);
+    let are_foreign = are_foreign::<Server>(rt.alloc(), FOREIGN)?;
     assert!(rt; are_foreign);
     Ok(())
 }
