@@ -1,6 +1,7 @@
 //! Commits, and why they are refused.
 ghost use Rattle.std.specs.Prelude.{◌≡◌, IfSome};
 
+use crate::books::{Opened, open, position, put};
 use book::book::Book;
 use book::commit_error::CommitError;
 use book::confirms::Confirms;
@@ -21,16 +22,11 @@ use trail::name::Name;
 use trail::trail::Trail;
 use trail::unnamed::Unnamed;
 
-// A cluster of two nodes and one file, with its seats. (In boxes, since what a test keeps in a box is dropped in fewer steps.)
-fn begins<J: Name>(
-    alloc: Global,
-    trail: Option<NewTrail>,
-) -> Result<(Box<Book<J>>, Box<Vec<Seat<J>>>), Fail>
+// The book of a cluster of two nodes and one file, with its seats.
+fn begins<J: Name>(alloc: Global, trail: Option<NewTrail>) -> Result<Box<Opened<J>>, Fail>
     requires { IfSome trail (λ trail. trail ≡ J.trail) }
 {
-    let shape = Shape::new(2, 1, Policy::Exact)?;
-    let (book, seats) = Book::new(alloc, shape, trail)?;
-    Ok((Box::new(alloc, book)?, Box::new(alloc, seats)?))
+    Ok(open(alloc, Shape::new(2, 1, Policy::Exact)?, trail)?)
 }
 
 fn spawn(node: u8) -> Event {
@@ -58,6 +54,11 @@ fn commit<J: Name>(
     Box::new(alloc, stamp).ok()
 }
 
+// Whether the event's step is taken.
+fn takes<J: Name>(book: &mut Book<J>, alloc: Global, seat: &mut Seat<J>, event: Event) -> bool {
+    commit(book, alloc, seat, event, None).is_some()
+}
+
 // Why the event's step is not taken, if it was prepared and is not.
 fn refusal<J: Name>(
     book: &mut Book<J>,
@@ -81,11 +82,8 @@ fn is_confirmed<J: Name>(book: &Book<J>, first: &Stamp, second: &Stamp) -> bool 
 }
 
 // Whether a process of each node begins, the second once the first did, and there is a receipt of the second.
-fn begin_both<J: Name>(
-    book: &mut Book<J>,
-    alloc: Global,
-    seats: &mut Vec<Seat<J>>,
-) -> Option<bool> {
+fn begin_both<J: Name>(opened: &mut Opened<J>, alloc: Global) -> Option<bool> {
+    let Opened { book, seats } = opened;
     let first = commit(book, alloc, seats.first_mut()?, spawn(1), None)?;
     let seen = first.mark();
     let second = commit(book, alloc, seats.get_mut(1)?, spawn(2), Some(&seen))?;
@@ -93,11 +91,8 @@ fn begin_both<J: Name>(
 }
 
 // Whether an actor prepares no event of another, and a book takes no step that names an incarnation that was not declared.
-fn keeps_strangers_out<J: Name>(
-    book: &mut Book<J>,
-    alloc: Global,
-    seats: &mut Vec<Seat<J>>,
-) -> Option<bool> {
+fn keeps_strangers_out<J: Name>(opened: &mut Opened<J>, alloc: Global) -> Option<bool> {
+    let Opened { book, seats } = opened;
     let foreign = seats.first()?.prepare(alloc, spawn(2)).err();
     let learn = Event::Learn {
         file: 1,
@@ -110,33 +105,27 @@ fn keeps_strangers_out<J: Name>(
 
 #[test]
 fn a_step_is_of_an_actor(rt: HostRuntime) -> Result<(), Fail> {
-    let (mut book, mut seats) = begins::<Brand>(rt.alloc(), None)?;
-    let both = begin_both(&mut book, rt.alloc(), &mut seats);
-    let neither = keeps_strangers_out(&mut book, rt.alloc(), &mut seats);
+    let mut opened = begins::<Brand>(rt.alloc(), None)?;
+    let both = begin_both(&mut opened, rt.alloc());
+    let neither = keeps_strangers_out(&mut opened, rt.alloc());
     assert!(rt; both == Some(true) && neither == Some(true));
     Ok(())
 }
 
 // Whether a step of a seat of another book, which is where node 1 begins, is not taken where it began.
-fn is_stale<J: Name>(
-    book: &mut Book<J>,
-    alloc: Global,
-    own: &mut Seat<J>,
-    other: &mut Seat<J>,
-) -> bool {
-    commit(book, alloc, own, spawn(1), None).is_some()
-        && refusal(book, alloc, other, spawn(1)) == Some(CommitError::Stale)
+fn is_stale<J: Name>(opened: &mut Opened<J>, alloc: Global, other: &mut Opened<J>) -> Option<bool> {
+    let Opened { book, seats } = opened;
+    let is_taken = takes(book, alloc, seats.first_mut()?, spawn(1));
+    let refused = refusal(book, alloc, other.seats.first_mut()?, spawn(1));
+    Some(is_taken && refused == Some(CommitError::Stale))
 }
 
 #[test]
 fn a_step_is_of_a_book(rt: HostRuntime) -> Result<(), Fail> {
-    let (mut book, mut seats) = begins::<Brand>(rt.alloc(), None)?;
-    let (_, mut others) = begins::<Brand>(rt.alloc(), None)?;
-    let is_stale = match (seats.first_mut(), others.first_mut()) {
-        (Some(own), Some(other)) => is_stale(&mut book, rt.alloc(), own, other),
-        _ => false,
-    };
-    assert!(rt; is_stale);
+    let mut opened = begins::<Brand>(rt.alloc(), None)?;
+    let mut other = begins::<Brand>(rt.alloc(), None)?;
+    let is_stale = is_stale(&mut opened, rt.alloc(), &mut other);
+    assert!(rt; is_stale == Some(true));
     Ok(())
 }
 
@@ -157,26 +146,42 @@ fn each_item_of_a_trail_has_its_place(rt: HostRuntime) -> Result<(), Fail> {
     Ok(())
 }
 
-// Whether a book with a trail takes and refuses what one without takes and refuses: steps of its own seat, before and after the
-// node's failure, and one of a seat of another book that made as many, and whose state is another.
+// Whether a book takes steps of its own seat, and refuses one of a seat of another book that made as many, and whose state is another.
+fn refuses_other<J: Name>(
+    opened: &mut Opened<J>,
+    alloc: Global,
+    other: &mut Opened<J>,
+) -> Option<bool> {
+    let Opened { book, seats } = opened;
+    let own = seats.first_mut()?;
+    let strange = other.seats.first_mut()?;
+    let began = takes(book, alloc, own, spawn(1))
+        && takes(&mut other.book, alloc, strange, spawn_of(1, 2));
+    let refused = refusal(book, alloc, strange, spawn_of(1, 3));
+    Some(began && refused == Some(CommitError::Stale) && takes(book, alloc, own, spawn_of(1, 3)))
+}
+
+// Whether the node fails, a step of it is refused, and it begins again and takes steps.
+fn begins_again<J: Name>(opened: &mut Opened<J>, alloc: Global) -> Option<bool> {
+    let Opened { book, seats } = opened;
+    let own = seats.first_mut()?;
+    position(book.declare(alloc, 1))?;
+    let refused = refusal(book, alloc, own, spawn_of(1, 4));
+    put(own, book.restart(alloc, 1))?;
+    let begun = takes(book, alloc, own, spawn(1)) && takes(book, alloc, own, spawn_of(1, 2));
+    Some(refused == Some(CommitError::Fenced) && begun)
+}
+
+// Whether a book with a trail takes and refuses what one without takes and refuses.
 fn takes_the_same<J: Name>(alloc: Global, trail: NewTrail) -> Result<bool, Fail>
     requires { trail ≡ J.trail }
 {
-    let (mut book, mut seats) = begins::<J>(alloc, Some(trail))?;
-    let (mut second, mut others) = begins::<J>(alloc, None)?;
-    let (Some(own), Some(other)) = (seats.first_mut(), others.first_mut()) else {
-        return Ok(false);
-    };
-    let began = commit(&mut book, alloc, own, spawn(1), None).is_some()
-        && commit(&mut second, alloc, other, spawn_of(1, 2), None).is_some();
-    let stale = refusal(&mut book, alloc, other, spawn_of(1, 3)) == Some(CommitError::Stale);
-    let went_on = commit(&mut book, alloc, own, spawn_of(1, 3), None).is_some();
-    book.declare(alloc, 1)?;
-    let fenced = refusal(&mut book, alloc, own, spawn_of(1, 4)) == Some(CommitError::Fenced);
-    let mut again = book.restart(alloc, 1)?;
-    let begun = commit(&mut book, alloc, &mut again, spawn(1), None).is_some()
-        && commit(&mut book, alloc, &mut again, spawn_of(1, 2), None).is_some();
-    Ok(began && stale && went_on && fenced && begun)
+    let mut opened = begins::<J>(alloc, Some(trail))?;
+    let mut other = begins::<J>(alloc, None)?;
+    Ok(
+        refuses_other(&mut opened, alloc, &mut other) == Some(true)
+            && begins_again(&mut opened, alloc) == Some(true),
+    )
 }
 
 #[test]
@@ -187,22 +192,25 @@ fn a_book_with_a_trail_takes_the_same(rt: HostRuntime) -> Result<(), Fail> {
 }
 
 // Whether the server, once it was declared failed, is not again, and takes no step that was prepared before.
-fn fails<J: Name>(book: &mut Book<J>, alloc: Global, seat: &mut Seat<J>) -> Result<bool, Fail> {
-    let prepared = seat.prepare(alloc, Event::Resend { file: 1 })?;
-    let position = book.fail_server(alloc, 1)?.position();
+fn is_fenced<J: Name>(opened: &mut Opened<J>, alloc: Global) -> Option<bool> {
+    let Opened { book, seats } = opened;
+    let seat = seats.last_mut()?;
+    let prepared = seat.prepare(alloc, Event::Resend { file: 1 }).ok()?;
+    let failed = position(book.fail_server(alloc, 1));
     let again = book.fail_server(alloc, 1).err();
     let refused = book.commit(alloc, seat, prepared, None).err();
-    Ok(position == 1 && again == Some(Refused::NotAlive) && refused == Some(CommitError::Fenced))
+    Some(
+        failed == Some(1)
+            && again == Some(Refused::NotAlive)
+            && refused == Some(CommitError::Fenced),
+    )
 }
 
 // (That of a node is, too, is looked at on threads.)
 #[test]
 fn a_failed_server_is_fenced(rt: HostRuntime) -> Result<(), Fail> {
-    let (mut book, mut seats) = begins::<Brand>(rt.alloc(), None)?;
-    let is_fenced = match seats.last_mut() {
-        Some(seat) => fails(&mut book, rt.alloc(), seat)?,
-        None => false,
-    };
-    assert!(rt; is_fenced);
+    let mut opened = begins::<Brand>(rt.alloc(), None)?;
+    let is_fenced = is_fenced(&mut opened, rt.alloc());
+    assert!(rt; is_fenced == Some(true));
     Ok(())
 }

@@ -1,7 +1,8 @@
 //! The steps of a cluster where a request for memory is refused: of a world, and of a book with its seats, which take the entries of
 //! one journal.
-ghost use Rattle.std.specs.Prelude.{◌≡◌, IfSome};
+ghost use Rattle.std.specs.Prelude.{◌≡◌};
 
+use crate::books::{Opened, open, position, put, put_first};
 use crate::journals::read;
 use book::book::Book;
 use book::new_trail::NewTrail;
@@ -141,9 +142,11 @@ fn comes_next_again(alloc: Global, world: &mut World, entry: &Entry) -> Result<b
     }
 }
 
-fn all_come_next(alloc: Global, world: &mut World, entries: &[Entry]) -> Result<bool, AllocError> {
+// Whether the entries are the steps of a world of that shape, one after the other.
+fn all_come_next(alloc: Global, shape: Shape, entries: &[Entry]) -> Result<bool, AllocError> {
+    let mut world = begins_again(alloc, shape)?;
     for entry in entries {
-        if !comes_next_again(alloc, world, entry)? {
+        if !comes_next_again(alloc, &mut world, entry)? {
             return Ok(false);
         }
     }
@@ -172,10 +175,8 @@ fn commits<J: Name>(
     seat: &mut Seat<J>,
     event: &Event,
 ) -> Option<u32> {
-    let event = event.copy(alloc).ok()?;
-    let prepared = seat.prepare(alloc, event).ok()?;
-    let stamp = book.commit(alloc, seat, prepared, None).ok()?;
-    Some(stamp.position())
+    let prepared = seat.prepare(alloc, event.copy(alloc).ok()?).ok()?;
+    position(book.commit(alloc, seat, prepared, None))
 }
 
 // The server begins again, with another seat.
@@ -185,9 +186,7 @@ fn starts<J: Name>(
     seats: &mut Vec<Seat<J>>,
     file: u16,
 ) -> Option<u32> {
-    let (seat, stamp) = book.start_server(alloc, file).ok()?;
-    *seats.last_mut()? = seat;
-    Some(stamp.position())
+    position(put_first(seats.last_mut()?, book.start_server(alloc, file)))
 }
 
 // The first node begins again, with another seat.
@@ -197,8 +196,7 @@ fn restarts<J: Name>(
     seats: &mut Vec<Seat<J>>,
     node: u8,
 ) -> Option<u32> {
-    let seat = book.restart(alloc, node).ok()?;
-    *seats.first_mut()? = seat;
+    put(seats.first_mut()?, book.restart(alloc, node))?;
     Some(book.len())
 }
 
@@ -210,9 +208,9 @@ fn taken<J: Name>(
     event: &Event,
 ) -> Option<u32> {
     match event {
-        Event::Declare { node } => Some(book.declare(alloc, *node).ok()?.position()),
+        Event::Declare { node } => position(book.declare(alloc, *node)),
         Event::Restart { node } => restarts(alloc, book, seats, *node),
-        Event::FailServer { file } => Some(book.fail_server(alloc, *file).ok()?.position()),
+        Event::FailServer { file } => position(book.fail_server(alloc, *file)),
         Event::StartServer { file } => starts(alloc, book, seats, *file),
         _ => commits(alloc, book, seat_of(seats, event)?, event),
     }
@@ -257,18 +255,6 @@ fn takes_all<J: Name>(
     true
 }
 
-// A book with its seats, in boxes.
-fn opens<J: Name>(
-    alloc: Global,
-    shape: Shape,
-    trail: Option<NewTrail>,
-) -> Result<(Box<Book<J>>, Box<Vec<Seat<J>>>), AllocError>
-    requires { IfSome trail (λ trail. trail ≡ J.trail) }
-{
-    let (book, seats) = Book::new(alloc, shape, trail)?;
-    Ok((Box::new(alloc, book)?, Box::new(alloc, seats)?))
-}
-
 // Whether a book of that shape takes all of it. (One that is made again has no trail.)
 fn is_taken<J: Name>(
     alloc: Global,
@@ -278,11 +264,12 @@ fn is_taken<J: Name>(
 ) -> Result<bool, AllocError>
     requires { trail ≡ J.trail }
 {
-    let (mut book, mut seats) = match opens::<J>(alloc, shape, Some(trail)) {
+    let mut opened = match open::<J>(alloc, shape, Some(trail)) {
         Ok(opened) => opened,
-        Err(_) => opens::<J>(alloc, shape, None)?,
+        Err(_) => open::<J>(alloc, shape, None)?,
     };
-    Ok(takes_all(alloc, &mut book, &mut seats, entries))
+    let Opened { book, seats } = &mut *opened;
+    Ok(takes_all(alloc, book, seats, entries))
 }
 
 // Where one request for memory is refused, the world stays as it is: the same step then gives what it would have given, and so do
@@ -290,8 +277,7 @@ fn is_taken<J: Name>(
 #[test]
 fn world_keeps_what_it_had(rt: HostRuntime) -> Result<(), Fail> {
     let (shape, entries) = read(rt.alloc(), RUN)?;
-    let mut world = begins_again(rt.alloc(), shape)?;
-    let come_next = all_come_next(rt.alloc(), &mut world, &entries)?;
+    let come_next = all_come_next(rt.alloc(), shape, &entries)?;
     assert!(rt; come_next);
     Ok(())
 }

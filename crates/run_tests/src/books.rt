@@ -1,0 +1,47 @@
+//! Books of tests, with the seats that take their steps.
+ghost use Rattle.std.specs.Prelude.{◌≡◌, IfSome};
+
+use book::book::Book;
+use book::new_trail::NewTrail;
+use book::seat::Seat;
+use book::stamp::Stamp;
+use messages::shape::Shape;
+use std::alloc::{AllocError, Global};
+use trail::name::Name;
+
+/// A book and the seats of its actors.
+#[derive(Drop)]
+pub struct Opened<J: Name> {
+    pub book: Book<J>,
+    pub seats: Vec<Seat<J>>,
+}
+
+/// A book of the shape, with its seats. (In a box, since that is dropped in fewer steps, each of which the check proves.)
+pub fn open<J: Name>(
+    alloc: Global,
+    shape: Shape,
+    trail: Option<NewTrail>,
+) -> Result<Box<Opened<J>>, AllocError>
+    requires { IfSome trail (λ trail. trail ≡ J.trail) }
+{
+    let (book, seats) = Book::new(alloc, shape, trail)?;
+    Ok(Box::new(alloc, Opened { book, seats })?)
+}
+
+/// Where a step's entry stands, from 1, if it was taken.
+pub fn position<E: Drop>(made: Result<Stamp, E>) -> Option<u32> {
+    Some(made.ok()?.position())
+}
+
+/// Puts what was made in the place of what was there. (Of any type, since a seat is dropped in many steps.)
+pub fn put<T: Drop, E: Drop>(place: &mut T, made: Result<T, E>) -> Option<()> {
+    *place = made.ok()?;
+    Some(())
+}
+
+/// The same of the first of two, and the second.
+pub fn put_first<T: Drop, U: Drop, E>(place: &mut T, made: Result<(T, U), E>) -> Result<U, E> {
+    let (first, second) = made?;
+    *place = first;
+    Ok(second)
+}
