@@ -26,55 +26,63 @@ history
 1048576 1.1.4294967295   256 unlock 255 desc 0 -9223372036854775808 -> done
 ";
 
-const REFUSED: RefusedLine = RefusedLine {
-    line: 4_294_967_295,
-    code: 19,
-};
+fn refused() -> RefusedLine {
+    RefusedLine {
+        line: 4_294_967_295,
+        code: 19,
+    }
+}
 
-const TOKEN: TokenRun = TokenRun {
-    node: 1,
-    incarnation: 65_535,
-    file: 256,
-    span: Span {
-        lo: 100,
-        hi: GREATEST,
-    },
-    level: Level::Shared,
-};
-
-const LOCK: HeldLock = HeldLock {
-    file: 256,
-    lock: LockInfo {
-        owner: Owner {
-            node: 1,
-            incarnation: 65_535,
-            kind: Kind::OfDescription,
-            number: 16_384,
-        },
-        mode: Mode::Read,
-        span: Span { lo: 7, hi: 7 },
-    },
-};
-
-const LAST: Item = Item::Answered {
-    position: 1_048_576,
-    id: CallId {
+fn token() -> TokenRun {
+    TokenRun {
         node: 1,
-        incarnation: 1,
-        number: 4_294_967_295,
-    },
-    pid: 256,
-    op: Op::Unlock {
-        fd: 255,
-        kind: Kind::OfDescription,
-        start: 0,
-        len: i64::MIN,
-    },
-    reply: Reply::Done,
-};
+        incarnation: 65_535,
+        file: 256,
+        span: Span {
+            lo: 100,
+            hi: GREATEST,
+        },
+        level: Level::Shared,
+    }
+}
+
+fn lock() -> HeldLock {
+    HeldLock {
+        file: 256,
+        lock: LockInfo {
+            owner: Owner {
+                node: 1,
+                incarnation: 65_535,
+                kind: Kind::OfDescription,
+                number: 16_384,
+            },
+            mode: Mode::Read,
+            span: Span { lo: 7, hi: 7 },
+        },
+    }
+}
+
+fn last() -> Item {
+    Item::Answered {
+        position: 1_048_576,
+        id: CallId {
+            node: 1,
+            incarnation: 1,
+            number: 4_294_967_295,
+        },
+        pid: 256,
+        op: Op::Unlock {
+            fd: 255,
+            kind: Kind::OfDescription,
+            start: 0,
+            len: i64::MIN,
+        },
+        reply: Reply::Done,
+    }
+}
 
 fn text(alloc: Global) -> Result<String, AllocError> {
-    listing(alloc, &[REFUSED], &[], &[TOKEN], &[LOCK], &[LAST])
+    listing(alloc, &[refused()], &[], &[token()], &[lock()], &[last()])
 }
 
 #[test]

@@ -1,134 +1,208 @@
 //! Which histories are legal, and what is one: so what the table of a single machine answers, at values from outside and worked out by
 //! hand. (What the history of a journal is, is shown by runs of the program.)
 use cluster_core::item::Item;
-use intervals::span::Span;
+use journal_text::replies::reply_of;
+use lockscript::operations::Operation;
+use message_text::names::{CallName, HostName};
+use message_text::numbers::PidField;
 use messages::version::Version;
-use model::access::Access;
 use model::call::CallId;
-use model::lock_info::LockInfo;
+use model::host::Host;
 use model::mode::Mode;
 use model::op::Op;
-use model::owner::{Kind, Owner};
+use model::owner::Kind;
 use model::reply::Reply;
 use placement::history::History;
 use placement::legal::legal;
-use std::alloc::{AllocError, Global};
+use std::alloc::Global;
+use texts::text::{Text, after, split_field};
 
-const OPEN: Op = Op::Open {
-    file: 1,
-    access: Access::ReadWrite,
-};
+// How a history begins, as a listing has it, without places. Processes 1 and 2 of node 1 and process 1 of node 2 have the file open, the
+// first of them by two descriptors. It holds its write lock, the description of the second one for read.
+const START: &str = "1.1.1 1 spawn -> done
+1.1.2 2 spawn -> done
+2.1.1 1 spawn -> done
+1.1.3 1 open 1 rw -> fd 0
+1.1.4 2 open 1 rw -> fd 0
+2.1.2 1 open 1 rw -> fd 0
+1.1.5 1 set 0 proc write 0 10 -> done
+1.1.6 2 set 0 desc read 40 10 -> done
+1.1.7 1 dup 0 -> fd 1
+";
 
-// A call of a process for a write lock of ten bytes, from this one on.
-macro_rules! of_ten {
-    ($call:ident, $start:expr) => {
-        Op::$call {
-            fd: 0,
-            kind: Kind::OfProcess,
-            mode: Mode::Write,
-            start: $start,
-            len: 10,
-        }
-    };
+// How it may end then, and how it never may. A line of `then` comes between, up to the next such line. A wait may be interrupted wherever it
+// passes its tests, and nothing else may; it is told of no lock. A lock that is in the way is named whole, and none is in its own owner's
+// way. Processes and locks go with their incarnation alone, and locks of a process with each descriptor of their file.
+const ENDS: &str = "may 1.1.8 2 set 0 proc write 5 10 -> again write 0 9 p1@1.1
+never 1.1.8 2 set 0 proc write 5 10 -> again write 0 14 p1@1.1
+never 1.1.8 2 set 0 proc write 5 10 -> again read 0 9 p1@1.1
+never 1.1.8 2 set 0 proc write 5 10 -> done
+may 1.1.8 1 set 0 proc write 5 10 -> done
+may 1.1.8 3 set 0 proc write 5 10 -> no-process
+may 1.1.8 256 spawn -> done
+may 1.1.8 1 wait 0 proc write 5 10 -> done
+may 1.1.8 1 wait 0 proc write 5 10 -> interrupted
+never 1.1.8 2 wait 0 proc write 5 10 -> done
+may 1.1.8 2 wait 0 proc write 5 10 -> interrupted
+never 1.1.8 2 wait 0 proc write 5 10 -> again write 0 9 p1@1.1
+never 1.1.8 2 wait 0 proc write 5 10 -> blocked write 0 9 p1@1.1
+may 1.1.8 3 wait 0 proc write 5 10 -> no-process
+never 1.1.8 3 wait 0 proc write 5 10 -> interrupted
+never 1.1.8 2 set 0 proc write 5 10 -> interrupted
+never 1.1.8 2 query 0 proc write 5 10 -> interrupted
+never 1.1.8 3 spawn -> interrupted
+may 1.1.8 2 query 0 proc write 5 10 -> blocked write 0 9 p1@1.1
+never 1.1.8 2 query 0 proc write 5 10 -> blocked write 5 9 p1@1.1
+never 1.1.8 2 query 0 proc write 5 10 -> again write 0 9 p1@1.1
+never 1.1.8 2 query 0 proc write 5 10 -> free
+may 1.1.8 1 query 0 proc write 5 10 -> free
+never 1.1.8 1 query 0 proc write 5 10 -> blocked write 0 9 p1@1.1
+may 2.1.3 1 set 0 proc write 5 10 -> again write 0 9 p1@1.1
+never 2.1.3 1 set 0 proc write 40 10 -> done
+may 1.1.8 1 spawn -> exists
+may 1.1.8 3 spawn -> done
+may 1.1.8 3 open 1 rw -> no-process
+may 1.1.8 1 dup 0 -> fd 2
+may 1.1.8 1 dup 64 -> bad-fd
+may 1.1.8 2 fork 3 -> done
+may 1.1.8 2 fork 1 -> exists
+may 1.1.8 1 unlock 0 proc 5 -6 -> invalid
+may 2.1.3 1 close 1 -> bad-fd
+may 1.1.8 3 exit -> no-process
+then gone 1.1
+may 1.1.8 1 open 1 rw -> no-process
+never 1.1.8 1 open 1 rw -> fd 2
+may 2.1.3 1 set 0 proc write 5 10 -> done
+never 2.1.3 1 set 0 proc write 5 10 -> again write 0 9 p1@1.1
+may 2.1.3 1 set 0 proc write 40 10 -> done
+may 1.1.8 1 spawn -> done
+may 2.1.3 1 spawn -> exists
+then gone 1.2
+may 1.1.8 1 open 1 rw -> fd 2
+may 2.1.3 1 set 0 proc write 5 10 -> again write 0 9 p1@1.1
+never 2.1.3 1 set 0 proc write 5 10 -> done
+never 2.1.3 1 set 0 proc write 40 10 -> done
+then 1.1.8 2 fork 3 -> done
+may 1.1.9 3 spawn -> exists
+may 1.1.9 3 set 0 desc read 40 10 -> done
+never 1.1.9 3 set 0 proc write 40 10 -> done
+then 1.1.8 1 unlock 0 proc 4 2 -> done
+may 1.1.9 2 set 0 proc write 5 10 -> again write 6 9 p1@1.1
+never 1.1.9 2 set 0 proc write 5 10 -> again write 0 9 p1@1.1
+then 1.1.8 1 close 1 -> done
+may 1.1.9 2 set 0 proc write 5 10 -> done
+then 1.1.8 1 exit -> done
+may 1.1.9 2 set 0 proc write 5 10 -> done
+then 1.1.8 2 exit -> done
+may 2.1.3 1 set 0 proc write 40 10 -> done
+";
+
+// The place of one more item, from 1.
+fn next_place(items: &Vec<Item>) -> Option<u32> {
+    u32::try_from(items.len()).ok()?.checked_add(1)
 }
 
-const QUERY: Op = of_ten!(Query, 5);
+// One more item. No answer, here and below, is a refused request for memory.
+fn put<T: Drop>(items: &mut Vec<T>, item: T) -> Option<()> {
+    items.push(item).ok()
+}
 
-// Write locks of bytes 0 to 9, and of 5 to 14.
-const FIRST: Op = of_ten!(Set, 0);
+// The item that the line writes, too.
+fn put_line(items: &mut Vec<Item>, line: &str) -> Option<()> {
+    let position = next_place(items)?;
+    if let Some(gone) = after(line, "gone ") {
+        let Host { node, incarnation } = HostName::read(gone)?;
+        let item = Item::Gone {
+            position,
+            node,
+            incarnation,
+        };
+        return put(items, item);
+    }
+    let (call, reply) = line.split_once(" -> ")?;
+    let (id, (pid, op)) = <(CallName, (PidField, Operation))>::read(call)?;
+    let reply = reply_of(reply)?;
+    let item = Item::Answered {
+        position,
+        id,
+        pid,
+        op,
+        reply,
+    };
+    put(items, item)
+}
 
-const SECOND: Op = of_ten!(Set, 5);
+// The items of all the lines.
+fn put_lines(items: &mut Vec<Item>, text: &str) -> Option<()> {
+    for line in text.lines() {
+        put_line(items, line)?;
+    }
+    Some(())
+}
 
-const WAIT: Op = of_ten!(Wait, 5);
+// The items with which a history begins.
+fn begins(alloc: Global) -> Option<Vec<Item>> {
+    let mut items = Vec::new(alloc);
+    put_lines(&mut items, START)?;
+    Some(items)
+}
 
-// A lock of bytes 40 to 49 of a description, and one of a process.
-const SHARED: Op = Op::Set {
-    fd: 0,
-    kind: Kind::OfDescription,
-    mode: Mode::Read,
-    start: 40,
-    len: 10,
-};
+// Whether the items are a history that is legal.
+fn is_legal(alloc: Global, version: Version, items: Vec<Item>) -> Option<bool> {
+    let history = History::new(version, items).ok()?;
+    legal(alloc, &history).ok()
+}
 
-const FORTY: Op = of_ten!(Set, 40);
+// Whether a history may go on and end with these lines.
+fn may_end(alloc: Global, then: &str, last: &str) -> Option<bool> {
+    let mut items = begins(alloc)?;
+    put_lines(&mut items, then)?;
+    put_lines(&mut items, last)?;
+    is_legal(alloc, Version::Second, items)
+}
 
-// The middle of the first lock, and a segment that there is not.
-const MIDDLE: Op = Op::Unlock {
-    fd: 0,
-    kind: Kind::OfProcess,
-    start: 4,
-    len: 2,
-};
+// The same, asked again where a request for memory is refused.
+fn may_end_again(alloc: Global, then: &str, last: &str) -> Option<bool> {
+    match may_end(alloc, then, last) {
+        Some(answer) => Some(answer),
+        None => may_end(alloc, then, last),
+    }
+}
 
-const BELOW: Op = Op::Unlock {
-    fd: 0,
-    kind: Kind::OfProcess,
-    start: 5,
-    len: -6,
-};
+// The first line that says what is not so.
+fn first_wrong(alloc: Global, text: &str) -> Option<&str> {
+    let mut then = "";
+    for line in text.lines() {
+        match split_field(line) {
+            Some(("then", item)) => then = item,
+            Some(("may", item)) if may_end_again(alloc, then, item) == Some(true) => {}
+            Some(("never", item)) if may_end_again(alloc, then, item) == Some(false) => {}
+            _ => return Some(line),
+        }
+    }
+    None
+}
 
-const DUP: Op = Op::Dup { fd: 0 };
+// `scripts/refused-memory` refuses each request of the test once: then the line is asked again.
+#[test]
+fn allows_what_one_machine_may_answer(rt: HostRuntime) {
+    let wrong = first_wrong(rt.alloc(), ENDS);
+    assert!(rt; wrong.is_none(), "{wrong:?}");
+}
 
-const FORK: Op = Op::Fork { child: 3 };
+// The history of nothing.
+#[test]
+fn allows_nothing(rt: HostRuntime) {
+    let is_legal = is_legal(rt.alloc(), Version::Second, Vec::new(rt.alloc()));
+    assert!(rt; is_legal == Some(true));
+}
 
-const CLOSE: Op = Op::Close { fd: 1 };
-
-// A call of a process of a node, and its reply.
-type Call = (u8, u16, Op, Reply);
-
-// Processes 1 and 2 of node 1 and process 1 of node 2 have the file open, the first of them by two descriptors. It holds its write lock,
-// the description of the second one for read.
-const START: [Call; 9] = [
-    (1, 1, Op::Spawn, Reply::Done),
-    (1, 2, Op::Spawn, Reply::Done),
-    (2, 1, Op::Spawn, Reply::Done),
-    (1, 1, OPEN, Reply::Fd(0)),
-    (1, 2, OPEN, Reply::Fd(0)),
-    (2, 1, OPEN, Reply::Fd(0)),
-    (1, 1, FIRST, Reply::Done),
-    (1, 2, SHARED, Reply::Done),
-    (1, 1, DUP, Reply::Fd(1)),
-];
-
-// The region of the first process, parts of it and more than it, and it in another mode.
-const REGION: LockInfo = LockInfo {
-    owner: Owner {
-        node: 1,
-        incarnation: 1,
-        kind: Kind::OfProcess,
-        number: 1,
-    },
-    mode: Mode::Write,
-    span: Span { lo: 0, hi: 9 },
-};
-
-const PART: LockInfo = LockInfo {
-    span: Span { lo: 5, hi: 9 },
-    ..REGION
-};
-
-const REST: LockInfo = LockInfo {
-    span: Span { lo: 6, hi: 9 },
-    ..REGION
-};
-
-const MORE: LockInfo = LockInfo {
-    span: Span { lo: 0, hi: 14 },
-    ..REGION
-};
-
-const FOR_READ: LockInfo = LockInfo {
-    mode: Mode::Read,
-    ..REGION
-};
-
-// An answered call at that place of a history, from 0. (Numbers of calls are no matter of histories.)
-fn answered(place: u32, call: &Call) -> Item {
-    let (node, pid, op, reply) = *call;
+// A call at that place that is answered so.
+fn answered(position: u32, pid: u16, op: Op, reply: Reply) -> Item {
     Item::Answered {
-        position: place.saturating_add(1),
+        position,
         id: CallId {
-            node: node.clamp(1, 64),
+            node: 1,
             incarnation: 1,
             number: 1,
         },
@@ -138,197 +212,51 @@ fn answered(place: u32, call: &Call) -> Item {
     }
 }
 
-// One more call. (A vector with no place for it has no memory for it.)
-fn put(items: &mut Vec<Item>, call: &Call) -> Result<(), AllocError> {
-    let Ok(place) = u32::try_from(items.len()) else {
-        return Err(AllocError);
+// One more call of a process.
+fn put_call(items: &mut Vec<Item>, pid: u16, op: Op, reply: Reply) -> Option<()> {
+    let item = answered(next_place(items)?, pid, op, reply);
+    put(items, item)
+}
+
+// A node is gone, which changes nothing: the first process then gets that descriptor, its next one.
+fn put_gone(items: &mut Vec<Item>, node: u8, fd: u8) -> Option<()> {
+    let item = Item::Gone {
+        position: next_place(items)?,
+        node,
+        incarnation: 1,
     };
-    items.push(answered(place, call))?;
-    Ok(())
+    put(items, item)?;
+    put_call(items, 1, Op::Dup { fd: 0 }, Reply::Fd(fd))
 }
 
-fn put_each(items: &mut Vec<Item>, calls: &[Call]) -> Result<(), AllocError> {
-    for call in calls {
-        put(items, call)?;
-    }
-    Ok(())
+// Whether that call may be done.
+fn may_be_done(alloc: Global, pid: u16, op: Op) -> Option<bool> {
+    let mut items = begins(alloc)?;
+    put_call(&mut items, pid, op, Reply::Done)?;
+    is_legal(alloc, Version::Second, items)
 }
 
-// The calls with which a history starts.
-fn starts(alloc: Global) -> Result<Vec<Item>, AllocError> {
-    let mut items = Vec::new(alloc);
-    put_each(&mut items, &START)?;
-    Ok(items)
+// Whether nodes may be gone that there are not.
+fn may_go(alloc: Global) -> Option<bool> {
+    let mut items = begins(alloc)?;
+    put_gone(&mut items, 0, 2)?;
+    put_gone(&mut items, 65, 3)?;
+    is_legal(alloc, Version::Second, items)
 }
 
-// Whether the items are a history that is legal; no answer where they are none, or there is no memory.
-fn is_legal(alloc: Global, version: Version, items: Vec<Item>) -> Option<bool> {
-    let history = History::new(version, items).ok()?;
-    legal(alloc, &history).ok()
+// Whether there are no processes but 1 to 256, and no nodes but 1 to 64.
+fn lacks_strangers(alloc: Global) -> bool {
+    may_be_done(alloc, 0, Op::Spawn) == Some(false)
+        && may_be_done(alloc, 257, Op::Spawn) == Some(false)
+        && may_be_done(alloc, 2, Op::Fork { child: 0 }) == Some(false)
+        && may_be_done(alloc, 2, Op::Fork { child: 257 }) == Some(false)
+        && may_go(alloc) == Some(true)
 }
 
-// What comes between those with which a history starts and its last call.
-#[derive(Clone, Copy)]
-enum Between {
-    Nothing,
-    Gone(u8, u16),
-    Answer(Call),
-}
-
-// And whether the last call may then be answered so.
-type Case = (Between, Call, bool);
-
-fn put_between(items: &mut Vec<Item>, between: Between) -> Result<(), AllocError> {
-    match between {
-        Between::Nothing => {}
-        Between::Gone(node, incarnation) => items.push(Item::Gone {
-            position: 10,
-            node,
-            incarnation,
-        })?,
-        Between::Answer(call) => put(items, &call)?,
-    }
-    Ok(())
-}
-
-// The items of a case.
-fn items_of(alloc: Global, case: &Case) -> Result<Vec<Item>, AllocError> {
-    let mut items = starts(alloc)?;
-    put_between(&mut items, case.0)?;
-    put(&mut items, &case.1)?;
-    Ok(items)
-}
-
-fn may_end(alloc: Global, case: &Case) -> Option<bool> {
-    is_legal(alloc, Version::Second, items_of(alloc, case).ok()?)
-}
-
-// Whether it is as the case says, which is asked again where a request for memory is refused.
-fn is_so(alloc: Global, case: &Case) -> bool {
-    let answer = match may_end(alloc, case) {
-        Some(answer) => Some(answer),
-        None => may_end(alloc, case),
-    };
-    answer == Some(case.2)
-}
-
-// The place of the first case, from 0, that is not so.
-fn first_wrong(alloc: Global, cases: &[Case]) -> Option<usize> {
-    cases.iter().position(|case| !is_so(alloc, case))
-}
-
-const SO: Between = Between::Nothing;
-
-const GONE: Between = Between::Gone(1, 1);
-
-const ANOTHER_GONE: Between = Between::Gone(1, 2);
-
-const FORKED: Between = Between::Answer((1, 2, FORK, Reply::Done));
-
-// A wait may be interrupted wherever it passes its tests, and nothing else may; it is told of no lock. A lock that is in the way is
-// named whole, and none is in its own owner's way. Processes and locks go with their incarnation alone, and locks of a process with each
-// descriptor of their file.
-const CASES: [Case; 61] = [
-    (SO, (1, 2, SECOND, Reply::Again(REGION)), true),
-    (SO, (1, 2, SECOND, Reply::Again(MORE)), false),
-    (SO, (1, 2, SECOND, Reply::Again(FOR_READ)), false),
-    (SO, (1, 2, SECOND, Reply::Done), false),
-    (SO, (1, 1, SECOND, Reply::Done), true),
-    (SO, (1, 3, SECOND, Reply::NoProcess), true),
-    (SO, (1, 0, Op::Spawn, Reply::Done), false),
-    (SO, (1, 256, Op::Spawn, Reply::Done), true),
-    (SO, (1, 257, Op::Spawn, Reply::Done), false),
-    (SO, (1, 1, WAIT, Reply::Done), true),
-    (SO, (1, 1, WAIT, Reply::Interrupted), true),
-    (SO, (1, 2, WAIT, Reply::Done), false),
-    (SO, (1, 2, WAIT, Reply::Interrupted), true),
-    (SO, (1, 2, WAIT, Reply::Again(REGION)), false),
-    (SO, (1, 2, WAIT, Reply::Blocked(REGION)), false),
-    (SO, (1, 3, WAIT, Reply::NoProcess), true),
-    (SO, (1, 3, WAIT, Reply::Interrupted), false),
-    (SO, (1, 2, SECOND, Reply::Interrupted), false),
-    (SO, (1, 2, QUERY, Reply::Interrupted), false),
-    (SO, (1, 3, Op::Spawn, Reply::Interrupted), false),
-    (SO, (1, 2, QUERY, Reply::Blocked(REGION)), true),
-    (SO, (1, 2, QUERY, Reply::Blocked(PART)), false),
-    (SO, (1, 2, QUERY, Reply::Again(REGION)), false),
-    (SO, (1, 2, QUERY, Reply::Free), false),
-    (SO, (1, 1, QUERY, Reply::Free), true),
-    (SO, (1, 1, QUERY, Reply::Blocked(REGION)), false),
-    (GONE, (1, 1, OPEN, Reply::NoProcess), true),
-    (GONE, (1, 1, OPEN, Reply::Fd(2)), false),
-    (ANOTHER_GONE, (1, 1, OPEN, Reply::Fd(2)), true),
-    (SO, (2, 1, SECOND, Reply::Again(REGION)), true),
-    (GONE, (2, 1, SECOND, Reply::Done), true),
-    (GONE, (2, 1, SECOND, Reply::Again(REGION)), false),
-    (ANOTHER_GONE, (2, 1, SECOND, Reply::Again(REGION)), true),
-    (ANOTHER_GONE, (2, 1, SECOND, Reply::Done), false),
-    (GONE, (2, 1, FORTY, Reply::Done), true),
-    (ANOTHER_GONE, (2, 1, FORTY, Reply::Done), false),
-    (SO, (2, 1, FORTY, Reply::Done), false),
-    (SO, (1, 1, Op::Spawn, Reply::Exists), true),
-    (SO, (1, 3, Op::Spawn, Reply::Done), true),
-    (SO, (1, 3, OPEN, Reply::NoProcess), true),
-    (SO, (1, 1, DUP, Reply::Fd(2)), true),
-    (SO, (1, 1, Op::Dup { fd: 64 }, Reply::BadFd), true),
-    (SO, (1, 2, FORK, Reply::Done), true),
-    (SO, (1, 2, Op::Fork { child: 1 }, Reply::Exists), true),
-    (SO, (1, 2, Op::Fork { child: 0 }, Reply::Done), false),
-    (SO, (1, 2, Op::Fork { child: 257 }, Reply::Done), false),
-    (FORKED, (1, 3, Op::Spawn, Reply::Exists), true),
-    (FORKED, (1, 3, SHARED, Reply::Done), true),
-    (FORKED, (1, 3, FORTY, Reply::Done), false),
-    (SO, (1, 1, BELOW, Reply::Invalid), true),
-    (SO, (2, 1, CLOSE, Reply::BadFd), true),
-    (SO, (1, 3, Op::Exit, Reply::NoProcess), true),
-    (
-        Between::Answer((1, 1, MIDDLE, Reply::Done)),
-        (1, 2, SECOND, Reply::Again(REST)),
-        true,
-    ),
-    (
-        Between::Answer((1, 1, MIDDLE, Reply::Done)),
-        (1, 2, SECOND, Reply::Again(REGION)),
-        false,
-    ),
-    (
-        Between::Answer((1, 1, CLOSE, Reply::Done)),
-        (1, 2, SECOND, Reply::Done),
-        true,
-    ),
-    (
-        Between::Answer((1, 1, Op::Exit, Reply::Done)),
-        (1, 2, SECOND, Reply::Done),
-        true,
-    ),
-    (
-        Between::Answer((1, 2, Op::Exit, Reply::Done)),
-        (2, 1, FORTY, Reply::Done),
-        true,
-    ),
-    (GONE, (1, 1, Op::Spawn, Reply::Done), true),
-    (GONE, (2, 1, Op::Spawn, Reply::Exists), true),
-    (Between::Gone(0, 1), (1, 1, OPEN, Reply::Fd(2)), true),
-    (Between::Gone(65, 1), (1, 1, OPEN, Reply::Fd(2)), true),
-];
-
-// (The cases are the only list in their function, since each statement there is proved beside it.)
-fn first_wrong_case(alloc: Global) -> Option<usize> {
-    first_wrong(alloc, &CASES)
-}
-
-// `scripts/refused-memory` refuses each request of the test once: then the case is asked again.
 #[test]
-fn allows_what_one_machine_may_answer(rt: HostRuntime) {
-    let wrong = first_wrong_case(rt.alloc());
-    assert!(rt; wrong.is_none(), "case {wrong:?}");
-}
-
-// The history of nothing.
-#[test]
-fn allows_nothing(rt: HostRuntime) {
-    let is_legal = is_legal(rt.alloc(), Version::Second, Vec::new(rt.alloc()));
-    assert!(rt; is_legal == Some(true));
+fn allows_no_strangers(rt: HostRuntime) {
+    let lacks_strangers = lacks_strangers(rt.alloc());
+    assert!(rt; lacks_strangers);
 }
 
 // A read lock of one byte, with one free byte between it and that of the next place.
@@ -342,42 +270,38 @@ fn byte_at(place: u16) -> Op {
     }
 }
 
-// The calls of the second process, which locks so many bytes and is then refused one more.
-fn filled(alloc: Global, count: u16) -> Result<Vec<Item>, AllocError> {
-    let mut items = starts(alloc)?;
-    for place in 0..count {
-        put(&mut items, &(1, 2, byte_at(place), Reply::Done))?;
-    }
-    put(&mut items, &(1, 2, byte_at(count), Reply::NoLocks))?;
-    Ok(items)
-}
-
-// Whether that may be in a cluster of the version.
+// Whether that may be in a cluster of the version: the second process locks so many bytes, and is then refused one more.
 fn may_be_full(alloc: Global, version: Version, count: u16) -> Option<bool> {
-    is_legal(alloc, version, filled(alloc, count).ok()?)
+    let mut items = begins(alloc)?;
+    for place in 0..count {
+        put_call(&mut items, 2, byte_at(place), Reply::Done)?;
+    }
+    put_call(&mut items, 2, byte_at(count), Reply::NoLocks)?;
+    is_legal(alloc, version, items)
 }
 
-fn is_full(alloc: Global, version: Version, count: u16) -> bool {
-    may_be_full(alloc, version, count) == Some(true)
-}
-
-fn is_not_full(alloc: Global, version: Version, count: u16) -> bool {
-    may_be_full(alloc, version, count) == Some(false)
+// Whether the limit of each version is just where it is.
+fn has_limits(alloc: Global) -> bool {
+    may_be_full(alloc, Version::First, 1023) == Some(false)
+        && may_be_full(alloc, Version::First, 1024) == Some(true)
+        && may_be_full(alloc, Version::First, 1025) == Some(false)
+        && may_be_full(alloc, Version::Second, 1024) == Some(false)
+        && may_be_full(alloc, Version::Second, 16_384) == Some(true)
 }
 
 #[test]
 fn allows_as_many_regions_as_the_version_has(rt: HostRuntime) {
-    let alloc = rt.alloc();
-    let first = is_not_full(alloc, Version::First, 1023) && is_full(alloc, Version::First, 1024);
-    assert!(rt; first && is_not_full(alloc, Version::First, 1025));
-    let second = is_not_full(alloc, Version::Second, 1024);
-    assert!(rt; second && is_full(alloc, Version::Second, 16_384));
+    let has_limits = has_limits(rt.alloc());
+    assert!(rt; has_limits);
 }
 
-// Whether two calls at these places, from 0, make a history.
+fn spawned_at(position: u32) -> Item {
+    answered(position, 7, Op::Spawn, Reply::Done)
+}
+
+// Whether two calls at these places make a history.
 fn is_history(alloc: Global, first: u32, second: u32) -> Option<bool> {
-    let call = (1, 7, Op::Spawn, Reply::Done);
-    let items = vec![in alloc; answered(first, &call), answered(second, &call)].ok()?;
+    let items = vec![in alloc; spawned_at(first), spawned_at(second)].ok()?;
     match History::new(Version::Second, items) {
         Ok(history) => Some(history.items().len() == 2),
         Err(_) => Some(false),
@@ -386,10 +310,10 @@ fn is_history(alloc: Global, first: u32, second: u32) -> Option<bool> {
 
 // Whether each call that stands behind the first makes one, and no other.
 fn rise(alloc: Global) -> bool {
-    is_history(alloc, 1, 4) == Some(true)
-        && is_history(alloc, 0, 1) == Some(true)
-        && is_history(alloc, 4, 4) == Some(false)
-        && is_history(alloc, 4, 3) == Some(false)
+    is_history(alloc, 2, 5) == Some(true)
+        && is_history(alloc, 1, 2) == Some(true)
+        && is_history(alloc, 5, 5) == Some(false)
+        && is_history(alloc, 5, 4) == Some(false)
 }
 
 #[test]
