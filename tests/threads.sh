@@ -434,6 +434,12 @@ try_beside 'a holder whose node fails while another process waits' holder-fails.
 try_beside 'a server that fails and begins again while a call is open' server-fails.lock \
     '' "${held_replies}1.1.4 done\n2.1.1 done\n2.1.2 fd 0\n2.1.3 done\n" 'p1@2.1 1 50 59 write\n' 2.1.3
 {
+    sed '/^settle$/q' held.lock
+    printf 'fail-server 1\ncall 2 1 spawn\ncall 2 1 open 1 rw\ncall 2 1 set 0 proc write 200 10\nstart-server 1\nsettle\n'
+} >awaits-server.lock
+try_beside 'a call that waits for its server to be rebuilt' awaits-server.lock \
+    '' "${held_replies}2.1.1 done\n2.1.2 fd 0\n2.1.3 done\n" 'p1@1.1 1 0 99 write\np1@2.1 1 200 209 write\n' 2.1.3
+{
     cat held.lock
     printf 'call 2 1 query 0 proc read 0 0\ndeclare 2\ncall 2 1 spawn\ndeclare 2\nsettle\ncall 1 1 unlock 0 proc 0 50\n'
 } >waiter-fails.lock

@@ -7,8 +7,8 @@ use std::time::{Clock, Duration};
 
 const TURNS: u64 = 10_000;
 
-/// Waits until the word is set, and says whether it was.
-pub fn wait_for<R: Clock>(rt: &R, word: &AtomicU64) -> bool {
+// Waits until the word is set, and says whether it was.
+fn wait_for<R: Clock>(rt: &R, word: &AtomicU64) -> bool {
     for _ in 0..TURNS {
         if word.load(Ordering::SeqCst) != 0 {
             return true;
@@ -21,8 +21,8 @@ pub fn wait_for<R: Clock>(rt: &R, word: &AtomicU64) -> bool {
 /// Holds nobody, says that it is open or that it isn't, and counts the steps that it is told of.
 #[derive(Drop)]
 pub struct Counter {
-    pub is_open: bool,
-    pub committed: AtomicU64,
+    is_open: bool,
+    committed: AtomicU64,
 }
 
 impl Counter {
@@ -30,6 +30,16 @@ impl Counter {
         Counter {
             is_open,
             committed: AtomicU64::new(0),
+        }
+    }
+
+    /// Whether the gate was told of so many steps, or of fewer where it is open.
+    pub fn was_told(&self, steps: usize) -> bool {
+        let told = self.committed.load(Ordering::SeqCst) as usize;
+        if self.is_open {
+            told < steps
+        } else {
+            told == steps
         }
     }
 }
@@ -50,11 +60,11 @@ impl Gate for Counter {
 /// meanwhile lets it go.
 #[derive(Drop)]
 pub struct Holder<'a, R: Clock> {
-    pub rt: &'a R,
-    pub armed: AtomicU64,
-    pub came: AtomicU64,
-    pub let_go: AtomicU64,
-    pub late: AtomicU64,
+    rt: &'a R,
+    armed: AtomicU64,
+    came: AtomicU64,
+    let_go: AtomicU64,
+    late: AtomicU64,
 }
 
 impl<'a, R: Clock> Holder<'a, R> {
@@ -66,6 +76,26 @@ impl<'a, R: Clock> Holder<'a, R> {
             let_go: AtomicU64::new(0),
             late: AtomicU64::new(0),
         }
+    }
+
+    /// The next step that node 1 prepares is held.
+    pub fn arm(&self) {
+        self.armed.store(1, Ordering::SeqCst);
+    }
+
+    /// Waits until a step of node 1 is held, and says whether it is.
+    pub fn wait_for_node(&self) -> bool {
+        wait_for(self.rt, &self.came)
+    }
+
+    /// The step that is held goes on.
+    pub fn let_go(&self) {
+        self.let_go.store(1, Ordering::SeqCst);
+    }
+
+    /// Whether a step was let go, and in time.
+    pub fn was_let_go(&self) -> bool {
+        self.let_go.load(Ordering::SeqCst) == 1 && self.late.load(Ordering::SeqCst) == 0
     }
 }
 
@@ -82,7 +112,7 @@ impl<R: Clock> Gate for Holder<'_, R> {
             }
             Point::Committed(Actor::Node(2), _) => {
                 if self.came.load(Ordering::SeqCst) == 1 {
-                    self.let_go.store(1, Ordering::SeqCst);
+                    self.let_go();
                 }
             }
             _ => {}

@@ -1,9 +1,9 @@
 //! Clusters on threads, where a gate holds an actor or a node is declared failed meanwhile.
-use crate::gates::{Counter, Holder, wait_for};
+use crate::gates::{Counter, Holder};
 use actors::call_error::CallError;
 use actors::client::Client;
-use actors::cluster::with_cluster;
-use actors::gate::OpenGate;
+use actors::cluster::{Cluster, with_cluster};
+use actors::gate::{Gate, OpenGate};
 use actors::seeded::Seeded;
 use actors::weather::{Fair, Fate, Weather};
 use book::confirms::Confirms;
@@ -19,15 +19,13 @@ use model::mode::Mode;
 use model::op::Op;
 use model::owner::Kind;
 use model::policy::Policy;
-use model::reply::Reply;
 use std::alloc::Global;
 use std::marker::Brand;
 use std::sync::Wait;
-use std::sync::atomic::Ordering;
 use std::test::Fail;
 use std::thread;
 use std::thread::Threads;
-use std::time::Clock;
+use std::time::{Clock, Duration};
 
 // A lock of a process on descriptor 0.
 fn set(start: i64, len: i64) -> Op {
@@ -70,176 +68,218 @@ fn begin<R: Wait>(rt: &R, client: &mut Client<'_, Brand>, op: Op) -> Option<Rece
     client.call(rt, op).ok()
 }
 
-#[test]
-fn a_node_commits_while_another_is_held(rt: HostRuntime) -> Result<(), Fail> {
-    let alloc = rt.alloc();
-    let gate = Holder::new(&rt);
+// Runs a cluster of two nodes and one file, in fair weather, for as long as the body does. Whether what the body made is right, by the
+// journal.
+fn runs_right<
+    R: Threads + Wait + Clock + Sync,
+    G: Gate + Sync,
+    T,
+    F: FnOnce(&Cluster<'_, Brand>) -> Option<T>,
+    L: FnOnce(T, &Journal) -> bool,
+>(rt: &R, alloc: Global, gate: &G, body: F, is_right: L) -> Result<bool, Fail>
+    requires body { F.IsAlwaysCallable body }
+    requires is_right { L.IsAlwaysCallable is_right }
+{
     let shape = Shape::new(2, 1, Policy::Exact)?;
     let weathers = vec![in alloc; Fair, Fair, Fair]?;
-    let (made, journal) = with_cluster(&rt, alloc, shape, &gate, weathers, |cluster| {
-        let mut one = cluster.client(&rt, 1, 1).ok()?;
-        let mut two = cluster.client(&rt, 2, 1).ok()?;
-        let first = begin(&rt, &mut one, set(0, 10))?;
-        two.told(&first);
-        let second = begin(&rt, &mut two, set(20, 10))?;
-        gate.armed.store(1, Ordering::SeqCst);
-        let (third, fourth) = thread::join(
-            &rt,
-            || one.call(&rt, unlock(0, 10)),
-            || {
-                wait_for(&rt, &gate.came);
-                two.call(&rt, set(20, 5))
-            },
-        );
-        Some([first, second, third.ok()?, fourth.ok()?])
-    })?;
-    let receipts = made.ok_or("four receipts")?;
-    assert_eq!(rt; gate.late.load(Ordering::SeqCst), 0);
-    assert_eq!(rt; gate.let_go.load(Ordering::SeqCst), 1);
-    for receipt in receipts.iter() {
-        assert!(rt; journal.holds(receipt));
+    let (made, journal) = with_cluster(rt, alloc, shape, gate, weathers, body)?;
+    match made {
+        Some(made) => Ok(is_right(made, &journal)),
+        None => Ok(false),
     }
+}
+
+// Clients of process 1 of node 1, and of process 2 of that node.
+fn clients<'a, R: Wait>(
+    rt: &R,
+    cluster: &Cluster<'a, Brand>,
+    node: u8,
+) -> Option<(Client<'a, Brand>, Client<'a, Brand>)> {
+    let one = cluster.client(rt, 1, 1).ok()?;
+    Some((one, cluster.client(rt, node, 2).ok()?))
+}
+
+fn holds_all(journal: &Journal, receipts: &[Receipt]) -> bool {
+    receipts.iter().all(|receipt| journal.holds(receipt))
+}
+
+// Node 2 makes a call while a call of node 1 is held at the gate.
+fn call_beside<R: Threads + Wait + Clock + Sync>(
+    rt: &R,
+    gate: &Holder<'_, R>,
+    one: &mut Client<'_, Brand>,
+    two: &mut Client<'_, Brand>,
+) -> Option<[Receipt; 4]> {
+    let first = begin(rt, one, set(0, 10))?;
+    two.told(&first);
+    let second = begin(rt, two, set(20, 10))?;
+    gate.arm();
+    let (third, fourth) = thread::join(
+        rt,
+        || one.call(rt, unlock(0, 10)),
+        || {
+            gate.wait_for_node();
+            two.call(rt, set(20, 5))
+        },
+    );
+    Some([first, second, third.ok()?, fourth.ok()?])
+}
+
+#[test]
+fn a_node_commits_while_another_is_held(rt: HostRuntime) -> Result<(), Fail> {
+    let gate = Holder::new(&rt);
+    let is_right = runs_right(
+        &rt,
+        rt.alloc(),
+        &gate,
+        |cluster| {
+            let (mut one, mut two) = clients(&rt, cluster, 2)?;
+            call_beside(&rt, &gate, &mut one, &mut two)
+        },
+        |receipts, journal| holds_all(journal, &receipts),
+    )?;
+    assert!(rt; is_right && gate.was_let_go());
     Ok(())
 }
 
-// A run in which a process sets ten bytes and unlocks them: how many steps its gate is told of, and how many entries there are.
-fn counted<R: Threads + Wait + Clock + Sync>(
+// Whether a process sets ten bytes and unlocks them, and a gate is told of each step, or of fewer where it is open.
+fn is_told<R: Threads + Wait + Clock + Sync>(
     rt: &R,
     alloc: Global,
     is_open: bool,
-) -> Result<(u64, u64), Fail> {
+) -> Result<bool, Fail> {
     let gate = Counter::new(is_open);
-    let shape = Shape::new(1, 1, Policy::Wide)?;
-    let weathers = vec![in alloc; Fair, Fair]?;
-    let (made, journal) = with_cluster(rt, alloc, shape, &gate, weathers, |cluster| {
-        let mut client = cluster.client(rt, 1, 1).ok()?;
-        begin(rt, &mut client, set(0, 10))?;
-        client.call(rt, unlock(0, 10)).ok()
-    })?;
-    made.filter(|receipt| journal.holds(receipt))
-        .ok_or("a receipt that is held")?;
-    let told = gate.committed.load(Ordering::SeqCst);
-    Ok((told, journal.entries().len() as u64))
+    runs_right(
+        rt,
+        alloc,
+        &gate,
+        |cluster| {
+            let mut client = cluster.client(rt, 1, 1).ok()?;
+            begin(rt, &mut client, set(0, 10))?;
+            client.call(rt, unlock(0, 10)).ok()
+        },
+        |receipt, journal| journal.holds(&receipt) && gate.was_told(journal.entries().len()),
+    )
 }
 
 #[test]
 fn a_client_makes_calls_itself_where_the_gate_is_open(rt: HostRuntime) -> Result<(), Fail> {
-    let (told, steps) = counted(&rt, rt.alloc(), true)?;
-    assert!(rt; told < steps);
-    let (told, steps) = counted(&rt, rt.alloc(), false)?;
-    assert_eq!(rt; told, steps);
+    let is_right = is_told(&rt, rt.alloc(), true)? && is_told(&rt, rt.alloc(), false)?;
+    assert!(rt; is_right);
     Ok(())
+}
+
+// Declares node 1 failed while its step is held at the gate: whether the call has no reply.
+fn declare_beside<R: Threads + Wait + Clock + Sync>(
+    rt: &R,
+    gate: &Holder<'_, R>,
+    cluster: &Cluster<'_, Brand>,
+    client: &mut Client<'_, Brand>,
+) -> bool {
+    let (refused, is_declared) = thread::join(
+        rt,
+        || client.call(rt, Op::Spawn).err(),
+        || {
+            let came = gate.wait_for_node();
+            let is_declared = cluster.declare(rt, 1).is_ok();
+            gate.let_go();
+            came && is_declared
+        },
+    );
+    is_declared && refused == Some(CallError::Fenced)
+}
+
+// Whether node 1 is declared failed in the journal, and there is no call.
+fn has_no_call(journal: &Journal) -> bool {
+    let entries = journal.entries();
+    entries.iter().any(|entry| matches!(entry.event(), Event::Declare { node: 1 }))
+        && entries.iter().all(|entry| entry.call().is_none())
 }
 
 #[test]
 fn a_step_of_a_declared_node_is_not_taken(rt: HostRuntime) -> Result<(), Fail> {
-    let alloc = rt.alloc();
     let gate = Holder::new(&rt);
-    gate.armed.store(1, Ordering::SeqCst);
-    let shape = Shape::new(1, 1, Policy::Wide)?;
-    let weathers = vec![in alloc; Fair, Fair]?;
-    let (made, journal) = with_cluster(&rt, alloc, shape, &gate, weathers, |cluster| {
-        let mut client = cluster.client(&rt, 1, 1).ok()?;
-        let (called, declared) = thread::join(
-            &rt,
-            || client.call(&rt, Op::Spawn).err(),
-            || {
-                let came = wait_for(&rt, &gate.came);
-                let declared = cluster.declare(&rt, 1).is_ok();
-                gate.let_go.store(1, Ordering::SeqCst);
-                came && declared
-            },
-        );
-        Some((called, declared))
-    })?;
-    assert_eq!(rt; made, Some((Some(CallError::Fenced), true)));
-    let events = journal.entries();
-    assert!(rt; events.iter().any(|entry| matches!(entry.event(), Event::Declare { node: 1 })));
-    assert!(rt; events.iter().all(|entry| entry.call().is_none()));
+    gate.arm();
+    let is_right = runs_right(
+        &rt,
+        rt.alloc(),
+        &gate,
+        |cluster| {
+            let mut client = cluster.client(&rt, 1, 1).ok()?;
+            Some(declare_beside(&rt, &gate, cluster, &mut client))
+        },
+        |is_refused, journal| is_refused && has_no_call(journal),
+    )?;
+    assert!(rt; is_right);
     Ok(())
 }
 
-// Makes calls that the node's token covers until one fails: the last receipt, and why the next call had none.
+// Makes calls that the node's token covers until one fails, since the node was declared failed: the last receipt.
 fn call_on<R: Wait>(
     rt: &R,
     client: &mut Client<'_, Brand>,
     op: Op,
-) -> (Option<Receipt>, Option<CallError>) {
-    let mut last = None;
+    begun: Receipt,
+) -> Option<Receipt> {
+    let mut last = begun;
     for _ in 0..400_000 {
         match client.call(rt, op) {
-            Ok(receipt) => last = Some(receipt),
-            Err(why) => return (last, Some(why)),
+            Ok(receipt) => last = receipt,
+            Err(CallError::Fenced) => return Some(last),
+            Err(_) => return None,
         }
     }
-    (last, None)
+    None
+}
+
+// Node 1 fails and begins again: the first receipt behind that.
+fn begin_again<R: Wait + Clock>(rt: &R, cluster: &Cluster<'_, Brand>) -> Option<Receipt> {
+    thread::sleep(rt, Duration::from_millis(5));
+    cluster.declare(rt, 1).ok()?;
+    cluster.restart(rt, 1).ok()?;
+    cluster.client(rt, 1, 1).ok()?.call(rt, Op::Spawn).ok()
+}
+
+// Both processes of node 1 call until it fails: their last receipts, and the first of the next incarnation.
+fn call_until_failure<R: Threads + Wait + Clock + Sync>(
+    rt: &R,
+    cluster: &Cluster<'_, Brand>,
+    one: &mut Client<'_, Brand>,
+    two: &mut Client<'_, Brand>,
+) -> Option<[Receipt; 3]> {
+    let first = begin(rt, one, set(0, 10))?;
+    let second = begin(rt, two, set(20, 10))?;
+    let (first, (second, again)) = thread::join(
+        rt,
+        || call_on(rt, one, set(0, 5), first),
+        || {
+            thread::join(
+                rt,
+                || call_on(rt, two, set(20, 5), second),
+                || begin_again(rt, cluster),
+            )
+        },
+    );
+    Some([first?, second?, again?])
 }
 
 #[test]
 fn a_node_is_declared_while_its_clients_call(rt: HostRuntime) -> Result<(), Fail> {
-    let alloc = rt.alloc();
-    let shape = Shape::new(1, 1, Policy::Wide)?;
-    let weathers = vec![in alloc; Fair, Fair]?;
-    let (made, journal) = with_cluster(&rt, alloc, shape, &OpenGate, weathers, |cluster| {
-        let mut one = cluster.client(&rt, 1, 1).ok()?;
-        let mut two = cluster.client(&rt, 1, 2).ok()?;
-        begin(&rt, &mut one, set(0, 10))?;
-        begin(&rt, &mut two, set(20, 10))?;
-        let (first, (second, again)) = thread::join(
-            &rt,
-            || call_on(&rt, &mut one, set(0, 5)),
-            || {
-                thread::join(
-                    &rt,
-                    || call_on(&rt, &mut two, set(20, 5)),
-                    || {
-                        thread::sleep(&rt, std::time::Duration::from_millis(5));
-                        cluster.declare(&rt, 1).ok()?;
-                        cluster.restart(&rt, 1).ok()?;
-                        cluster.client(&rt, 1, 1).ok()?.call(&rt, Op::Spawn).ok()
-                    },
-                )
-            },
-        );
-        Some(([first, second], again?))
-    })?;
-    let (last, again) = made.ok_or("receipts")?;
-    assert!(rt; journal.holds(&again));
-    for (receipt, why) in last.iter() {
-        assert!(rt; *why == Some(CallError::Fenced));
-        assert!(rt; receipt.is_some_and(|receipt| journal.holds(&receipt)));
-    }
+    let is_right = runs_right(
+        &rt,
+        rt.alloc(),
+        &OpenGate,
+        |cluster| {
+            let (mut one, mut two) = clients(&rt, cluster, 1)?;
+            call_until_failure(&rt, cluster, &mut one, &mut two)
+        },
+        |receipts, journal| holds_all(journal, &receipts),
+    )?;
+    assert!(rt; is_right);
     Ok(())
 }
 
-#[test]
-fn a_call_waits_for_its_server_to_be_rebuilt(rt: HostRuntime) -> Result<(), Fail> {
-    let alloc = rt.alloc();
-    let shape = Shape::new(2, 1, Policy::Exact)?;
-    let weathers = vec![in alloc; Fair, Fair, Fair]?;
-    let (made, journal) = with_cluster(&rt, alloc, shape, &OpenGate, weathers, |cluster| {
-        let mut one = cluster.client(&rt, 1, 1).ok()?;
-        let mut two = cluster.client(&rt, 2, 1).ok()?;
-        let held = begin(&rt, &mut one, set(0, 10))?;
-        cluster.fail_server(&rt, 1).ok()?;
-        two.told(&held);
-        let (answered, begun) = thread::join(
-            &rt,
-            || begin(&rt, &mut two, set(20, 10)),
-            || {
-                thread::sleep(&rt, std::time::Duration::from_millis(50));
-                cluster.start_server(&rt, 1).ok()
-            },
-        );
-        Some((answered?, begun?))
-    })?;
-    let (receipt, begun) = made.ok_or("a receipt")?;
-    assert!(rt; journal.holds(&receipt));
-    assert!(rt; receipt.reply() == Reply::Done && receipt.reply_at() > begun);
-    Ok(())
-}
-
-// Whether the call ended without a reply, and is the wait of process 1 of node 2 where it says that it stands.
+// Whether the call ended without a reply, and is the wait of process 2 of node 2 where it says that it stands.
 fn is_wait_at(journal: &Journal, why: Option<CallError>) -> bool {
     let Some(CallError::Killed { call_at }) = why else {
         return false;
@@ -249,7 +289,7 @@ fn is_wait_at(journal: &Journal, why: Option<CallError>) -> bool {
             entry.event(),
             Event::Call {
                 node: 2,
-                pid: 1,
+                pid: 2,
                 op: Op::Wait { .. }
             }
         ),
@@ -257,39 +297,69 @@ fn is_wait_at(journal: &Journal, why: Option<CallError>) -> bool {
     }
 }
 
+// Declares node 2 failed while its process waits: why the wait ended.
+fn declare_beside_wait<R: Threads + Wait + Clock + Sync>(
+    rt: &R,
+    cluster: &Cluster<'_, Brand>,
+    two: &mut Client<'_, Brand>,
+) -> Option<CallError> {
+    let (ended, _) = thread::join(
+        rt,
+        || two.call(rt, WAIT).err(),
+        || {
+            thread::sleep(rt, Duration::from_millis(50));
+            cluster.declare(rt, 2).is_ok()
+        },
+    );
+    ended
+}
+
+// Whether a call of the declared node is refused.
+fn is_fenced<R: Wait>(rt: &R, client: &mut Client<'_, Brand>) -> bool {
+    client.call(rt, Op::Spawn).err() == Some(CallError::Fenced)
+}
+
+// Node 2 fails while a process waits for a lock of node 1, which is refused then and later, and begins again: why the wait ended, and the
+// receipt of the next incarnation.
+fn wait_until_failure<R: Threads + Wait + Clock + Sync>(
+    rt: &R,
+    cluster: &Cluster<'_, Brand>,
+    one: &mut Client<'_, Brand>,
+    two: &mut Client<'_, Brand>,
+) -> Option<(Option<CallError>, Receipt)> {
+    let held = begin(rt, one, set(0, 10))?;
+    two.told(&held);
+    begin(rt, two, set(20, 10))?;
+    let ended = declare_beside_wait(rt, cluster, two);
+    if !is_fenced(rt, two) || cluster.client(rt, 2, 2).err() != Some(CallError::Fenced) {
+        return None;
+    }
+    cluster.restart(rt, 2).ok()?;
+    let receipt = cluster.client(rt, 2, 2).ok()?.call(rt, Op::Spawn).ok()?;
+    is_fenced(rt, two).then_some((ended, receipt))
+}
+
+// Whether the receipt is that of the first call of a node's second incarnation.
+fn is_first_again(receipt: &Receipt) -> bool {
+    let call = receipt.call();
+    call.incarnation == 2 && call.number == 1
+}
+
 #[test]
 fn a_wait_ends_as_its_node_is_declared(rt: HostRuntime) -> Result<(), Fail> {
-    let alloc = rt.alloc();
-    let shape = Shape::new(2, 1, Policy::Wide)?;
-    let weathers = vec![in alloc; Fair, Fair, Fair]?;
-    let (made, journal) = with_cluster(&rt, alloc, shape, &OpenGate, weathers, |cluster| {
-        let mut one = cluster.client(&rt, 1, 1).ok()?;
-        let mut two = cluster.client(&rt, 2, 1).ok()?;
-        let held = begin(&rt, &mut one, set(0, 10))?;
-        two.told(&held);
-        begin(&rt, &mut two, set(20, 10))?;
-        let (killed, _) = thread::join(
-            &rt,
-            || two.call(&rt, WAIT).err(),
-            || {
-                thread::sleep(&rt, std::time::Duration::from_millis(50));
-                cluster.declare(&rt, 2).is_ok()
-            },
-        );
-        let fenced = two.call(&rt, Op::Spawn).err();
-        let refused = cluster.client(&rt, 2, 1).err();
-        cluster.restart(&rt, 2).ok()?;
-        let mut again = cluster.client(&rt, 2, 1).ok()?;
-        let receipt = again.call(&rt, Op::Spawn).ok()?;
-        let old = two.call(&rt, Op::Spawn).err();
-        Some((killed, [fenced, refused, old], receipt))
-    })?;
-    let (killed, errors, receipt) = made.ok_or("a receipt")?;
-    assert_eq!(rt; errors, [Some(CallError::Fenced); 3]);
-    assert!(rt; is_wait_at(&journal, killed));
-    assert!(rt; journal.holds(&receipt));
-    assert_eq!(rt; receipt.call().incarnation, 2);
-    assert_eq!(rt; receipt.call().number, 1);
+    let is_right = runs_right(
+        &rt,
+        rt.alloc(),
+        &OpenGate,
+        |cluster| {
+            let (mut one, mut two) = clients(&rt, cluster, 2)?;
+            wait_until_failure(&rt, cluster, &mut one, &mut two)
+        },
+        |(ended, receipt), journal| {
+            is_wait_at(journal, ended) && journal.holds(&receipt) && is_first_again(&receipt)
+        },
+    )?;
+    assert!(rt; is_right);
     Ok(())
 }
 
@@ -305,9 +375,18 @@ fn is_wanted(place: u8, fate: Fate) -> bool {
     fate == wanted
 }
 
+// Whether that becomes of one message at each of the places.
+fn are_wanted(weather: &mut Seeded, message: &Message) -> bool {
+    for place in 0..19 {
+        if !is_wanted(place, weather.fate(message)) {
+            return false;
+        }
+    }
+    true
+}
+
 #[test]
 fn a_seed_says_what_becomes_of_each_message(rt: HostRuntime) {
-    let mut weather = Seeded::new(3, 4);
     let message = Message::Freed {
         file: FileNumber::of(1),
         holder: Host {
@@ -315,7 +394,5 @@ fn a_seed_says_what_becomes_of_each_message(rt: HostRuntime) {
             incarnation: 1,
         },
     };
-    for place in 0..19 {
-        assert!(rt; is_wanted(place, weather.fate(&message)));
-    }
+    assert!(rt; are_wanted(&mut Seeded::new(3, 4), &message));
 }
