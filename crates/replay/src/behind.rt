@@ -14,8 +14,8 @@ ghost use Rattle.replay.specs.Stores.{SameFiles};
 
 use crate::audit::{Audited, checked_new};
 use crate::fault::Fault;
-use crate::input::bytes_of;
-use crate::run::{text_and_journal, text_of};
+use crate::input::text_of;
+use crate::run::{run_text, text_and_journal};
 use crate::shown::Shown;
 use crate::store::Store;
 use crate::wanted::Wanted;
@@ -50,7 +50,7 @@ pub(crate) fn run_behind<'a, S: Store, V: Watcher>(
         × IsFault (S.holds store.old) (S.ran_short store.new) (S.refuses store.new) (run path.now (Some after.now) None wanted.open wanted.quiet) (S.holds store.new) fault) }
 {
     match played_behind(alloc, store, path, after, watcher)? {
-        Behind::Run(played) => Ok(Shown::Text(text_of(alloc, played, wanted)?)),
+        Behind::Run(played) => Ok(Shown::Text(run_text(alloc, played, wanted)?)),
         Behind::Wrong(position) => Ok(Shown::No(position)),
     }
 }
@@ -126,9 +126,6 @@ fn script_for<'a, S: Store>(
     ensures fault { IfErr result (λ fault. (j : JournalFields) → j.shape ≡ shape.now → IsBehindFault j (S.holds store.old path.now) (S.ran_short store.new) path.now fault) }
     ensures files { SameFiles (S.holds store.old) (S.holds store.new) }
 {
-    let bytes = bytes_of(alloc, store, path)?;
-    match str::from_utf8(bytes.as_slice()) {
-        Ok(text) => Ok(Script::parse_for_shape(alloc, shape, text)?),
-        Err(_) => Err(Fault::CannotRead(path)),
-    }
+    let text = text_of(alloc, store, path)?;
+    Ok(Script::parse_for_shape(alloc, shape, text.as_str())?)
 }

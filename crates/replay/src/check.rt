@@ -9,7 +9,7 @@ ghost use Rattle.replay.specs.Faults.{IsCheckTextFault};
 ghost use Rattle.replay.specs.Tellings.{IsChecked};
 
 use crate::fault::Fault;
-use crate::input::bytes_of;
+use crate::input::text_of;
 use crate::shown::Shown;
 use crate::store::Store;
 use diagnosis::journal_report::{begins_as_journal, journal_report};
@@ -30,11 +30,8 @@ pub(crate) fn check<'a, S: Store>(
     ensures fault { IfErr result (λ fault. (fault ≢ CannotWriteOutput)
         × IsFault (S.holds store.old) (S.ran_short store.new) (S.refuses store.new) (check path.now) (S.holds store.new) fault) }
 {
-    let bytes = bytes_of(alloc, store, path)?;
-    match str::from_utf8(bytes.as_slice()) {
-        Ok(text) => checked_in(alloc, path, text),
-        Err(_) => Err(Fault::CannotRead(path)),
-    }
+    let text = text_of(alloc, store, path)?;
+    checked_in(alloc, path, text.as_str())
 }
 
 // The same of the text of the file.

@@ -6,7 +6,7 @@ ghost use Rattle.replay.specs.Commands.{Does, IsFault};
 ghost use Rattle.replay.specs.Explorations.{IsExploreTextFault, IsExplored, IsScheduled};
 
 use crate::fault::Fault;
-use crate::input::bytes_of;
+use crate::input::text_of;
 use crate::shown::Shown;
 use crate::store::Store;
 use explorer::explore::explore;
@@ -28,11 +28,8 @@ pub(crate) fn scheduled<'a, S: Store>(
     ensures fault { IfErr result (λ fault. (fault ≢ CannotWriteOutput)
         × IsFault (S.holds store.old) (S.ran_short store.new) (S.refuses store.new) (schedule path.now seed failures) (S.holds store.new) fault) }
 {
-    let bytes = bytes_of(alloc, store, path)?;
-    match str::from_utf8(bytes.as_slice()) {
-        Ok(text) => scheduled_in(alloc, text, seed, failures),
-        Err(_) => Err(Fault::CannotRead(path)),
-    }
+    let text = text_of(alloc, store, path)?;
+    scheduled_in(alloc, text.as_str(), seed, failures)
 }
 
 // The same of the text of a file.
@@ -65,11 +62,8 @@ pub(crate) fn explored<'a, S: Store, V: Watcher>(
     ensures fault { IfErr result (λ fault. (fault ≢ CannotWriteOutput)
         × IsFault (S.holds store.old) (S.ran_short store.new) (S.refuses store.new) (explore path.now seeds first failures) (S.holds store.new) fault) }
 {
-    let bytes = bytes_of(alloc, store, path)?;
-    match str::from_utf8(bytes.as_slice()) {
-        Ok(text) => explored_in(alloc, text, seeds, first, failures, watcher),
-        Err(_) => Err(Fault::CannotRead(path)),
-    }
+    let text = text_of(alloc, store, path)?;
+    explored_in(alloc, text.as_str(), seeds, first, failures, watcher)
 }
 
 // The same of the text of a file.

@@ -8,11 +8,7 @@ use crate::store::{Store, StoreError};
 use std::alloc::Global;
 
 // The bytes of a file.
-pub(crate) fn bytes_of<'a, S: Store>(
-    alloc: Global,
-    store: &mut S,
-    path: &'a str,
-) -> Result<Vec<u8>, Fault<'a>>
+fn bytes_of<'a, S: Store>(alloc: Global, store: &mut S, path: &'a str) -> Result<Vec<u8>, Fault<'a>>
     ensures bytes { IfOk result (λ bytes. S.holds store.old path.now (Some bytes.items)) }
     ensures fault { IfErr result (IsUnread (S.holds store.old path.now) (S.ran_short store.new) path.now) }
     ensures files { SameFiles (S.holds store.old) (S.holds store.new) }

@@ -6,7 +6,7 @@ ghost use Rattle.replay.specs.Commands.{Does, IsFault};
 ghost use Rattle.replay.specs.Recordings.{IsRecorded};
 
 use crate::fault::Fault;
-use crate::input::bytes_of;
+use crate::input::text_of;
 use crate::shown::Shown;
 use crate::store::Store;
 use recordings::error::RecordingError;
@@ -24,11 +24,8 @@ pub(crate) fn recorded<'a, S: Store>(
     ensures fault { IfErr result (λ fault. (fault ≢ CannotWriteOutput)
         × IsFault (S.holds store.old) (S.ran_short store.new) (S.refuses store.new) (from_strace path.now nodes) (S.holds store.new) fault) }
 {
-    let bytes = bytes_of(alloc, store, path)?;
-    match str::from_utf8(bytes.as_slice()) {
-        Ok(text) => recorded_in(alloc, text, nodes),
-        Err(_) => Err(Fault::CannotRead(path)),
-    }
+    let text = text_of(alloc, store, path)?;
+    recorded_in(alloc, text.as_str(), nodes)
 }
 
 // The same of the text of a file. What is left out of the script is told beside.

@@ -17,7 +17,7 @@ ghost use Rattle.replay.specs.Tellings.{open_section};
 
 use crate::explain::open_in;
 use crate::fault::Fault;
-use crate::input::bytes_of;
+use crate::input::text_of;
 use crate::listing::listing_begun;
 use crate::store::Store;
 use crate::wanted::Wanted;
@@ -45,7 +45,7 @@ pub(crate) fn run_script<'a, S: Store, V: Watcher>(
         × IsFault (S.holds store.old) (S.ran_short store.new) (S.refuses store.new) (run path.now None None wanted.open wanted.quiet) (S.holds store.new) fault) }
 {
     let played = played_of(alloc, store, path, watcher)?;
-    Ok(text_of(alloc, played, wanted)?)
+    Ok(run_text(alloc, played, wanted)?)
 }
 
 // The same, with the journal of the run written to a file. All that needs memory is done before.
@@ -90,15 +90,12 @@ fn script_of<'a, S: Store>(alloc: Global, store: &mut S, path: &'a str) -> Resul
     ensures fault { IfErr result (IsScriptFault (S.holds store.old path.now) (S.ran_short store.new) path.now) }
     ensures files { SameFiles (S.holds store.old) (S.holds store.new) }
 {
-    let bytes = bytes_of(alloc, store, path)?;
-    match str::from_utf8(bytes.as_slice()) {
-        Ok(text) => Ok(Script::parse(alloc, text)?),
-        Err(_) => Err(Fault::CannotRead(path)),
-    }
+    let text = text_of(alloc, store, path)?;
+    Ok(Script::parse(alloc, text.as_str())?)
 }
 
 // What is shown of a run.
-pub(crate) fn text_of(alloc: Global, played: Played, wanted: Wanted) -> Result<String, AllocError>
+pub(crate) fn run_text(alloc: Global, played: Played, wanted: Wanted) -> Result<String, AllocError>
     ensures { IfOk result (λ text. IsRunText (state_of played) wanted.open wanted.quiet (string_bytes text)) }
 {
     if wanted.quiet {

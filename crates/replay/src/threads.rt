@@ -9,7 +9,7 @@ ghost use Rattle.replay.specs.Threads.{HasThreadScript, IsTaken, IsTold};
 ghost use Rattle.lockscript.specs.ThreadLines.{bad_line};
 
 use crate::fault::Fault;
-use crate::input::bytes_of;
+use crate::input::text_of;
 use crate::on_threads::run_on_threads;
 use crate::shown::Shown;
 use crate::store::Store;
@@ -113,9 +113,6 @@ fn script_of<'a, S: Store>(alloc: Global, store: &mut S, path: &'a str) -> Resul
     ensures fault { IfErr result (IsThreadsFault (S.holds store.old path.now) (S.ran_short store.new) path.now) }
     ensures files { SameFiles (S.holds store.old) (S.holds store.new) }
 {
-    let bytes = bytes_of(alloc, store, path)?;
-    match str::from_utf8(bytes.as_slice()) {
-        Ok(text) => Ok(Script::parse_for_threads(alloc, text)?),
-        Err(_) => Err(Fault::CannotRead(path)),
-    }
+    let text = text_of(alloc, store, path)?;
+    Ok(Script::parse_for_threads(alloc, text.as_str())?)
 }

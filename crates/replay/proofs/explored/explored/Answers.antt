@@ -1,16 +1,23 @@
-use Rattle.std.proofs.Common.{◌∙◌, ℕ, List, IsUtf8, Some, subst, sym}
+use Rattle.std.proofs.Common.{◌≢◌, ℕ, List, IsUtf8, Some, subst, sym}
 use Rattle.std.proofs.lemmas.Result.{IfErr-weaker}
+use Rattle.std.proofs.lemmas.Str.{IsUtf8-string_bytes}
 use Rattle.command_line.specs.Tasks.{explore}
+use Rattle.replay.specs.declared.fault.Fault.TheVariants.{CannotWriteOutput}
+use Rattle.replay.specs.Commands.{IsFault}
 use Rattle.replay.specs.Explorations.{IsExploreTextFault}
 use Rattle.replay.proofs.Explorations.{explore-fault}
 use Rattle.replay.proofs.explored.explored.Goals as goal
 
-pub returns-in-Ok-clause-fault : goal.returns-in-Ok-clause-fault
-returns-in-Ok-clause-fault g c =
+pub returns-clause-fault : goal.returns-clause-fault
+returns-clause-fault g c =
     let holds = g.S.Store.holds in
     let old = holds c.args.store.now in
-    let text = c.in-Ok.text.now in
-    let held = subst (λ (bytes : List ℕ). old c.args.path.now (Some bytes)) (sym (c.in-Ok.ensures.cases.0 ∙ c.as_slice.ensures.value)) c.in_ok-bytes.ensures.bytes in
-    let utf8 = subst IsUtf8 (sym c.in-Ok.ensures.cases.0) c.in-Ok.ensures.cases.1 in
-    IfErr-weaker c.explored_in.result (IsExploreTextFault c.args.failures text) _
-    (λ fault is. explore-fault c.args.failures old (holds c.bytes_of.new.store) (g.S.Store.ran_short c.bytes_of.new.store) _ (explore c.args.path.now c.args.seeds c.args.first c.args.failures) c.args.path.now text fault held utf8 c.bytes_of.ensures.files (λ f input. input) is) c.explored_in.ensures.fault
+    let new = holds c.text_of.new.store in
+    let RanShort = g.S.Store.ran_short c.text_of.new.store in
+    let Refuses = g.S.Store.refuses c.text_of.new.store in
+    let task = explore c.args.path.now c.args.seeds c.args.first c.args.failures in
+    let text = c.as_str.result.now in
+    let held = subst (λ (bytes : List ℕ). old c.args.path.now (Some bytes)) (sym c.as_str.ensures.value) c.in_ok-text.ensures.text in
+    let utf8 = subst IsUtf8 (sym c.as_str.ensures.value) (IsUtf8-string_bytes c.in_ok-text.text) in
+    IfErr-weaker c.explored_in.result (IsExploreTextFault c.args.failures text) (λ fault. (fault ≢ CannotWriteOutput) × IsFault old RanShort Refuses task new fault)
+    (λ fault is. explore-fault c.args.failures old new RanShort Refuses task c.args.path.now text fault held utf8 c.text_of.ensures.files (λ f input. input) is) c.explored_in.ensures.fault
