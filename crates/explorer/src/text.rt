@@ -6,9 +6,10 @@ ghost use Rattle.explorer.specs.Texts.{command_line, script_text};
 use lockscript::script_line::Command;
 use lockscript::writing::push_command;
 use messages::shape::Shape;
+use model::policy::Policy;
 use std::alloc::{AllocError, Global};
 use std::fmt::Write;
-use texts::words::policy_word;
+use texts::words::Named;
 
 /// The text of a script: the `cluster` line of the shape, and a line for each command, in order. By the law
 /// `every_schedule_is_read` it is read as these lines.
@@ -32,7 +33,7 @@ fn push_shape(out: &mut String, shape: &Shape) -> Result<(), AllocError>
 {
     let nodes = shape.nodes();
     let files = shape.files();
-    let policy = policy_word(shape.policy());
+    let policy = Policy::word(shape.policy());
     writeln!(out, "cluster nodes {nodes} files {files} policy {policy}")
 }
 

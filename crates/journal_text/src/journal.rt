@@ -13,10 +13,11 @@ use messages::message::Message;
 use messages::shape::Shape;
 use messages::version::Version;
 use model::call::CallId;
+use model::policy::Policy;
 use model::reply::Reply;
 use std::alloc::{AllocError, Global};
 use std::fmt::Write;
-use texts::words::policy_word;
+use texts::words::Named;
 
 // After each so many entries that were written, their memory is given back.
 const ENTRIES_AT_ONCE: usize = 16_384;
@@ -65,7 +66,7 @@ pub fn push_head(out: &mut String, shape: &Shape) -> Result<(), AllocError>
 {
     let nodes = shape.nodes();
     let files = shape.files();
-    let policy = policy_word(shape.policy());
+    let policy = Policy::word(shape.policy());
     out.push_str(head_front(shape.version()))?;
     writeln!(out, "{nodes} files {files} policy {policy}")
 }

@@ -14,12 +14,14 @@ use cluster_core::token_run::TokenRun;
 use message_text::names::OwnerName;
 use messages::entry::Entry;
 use model::call::CallId;
+use model::level::Level;
+use model::mode::Mode;
 use model::op::Op;
 use model::reply::Reply;
 use std::alloc::{AllocError, Global};
 use std::fmt::Write;
 use texts::text::Text;
-use texts::words::{level_word, mode_word};
+use texts::words::Named;
 
 /// The listing of a run, in five sections with their headings: the refused lines of its script, each
 /// with the number of its refusal, the replies of the entries, tokens, locks and the history, each in
@@ -122,7 +124,7 @@ fn push_token(out: &mut String, token: &TokenRun) -> Result<(), AllocError>
     ensures { OnOk result (string_bytes out.new ≡ string_bytes out.old ++ token_line token.now) }
 {
     push_host_column(out, token.node, token.incarnation)?;
-    push_span_line(out, token.file, token.span, level_word(token.level))
+    push_span_line(out, token.file, token.span, Level::word(token.level))
 }
 
 fn push_locks(out: &mut String, locks: &[HeldLock]) -> Result<(), AllocError>
@@ -139,7 +141,7 @@ fn push_lock(out: &mut String, held: &HeldLock) -> Result<(), AllocError>
     ensures { OnOk result (string_bytes out.new ≡ string_bytes out.old ++ lock_line held.now) }
 {
     push_name_column::<OwnerName>(out, &held.lock.owner)?;
-    push_span_line(out, held.file, held.lock.span, mode_word(held.lock.mode))
+    push_span_line(out, held.file, held.lock.span, Mode::word(held.lock.mode))
 }
 
 /// Writes the last section of a listing, the history, with its heading.

@@ -13,11 +13,12 @@ use crate::numbers::{
 use model::call::CallId;
 use model::host::Host;
 use model::lock_info::LockInfo;
+use model::mode::Mode;
 use model::owner::{Kind, Owner};
 use std::alloc::AllocError;
 use std::fmt::Write;
 use texts::text::{Text, Word, after};
-use texts::words::mode_word;
+use texts::words::Named;
 
 // `p` for a process, `d` for an open file description.
 fn letter_of(kind: Kind) -> &'static str
@@ -59,7 +60,7 @@ pub fn push_owner(out: &mut String, owner: &Owner) -> Result<(), AllocError>
 pub fn push_lock(out: &mut String, lock: &LockInfo) -> Result<(), AllocError>
     ensures { OnOk result (string_bytes out.new ≡ string_bytes out.old ++ lock_text lock.now) }
 {
-    let mode = mode_word(lock.mode);
+    let mode = Mode::word(lock.mode);
     let lo = lock.span.lo;
     let hi = lock.span.hi;
     write!(out, "{mode} {lo} {hi} ")?;

@@ -12,9 +12,11 @@ use crate::stay::Stay;
 use crate::track::Track;
 use intervals::span::GREATEST;
 use message_text::names::{push_host, push_owner};
+use model::level::Level;
+use model::mode::Mode;
 use std::alloc::AllocError;
 use std::fmt::Write;
-use texts::words::{level_word, mode_word};
+use texts::words::Named;
 
 /// Draws all that stands below the rows.
 ///
@@ -188,12 +190,12 @@ fn push_held(out: &mut String, held: &Held) -> Result<(), AllocError>
             incarnation,
             level,
         } => {
-            let level = level_word(*level);
+            let level = Level::word(*level);
             write!(out, "token {level} of ")?;
             push_host(out, *node, *incarnation)
         }
         Held::Lock { owner, mode } => {
-            let mode = mode_word(*mode);
+            let mode = Mode::word(*mode);
             write!(out, "{mode} lock of ")?;
             push_owner(out, owner)
         }
@@ -208,11 +210,11 @@ fn push_held_class(out: &mut String, held: &Held) -> Result<(), AllocError>
     match held {
         Held::Token { node, level, .. } => {
             let colour = (u16::from(*node) + 7) % 8 + 1;
-            let level = level_word(*level);
+            let level = Level::word(*level);
             write!(out, "n{colour} {level}")
         }
         Held::Lock { mode, .. } => {
-            let mode = mode_word(*mode);
+            let mode = Mode::word(*mode);
             write!(out, "lock {mode}")
         }
     }

@@ -12,7 +12,7 @@ use lockscript::writing::push_command;
 use model::policy::Policy;
 use std::alloc::AllocError;
 use std::fmt::Write;
-use texts::words::policy_word;
+use texts::words::Named;
 
 /// Notes that are told one by one.
 const MOST_NOTES: usize = 100;
@@ -31,7 +31,7 @@ pub(crate) fn push_cluster(out: &mut String, nodes: u8, files: usize) -> Result<
 fn push_shape(out: &mut String, nodes: u8, files: usize, policy: Policy) -> Result<(), AllocError>
     ensures { OnOk result (string_bytes out.new ≡ string_bytes out.old ++ shape_text (record { version = Second; nodes = nodes; files = files; policy = policy }) ++ codes "\n") }
 {
-    let policy = policy_word(policy);
+    let policy = Policy::word(policy);
     out.push_str("cluster nodes ")?;
     writeln!(out, "{nodes} files {files} policy {policy}")
 }

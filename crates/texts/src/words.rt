@@ -1,5 +1,6 @@
 //! Words that name one of a few things.
-ghost use Rattle.std.specs.Prelude.{◌≡◌, ⊤};
+ghost use Rattle.std.specs.Prelude.{◌≡◌, ℕ, List, true, ⊤};
+ghost use Rattle.texts.specs.Reads.{Reads, has_no_space};
 ghost use Rattle.texts.specs.Words.{access_text, kind_text, level_text, mode_text, policy_text};
 
 use crate::text::{Text, Word};
@@ -10,179 +11,158 @@ use model::owner::Kind;
 use model::policy::Policy;
 use std::alloc::AllocError;
 
-/// The word for a mode.
-pub fn mode_word(mode: Mode) -> &'static str
-    ensures { result.now ≡ mode_text mode }
-{
-    match mode {
-        Mode::Read => "read",
-        Mode::Write => "write",
+/// A way to write values, each by a word of its own.
+pub trait Named {
+    /// What it writes.
+    type Value: Copy + Drop;
+
+    /// The word for a value.
+    ghost word_of: { Self.Value → List ℕ };
+
+    /// The value that the word names.
+    fn of_word(word: &str) -> Option<Self::Value>
+        ensures { Reads word_of (λ _. ⊤) word.now result };
+
+    /// The word for the value.
+    fn word(value: Self::Value) -> &'static str
+        ensures { result.now ≡ word_of value };
+
+    /// No word has a space: a law of the type, said by a function that does nothing.
+    fn are_words()
+        ensures { (value : Self.Value) → has_no_space (Self.word_of value) ≡ true };
+}
+
+/// The word for a value.
+impl<T: Named> Text for T {
+    type Value = T::Value;
+
+    ghost text_of = { T.word_of };
+
+    ghost is_served = { λ _. ⊤ };
+
+    fn read(text: &str) -> Option<T::Value> {
+        T::of_word(text)
     }
+
+    fn write(value: &T::Value, out: &mut String) -> Result<(), AllocError> {
+        out.push_str(T::word(*value))
+    }
+}
+
+impl<T: Named> Word for T {
+    fn is_one_field() {
+        T::are_words();
+    }
+}
+
+/// The one of these values, of all that the type has, whose word this is.
+#[macro_export]
+macro_rules! named {
+    ($word:ident, $($value:expr),+) => {{
+        $(if $word == Self::word($value) {
+            return Some($value);
+        })+
+        None
+    }};
 }
 
 /// `read` or `write`.
-impl Text for Mode {
+impl Named for Mode {
     type Value = Mode;
 
-    ghost text_of = { mode_text };
+    ghost word_of = { mode_text };
 
-    ghost is_served = { λ _. ⊤ };
+    fn of_word(word: &str) -> Option<Mode> {
+        named!(word, Mode::Read, Mode::Write)
+    }
 
-    fn read(text: &str) -> Option<Mode> {
-        match text {
-            "read" => Some(Mode::Read),
-            "write" => Some(Mode::Write),
-            _ => None,
+    fn word(mode: Mode) -> &'static str {
+        match mode {
+            Mode::Read => "read",
+            Mode::Write => "write",
         }
     }
 
-    fn write(value: &Mode, out: &mut String) -> Result<(), AllocError> {
-        out.push_str(mode_word(*value))
-    }
-}
-
-impl Word for Mode {
-    fn is_one_field() {}
-}
-
-/// The word for an access.
-pub fn access_word(access: Access) -> &'static str
-    ensures { result.now ≡ access_text access }
-{
-    match access {
-        Access::ReadOnly => "r",
-        Access::WriteOnly => "w",
-        Access::ReadWrite => "rw",
-    }
+    fn are_words() {}
 }
 
 /// `r`, `w` or `rw`.
-impl Text for Access {
+impl Named for Access {
     type Value = Access;
 
-    ghost text_of = { access_text };
+    ghost word_of = { access_text };
 
-    ghost is_served = { λ _. ⊤ };
+    fn of_word(word: &str) -> Option<Access> {
+        named!(word, Access::ReadOnly, Access::WriteOnly, Access::ReadWrite)
+    }
 
-    fn read(text: &str) -> Option<Access> {
-        match text {
-            "r" => Some(Access::ReadOnly),
-            "w" => Some(Access::WriteOnly),
-            "rw" => Some(Access::ReadWrite),
-            _ => None,
+    fn word(access: Access) -> &'static str {
+        match access {
+            Access::ReadOnly => "r",
+            Access::WriteOnly => "w",
+            Access::ReadWrite => "rw",
         }
     }
 
-    fn write(value: &Access, out: &mut String) -> Result<(), AllocError> {
-        out.push_str(access_word(*value))
-    }
-}
-
-impl Word for Access {
-    fn is_one_field() {}
-}
-
-/// The word for a kind of owner.
-pub fn kind_word(kind: Kind) -> &'static str
-    ensures { result.now ≡ kind_text kind }
-{
-    match kind {
-        Kind::OfProcess => "proc",
-        Kind::OfDescription => "desc",
-    }
+    fn are_words() {}
 }
 
 /// `proc` or `desc`.
-impl Text for Kind {
+impl Named for Kind {
     type Value = Kind;
 
-    ghost text_of = { kind_text };
+    ghost word_of = { kind_text };
 
-    ghost is_served = { λ _. ⊤ };
+    fn of_word(word: &str) -> Option<Kind> {
+        named!(word, Kind::OfProcess, Kind::OfDescription)
+    }
 
-    fn read(text: &str) -> Option<Kind> {
-        match text {
-            "proc" => Some(Kind::OfProcess),
-            "desc" => Some(Kind::OfDescription),
-            _ => None,
+    fn word(kind: Kind) -> &'static str {
+        match kind {
+            Kind::OfProcess => "proc",
+            Kind::OfDescription => "desc",
         }
     }
 
-    fn write(value: &Kind, out: &mut String) -> Result<(), AllocError> {
-        out.push_str(kind_word(*value))
-    }
-}
-
-impl Word for Kind {
-    fn is_one_field() {}
-}
-
-/// The word for a policy.
-pub fn policy_word(policy: Policy) -> &'static str
-    ensures { result.now ≡ policy_text policy }
-{
-    match policy {
-        Policy::Wide => "wide",
-        Policy::Exact => "exact",
-    }
+    fn are_words() {}
 }
 
 /// `wide` or `exact`.
-impl Text for Policy {
+impl Named for Policy {
     type Value = Policy;
 
-    ghost text_of = { policy_text };
+    ghost word_of = { policy_text };
 
-    ghost is_served = { λ _. ⊤ };
+    fn of_word(word: &str) -> Option<Policy> {
+        named!(word, Policy::Wide, Policy::Exact)
+    }
 
-    fn read(text: &str) -> Option<Policy> {
-        match text {
-            "wide" => Some(Policy::Wide),
-            "exact" => Some(Policy::Exact),
-            _ => None,
+    fn word(policy: Policy) -> &'static str {
+        match policy {
+            Policy::Wide => "wide",
+            Policy::Exact => "exact",
         }
     }
 
-    fn write(value: &Policy, out: &mut String) -> Result<(), AllocError> {
-        out.push_str(policy_word(*value))
-    }
-}
-
-impl Word for Policy {
-    fn is_one_field() {}
-}
-
-/// The word for a level of a token.
-pub fn level_word(level: Level) -> &'static str
-    ensures { result.now ≡ level_text level }
-{
-    match level {
-        Level::Shared => "shared",
-        Level::Exclusive => "exclusive",
-    }
+    fn are_words() {}
 }
 
 /// `shared` or `exclusive`.
-impl Text for Level {
+impl Named for Level {
     type Value = Level;
 
-    ghost text_of = { level_text };
+    ghost word_of = { level_text };
 
-    ghost is_served = { λ _. ⊤ };
+    fn of_word(word: &str) -> Option<Level> {
+        named!(word, Level::Shared, Level::Exclusive)
+    }
 
-    fn read(text: &str) -> Option<Level> {
-        match text {
-            "shared" => Some(Level::Shared),
-            "exclusive" => Some(Level::Exclusive),
-            _ => None,
+    fn word(level: Level) -> &'static str {
+        match level {
+            Level::Shared => "shared",
+            Level::Exclusive => "exclusive",
         }
     }
 
-    fn write(value: &Level, out: &mut String) -> Result<(), AllocError> {
-        out.push_str(level_word(*value))
-    }
-}
-
-impl Word for Level {
-    fn is_one_field() {}
+    fn are_words() {}
 }
