@@ -38,15 +38,11 @@ impl Text for FileName {
     ghost is_served = { IsFile };
 
     fn read(text: &str) -> Option<FileNumber> {
-        match FileField::read(text) {
-            Some(number) => Some(FileNumber::of(number)),
-            None => None,
-        }
+        FileField::read(text).map(FileNumber::of)
     }
 
     fn write(value: &FileNumber, out: &mut String) -> Result<(), AllocError> {
-        let number = value.get();
-        write!(out, "{number}")
+        write!(out, "{}", value.get())
     }
 }
 
@@ -65,15 +61,11 @@ impl Text for EpochName {
     ghost is_served = { IsRebuilt };
 
     fn read(text: &str) -> Option<EpochNumber> {
-        match RebuiltField::read(text) {
-            Some(epoch) => Some(EpochNumber::of(epoch)),
-            None => None,
-        }
+        RebuiltField::read(text).map(EpochNumber::of)
     }
 
     fn write(value: &EpochNumber, out: &mut String) -> Result<(), AllocError> {
-        let epoch = value.epoch();
-        write!(out, "{epoch}")
+        write!(out, "{}", value.epoch())
     }
 }
 
