@@ -10,8 +10,8 @@ use Rattle.model.specs.declared.owner.Owner.{Owner}
 use Rattle.model.specs.Limits.{IsCall, IsNumber, IsOwner, most_descriptions, most_nodes, most_of, most_processes}
 use Rattle.texts.specs.Reads.{Both, Reads, joined_text}
 use Rattle.message_text.specs.Names.{call_text, host_text, owner_letter, owner_text, dot, holder_text, server_text}
-use Rattle.message_text.specs.Parts.{AreCallParts, AreNodeParts, AreNumbered, AreServerParts, at_sign, call_parts_text, node_parts_text, numbered_text}
-use Rattle.message_text.specs.Served.{IsHolder}
+use Rattle.message_text.specs.Parts.{AreServerParts, at_sign}
+use Rattle.message_text.specs.Served.{IsCounted, IsHolder}
 use Rattle.texts.proofs.Pairs.{AllLack}
 use Rattle.texts.proofs.SingleWords.{decimal-lacks}
 use Rattle.message_text.proofs.AreTexts.{AreFields, AreTexts, joined, up_to, viewed}
@@ -31,7 +31,7 @@ dotted : {A : Type 0} {f : A → List ℕ} {P : A → Type 0} (most : ℕ) → m
 dotted most small rest = joined dot refl (dot-lacks most small) (up_to most small).texts rest
 
 -- a node in one incarnation
-abbrev pub hosts : Views (ℕ × ℕ) Host node_parts_text AreNodeParts holder_text IsHolder
+abbrev pub hosts : Views (ℕ × ℕ) Host (joined_text dot decimal decimal) (Both (IsNumber most_nodes) (IsNumber 65535)) holder_text IsHolder
 hosts = record {
   parts = λ h. (h.node, h.incarnation);
   fit = λ h fits. (fits.node_in, fits.incarnation_in);
@@ -44,7 +44,8 @@ host-made p = record { node = p.0; incarnation = p.1 }
 pub holder : AreFields holder_text IsHolder
 holder = record { words = holder_words; texts = viewed hosts (λ x y _ _ e. ap host-made e) (dotted most_nodes (omega arith) (up_to 65535 (omega arith)).texts) }
 
-abbrev pub calls : Views (ℕ × (ℕ × ℕ)) CallId call_parts_text AreCallParts call_text IsCall
+-- a node, its incarnation and the number of a call
+abbrev pub calls : Views (ℕ × (ℕ × ℕ)) CallId (joined_text dot decimal (joined_text dot decimal decimal)) (Both (IsNumber most_nodes) (Both (IsNumber 65535) IsCounted)) call_text IsCall
 calls = record {
   parts = λ c. (c.node, (c.incarnation, c.number));
   fit = λ c fits. (fits.host.node_in, (fits.host.incarnation_in, fits.number_in));
@@ -61,6 +62,13 @@ call = record { words = call_words; texts = viewed calls (λ x y _ _ e. ap call-
 
 pub server : AreTexts server_text AreServerParts
 server = dotted 256 (omega arith) (up_to 65535 (omega arith)).texts
+
+-- the number of an owner, and its node
+abbrev pub numbered_text : ℕ × Host → List ℕ
+numbered_text = joined_text at_sign decimal holder_text
+
+abbrev pub AreNumbered : ℕ → ℕ × Host → Type 0
+AreNumbered most = Both (IsNumber most) IsHolder
 
 pub numbered_name : (most : ℕ) → most < 2 ^ 64 → AreTexts numbered_text (AreNumbered most)
 numbered_name most small = joined at_sign refl (at_sign-lacks most small) (up_to most small).texts holder.texts
