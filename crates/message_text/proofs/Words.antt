@@ -1,15 +1,16 @@
 -- Names that are one field.
-use Rattle.std.proofs.Common.{ℕ, zero, suc, List, [], ◌∷◌, ◌++◌, refl, arith, codes, decimal}
+use Rattle.std.proofs.Common.{ℕ, zero, suc, List, [], ◌∷◌, ◌++◌, refl, arith, codes}
 use Rattle.std.specs.Prelude.{⊤}
 use Rattle.model.specs.Limits.{IsCall}
 use Rattle.messages.specs.declared.message.Blocking.TheVariants.{No, Yes}
 use Rattle.texts.specs.Layout.{space}
 use Rattle.texts.specs.Reads.{Lacks}
-use Rattle.message_text.specs.Names.{call_text, host_text, holder_text}
+use Rattle.message_text.specs.Names.{call_text, holder_text}
 use Rattle.texts.proofs.Pairs.{AreApart, AreWords, heads}
-use Rattle.texts.proofs.SingleWords.{Lacks-decimal, one-word}
+use Rattle.texts.proofs.SingleWords.{lacks-tested, one-word}
 use Rattle.message_text.specs.Served.{IsHolder}
 use Rattle.message_text.specs.Texts.{blocking_text}
+use Rattle.message_text.proofs.OneField.{call_is_one_field, holder_is_one_field}
 
 -- two texts without a byte are one without it
 pub lacks-append : (c : ℕ) (x y : List ℕ) → Lacks c x → Lacks c y → Lacks c (x ++ y)
@@ -18,16 +19,10 @@ lacks-append c (b ∷ x) y no_x no_y zero lt = no_x 0 (omega arith)
 lacks-append c (b ∷ x) y no_x no_y (suc i) lt = lacks-append c x y (λ j l. no_x (suc j) (omega (arith, l))) no_y i (omega (arith, lt))
 
 pub holder_words : AreWords holder_text IsHolder
-holder_words h fits =
-    lacks-append space (decimal h.node ++ codes ".") (decimal h.incarnation)
-    (lacks-append space (decimal h.node) (codes ".") (Lacks-decimal h.node (omega (arith, fits.node_in.1))) (one-word (codes ".") refl))
-    (Lacks-decimal h.incarnation (omega (arith, fits.incarnation_in.1)))
+holder_words h fits = lacks-tested space (holder_text h) (holder_is_one_field h fits)
 
 pub call_words : AreWords call_text IsCall
-call_words c fits =
-    lacks-append space (host_text c.node c.incarnation ++ codes ".") (decimal c.number)
-    (lacks-append space (host_text c.node c.incarnation) (codes ".") (holder_words (record { node = c.node; incarnation = c.incarnation }) fits.host) (one-word (codes ".") refl))
-    (Lacks-decimal c.number (omega (arith, fits.number_in.1)))
+call_words c fits = lacks-tested space (call_text c) (call_is_one_field c fits)
 
 pub blocking_words : AreWords blocking_text (λ _. ⊤)
 blocking_words No fits = one-word (codes "now") refl
