@@ -14,7 +14,7 @@ use Rattle.message_text.proofs.Variants.{Variant, of_variants, variant}
 
 -- the words that messages begin with
 abbrev pub words : List (List ℕ)
-words = codes "request" ∷ codes "grant" ∷ codes "revoke" ∷ codes "taken" ∷ codes "released" ∷ codes "conflict" ∷ codes "deny" ∷ codes "freed" ∷ codes "hello" ∷ codes "report" ∷ []
+words = codes "grant" ∷ codes "revoke" ∷ codes "deny" ∷ codes "hello" ∷ codes "report" ∷ codes "request" ∷ codes "taken" ∷ codes "conflict" ∷ codes "freed" ∷ codes "released" ∷ []
 
 module _ (version : Version) where
   abbrev MessageKind : Type 1

@@ -33,32 +33,18 @@ pub fn message_in<V: Edition>(text: &str) -> Option<WrittenMessage<'_>>
 {
     let (word, operands) = split_field(text)?;
     match word {
-        "request" => request_of::<V>(operands),
         "grant" => grant_of::<V>(operands),
         "revoke" => revoke_of::<V>(operands),
-        "taken" => taken_of::<V>(operands),
-        "released" => released_of::<V>(operands),
-        "conflict" => conflict_of::<V>(operands),
         "deny" => deny_of::<V>(operands),
-        "freed" => freed_of::<V>(operands),
         "hello" => hello_of::<V>(operands),
         "report" => report_of::<V>(operands),
+        "request" => request_of::<V>(operands),
+        "taken" => taken_of::<V>(operands),
+        "conflict" => conflict_of::<V>(operands),
+        "freed" => freed_of::<V>(operands),
+        "released" => released_of::<V>(operands),
         _ => None,
     }
-}
-
-// `request` with these operands.
-fn request_of<V: Edition>(operands: &str) -> Option<WrittenMessage<'_>>
-    ensures { Reads (message_text V.version) (IsServedMessage V.version) (codes "request " ++ operands.now) result }
-{
-    let (file, (call, (blocking, (mode, wanted)))) = RequestFields::read(operands)?;
-    Some(WrittenMessage::whole(Message::Request {
-        file,
-        call,
-        blocking,
-        mode,
-        wanted,
-    }))
 }
 
 // `grant` with these operands.
@@ -90,42 +76,6 @@ fn revoke_of<V: Edition>(operands: &str) -> Option<WrittenMessage<'_>>
     }))
 }
 
-// `taken` with these operands.
-fn taken_of<V: Edition>(operands: &str) -> Option<WrittenMessage<'_>>
-    ensures { Reads (message_text V.version) (IsServedMessage V.version) (codes "taken " ++ operands.now) result }
-{
-    let (file, (number, call)) = <TakenFields<V>>::read(operands)?;
-    Some(WrittenMessage::whole(Message::Taken { file, number, call }))
-}
-
-// `released` with these operands.
-fn released_of<V: Edition>(operands: &str) -> Option<WrittenMessage<'_>>
-    ensures { Reads (message_text V.version) (IsServedMessage V.version) (codes "released " ++ operands.now) result }
-{
-    let (file, (number, (holder, (call, span)))) = <ReleasedFields<V>>::read(operands)?;
-    Some(WrittenMessage::whole(Message::Released {
-        file,
-        number,
-        holder,
-        call,
-        span,
-    }))
-}
-
-// `conflict` with these operands.
-fn conflict_of<V: Edition>(operands: &str) -> Option<WrittenMessage<'_>>
-    ensures { Reads (message_text V.version) (IsServedMessage V.version) (codes "conflict " ++ operands.now) result }
-{
-    let (file, (number, (holder, (call, lock)))) = <ConflictFields<V>>::read(operands)?;
-    Some(WrittenMessage::whole(Message::Conflict {
-        file,
-        number,
-        holder,
-        call,
-        lock,
-    }))
-}
-
 // `deny` with these operands.
 fn deny_of<V: Edition>(operands: &str) -> Option<WrittenMessage<'_>>
     ensures { Reads (message_text V.version) (IsServedMessage V.version) (codes "deny " ++ operands.now) result }
@@ -138,14 +88,6 @@ fn deny_of<V: Edition>(operands: &str) -> Option<WrittenMessage<'_>>
         number,
         lock,
     }))
-}
-
-// `freed` with these operands.
-fn freed_of<V: Edition>(operands: &str) -> Option<WrittenMessage<'_>>
-    ensures { Reads (message_text V.version) (IsServedMessage V.version) (codes "freed " ++ operands.now) result }
-{
-    let (file, holder) = FreedFields::read(operands)?;
-    Some(WrittenMessage::whole(Message::Freed { file, holder }))
 }
 
 // `hello` with these operands.
@@ -183,4 +125,62 @@ fn report_of<V: Edition>(operands: &str) -> Option<WrittenMessage<'_>>
         return None;
     }
     Some(WrittenMessage::report(file, number, holder, runs))
+}
+
+// `request` with these operands.
+fn request_of<V: Edition>(operands: &str) -> Option<WrittenMessage<'_>>
+    ensures { Reads (message_text V.version) (IsServedMessage V.version) (codes "request " ++ operands.now) result }
+{
+    let (file, (call, (blocking, (mode, wanted)))) = RequestFields::read(operands)?;
+    Some(WrittenMessage::whole(Message::Request {
+        file,
+        call,
+        blocking,
+        mode,
+        wanted,
+    }))
+}
+
+// `taken` with these operands.
+fn taken_of<V: Edition>(operands: &str) -> Option<WrittenMessage<'_>>
+    ensures { Reads (message_text V.version) (IsServedMessage V.version) (codes "taken " ++ operands.now) result }
+{
+    let (file, (number, call)) = <TakenFields<V>>::read(operands)?;
+    Some(WrittenMessage::whole(Message::Taken { file, number, call }))
+}
+
+// `conflict` with these operands.
+fn conflict_of<V: Edition>(operands: &str) -> Option<WrittenMessage<'_>>
+    ensures { Reads (message_text V.version) (IsServedMessage V.version) (codes "conflict " ++ operands.now) result }
+{
+    let (file, (number, (holder, (call, lock)))) = <ConflictFields<V>>::read(operands)?;
+    Some(WrittenMessage::whole(Message::Conflict {
+        file,
+        number,
+        holder,
+        call,
+        lock,
+    }))
+}
+
+// `freed` with these operands.
+fn freed_of<V: Edition>(operands: &str) -> Option<WrittenMessage<'_>>
+    ensures { Reads (message_text V.version) (IsServedMessage V.version) (codes "freed " ++ operands.now) result }
+{
+    let (file, holder) = FreedFields::read(operands)?;
+    Some(WrittenMessage::whole(Message::Freed { file, holder }))
+}
+
+// `released` with these operands.
+fn released_of<V: Edition>(operands: &str) -> Option<WrittenMessage<'_>>
+    ensures { Reads (message_text V.version) (IsServedMessage V.version) (codes "released " ++ operands.now) result }
+{
+    let (file, (number, (holder, (call, span)))) = <ReleasedFields<V>>::read(operands)?;
+    Some(WrittenMessage::whole(Message::Released {
+        file,
+        number,
+        holder,
+        call,
+        span,
+    }))
 }

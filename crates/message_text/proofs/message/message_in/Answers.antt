@@ -10,4 +10,4 @@ returns-in_default g c =
     let split = c.in_ok-word in
     let other = c.in_default in
     rw split.ensures.1
-    (none-with (begins-message g.V.Edition.version) split.word.now split.operands.now split.ensures.0 (other.not-request, (other.not-grant, (other.not-revoke, (other.not-taken, (other.not-released, (other.not-conflict, (other.not-deny, (other.not-freed, (other.not-hello, (other.not-report, tt)))))))))))
+    (none-with (begins-message g.V.Edition.version) split.word.now split.operands.now split.ensures.0 (other.not-grant, (other.not-revoke, (other.not-deny, (other.not-hello, (other.not-report, (other.not-request, (other.not-taken, (other.not-conflict, (other.not-freed, (other.not-released, tt)))))))))))
