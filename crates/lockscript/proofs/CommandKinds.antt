@@ -60,7 +60,7 @@ settles = variant (codes "settle") refl nothing (λ _. Settle) (λ f fit. tt) (�
 
 -- the words of lines with fields, and of the other
 abbrev pub words : List (List ℕ)
-words = codes "call" ∷ codes "deliver" ∷ codes "lose" ∷ codes "interrupt" ∷ codes "retry" ∷ codes "resend" ∷ codes "declare" ∷ codes "restart" ∷ codes "learn" ∷ codes "fail-server" ∷ codes "start-server" ∷ []
+words = codes "call" ∷ codes "interrupt" ∷ codes "retry" ∷ codes "deliver" ∷ codes "lose" ∷ codes "resend" ∷ codes "declare" ∷ codes "restart" ∷ codes "fail-server" ∷ codes "start-server" ∷ codes "learn" ∷ []
 
 abbrev pub lone_words : List (List ℕ)
 lone_words = codes "settle" ∷ []

@@ -22,17 +22,17 @@ pub record LineFields : Type 0 where
 
 abbrev pub command_text : Command → List ℕ
 command_text (Call node pid op) = codes "call " ++ pair_text decimal (pair_text decimal op_text) (node, (pid, op))
-command_text (Deliver message) = codes "deliver " ++ decimal message
-command_text (Lose message) = codes "lose " ++ decimal message
-command_text Settle = codes "settle"
 command_text (Interrupt node pid) = codes "interrupt " ++ pair_text decimal decimal (node, pid)
 command_text (Retry node pid) = codes "retry " ++ pair_text decimal decimal (node, pid)
+command_text Settle = codes "settle"
+command_text (Deliver message) = codes "deliver " ++ decimal message
+command_text (Lose message) = codes "lose " ++ decimal message
 command_text (Resend file) = codes "resend " ++ decimal file
 command_text (Declare node) = codes "declare " ++ decimal node
 command_text (Restart node) = codes "restart " ++ decimal node
-command_text (Learn file node incarnation) = codes "learn " ++ pair_text decimal (pair_text decimal decimal) (file, (node, incarnation))
 command_text (FailServer file) = codes "fail-server " ++ decimal file
 command_text (StartServer file) = codes "start-server " ++ decimal file
+command_text (Learn file node incarnation) = codes "learn " ++ pair_text decimal (pair_text decimal decimal) (file, (node, incarnation))
 
 -- a cluster that is served, of this version
 pub record IsShapeOf (version : Version) (s : ShapeFields) : Type 0 where
@@ -58,17 +58,17 @@ greatest_message = 4294967295
 -- what a line may ask for: its numbers are within the limits, and its operation is served
 abbrev pub IsCommand : Command → Type 0
 IsCommand (Call node pid op) = IsNumber most_nodes node × IsNumber most_processes pid × IsServedOp op
-IsCommand (Deliver message) = IsNumber greatest_message message
-IsCommand (Lose message) = IsNumber greatest_message message
-IsCommand Settle = ⊤
 IsCommand (Interrupt node pid) = IsNumber most_nodes node × IsNumber most_processes pid
 IsCommand (Retry node pid) = IsNumber most_nodes node × IsNumber most_processes pid
+IsCommand Settle = ⊤
+IsCommand (Deliver message) = IsNumber greatest_message message
+IsCommand (Lose message) = IsNumber greatest_message message
 IsCommand (Resend file) = IsNumber most_files file
 IsCommand (Declare node) = IsNumber most_nodes node
 IsCommand (Restart node) = IsNumber most_nodes node
-IsCommand (Learn file node incarnation) = IsNumber most_files file × IsNumber most_nodes node × IsNumber most_incarnations incarnation
 IsCommand (FailServer file) = IsNumber most_files file
 IsCommand (StartServer file) = IsNumber most_files file
+IsCommand (Learn file node incarnation) = IsNumber most_files file × IsNumber most_nodes node × IsNumber most_incarnations incarnation
 
 -- the greatest number of a line that listings can name, which has 32 bits
 abbrev pub greatest_line : ℕ

@@ -12,17 +12,17 @@ use Rattle.lockscript.specs.declared.script_line.Command.TheVariants.{Call, Deli
 -- whether threads take a line that asks for this
 abbrev pub is_for_threads : Command → Bool
 is_for_threads (Call node pid op) = true
-is_for_threads (Deliver message) = false
-is_for_threads (Lose message) = false
-is_for_threads Settle = true
 is_for_threads (Interrupt node pid) = false
 is_for_threads (Retry node pid) = false
+is_for_threads Settle = true
+is_for_threads (Deliver message) = false
+is_for_threads (Lose message) = false
 is_for_threads (Resend file) = false
 is_for_threads (Declare node) = true
 is_for_threads (Restart node) = true
-is_for_threads (Learn file node incarnation) = false
 is_for_threads (FailServer file) = true
 is_for_threads (StartServer file) = true
+is_for_threads (Learn file node incarnation) = false
 
 -- the number of the first line that threads don't take
 abbrev pub bad_line : List LineFields → Option ℕ

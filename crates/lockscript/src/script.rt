@@ -33,8 +33,8 @@ impl Script {
     /// The script that the text writes. Each line ends with a line feed, the last one too; empty lines
     /// and lines that begin with `#` are skipped. The first other line is
     /// `cluster nodes N files F policy P`, and none of the others is; they are `call N PID OP`,
-    /// `deliver K`, `lose K`, `settle`, `interrupt N PID`, `retry N PID`, `resend F`, `declare N`,
-    /// `restart N`, `learn F N I`, `fail-server F` and `start-server F`, in lines up to number 4294967295.
+    /// `interrupt N PID`, `retry N PID`, `settle`, `deliver K`, `lose K`, `resend F`, `declare N`,
+    /// `restart N`, `fail-server F`, `start-server F` and `learn F N I`, in lines up to number 4294967295.
     /// OP is `spawn`, `fork PID`, `open F ACCESS`, `dup FD`, `close FD`, `exit`,
     /// `set FD KIND MODE START LEN`, `wait FD KIND MODE START LEN`, `unlock FD KIND START LEN` or
     /// `query FD KIND MODE START LEN`, with ACCESS `r`, `w` or `rw`, KIND `proc` or `desc`, and MODE

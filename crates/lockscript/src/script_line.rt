@@ -11,16 +11,6 @@ pub enum Command {
         pid: u16,
         op: Op,
     },
-    /// A message is delivered, by its number in the order of sending, from 1.
-    Deliver {
-        message: u32,
-    },
-    /// A message is lost, by its number in the order of sending, from 1: lines that settle pass over it.
-    Lose {
-        message: u32,
-    },
-    /// Messages are delivered until none is left that no line has delivered, lost or passed over.
-    Settle,
     /// The wait of a process is interrupted.
     Interrupt {
         node: u8,
@@ -30,6 +20,16 @@ pub enum Command {
     Retry {
         node: u8,
         pid: u16,
+    },
+    /// Messages are delivered until none is left that no line has delivered, lost or passed over.
+    Settle,
+    /// A message is delivered, by its number in the order of sending, from 1.
+    Deliver {
+        message: u32,
+    },
+    /// A message is lost, by its number in the order of sending, from 1: lines that settle pass over it.
+    Lose {
+        message: u32,
     },
     /// The server of a file sends again what has no answer.
     Resend {
@@ -43,12 +43,6 @@ pub enum Command {
     Restart {
         node: u8,
     },
-    /// The server of a file learns that an incarnation of a node was declared failed.
-    Learn {
-        file: u16,
-        node: u8,
-        incarnation: u16,
-    },
     /// The server of a file is declared failed.
     FailServer {
         file: u16,
@@ -56,6 +50,12 @@ pub enum Command {
     /// The server of a file that was declared failed is rebuilt, in its next epoch.
     StartServer {
         file: u16,
+    },
+    /// The server of a file learns that an incarnation of a node was declared failed.
+    Learn {
+        file: u16,
+        node: u8,
+        incarnation: u16,
     },
 }
 
@@ -69,20 +69,15 @@ impl Command {
     pub fn is_for_threads(&self) -> bool
         ensures { result ≡ is_for_threads self.now }
     {
-        match self {
-            Command::Call { .. } => true,
-            Command::Settle => true,
-            Command::Declare { .. } => true,
-            Command::Restart { .. } => true,
-            Command::Deliver { .. } => false,
-            Command::Lose { .. } => false,
-            Command::Interrupt { .. } => false,
-            Command::Retry { .. } => false,
-            Command::Resend { .. } => false,
-            Command::Learn { .. } => false,
-            Command::FailServer { .. } => true,
-            Command::StartServer { .. } => true,
-        }
+        matches!(
+            self,
+            Command::Call { .. }
+                | Command::Settle
+                | Command::Declare { .. }
+                | Command::Restart { .. }
+                | Command::FailServer { .. }
+                | Command::StartServer { .. }
+        )
     }
 }
 

@@ -20,20 +20,20 @@ pub fn push_command(out: &mut String, command: &Command) -> Result<(), AllocErro
             write!(out, "call {node} {pid} ")?;
             Operation::write(op, out)
         }
-        Command::Deliver { message } => write!(out, "deliver {message}"),
-        Command::Lose { message } => write!(out, "lose {message}"),
-        Command::Settle => out.push_str("settle"),
         Command::Interrupt { node, pid } => write!(out, "interrupt {node} {pid}"),
         Command::Retry { node, pid } => write!(out, "retry {node} {pid}"),
+        Command::Settle => out.push_str("settle"),
+        Command::Deliver { message } => write!(out, "deliver {message}"),
+        Command::Lose { message } => write!(out, "lose {message}"),
         Command::Resend { file } => write!(out, "resend {file}"),
         Command::Declare { node } => write!(out, "declare {node}"),
         Command::Restart { node } => write!(out, "restart {node}"),
+        Command::FailServer { file } => write!(out, "fail-server {file}"),
+        Command::StartServer { file } => write!(out, "start-server {file}"),
         Command::Learn {
             file,
             node,
             incarnation,
         } => write!(out, "learn {file} {node} {incarnation}"),
-        Command::FailServer { file } => write!(out, "fail-server {file}"),
-        Command::StartServer { file } => write!(out, "start-server {file}"),
     }
 }
