@@ -41,10 +41,8 @@ type Counts = (
 pub fn shape_of(line: &str) -> Option<Shape>
     ensures { Reads shape_text IsScriptShape line.now result }
 {
-    match after(line, "cluster nodes ") {
-        Some(operands) => shape_operands(Version::Second, operands),
-        None => None,
-    }
+    let operands = after(line, "cluster nodes ")?;
+    shape_operands(Version::Second, operands)
 }
 
 /// The shape of this version that `N files F policy P` names, if the text is that and such a cluster
@@ -52,8 +50,6 @@ pub fn shape_of(line: &str) -> Option<Shape>
 pub fn shape_operands(version: Version, text: &str) -> Option<Shape>
     ensures { Reads counts_text (IsShapeOf version) text.now result }
 {
-    match Counts::read(text) {
-        Some((nodes, (files, policy))) => Shape::of(version, nodes, files, policy).ok(),
-        None => None,
-    }
+    let (nodes, (files, policy)) = Counts::read(text)?;
+    Shape::of(version, nodes, files, policy).ok()
 }

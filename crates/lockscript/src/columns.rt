@@ -18,22 +18,16 @@ const NAME_WIDTH: usize = 16;
 /// The width of a column of nodes with their incarnations.
 const HOST_WIDTH: usize = 8;
 
-fn push_spaces(out: &mut String, count: usize) -> Result<(), AllocError>
-    ensures { OnOk result (string_bytes out.new ≡ string_bytes out.old ++ replicate count space) }
-{
-    for _ in 0..count {
-        out.push_str(" ")?;
-    }
-    Ok(())
-}
-
 // Fills up the column of this width that begins at byte `start` of the text.
 fn fill_column(out: &mut String, start: usize, width: usize) -> Result<(), AllocError>
     requires { start ≤ string_len out.old }
     ensures { OnOk result (string_bytes out.new ≡ string_bytes out.old ++ replicate (width - (string_len out.old - start)) space) }
 {
     let written = out.len() - start;
-    push_spaces(out, width.saturating_sub(written))
+    for _ in 0..width.saturating_sub(written) {
+        out.push_str(" ")?;
+    }
+    Ok(())
 }
 
 /// Writes the name of a call or of an owner at the left end of its column.

@@ -54,14 +54,10 @@ impl<'a> Lines<'a> {
             return Ok(None);
         }
         let number = self.next_number();
-        match split_line(self.rest) {
-            Some((text, rest)) => {
-                self.rest = rest;
-                self.taken = number;
-                Ok(Some(NumberedLine { number, text }))
-            }
-            None => Err(ParseError::BadLine(number)),
-        }
+        let (text, rest) = split_line(self.rest).ok_or(ParseError::BadLine(number))?;
+        self.rest = rest;
+        self.taken = number;
+        Ok(Some(NumberedLine { number, text }))
     }
 
     /// The next line that isn't skipped: one that isn't empty and doesn't begin with `#`.

@@ -1,8 +1,6 @@
 //! The listing of what a run gave.
 ghost use Rattle.std.specs.Prelude.{◌≡◌, ◌++◌, codes, flat_map, string_bytes, IfOk, OnOk};
-ghost use Rattle.cluster_core.specs.declared.item.Item.TheVariants.{Answered, Gone};
 ghost use Rattle.lockscript.specs.Listing.{listing_text, listing_start, history_text, lock_line, refused_line, replied, reply_lines, token_line, history_line};
-ghost use Rattle.lockscript.specs.Texts.{reply_text};
 
 use crate::columns::{push_host_column, push_name_column, push_placed, push_span_line};
 use crate::operations::Operation;
@@ -16,7 +14,6 @@ use messages::entry::Entry;
 use model::call::CallId;
 use model::level::Level;
 use model::mode::Mode;
-use model::op::Op;
 use model::reply::Reply;
 use std::alloc::{AllocError, Global};
 use std::fmt::Write;
@@ -99,13 +96,6 @@ fn push_replied(
         return Ok(());
     };
     push_placed(out, position, call)?;
-    push_reply_end(out, reply)
-}
-
-// Writes a reply at the end of its line.
-fn push_reply_end(out: &mut String, reply: &Reply) -> Result<(), AllocError>
-    ensures { OnOk result (string_bytes out.new ≡ string_bytes out.old ++ reply_text reply.now ++ codes "\n") }
-{
     push_reply(out, reply)?;
     out.push_str("\n")
 }
@@ -168,34 +158,18 @@ fn push_item(out: &mut String, item: &Item) -> Result<(), AllocError>
             pid,
             op,
             reply,
-        } => push_answered(out, *position, id, *pid, op, reply),
+        } => {
+            push_placed(out, u64::from(*position), id)?;
+            write!(out, "{pid} ")?;
+            Operation::write(op, out)?;
+            out.push_str(" -> ")?;
+            push_reply(out, reply)?;
+            out.push_str("\n")
+        }
         Item::Gone {
             position,
             node,
             incarnation,
-        } => push_gone(out, *position, *node, *incarnation),
+        } => writeln!(out, "{position:>7} gone             {node}.{incarnation}"),
     }
-}
-
-fn push_answered(
-    out: &mut String,
-    position: u32,
-    id: &CallId,
-    pid: u16,
-    op: &Op,
-    reply: &Reply,
-) -> Result<(), AllocError>
-    ensures { OnOk result (string_bytes out.new ≡ string_bytes out.old ++ history_line (Answered position id.now pid op.now reply.now)) }
-{
-    push_placed(out, u64::from(position), id)?;
-    write!(out, "{pid} ")?;
-    Operation::write(op, out)?;
-    out.push_str(" -> ")?;
-    push_reply_end(out, reply)
-}
-
-fn push_gone(out: &mut String, position: u32, node: u8, incarnation: u16) -> Result<(), AllocError>
-    ensures { OnOk result (string_bytes out.new ≡ string_bytes out.old ++ history_line (Gone position node incarnation)) }
-{
-    writeln!(out, "{position:>7} gone             {node}.{incarnation}")
 }

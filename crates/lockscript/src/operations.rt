@@ -1,7 +1,7 @@
 //! Operations in scripts.
 ghost use Rattle.std.specs.Prelude.{◌∷◌, ◌++◌};
 ghost use Rattle.texts.specs.Layout.{space};
-ghost use Rattle.texts.specs.Reads.{IsOneField, Lacks, Reads};
+ghost use Rattle.texts.specs.Reads.{Lacks, Reads};
 ghost use Rattle.lockscript.specs.Served.{IsServedOp};
 ghost use Rattle.lockscript.specs.Texts.{op_text};
 
@@ -39,7 +39,11 @@ impl Text for Operation {
     fn read(text: &str) -> Option<Op> {
         match split_field(text) {
             Some((word, operands)) => op_with(word, operands),
-            None => op_alone(text),
+            None => match text {
+                "spawn" => Some(Op::Spawn),
+                "exit" => Some(Op::Exit),
+                _ => None,
+            },
         }
     }
 
@@ -119,18 +123,6 @@ fn op_with(word: &str, operands: &str) -> Option<Op>
             start,
             len,
         }),
-        _ => None,
-    }
-}
-
-// The operation of this word, with no operands.
-fn op_alone(word: &str) -> Option<Op>
-    requires { IsOneField word.now }
-    ensures { Reads op_text IsServedOp word.now result }
-{
-    match word {
-        "spawn" => Some(Op::Spawn),
-        "exit" => Some(Op::Exit),
         _ => None,
     }
 }
