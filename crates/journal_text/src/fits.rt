@@ -20,16 +20,7 @@ fn reply_fits(reply: &Reply)
             let _fd = fd;
         }
         Reply::Again(lock) | Reply::Blocked(lock) => lock_fits(lock),
-        Reply::Done
-        | Reply::Free
-        | Reply::Interrupted
-        | Reply::NoProcess
-        | Reply::Exists
-        | Reply::BadFd
-        | Reply::TooManyFiles
-        | Reply::NoLocks
-        | Reply::Invalid
-        | Reply::Overflow => (),
+        _ => (),
     }
 }
 

@@ -27,8 +27,6 @@ pub fn head_of(line: &str) -> Option<Shape>
     if let Some(operands) = after(line, head_front(Version::First)) {
         return shape_operands(Version::First, operands);
     }
-    match after(line, head_front(Version::Second)) {
-        Some(operands) => shape_operands(Version::Second, operands),
-        None => None,
-    }
+    let operands = after(line, head_front(Version::Second))?;
+    shape_operands(Version::Second, operands)
 }

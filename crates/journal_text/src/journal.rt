@@ -147,15 +147,9 @@ fn push_sends(out: &mut String, version: Version, sends: &[Message]) -> Result<(
     ensures { OnOk result (string_bytes out.new ≡ string_bytes out.old ++ flat_map (send_line version) sends.now) }
 {
     for message in sends {
-        push_send(out, version, message)?;
+        out.push_str("send ")?;
+        push_message(out, version, message)?;
+        out.push_str("\n")?;
     }
     Ok(())
-}
-
-fn push_send(out: &mut String, version: Version, message: &Message) -> Result<(), AllocError>
-    ensures { OnOk result (string_bytes out.new ≡ string_bytes out.old ++ send_line version message.now) }
-{
-    out.push_str("send ")?;
-    push_message(out, version, message)?;
-    out.push_str("\n")
 }

@@ -80,10 +80,7 @@ impl NamedEvent<'_> {
             | NamedEvent::Declare { host }
             | NamedEvent::Restart { host } => host.incarnation,
             NamedEvent::FailServer { epoch, .. } | NamedEvent::StartServer { epoch, .. } => *epoch,
-            NamedEvent::Call { .. }
-            | NamedEvent::Deliver(_)
-            | NamedEvent::Resend { .. }
-            | NamedEvent::Learn { .. } => 0,
+            _ => 0,
         }
     }
 
@@ -93,15 +90,7 @@ impl NamedEvent<'_> {
     {
         match self {
             NamedEvent::Call { call, .. } => Some(*call),
-            NamedEvent::Deliver(_)
-            | NamedEvent::Interrupt { .. }
-            | NamedEvent::Retry { .. }
-            | NamedEvent::Resend { .. }
-            | NamedEvent::Declare { .. }
-            | NamedEvent::Restart { .. }
-            | NamedEvent::Learn { .. }
-            | NamedEvent::FailServer { .. }
-            | NamedEvent::StartServer { .. } => None,
+            _ => None,
         }
     }
 }

@@ -79,8 +79,8 @@ impl Place {
         ensures { result ≡ place self.count phase.Sending }
     {
         Place {
-            count: self.count,
             phase: Phase::Sending,
+            ..self
         }
     }
 
@@ -92,8 +92,8 @@ impl Place {
             return None;
         }
         Some(Place {
-            count: told,
             phase: Phase::Ended,
+            ..self
         })
     }
 }

@@ -49,12 +49,8 @@ impl<'a> Reader<'a> {
         ensures place { self.new.place ≡ self.old.place }
         ensures bad { IfErr result (IsBadLine self.old.rest.now) }
     {
-        let Some((line, rest)) = split_line(self.rest) else {
-            return Err(ParseError::BadLine(1));
-        };
-        let Some(shape) = head_of(line) else {
-            return Err(ParseError::BadLine(1));
-        };
+        let (line, rest) = split_line(self.rest).ok_or(ParseError::BadLine(1))?;
+        let shape = head_of(line).ok_or(ParseError::BadLine(1))?;
         self.rest = rest;
         self.taken = 1;
         Ok(shape)

@@ -1,7 +1,5 @@
 //! Replies and their texts.
-ghost use Rattle.std.specs.Prelude.{◌∷◌, ◌++◌};
-ghost use Rattle.texts.specs.Layout.{space};
-ghost use Rattle.texts.specs.Reads.{IsOneField, Lacks, Reads};
+ghost use Rattle.texts.specs.Reads.{Reads};
 ghost use Rattle.lockscript.specs.Texts.{reply_text};
 ghost use Rattle.journal_text.specs.Served.{IsServedReply};
 
@@ -17,41 +15,25 @@ pub fn reply_of(text: &str) -> Option<Reply>
     ensures { Reads reply_text IsServedReply text.now result }
 {
     match split_field(text) {
-        Some((word, operand)) => reply_with(word, operand),
-        None => reply_alone(text),
-    }
-}
-
-// The reply of this word, with this operand.
-fn reply_with(word: &str, operand: &str) -> Option<Reply>
-    requires { Lacks space word.now }
-    ensures { Reads reply_text IsServedReply (word.now ++ space ∷ operand.now) result }
-{
-    match word {
-        "fd" => DescriptorField::read(operand).map(|fd| Reply::Fd(fd)),
-        "again" => LockText::read(operand).map(|lock| Reply::Again(lock)),
-        "blocked" => LockText::read(operand).map(|lock| Reply::Blocked(lock)),
-        _ => None,
-    }
-}
-
-// The reply of this word, with no operand.
-fn reply_alone(word: &str) -> Option<Reply>
-    requires { IsOneField word.now }
-    ensures { Reads reply_text IsServedReply word.now result }
-{
-    match word {
-        "done" => Some(Reply::Done),
-        "free" => Some(Reply::Free),
-        "interrupted" => Some(Reply::Interrupted),
-        "no-process" => Some(Reply::NoProcess),
-        "exists" => Some(Reply::Exists),
-        "bad-fd" => Some(Reply::BadFd),
-        "too-many-files" => Some(Reply::TooManyFiles),
-        "no-locks" => Some(Reply::NoLocks),
-        "invalid" => Some(Reply::Invalid),
-        "overflow" => Some(Reply::Overflow),
-        _ => None,
+        Some((word, operand)) => match word {
+            "fd" => DescriptorField::read(operand).map(|fd| Reply::Fd(fd)),
+            "again" => LockText::read(operand).map(|lock| Reply::Again(lock)),
+            "blocked" => LockText::read(operand).map(|lock| Reply::Blocked(lock)),
+            _ => None,
+        },
+        None => match text {
+            "done" => Some(Reply::Done),
+            "free" => Some(Reply::Free),
+            "interrupted" => Some(Reply::Interrupted),
+            "no-process" => Some(Reply::NoProcess),
+            "exists" => Some(Reply::Exists),
+            "bad-fd" => Some(Reply::BadFd),
+            "too-many-files" => Some(Reply::TooManyFiles),
+            "no-locks" => Some(Reply::NoLocks),
+            "invalid" => Some(Reply::Invalid),
+            "overflow" => Some(Reply::Overflow),
+            _ => None,
+        },
     }
 }
 
