@@ -2,7 +2,7 @@
 ghost use Rattle.std.specs.Prelude.{◌≡◌, [], List, Some, None, IfOk, OnOk};
 ghost use Rattle.messages.specs.Entries.{EntryFields, NamesItsIncarnation};
 ghost use Rattle.messages.specs.Shapes.{ShapeFields};
-ghost use Rattle.journal_text.specs.Built.{answered, begun, built, closed, fields, sending};
+ghost use Rattle.journal_text.specs.Built.{answered, built, closed, fields, sending};
 ghost use Rattle.journal_text.specs.Events.{event_of, incarnation_of};
 ghost use Rattle.journal_text.specs.Lines.{IsServedLine};
 ghost use Rattle.messages.specs.declared.version.Version.{Version};
@@ -10,7 +10,6 @@ ghost use Rattle.journal_text.specs.Readings.{entry_in};
 
 use crate::lines::JournalLine;
 use crate::named_entry::NamedEntry;
-use crate::named_event::NamedEvent;
 use crate::sink::Sink;
 use message_text::written_message::WrittenMessage;
 use messages::entry::Entry;
@@ -64,7 +63,11 @@ impl<'a> Builder<'a> {
         match line {
             JournalLine::Entry { position: _, event } => {
                 self.close(alloc, sink)?;
-                self.last = Some(begun(alloc, event));
+                self.last = Some(NamedEntry {
+                    event,
+                    reply: None,
+                    sends: Items::new(alloc),
+                });
                 Ok(())
             }
             JournalLine::Answer { call, reply } => {
@@ -88,17 +91,6 @@ impl<'a> Builder<'a> {
             Some(named) => sink.take(alloc, entry_of(alloc, named)?),
             None => Ok(()),
         }
-    }
-}
-
-// An entry of which nothing but the event is known.
-fn begun(alloc: Global, event: NamedEvent<'_>) -> NamedEntry<'_>
-    ensures { result ≡ begun event.entry }
-{
-    NamedEntry {
-        event,
-        reply: None,
-        sends: Items::new(alloc),
     }
 }
 

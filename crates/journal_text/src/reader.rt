@@ -1,13 +1,12 @@
 //! Reading a journal line by line.
-ghost use Rattle.std.specs.Prelude.{◌≡◌, ◌+◌, ◌<◌, ◌^◌, [], true, false, Some, length, IfErr, IfOk, MatchOption};
+ghost use Rattle.std.specs.Prelude.{◌≡◌, ◌+◌, ◌<◌, ◌^◌, [], true, false, length, IfErr, IfOk, MatchOption};
 ghost use Rattle.messages.specs.Shapes.{IsShape};
 ghost use Rattle.texts.specs.LineFeeds.{line_feeds, BeginsWithLine};
 ghost use Rattle.lockscript.specs.declared.error.ParseError.TheVariants.{BadLine};
 ghost use Rattle.journal_text.specs.declared.lines.JournalLine.{JournalLine as Line};
 ghost use Rattle.journal_text.specs.declared.place.Phase.TheVariants as phase;
 ghost use Rattle.journal_text.specs.Journals.{head_text};
-ghost use Rattle.journal_text.specs.Lines.{IsServedLine, line_text};
-ghost use Rattle.journal_text.specs.Places.{IsMisplaced, IsStuck, StandsNext, next_place, start};
+ghost use Rattle.journal_text.specs.Places.{IsStuck, StandsNext, start};
 ghost use Rattle.journal_text.specs.Readings.{IsBadLine};
 
 use crate::head::head_of;
@@ -79,10 +78,10 @@ impl<'a> Reader<'a> {
         let bad = ParseError::BadLine(self.taken + 1);
         match split_line(self.rest) {
             Some((text, rest)) => {
-                let (line, place) = line_at(version, self.place, text).ok_or(bad)?;
+                let line = line_of(version, text).ok_or(bad)?;
+                self.place = self.place.behind(&line).ok_or(bad)?;
                 self.rest = rest;
                 self.taken += 1;
-                self.place = place;
                 Ok(Some(line))
             }
             None => {
@@ -109,15 +108,4 @@ impl<'a> Reader<'a> {
             Err(error) => Err(error),
         }
     }
-}
-
-// The line that the text writes in a journal of this version, and the place behind it, if it may stand
-// at this place.
-fn line_at(version: Version, place: Place, text: &str) -> Option<(JournalLine<'_>, Place)>
-    ensures { MatchOption result (IsMisplaced version place text.now)
-        (λ found. IsServedLine version found.0 × (text.now ≡ line_text version found.0) × (next_place place.count place.phase found.0 ≡ Some found.1)) }
-{
-    let line = line_of(version, text)?;
-    let behind = place.behind(&line)?;
-    Some((line, behind))
 }
