@@ -1,14 +1,12 @@
 //! What the types of the parts of an entry hold it to. These functions only say it: they change nothing.
-ghost use Rattle.std.specs.Prelude.{All, IfSome};
-ghost use Rattle.model.specs.Limits.{IsCall};
-ghost use Rattle.journal_text.specs.Fits.{FitsEntry, FitsEvent, FitsMessage, FitsOp, IsServedAnswer};
+ghost use Rattle.std.specs.Prelude.{All};
+ghost use Rattle.journal_text.specs.Fits.{FitsEntry, FitsEvent, FitsMessage, FitsOp};
 ghost use Rattle.journal_text.specs.Served.{IsServedReply};
 
 use message_text::fits::{call_fits, lock_fits, message_fits};
 use messages::entry::Entry;
 use messages::event::Event;
 use messages::message::Message;
-use model::call::CallId;
 use model::op::Op;
 use model::reply::Reply;
 
@@ -21,15 +19,6 @@ fn reply_fits(reply: &Reply)
         }
         Reply::Again(lock) | Reply::Blocked(lock) => lock_fits(lock),
         _ => (),
-    }
-}
-
-fn answer_fits(answer: Option<(CallId, Reply)>)
-    ensures { IfSome answer IsServedAnswer }
-{
-    if let Some((call, reply)) = answer {
-        call_fits(call);
-        reply_fits(&reply);
     }
 }
 
@@ -52,14 +41,6 @@ fn event_fits(event: &Event)
     }
 }
 
-fn name_fits(call: Option<CallId>)
-    ensures { IfSome call IsCall }
-{
-    if let Some(call) = call {
-        call_fits(call);
-    }
-}
-
 fn messages_fit(messages: &[Message])
     ensures { All FitsMessage messages.now }
 {
@@ -73,8 +54,13 @@ fn entry_fits(entry: &Entry)
 {
     event_fits(entry.event());
     let _incarnation = entry.incarnation();
-    name_fits(entry.call());
-    answer_fits(entry.reply());
+    if let Some(call) = entry.call() {
+        call_fits(call);
+    }
+    if let Some((call, reply)) = entry.reply() {
+        call_fits(call);
+        reply_fits(&reply);
+    }
     messages_fit(entry.sends());
 }
 
