@@ -1,15 +1,21 @@
 -- The answers to commands that a node remembers.
-use Rattle.std.specs.Prelude.{Option, Some, None}
+use Rattle.std.specs.Prelude.{ℕ, Option, Some, None}
+use Rattle.model.specs.declared.call.CallId.{CallId}
 use Rattle.messages.specs.declared.message.Message.{Message}
 use Rattle.messages.specs.declared.message.Message.TheVariants as message
 use Rattle.node_core.specs.declared.answer.Answer.{Answer}
-use Rattle.node_core.specs.declared.answer.Answer.TheVariants.{Taken, Released, Conflict}
+use Rattle.node_core.specs.declared.answer.AnswerBody.{AnswerBody}
+use Rattle.node_core.specs.declared.answer.AnswerBody.TheVariants.{Taken, GaveUp}
+use Rattle.node_core.specs.Commands.{answer_to}
+
+-- the message that says so of a call's command
+abbrev pub message_on : ℕ → ℕ → CallId → AnswerBody → Message
+message_on file number call Taken = message.Taken file number call
+message_on file number call (GaveUp holder gives) = answer_to file number holder call gives
 
 -- the message that an answer is
 abbrev pub message_of : Answer → Message
-message_of (Taken file number call) = message.Taken file number call
-message_of (Released file number holder call span) = message.Released file number holder call span
-message_of (Conflict file number holder call lock) = message.Conflict file number holder call lock
+message_of answer = message_on answer.file answer.number answer.call answer.body
 
 -- so is what is remembered, if anything is
 abbrev pub answer_of : Option Answer → Option Message

@@ -2,39 +2,29 @@
 ghost use Rattle.std.specs.Prelude.{◌≡◌};
 ghost use Rattle.node_core.specs.Answers.{message_of};
 
-use intervals::span::Span;
 use messages::command_number::CommandNumber;
 use messages::file_number::FileNumber;
 use messages::message::Message;
 use model::call::CallId;
 use model::host::Host;
-use model::lock_info::LockInfo;
+use token_set::gave_up::GaveUp;
+
+/// What an answer says of its command.
+#[derive(Clone, Copy)]
+pub enum AnswerBody {
+    /// The node has what it was granted.
+    Taken,
+    /// The holder gave that up, or named the lock in the way.
+    GaveUp(Host, GaveUp),
+}
 
 /// The answer to a command, which the node remembers, as the message that it is.
-#[derive(Clone, Copy, Debug)]
-pub enum Answer {
-    /// The node has what it was granted.
-    Taken {
-        file: FileNumber,
-        number: CommandNumber,
-        call: CallId,
-    },
-    /// The holder gave the span up.
-    Released {
-        file: FileNumber,
-        number: CommandNumber,
-        holder: Host,
-        call: CallId,
-        span: Span,
-    },
-    /// A lock of the holder is in the way.
-    Conflict {
-        file: FileNumber,
-        number: CommandNumber,
-        holder: Host,
-        call: CallId,
-        lock: LockInfo,
-    },
+#[derive(Clone, Copy)]
+pub struct Answer {
+    pub file: FileNumber,
+    pub number: CommandNumber,
+    pub call: CallId,
+    pub body: AnswerBody,
 }
 
 impl Answer {
@@ -42,33 +32,27 @@ impl Answer {
     pub fn message(self) -> Message
         ensures { result ≡ message_of self }
     {
-        match self {
-            Answer::Taken { file, number, call } => Message::Taken { file, number, call },
-            Answer::Released {
+        let Answer {
+            file,
+            number,
+            call,
+            ..
+        } = self;
+        match &self.body {
+            AnswerBody::Taken => Message::Taken { file, number, call },
+            AnswerBody::GaveUp(holder, GaveUp::Released(span)) => Message::Released {
                 file,
                 number,
-                holder,
+                holder: *holder,
                 call,
-                span,
-            } => Message::Released {
-                file,
-                number,
-                holder,
-                call,
-                span,
+                span: *span,
             },
-            Answer::Conflict {
+            AnswerBody::GaveUp(holder, GaveUp::Conflict(lock)) => Message::Conflict {
                 file,
                 number,
-                holder,
+                holder: *holder,
                 call,
-                lock,
-            } => Message::Conflict {
-                file,
-                number,
-                holder,
-                call,
-                lock,
+                lock: *lock,
             },
         }
     }

@@ -4,7 +4,7 @@ ghost use Rattle.messages.specs.declared.message.Message.TheVariants.{Taken};
 ghost use Rattle.node_core.specs.Answers.{message_of};
 ghost use Rattle.node_core.specs.Commands.{answer_to};
 
-use crate::answer::Answer;
+use crate::answer::{Answer, AnswerBody};
 use messages::command_number::CommandNumber;
 use messages::file_number::FileNumber;
 use model::call::CallId;
@@ -38,10 +38,11 @@ impl Command {
     pub fn taken(&self) -> Answer
         ensures { message_of result ≡ Taken self.now.file self.now.number self.now.call }
     {
-        Answer::Taken {
+        Answer {
             file: self.file,
             number: self.number,
             call: self.call,
+            body: AnswerBody::Taken,
         }
     }
 
@@ -50,21 +51,11 @@ impl Command {
     pub fn answer(&self, holder: Host, gives: GaveUp) -> Answer
         ensures { message_of result ≡ answer_to self.now.file self.now.number holder self.now.call gives }
     {
-        match gives {
-            GaveUp::Released(span) => Answer::Released {
-                file: self.file,
-                number: self.number,
-                holder,
-                call: self.call,
-                span,
-            },
-            GaveUp::Conflict(lock) => Answer::Conflict {
-                file: self.file,
-                number: self.number,
-                holder,
-                call: self.call,
-                lock,
-            },
+        Answer {
+            file: self.file,
+            number: self.number,
+            call: self.call,
+            body: AnswerBody::GaveUp(holder, gives),
         }
     }
 }
