@@ -46,9 +46,9 @@ owes-in : (s : NodeState) (file number : ℕ) → ((in_epoch s file number).file
 owes-in s file number = ap (λ (f : FileState). f.owes_freed) (in_epoch-file s file number) ∙ renewed-owes (s.files file) number
 
 -- what a command that is done makes of the node does not hang on what came before
-done-in : (s : NodeState) (file number : ℕ) (token : Token) (answer : Message) (asked : Bool) → after_command (in_epoch s file number) file token number answer asked ≡ after_command s file token number answer asked
-done-in s file number token answer asked =
-    let done : FileState = record { token = token; last = number; answer = Some answer; owes_freed = asked } in
+done-in : (s : NodeState) (file number : ℕ) (token : Token) (answer : Message) (owes_freed : Bool) → after_command (in_epoch s file number) file token number answer owes_freed ≡ after_command s file token number answer owes_freed
+done-in s file number token answer owes_freed =
+    let done : FileState = record { token = token; last = number; answer = Some answer; owes_freed = owes_freed } in
     λ i. record s { files = λ f. if-if (f == file) done (renewed (s.files file) number) (s.files f) i }
 
 pub granted-in : (s : NodeState) (file number : ℕ) (call : CallId) (mode : Mode) (span : Range) → granted (in_epoch s file number) file number call mode span ≡ granted s file number call mode span

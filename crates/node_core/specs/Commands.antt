@@ -49,7 +49,7 @@ before first e = record { state = e.state; reply = e.reply; sends = first ∷ e.
 
 -- the command is done: the file has this token from now on, and this is the answer
 abbrev pub after_command : NodeState → ℕ → Token → ℕ → Message → Bool → NodeState
-after_command s file token number answer asked = with_file s file (record { token = token; last = number; answer = Some answer; owes_freed = asked })
+after_command s file token number answer owes_freed = with_file s file (record { token = token; last = number; answer = Some answer; owes_freed = owes_freed })
 
 -- the token is raised, and the call that it was for is tried if it is still open
 abbrev pub granted : NodeState → ℕ → ℕ → CallId → Mode → Range → Effect
