@@ -7,11 +7,11 @@ use Rattle.model.specs.declared.op.Op.{Op}
 use Rattle.model.specs.declared.op.Op.TheVariants.{Spawn, Fork, Open, Dup, Close, Exit, Set, Wait, Unlock, Query}
 use Rattle.model.specs.declared.process.Process.{Process}
 use Rattle.model.specs.declared.reply.Reply.{Reply}
-use Rattle.model.specs.declared.reply.Reply.TheVariants.{Blocked, Interrupted}
+use Rattle.model.specs.declared.reply.Reply.TheVariants.{Again, Blocked, Interrupted}
 use Rattle.model.specs.Table.{Table, LockTarget, target}
 use Rattle.model.specs.Step.{BlocksCall, Step}
 use Rattle.model.specs.Replay.{NeverAnswers, NamesNoLock}
-use Rattle.model.proofs.ReplayLaws.{replies_are_one, blocked-waits, close_never-blocked, close_never-interrupted, dup_never-blocked, dup_never-interrupted, exit_never-blocked, exit_never-interrupted, fork_never-blocked, fork_never-interrupted, open_never-blocked, open_never-interrupted, query_never-interrupted, set_never-blocked, set_never-interrupted, spawn_never-blocked, spawn_never-interrupted, unlock_never-blocked, unlock_never-interrupted, wait_never-blocked}
+use Rattle.model.proofs.ReplayLaws.{replies_are_one, blocked-waits, close_never, dup_never, exit_never, fork_never, open_never, query_never-again, spawn_never, unlock_never, wait_never, close_never-blocked, close_never-interrupted, dup_never-blocked, dup_never-interrupted, exit_never-blocked, exit_never-interrupted, fork_never-blocked, fork_never-interrupted, open_never-blocked, open_never-interrupted, query_never-interrupted, set_never-blocked, set_never-interrupted, spawn_never-blocked, spawn_never-interrupted, unlock_never-blocked, unlock_never-interrupted, wait_never-blocked}
 use Rattle.placement.specs.Waits.{GoesOn}
 
 -- a call that the table answers by an interrupt gets no other reply that names no lock
@@ -32,18 +32,31 @@ pub one_answer : (t : Table) (p : Process) (op : Op) (a b : Reply) (n m : Table)
 one_answer t p op Interrupted b n m goes none own h k = absurd (interrupted_one t p op b n m goes none own h k)
 one_answer t p op a b n m goes none own h k = replies_are_one t p op a b n m (λ e. cc) (none, own) h k
 
+-- none but a set that does not wait is told of a lock that blocks it
+pub only_sets_are_denied : (t : Table) (p : Process) (op : Op) (lock : LockInfo) → ((fd : ℕ) (kind : Kind) (mode : Mode) (start len : ℤ) → op ≢ Set fd kind mode start len) → NeverAnswers t p op (Again lock)
+only_sets_are_denied t p Spawn lock none = spawn_never t p lock
+only_sets_are_denied t p (Fork child) lock none = fork_never t p child lock
+only_sets_are_denied t p (Open file access) lock none = open_never t p file access lock
+only_sets_are_denied t p (Dup fd) lock none = dup_never t p fd lock
+only_sets_are_denied t p (Close fd) lock none = close_never t p fd lock
+only_sets_are_denied t p Exit lock none = exit_never t p lock
+only_sets_are_denied t p (Set fd kind mode start len) lock none = absurd (none fd kind mode start len refl)
+only_sets_are_denied t p (Wait fd kind mode start len) lock none = wait_never t p fd kind mode start len lock
+only_sets_are_denied t p (Unlock fd kind start len) lock none = unlock_never t p fd kind start len lock
+only_sets_are_denied t p (Query fd kind mode start len) lock none = query_never-again t p fd kind mode start len lock
+
 -- none but a query is told of a lock that would block
-pub only_queries-blocked : (t : Table) (p : Process) (op : Op) (lock : LockInfo) → ((fd : ℕ) (kind : Kind) (mode : Mode) (start len : ℤ) → op ≢ Query fd kind mode start len) → NeverAnswers t p op (Blocked lock)
-only_queries-blocked t p Spawn lock none = spawn_never-blocked t p lock
-only_queries-blocked t p (Fork child) lock none = fork_never-blocked t p child lock
-only_queries-blocked t p (Open file access) lock none = open_never-blocked t p file access lock
-only_queries-blocked t p (Dup fd) lock none = dup_never-blocked t p fd lock
-only_queries-blocked t p (Close fd) lock none = close_never-blocked t p fd lock
-only_queries-blocked t p Exit lock none = exit_never-blocked t p lock
-only_queries-blocked t p (Set fd kind mode start len) lock none = set_never-blocked t p fd kind mode start len lock
-only_queries-blocked t p (Wait fd kind mode start len) lock none = wait_never-blocked t p fd kind mode start len lock
-only_queries-blocked t p (Unlock fd kind start len) lock none = unlock_never-blocked t p fd kind start len lock
-only_queries-blocked t p (Query fd kind mode start len) lock none = absurd (none fd kind mode start len refl)
+pub only_queries_are_blocked : (t : Table) (p : Process) (op : Op) (lock : LockInfo) → ((fd : ℕ) (kind : Kind) (mode : Mode) (start len : ℤ) → op ≢ Query fd kind mode start len) → NeverAnswers t p op (Blocked lock)
+only_queries_are_blocked t p Spawn lock none = spawn_never-blocked t p lock
+only_queries_are_blocked t p (Fork child) lock none = fork_never-blocked t p child lock
+only_queries_are_blocked t p (Open file access) lock none = open_never-blocked t p file access lock
+only_queries_are_blocked t p (Dup fd) lock none = dup_never-blocked t p fd lock
+only_queries_are_blocked t p (Close fd) lock none = close_never-blocked t p fd lock
+only_queries_are_blocked t p Exit lock none = exit_never-blocked t p lock
+only_queries_are_blocked t p (Set fd kind mode start len) lock none = set_never-blocked t p fd kind mode start len lock
+only_queries_are_blocked t p (Wait fd kind mode start len) lock none = wait_never-blocked t p fd kind mode start len lock
+only_queries_are_blocked t p (Unlock fd kind start len) lock none = unlock_never-blocked t p fd kind start len lock
+only_queries_are_blocked t p (Query fd kind mode start len) lock none = absurd (none fd kind mode start len refl)
 
 -- a wait that a lock blocks goes on
 pub blocked-goes_on : (t : Table) (p : Process) (fd : ℕ) (kind : Kind) (mode : Mode) (start len : ℤ) (lock : LockInfo) (c : LockTarget) (reply : Reply) → target t p (Some mode) fd kind start len ≡ Ok c → BlocksCall t c mode lock → GoesOn t p (Wait fd kind mode start len) reply

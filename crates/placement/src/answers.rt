@@ -1,11 +1,12 @@
 //! What a single machine's table may answer.
 ghost use Rattle.std.specs.Prelude.{◌≡◌, ◌≢◌, true, false, IsTrue, ◌↔◌, IfOk, IsOkAnd};
 ghost use Rattle.model.specs.declared.op.Op.TheVariants.{Set, Wait, Unlock, Query};
-ghost use Rattle.model.specs.declared.reply.Reply.TheVariants.{Again, Blocked, Interrupted};
+ghost use Rattle.model.specs.declared.reply.Reply.TheVariants.{Interrupted};
 ghost use Rattle.model.specs.Step.{BlocksCall, IsPossible, Step};
 ghost use Rattle.model.specs.Replay.{NeverAnswers, NamesNoLock};
 ghost use Rattle.fcntl_table.specs.Tables.{table_of};
 ghost use Rattle.placement.specs.Waits.{GoesOn};
+ghost use Rattle.placement.specs.Blocking.{BlocksOp};
 
 use descriptors::call::ProcessCall;
 use fcntl_table::table::FcntlTable;
@@ -31,6 +32,7 @@ fn is_same(one: &Reply, other: &Reply) -> bool
 ///
 /// # Errors
 /// `AllocError` where a request for memory was refused.
+#[tactic(auto, using(crate::proofs::Waits::only_sets_are_denied, crate::proofs::Waits::only_queries_are_blocked))]
 pub(crate) fn take(
     table: &mut FcntlTable,
     process: Process,
@@ -40,10 +42,12 @@ pub(crate) fn take(
     ensures taken { IfOk result (λ yes. yes ≡ true → Step (table_of table.old) process op reply (table_of table.new)) }
     ensures never { IfOk result (λ yes. yes ≡ false → NeverAnswers (table_of table.old) process op reply) }
 {
-    match reply {
-        Reply::Again(lock) => Ok(may_deny(table, process, op, lock)),
-        Reply::Blocked(lock) => Ok(may_block(table, process, op, lock)),
-        Reply::Interrupted => Ok(may_interrupt(table, process, op)),
+    match (reply, &op) {
+        (Reply::Again(lock), Op::Set { .. }) | (Reply::Blocked(lock), Op::Query { .. }) => {
+            Ok(is_blocked(table, process, op, &lock))
+        }
+        (Reply::Again(_) | Reply::Blocked(_), _) => Ok(false),
+        (Reply::Interrupted, _) => Ok(may_interrupt(table, process, op)),
         _ => take_answer(table, process, op, reply),
     }
 }
@@ -77,10 +81,9 @@ fn is_possible(op: &Op) -> bool
     }
 }
 
-// Whether the call may be answered by this lock, as one that blocks it.
-fn may_deny(table: &FcntlTable, process: Process, op: Op, lock: LockInfo) -> bool
-    ensures may { result ≡ true → Step (table_of table.now) process op (Again lock) (table_of table.now) }
-    ensures never { result ≡ false → NeverAnswers (table_of table.now) process op (Again lock) }
+// Whether the set or the query passes its tests, and the lock is a region of another owner that blocks it.
+fn is_blocked(table: &FcntlTable, process: Process, op: Op, lock: &LockInfo) -> bool
+    ensures { IsTrue result ↔ BlocksOp (table_of table.now) process op lock.now }
 {
     match op {
         Op::Set {
@@ -91,18 +94,8 @@ fn may_deny(table: &FcntlTable, process: Process, op: Op, lock: LockInfo) -> boo
             len,
         } => {
             let target = table.target(process, Some(mode), fd, kind, start, len);
-            is_blocked_at(table, target, mode, &lock)
+            is_blocked_at(table, target, mode, lock)
         }
-        _ => false,
-    }
-}
-
-// Whether the query may be answered by this lock, as one that would be in the way.
-fn may_block(table: &FcntlTable, process: Process, op: Op, lock: LockInfo) -> bool
-    ensures may { result ≡ true → Step (table_of table.now) process op (Blocked lock) (table_of table.now) }
-    ensures never { result ≡ false → NeverAnswers (table_of table.now) process op (Blocked lock) }
-{
-    match op {
         Op::Query {
             fd,
             kind,
@@ -111,7 +104,7 @@ fn may_block(table: &FcntlTable, process: Process, op: Op, lock: LockInfo) -> bo
             len,
         } => {
             let target = table.target(process, None, fd, kind, start, len);
-            is_blocked_at(table, target, mode, &lock)
+            is_blocked_at(table, target, mode, lock)
         }
         _ => false,
     }
