@@ -79,10 +79,6 @@ pub deaths_of-set_same : (known_nodes : List KnownNode) (node place : ℕ) (know
 deaths_of-set_same known_nodes node place known_node new within e read made =
     deaths_of-set known_nodes node place known_node new (λ dead. dead) within e read made ∙ (λ i n. same_either (n == node) (deaths_of known_nodes n) i)
 
-pub deaths_of-read : (known_nodes : List KnownNode) (node place : ℕ) (known_node : KnownNode) → IsNumber (length known_nodes) node → place ≡ node - 1 → known_node ≡ slice_index_or known_nodes place known_node → deaths_of known_nodes node ≡ known_node.dead
-unfolding deaths_of
-deaths_of-read known_nodes node place known_node within e read = ap dead_of (known_node_at-read known_nodes node place known_node within e read)
-
 known_at : {A : Type 0} (f : Option KnownNode → A) (known_nodes : List KnownNode) → All (λ known_node. known_node ≡ record { dead = 0; row = None }) known_nodes → f (Some (record { dead = 0; row = None })) ≡ f None → (k : ℕ) → f (slice_get known_nodes k) ≡ f None
 known_at f known_nodes all same k = elim (cases_lt k (length known_nodes)) [
   | inl below ↦
@@ -137,7 +133,23 @@ same_known_nodes b known_nodes others these those e f long tells =
     (λ t. same_rows known_nodes others long (here (tells.0 t)), λ same. tells.1 (back (same_known known_nodes others same)))
 
 -- no other node has a row
+pub rows_of-zero : (known_nodes : List KnownNode) (node : ℕ) → node ≡ 0 → rows_of known_nodes node ≡ None
+unfolding rows_of
+rows_of-zero known_nodes zero e = refl
+rows_of-zero known_nodes (suc k) e = absurd (omega arith)
+
 pub rows_of-past : (known_nodes : List KnownNode) (node : ℕ) → length known_nodes < node → rows_of known_nodes node ≡ None
 unfolding rows_of
 rows_of-past known_nodes zero past = refl
 rows_of-past known_nodes (suc k) past = ap row_of (slice_get_past known_nodes k (omega arith))
+
+-- of no other node an incarnation is known as dead
+pub deaths_of-zero : (known_nodes : List KnownNode) (node : ℕ) → node ≡ 0 → deaths_of known_nodes node ≡ 0
+unfolding deaths_of
+deaths_of-zero known_nodes zero e = refl
+deaths_of-zero known_nodes (suc k) e = absurd (omega arith)
+
+pub deaths_of-past : (known_nodes : List KnownNode) (node : ℕ) → length known_nodes < node → deaths_of known_nodes node ≡ 0
+unfolding deaths_of
+deaths_of-past known_nodes zero past = refl
+deaths_of-past known_nodes (suc k) past = ap dead_of (slice_get_past known_nodes k (omega arith))

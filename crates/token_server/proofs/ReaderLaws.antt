@@ -1,13 +1,10 @@
 -- What the readers of a token server show.
-use Rattle.std.specs.Prelude.{◌≡◌, ℕ, ◌+◌, zero, suc, ◌<◌, Bool, true, false, cond, List, [], ◌∷◌, ◌++◌, filter, map, length, is_some, None}
+use Rattle.std.specs.Prelude.{◌≡◌, ℕ, ◌+◌, Bool, true, false, cond, List, [], ◌∷◌, ◌++◌, filter, map, is_some, None}
 use Rattle.std.specs.List.{range_with_len}
-use Rattle.std.proofs.Common.{refl, sym, ap, ◌∙◌, arith, append-nil}
+use Rattle.std.proofs.Common.{sym, ap, ◌∙◌, append-nil}
 use Rattle.std.proofs.lemmas.List.{map-id, map_push}
 use Rattle.std.proofs.lemmas.List.Elements.{filter-append}
 use Rattle.std.proofs.lemmas.List.FromFn.{map-range_with_len_more}
-use Rattle.std.proofs.lemmas.Option.{slice_get_past}
-use Rattle.token_server.specs.declared.known_node.KnownNode.{KnownNode}
-use Rattle.token_server.specs.Parts.{dead_of, deaths_of}
 use Rattle.token_server.specs.declared.shown_row.ShownRow.{ShownRow}
 use Rattle.token_server.specs.State.{ServerState}
 use Rattle.token_server.specs.Readers.{nodes_where, IsRow}
@@ -38,14 +35,3 @@ shown-more s n node rows r e is so_far =
 -- a node without a row is not shown
 pub shown-same : (s : ServerState) (n node : ℕ) (rows : List ShownRow) → 1 + n ≡ node → s.rows node ≡ None → map (λ q. q.node) rows ≡ nodes_where (λ k. is_some (s.rows k)) n → map (λ q. q.node) rows ≡ nodes_where (λ k. is_some (s.rows k)) (n + 1)
 shown-same s n node rows e none so_far = so_far ∙ sym (nodes_where-missing (λ k. is_some (s.rows k)) n node e (ap is_some none))
-
--- of no other node an incarnation is known as dead
-pub deaths_of-zero : (known_nodes : List KnownNode) (node : ℕ) → node ≡ 0 → deaths_of known_nodes node ≡ 0
-unfolding deaths_of
-deaths_of-zero known_nodes zero e = refl
-deaths_of-zero known_nodes (suc k) e = absurd (omega arith)
-
-pub deaths_of-past : (known_nodes : List KnownNode) (node : ℕ) → length known_nodes < node → deaths_of known_nodes node ≡ 0
-unfolding deaths_of
-deaths_of-past known_nodes zero past = refl
-deaths_of-past known_nodes (suc k) past = ap dead_of (slice_get_past known_nodes k (omega arith))

@@ -38,13 +38,6 @@ pub struct KnownNode {
 }
 
 impl KnownNode {
-    /// A node of which nothing is known yet.
-    pub fn new() -> KnownNode
-        ensures { result ≡ record { dead = 0; row = None } }
-    {
-        KnownNode { dead: 0, row: None }
-    }
-
     /// A node of the cluster, as a server of the file knows it that was rebuilt: if it is alive, it is asked for its
     /// token.
     pub fn rebuilt(

@@ -32,7 +32,7 @@ use std::marker::Model;
 /// Each node of a cluster, from node 1 on, as the server of a file knows it.
 #[derive(Drop)]
 pub struct KnownNodes {
-    known_nodes: Vec<KnownNode>,
+    nodes: Vec<KnownNode>,
     // Whether a row may have an exclusive byte: where none has, no row stands in a reader's way.
     may_exclude: bool,
 }
@@ -43,13 +43,13 @@ impl Model for KnownNodes {
 
     ghost Value = { List KnownNode };
 
-    ghost view = { λ c. c.known_nodes.items };
+    ghost view = { λ c. c.nodes.items };
 
     ghost use Rattle.std.specs.Prelude.{◌≡◌, false};
     ghost use Rattle.token_server.specs.Parts.{rows_of};
     ghost use Rattle.token_server.specs.Marks.{NoneExclusive};
 
-    ghost invariant = { λ c. c.may_exclude ≡ false → NoneExclusive (rows_of c.known_nodes.items) };
+    ghost invariant = { λ c. c.may_exclude ≡ false → NoneExclusive (rows_of c.nodes.items) };
 }
 
 // So many nodes of which nothing is known yet.
@@ -59,7 +59,7 @@ fn unknown(alloc: Global, nodes: u8) -> Result<Vec<KnownNode>, AllocError>
 {
     let mut known_nodes = Vec::new(alloc);
     for _node in 0..nodes {
-        known_nodes.push(KnownNode::new())?;
+        known_nodes.push(KnownNode { dead: 0, row: None })?;
     }
     Ok(known_nodes)
 }
@@ -119,7 +119,7 @@ impl KnownNodes {
         ensures len { IfOk result (λ known_nodes. length known_nodes ≡ nodes) }
     {
         Ok(KnownNodes {
-            known_nodes: unknown(alloc, nodes)?,
+            nodes: unknown(alloc, nodes)?,
             may_exclude: false,
         })
     }
@@ -144,24 +144,19 @@ impl KnownNodes {
     {
         let number = EpochNumber::of(epoch);
         Ok(KnownNodes {
-            known_nodes: rebuilt(alloc, shape.nodes(), file, number, members)?,
+            nodes: rebuilt(alloc, shape.nodes(), file, number, members)?,
             may_exclude: false,
         })
     }
 
-    /// The greatest incarnation of a node known to be dead.
+    /// The greatest incarnation of a node known to be dead, 0 where none is.
     pub fn dead(&self, node: u8) -> u16
-        requires { IsNumber (length self.now) node }
         ensures { result ≡ deaths_of self.now node }
     {
-        self.known_nodes[usize::from(node) - 1].dead
-    }
-
-    /// How many nodes there are.
-    pub fn len(&self) -> usize
-        ensures { result ≡ length self.now }
-    {
-        self.known_nodes.len()
+        if node == 0 || usize::from(node) > self.nodes.len() {
+            return 0;
+        }
+        self.at(node).dead
     }
 
     /// A node.
@@ -169,15 +164,14 @@ impl KnownNodes {
         requires { IsNumber (length self.now) node }
         ensures { known_node_at self.now node ≡ Some result.now }
     {
-        &self.known_nodes[usize::from(node) - 1]
+        &self.nodes[usize::from(node) - 1]
     }
 
     /// The row of a node.
     pub fn row(&self, node: u8) -> Option<&TokenHolder>
-        requires { 1 ≤ node }
         ensures { row_seen (option_copied result) ≡ rows_of self.now node }
     {
-        if usize::from(node) > self.known_nodes.len() {
+        if node == 0 || usize::from(node) > self.nodes.len() {
             return None;
         }
         self.at(node).row.as_ref()
@@ -240,7 +234,7 @@ impl KnownNodes {
         ensures known_node { MatchOption result (rows_of (overlaid self.now edit.now) node ≡ None) (λ row. (dead : ℕ) × (known_node_at (overlaid self.now edit.now) node ≡ Some (record { dead = dead; row = Some (seen row) }))) }
         ensures within { OnSome result (node ≤ length self.now) }
     {
-        if usize::from(node) > self.known_nodes.len() {
+        if usize::from(node) > self.nodes.len() {
             return None;
         }
         self.edited_row(edit, node)
@@ -259,15 +253,13 @@ impl KnownNodes {
         }
     }
 
-    // Whether the node is asked for its token, once the edit is made.
-    fn is_awaited(&self, edit: &Option<RowEdit>, node: u8) -> bool
+    /// Whether the node is asked for its token, once the edit is made.
+    pub fn is_awaited(&self, edit: &Option<RowEdit>, node: u8) -> bool
         requires { 1 ≤ node }
         ensures { result ≡ is_awaited (rows_of (overlaid self.now edit.now) node) }
     {
-        match self.row_after(edit, node) {
-            Some(row) => row.commands.is_asked(),
-            None => false,
-        }
+        self.row_after(edit, node)
+            .is_some_and(|row| row.commands.is_asked())
     }
 
     /// Whether one of the first so many nodes is asked for its token, once the edit is made.
@@ -287,9 +279,9 @@ impl KnownNodes {
         ensures { self.new ≡ with_known_node self.old edit (slice_get self.old edit.place) }
     {
         let place = edit.place;
-        if place < self.known_nodes.len() {
-            self.known_nodes[place].change(edit);
-            self.may_exclude = self.known_nodes[place].notes_exclusive(self.may_exclude);
+        if place < self.nodes.len() {
+            self.nodes[place].change(edit);
+            self.may_exclude = self.nodes[place].notes_exclusive(self.may_exclude);
         }
     }
 
@@ -310,7 +302,7 @@ impl KnownNodes {
         ensures { IfOk result (λ commands. commands ≡ outstanding_to (rows_of self.now) (length self.now)) }
     {
         let mut commands = Items::new(alloc);
-        for known_node in &self.known_nodes {
+        for known_node in &self.nodes {
             if let Some(command) = known_node.outstanding() {
                 commands.push(command)?;
             }
@@ -330,9 +322,9 @@ impl KnownNodes {
             commands,
             token,
         } = given;
-        if place < self.known_nodes.len() {
-            self.known_nodes[place].put(commands, token);
-            self.may_exclude = self.known_nodes[place].notes_exclusive(self.may_exclude);
+        if place < self.nodes.len() {
+            self.nodes[place].put(commands, token);
+            self.may_exclude = self.nodes[place].notes_exclusive(self.may_exclude);
         }
     }
 
@@ -367,7 +359,7 @@ impl KnownNodes {
         ensures { IfOk result (λ copy. copy ≡ self.now) }
     {
         Ok(KnownNodes {
-            known_nodes: copies(*self.known_nodes.allocator(), &self.known_nodes)?,
+            nodes: copies(*self.nodes.allocator(), &self.nodes)?,
             may_exclude: self.may_exclude,
         })
     }
@@ -377,7 +369,7 @@ impl KnownNodes {
         requires { length self.now ≡ length other.now }
         ensures { IsTrue result ↔ ((rows_of self.now ≡ rows_of other.now) × (deaths_of self.now ≡ deaths_of other.now)) }
     {
-        same_each(&self.known_nodes, &other.known_nodes)
+        same_each(&self.nodes, &other.nodes)
     }
 }
 

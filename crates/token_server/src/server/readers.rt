@@ -1,17 +1,15 @@
 //! What a token server holds, as lists.
 ghost use Rattle.std.specs.Prelude.{◌≡◌, false, All, IfOk, MatchOption, map, is_some, None};
-ghost use Rattle.std.specs.Option.{option_copied};
 ghost use Rattle.token_queue.specs.Requests.{requests_in};
 ghost use Rattle.token_queue.specs.Actives.{requests_of};
 ghost use Rattle.token_server.specs.State.{is_awaited};
 ghost use Rattle.token_server.specs.Obstacles.{obstacle, is_idle};
-ghost use Rattle.token_server.specs.Parts.{row_seen, row_state, server_state};
+ghost use Rattle.token_server.specs.Parts.{row_state, server_state};
 ghost use Rattle.token_server.specs.Readers.{nodes_where, Shows, IsRow};
 
 use super::Server;
 use crate::shown_row::ShownRow;
 use crate::token_holder::TokenHolder;
-use messages::message::Message;
 use std::alloc::{AllocError, Global};
 use token_queue::held::Held;
 use token_queue::token_request::TokenRequest;
@@ -50,17 +48,6 @@ impl Server {
         listed(alloc, self.waiting.slots())
     }
 
-    // The row of a node.
-    #[tactic(auto, unfolding(crate::specs::Parts::rows_of))]
-    fn row_at(&self, node: u8) -> Option<&TokenHolder>
-        ensures { row_seen (option_copied result) ≡ (server_state self.now).rows node }
-    {
-        if node == 0 {
-            return None;
-        }
-        self.known_nodes.row(node)
-    }
-
     /// What the server knows of the node, if that asked it in an incarnation that is not known as dead.
     ///
     /// # Errors
@@ -68,7 +55,7 @@ impl Server {
     pub fn row(&self, alloc: Global, node: u8) -> Result<Option<ShownRow>, AllocError>
         ensures { IfOk result (λ shown. MatchOption shown ((server_state self.now).rows node ≡ None) (λ r. IsRow (server_state self.now) r × (r.node ≡ node))) }
     {
-        match self.row_at(node) {
+        match self.known_nodes.row(node) {
             Some(row) => Ok(Some(shown(alloc, node, row)?)),
             None => Ok(None),
         }
@@ -95,20 +82,7 @@ impl Server {
     pub fn dead(&self, node: u8) -> u16
         ensures { result ≡ (server_state self.now).dead node }
     {
-        if node == 0 || usize::from(node) > self.known_nodes.len() {
-            return 0;
-        }
         self.known_nodes.dead(node)
-    }
-
-    // Whether the node is asked for its token, and has not told it.
-    fn is_awaited(&self, node: u8) -> bool
-        ensures { result ≡ is_awaited ((server_state self.now).rows node) }
-    {
-        match self.row_at(node) {
-            Some(row) => row.commands.is_asked(),
-            None => false,
-        }
     }
 
     /// The nodes that a server which was rebuilt still awaits, by rising node: each has not told its token,
@@ -121,7 +95,7 @@ impl Server {
     {
         let mut nodes = Vec::new(alloc);
         for place in 0..self.shape.nodes() {
-            if self.is_awaited(place + 1) {
+            if self.known_nodes.is_awaited(&None, place + 1) {
                 nodes.push(place + 1)?;
             }
         }
@@ -142,13 +116,6 @@ fn listed(alloc: Global, slots: &[Option<TokenRequest>]) -> Result<Vec<TokenRequ
     Ok(requests)
 }
 
-// The command that has no answer yet.
-fn command_of(row: &TokenHolder) -> Option<Message>
-    ensures { result ≡ (row_state row.now).outstanding }
-{
-    Some(row.commands.outstanding?.message())
-}
-
 // The row of a node as it is shown.
 fn shown(alloc: Global, node: u8, row: &TokenHolder) -> Result<ShownRow, AllocError>
     ensures shows { IfOk result (λ shown. Shows (row_state row.now) shown) }
@@ -159,6 +126,6 @@ fn shown(alloc: Global, node: u8, row: &TokenHolder) -> Result<ShownRow, AllocEr
         incarnation: row.commands.incarnation(),
         token: row.token.runs(alloc)?,
         number: row.commands.number,
-        command: command_of(row),
+        command: row.commands.outstanding.map(|command| command.message()),
     })
 }

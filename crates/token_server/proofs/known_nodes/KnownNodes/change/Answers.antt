@@ -8,11 +8,11 @@ use Rattle.token_server.proofs.known_nodes.KnownNodes.change.Goals as goal
 
 pub invariant_of-self : goal.invariant_of-self
 invariant_of-self c =
-    exclusive-noted c.self.inside.known_nodes.items c.args.edit.place c.change.new.self c.index.result.now _ _ (omega (arith, c.if-place-len.true)) c.self.invariant c.index.ensures c.notes_exclusive-self-inside.ensures
+    exclusive-noted c.self.inside.nodes.items c.args.edit.place c.change.new.self c.index.result.now _ _ (omega (arith, c.if-place-len.true)) c.self.invariant c.index.ensures c.notes_exclusive-self-inside.ensures
 
 pub returns-then-place-len : goal.returns-then-place-len
 returns-then-place-len c =
-    let known_nodes = c.self.inside.known_nodes.items in
+    let known_nodes = c.self.inside.nodes.items in
     let edit = c.args.edit in
     let there : slice_get known_nodes edit.place ≡ Some c.index_mut.result.now =
     sym (known_node_at-place known_nodes (edit.place + 1) edit.place refl)

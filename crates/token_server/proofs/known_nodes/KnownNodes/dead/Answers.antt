@@ -1,8 +1,18 @@
-use Rattle.std.specs.Prelude.{◌-◌}
-use Rattle.std.proofs.Common.{sym, ap}
-use Rattle.token_server.proofs.KnownNodeLaws.{deaths_of-read}
+use Rattle.std.specs.Prelude.{length, ◌<◌}
+use Rattle.std.proofs.Common.{arith, sym, ap}
+use Rattle.token_server.proofs.KnownNodeLaws.{deaths_of-zero, deaths_of-past}
+use Rattle.token_server.proofs.EditLaws.{deaths_of-there}
+use Rattle.token_server.proofs.known_nodes.KnownNodes.dead.Goals.{then-node-eq0-via-then-node-eq0, then-node-eq0-via-else-node-eq0+then-from-len}
 use Rattle.token_server.proofs.known_nodes.KnownNodes.dead.Goals as goal
 
+pub returns-then-node-eq0 : goal.returns-then-node-eq0
+returns-then-node-eq0 c =
+    elim c.then-node-eq0.branch [
+      | then-node-eq0-via-then-node-eq0 w ↦ sym (deaths_of-zero c.args.self.now c.args.node (omega (arith, w.if-node-eq0.true)))
+      | then-node-eq0-via-else-node-eq0+then-from-len w ↦
+          let past : length c.args.self.now < c.args.node = omega (arith, w.if-from-len.true, ap length c.self.view_is) in
+          sym (deaths_of-past c.args.self.now c.args.node past)
+    ]
+
 pub returns : goal.returns
-returns c =
-    rw (← c.self.view_is) (sym (deaths_of-read _ c.args.node _ _ (rw c.self.view_is c.requires) (ap (λ n. n - 1) c.from.ensures) c.index.ensures))
+returns c = sym (deaths_of-there c.args.self.now c.args.node _ c.at.ensures)

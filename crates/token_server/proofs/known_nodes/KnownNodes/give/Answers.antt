@@ -16,4 +16,4 @@ returns-else-place-len-clause-rows c = rw (← c.self.view_is) (given-past _ c.a
 
 pub invariant_of-self : goal.invariant_of-self
 invariant_of-self c =
-    exclusive-noted c.self.inside.known_nodes.items c.args.given.place c.put.new.self c.index.result.now _ _ (omega (arith, c.if-place-len.true)) c.self.invariant c.index.ensures c.notes_exclusive-self-inside.ensures
+    exclusive-noted c.self.inside.nodes.items c.args.given.place c.put.new.self c.index.result.now _ _ (omega (arith, c.if-place-len.true)) c.self.invariant c.index.ensures c.notes_exclusive-self-inside.ensures
