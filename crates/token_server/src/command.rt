@@ -89,10 +89,7 @@ impl Command {
     pub fn is_grant(&self, number: u64) -> bool
         ensures { result ≡ is_grant number (Some self.now) }
     {
-        match &self.order {
-            Order::Grant { number: own, .. } => own.get() == number,
-            _ => false,
-        }
+        matches!(&self.order, Order::Grant { number: own, .. } if own.get() == number)
     }
 
     /// The mode that it revokes, if it is the Revoke with that number.
@@ -113,20 +110,14 @@ impl Command {
     pub fn asks_token(&self, number: u64) -> bool
         ensures { result ≡ asks_token number (Some self.now) }
     {
-        match &self.order {
-            Order::Hello { number: own, .. } => own.get() == number,
-            _ => false,
-        }
+        matches!(&self.order, Order::Hello { number: own, .. } if own.get() == number)
     }
 
     /// Whether it asks a node for its token.
     pub fn is_hello(&self) -> bool
         ensures { result ≡ is_hello (Some self.now) }
     {
-        match &self.order {
-            Order::Hello { .. } => true,
-            _ => false,
-        }
+        matches!(&self.order, Order::Hello { .. })
     }
 
     /// What it grants, if that conflicts with the mode.

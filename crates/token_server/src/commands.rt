@@ -102,10 +102,8 @@ impl Commands {
     pub fn grants(&self, number: u64) -> bool
         ensures { result ≡ is_grant number self.now.outstanding }
     {
-        match &self.outstanding {
-            Some(command) => command.is_grant(number),
-            None => false,
-        }
+        self.outstanding
+            .is_some_and(|command| command.is_grant(number))
     }
 
     /// The mode of the Revoke with that number, if it is under way.
@@ -119,20 +117,15 @@ impl Commands {
     pub fn asks_token(&self, number: u64) -> bool
         ensures { result ≡ asks_token number self.now.outstanding }
     {
-        match &self.outstanding {
-            Some(command) => command.asks_token(number),
-            None => false,
-        }
+        self.outstanding
+            .is_some_and(|command| command.asks_token(number))
     }
 
     /// Whether the node is asked for its token.
     pub fn is_asked(&self) -> bool
         ensures { result ≡ is_hello self.now.outstanding }
     {
-        match &self.outstanding {
-            Some(command) => command.is_hello(),
-            None => false,
-        }
+        self.outstanding.is_some_and(|command| command.is_hello())
     }
 
     /// Once the command is answered.

@@ -22,20 +22,15 @@ impl Gone {
     pub fn drops(&self, request: &TokenRequest) -> bool
         ensures { result ≡ is_up_to_any self.now.dropped request.now }
     {
-        match self.dropped {
-            Some((node, incarnation)) => request.is_up_to(node, incarnation),
-            None => false,
-        }
+        self.dropped
+            .is_some_and(|(node, incarnation)| request.is_up_to(node, incarnation))
     }
 
     /// Whether a request is the one that is served no longer.
     pub fn ends(&self, request: &TokenRequest) -> bool
         ensures { result ≡ is_of_any self.now.ended request.now }
     {
-        match self.ended {
-            Some(call) => request.is_of_call(call),
-            None => false,
-        }
+        self.ended.is_some_and(|call| request.is_of_call(call))
     }
 
     /// Whether a request that was served is served on.

@@ -53,9 +53,6 @@ impl NodeChange {
     pub fn may_bar(&self) -> bool
         ensures { result ≡ may_bar self.now }
     {
-        match self {
-            NodeChange::Reported { .. } => true,
-            _ => false,
-        }
+        matches!(self, NodeChange::Reported { .. })
     }
 }

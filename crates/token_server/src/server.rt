@@ -400,10 +400,8 @@ impl Server {
         requires { rows_of (overlaid self.now.known_nodes rows.now) ≡ rows_after sketch.now.changed (rows_of self.now.known_nodes) }
         ensures { (n : ℕ) → result ≢ Some n → rows_of (overlaid self.now.known_nodes rows.now) n ≡ rows_of self.now.known_nodes n }
     {
-        if rows.is_none() {
-            return None;
-        }
-        sketch.touched()
+        rows.as_ref()?;
+        Some(sketch.changed.as_ref()?.node)
     }
 
     // What the event changes before the server serves.

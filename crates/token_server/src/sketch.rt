@@ -1,6 +1,5 @@
 //! What an event changes of a token server before it serves.
 ghost use Rattle.std.specs.Prelude.{◌≡◌, Some, None};
-ghost use Rattle.std.specs.Option.{option_map};
 ghost use Rattle.token_server.specs.Edits.{many_moved, many_put_off};
 ghost use Rattle.token_server.specs.Sketches.{dropped};
 
@@ -70,13 +69,6 @@ impl Sketch {
     {
         let changed = self.changed.as_ref()?;
         Some((changed.node, changed.change.dropped_to()?))
-    }
-
-    /// The node whose row changes, if one does.
-    pub fn touched(&self) -> Option<u8>
-        ensures { result ≡ option_map (λ c. c.node) self.now.changed }
-    {
-        Some(self.changed.as_ref()?.node)
     }
 }
 
