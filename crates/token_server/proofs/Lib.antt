@@ -3,6 +3,7 @@ pub mod RequestLaws
 pub mod SketchLaws
 pub mod GrantLaws
 pub mod CutLaws
+pub mod SpanLaws
 pub mod BarLaws
 pub mod ToldLaws
 pub mod AdmitLaws

@@ -31,10 +31,9 @@ impl Server {
         if request.is_of_node(node) {
             return false;
         }
-        match self.known_nodes.row_after(rows, node) {
-            Some(row) => row.token.conflicts(request.required(), request.mode),
-            None => false,
-        }
+        self.known_nodes.row_after(rows, node).is_some_and(|row| row
+            .token
+            .conflicts(request.required(), request.mode))
     }
 
     // The least other node whose row conflicts with what the request needs.
@@ -58,7 +57,7 @@ impl Server {
     {
         let required = request.required();
         let _ = &required.lo; // tells the proof that the span has a byte
-        if readable && reads(request.mode) {
+        if readable && request.mode == Mode::Read {
             return request.call.node;
         }
         self.conflicting_node(rows, request)
@@ -70,10 +69,9 @@ impl Server {
         requires { IsNumber self.now.shape.nodes node }
         ensures { result ≡ is_dropped incarnation (rows_of self.now.known_nodes node) }
     {
-        match self.known_nodes.row(node) {
-            Some(row) => row.commands.incarnation() <= incarnation,
-            None => false,
-        }
+        self.known_nodes
+            .row(node)
+            .is_some_and(|row| row.commands.incarnation() <= incarnation)
     }
 
     // Whether it is known at once that no request waits for another row than before.
@@ -188,18 +186,13 @@ fn may_free(change: &NodeChange, request: &TokenRequest) -> bool
     }
 }
 
-// Whether the row that changes is the one for which a request waits, or may come to stand in its way.
-fn concerns(changed: &Changed, held: &Held) -> bool
-    ensures { result ≡ (may_bar changed.now.change || (held.now.at == changed.now.node)) }
-{
-    changed.change.may_bar() || held.at == changed.node
-}
-
-// Whether a request that is served may wait for another row than before.
+// Whether a request that is served may wait for another row than before: the row that changes is the one for which
+// it waits, or may come to stand in its way.
 fn may_be_freed(changed: &Changed, held: &Held) -> bool
     ensures { result ≡ false → (row : Option Row) → may_turn changed.now row held.now ≡ false }
 {
-    concerns(changed, held) && may_free(&changed.change, &held.request)
+    (changed.change.may_bar() || held.at == changed.node)
+        && may_free(&changed.change, &held.request)
 }
 
 // Whether the request needs all bytes that a node gave up: then no other one that is served needs any of them.
@@ -210,14 +203,4 @@ fn takes_all(change: &NodeChange, request: &TokenRequest) -> bool
         return false;
     };
     needs_all_of(request, *span)
-}
-
-// Whether the mode is that of a read lock.
-fn reads(mode: Mode) -> bool
-    ensures { result ≡ true → mode ≡ Mode.Read }
-{
-    match mode {
-        Mode::Read => true,
-        Mode::Write => false,
-    }
 }

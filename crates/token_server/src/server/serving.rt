@@ -46,7 +46,7 @@ impl Server {
     {
         let required = request.required();
         let desired = request.desired();
-        if desired.lo == required.lo && desired.hi == required.hi {
+        if desired == required {
             return desired;
         }
         let span = cut_by(request, self.active.as_slice(), &draft.lists);
@@ -60,7 +60,7 @@ impl Server {
     {
         let required = request.required();
         let mut span = self.narrowed(draft, request);
-        if span.lo == required.lo && span.hi == required.hi {
+        if span == required {
             return span;
         }
         for place in 0..self.shape.nodes() {
@@ -373,19 +373,12 @@ fn cut_by(request: &TokenRequest, held: &[Held], lists: &Lists) -> Span
     let required = request.required();
     let mut span = request.desired();
     for other in held {
-        if are_same(span, required) {
+        if span == required {
             return span;
         }
         span = cut_by_one(required, span, other, lists);
     }
     span
-}
-
-// Whether both are the same span.
-fn are_same(one: Span, other: Span) -> bool
-    ensures { result ≡ true → one ≡ other }
-{
-    one.lo == other.lo && one.hi == other.hi
 }
 
 // The largest span that contains `required` and lies in `within` without the bytes that one request needs, if it is

@@ -6,22 +6,16 @@ use Rattle.token_server.specs.Parts.{ServerParts}
 use Rattle.token_server.specs.Told.{with_told}
 use Rattle.token_server.specs.Edits.{drafted}
 use Rattle.token_server.proofs.GrantLaws.{narrowed-begin, narrowed-holds, narrowed-free, narrowed-more, narrowed-skip, narrowed-end, granted-exact}
+use Rattle.token_server.proofs.SpanLaws.{one_span}
 use Rattle.token_server.proofs.server.Server.granted_span.Goals.{then-not-is_of_node, else-not-is_of_node}
 use Rattle.token_server.proofs.server.Server.granted_span.Goals as goal
 
-pub returns-then-span-required-2 : goal.returns-then-span-required-2
-returns-then-span-required-2 c =
-    let same_lo = c.if-span-required.true in
-    let same_hi = c.if-span-required-2.true in
+pub returns-then-eq : goal.returns-then-eq
+returns-then-eq c =
     let r = c.args.request.now in
     let u = with_told c.args.told.now (drafted c.args.self.now c.args.draft.now) in
-    let span_lo = ap (λ (s : Range). s.lo) (c.span.view_is ∙ c.narrowed-span.ensures.value) in
-    let span_hi = ap (λ (s : Range). s.hi) (c.span.view_is ∙ c.narrowed-span.ensures.value) in
-    let required_lo = ap (λ (s : Range). s.lo) (c.required.view_is ∙ c.required-required.ensures.value) in
-    let required_hi = ap (λ (s : Range). s.hi) (c.required.view_is ∙ c.required-required.ensures.value) in
-    let starts : (narrowed u.active r).lo ≡ r.wanted.required.lo = cc in
-    let ends : (narrowed u.active r).hi ≡ r.wanted.required.hi = cc in
-    c.narrowed-span.ensures.value ∙ granted-exact u r c.requires (rw (← c.required-required.ensures.value) c.required-required.ensures.ordered) starts ends
+    let same : narrowed u.active r ≡ r.wanted.required = sym c.narrowed-span.ensures.value ∙ one_span c.narrowed-span.result c.required-required.result _ c.eq.ensures c.if-eq.true ∙ c.required-required.ensures.value in
+    c.narrowed-span.ensures.value ∙ granted-exact u r c.requires (rw (← c.required-required.ensures.value) c.required-required.ensures.ordered) (ap (λ (s : Range). s.lo) same) (ap (λ (s : Range). s.hi) same)
 
 pub loop-place-init : goal.loop-place-init
 loop-place-init c =

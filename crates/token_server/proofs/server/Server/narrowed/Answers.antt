@@ -9,21 +9,16 @@ use Rattle.token_server.specs.Serve.{narrowed}
 use Rattle.token_server.specs.Parts.{ServerParts}
 use Rattle.token_server.specs.Sketches.{without, still_active}
 use Rattle.token_server.specs.Told.{cut_all}
+use Rattle.token_server.proofs.SpanLaws.{one_span}
 use Rattle.token_server.proofs.CutLaws.{HasByte, IsLeft, left-all, left-exact}
 use Rattle.token_server.proofs.TurnLaws.{held_after-requests}
 use Rattle.token_server.proofs.server.Server.narrowed.Goals as goal
 
-pub returns-then-desired-required-2-clause-value : goal.returns-then-desired-required-2-clause-value
-returns-then-desired-required-2-clause-value c =
-    let same_lo = c.if-desired-required.true in
-    let same_hi = c.if-desired-required-2.true in
-    let desired_lo = ap (λ (s : Range). s.lo) (c.desired.view_is ∙ c.desired-desired.ensures.value) in
-    let desired_hi = ap (λ (s : Range). s.hi) (c.desired.view_is ∙ c.desired-desired.ensures.value) in
-    let required_lo = ap (λ (s : Range). s.lo) (c.required.view_is ∙ c.required-required.ensures.value) in
-    let required_hi = ap (λ (s : Range). s.hi) (c.required.view_is ∙ c.required-required.ensures.value) in
-    let starts : c.args.request.now.wanted.desired.lo ≡ c.args.request.now.wanted.required.lo = cc in
-    let ends : c.args.request.now.wanted.desired.hi ≡ c.args.request.now.wanted.required.hi = cc in
-    c.desired-desired.ensures.value ∙ left-exact _ c.args.request.now (rw (← c.required-required.ensures.value) c.required-required.ensures.ordered) starts ends
+pub returns-then-eq-clause-value : goal.returns-then-eq-clause-value
+returns-then-eq-clause-value c =
+    let wanted = c.args.request.now.wanted in
+    let same : wanted.desired ≡ wanted.required = sym c.desired-desired.ensures.value ∙ one_span c.desired-desired.result c.required-required.result _ c.eq.ensures c.if-eq.true ∙ c.required-required.ensures.value in
+    c.desired-desired.ensures.value ∙ left-exact _ c.args.request.now (rw (← c.required-required.ensures.value) c.required-required.ensures.ordered) (ap (λ (s : Range). s.lo) same) (ap (λ (s : Range). s.hi) same)
 
 pub cut_by_all-requires-clause-starts_within : goal.cut_by_all-requires-clause-starts_within
 cut_by_all-requires-clause-starts_within c = rw c.required-required.ensures.value c.cut_by-span.ensures.starts_before

@@ -9,6 +9,7 @@ use Rattle.token_server.specs.declared.lists.Lists.{Lists}
 use Rattle.token_server.specs.Serve.{narrowed}
 use Rattle.token_server.specs.Told.{cut}
 use Rattle.token_server.specs.Turns.{kept}
+use Rattle.token_server.proofs.SpanLaws.{one_span}
 use Rattle.token_server.proofs.CutLaws.{IsLeft, left-start, left-bounds, left-least}
 use Rattle.token_server.proofs.TurnLaws.{kept-requests, kept-parts, left-next}
 use Rattle.token_server.proofs.server.serving.cut_by.Goals as goal
@@ -36,20 +37,20 @@ loop-other-preserved c =
     left-next lists (take i held) (take (i + 1) held) item c.args.request.now c.loop-other.span c.cut_by_one-span.result next e.ordered
     (λ on. e.kept on ∙ ap (λ (q : Range). cut q c.loop-other.span item.request.wanted.required) c.required-required.ensures.value) e.gone c.loop-other.invariant
 
-pub returns-then-are_same-clause-value : goal.returns-then-are_same-clause-value
-returns-then-are_same-clause-value c =
+pub returns-then-eq-clause-value : goal.returns-then-eq-clause-value
+returns-then-eq-clause-value c =
     let i = c.loop-other.other-index in
     let held : List Held = c.args.held.now in
     let lists : Lists = c.args.lists.now in
     let r : TokenRequest = c.args.request.now in
-    left-least (requests_of (kept lists (take i held))) (requests_of (kept lists (drop i held))) r c.loop-other.span c.loop-other.invariant (c.are_same.ensures c.if-are_same.true ∙ c.required-required.ensures.value)
+    left-least (requests_of (kept lists (take i held))) (requests_of (kept lists (drop i held))) r c.loop-other.span c.loop-other.invariant (one_span c.loop-other.span c.required-required.result _ c.eq.ensures c.if-eq.true ∙ c.required-required.ensures.value)
     ∙ ap (λ (rs : List TokenRequest). narrowed rs r) (sym (kept-parts lists held i))
 
-pub returns-then-are_same-clause-starts_before : goal.returns-then-are_same-clause-starts_before
-returns-then-are_same-clause-starts_before c = (left-bounds _ c.args.request.now c.loop-other.span c.loop-other.invariant).0
+pub returns-then-eq-clause-starts_before : goal.returns-then-eq-clause-starts_before
+returns-then-eq-clause-starts_before c = (left-bounds _ c.args.request.now c.loop-other.span c.loop-other.invariant).0
 
-pub returns-then-are_same-clause-ends_after : goal.returns-then-are_same-clause-ends_after
-returns-then-are_same-clause-ends_after c = (left-bounds _ c.args.request.now c.loop-other.span c.loop-other.invariant).1
+pub returns-then-eq-clause-ends_after : goal.returns-then-eq-clause-ends_after
+returns-then-eq-clause-ends_after c = (left-bounds _ c.args.request.now c.loop-other.span c.loop-other.invariant).1
 
 pub returns-clause-value : goal.returns-clause-value
 returns-clause-value c =
