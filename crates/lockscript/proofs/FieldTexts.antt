@@ -30,7 +30,7 @@ pub nothing : AreTexts {A = ⊤} (λ _. []) (λ _. ⊤)
 nothing = record { apart = λ x y _ _ _. refl; feedless = λ x fits. lacks-tested line_feed [] refl }
 
 pub fd : AreFields decimal IsDescriptor
-fd = record { words = byte_words; texts = record { apart = apart-byte; feedless = λ n fits. number n (omega (arith, fits)) } }
+fd = record { words = byte_words; texts = record { apart = apart-byte; feedless = λ n fits. number n (omega (arith, fits.1)) } }
 
 kinds : AllLack line_feed kind_text (λ _. ⊤)
 kinds OfProcess fits = lacks-tested line_feed (codes "proc") refl

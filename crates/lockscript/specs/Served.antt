@@ -1,14 +1,15 @@
 -- What scripts may ask for.
-use Rattle.std.specs.Prelude.{ℕ, ◌≤◌, FitsSigned, ⊤}
+use Rattle.std.specs.Prelude.{ℕ, FitsSigned, ⊤}
 use Rattle.std.specs.Int.{w64}
 use Rattle.model.specs.declared.op.Op.{Op}
 use Rattle.model.specs.declared.op.Op.TheVariants.{Spawn, Fork, Open, Dup, Close, Exit, Set, Wait, Unlock, Query}
 use Rattle.model.specs.Limits.{IsNumber, most_processes}
 use Rattle.messages.specs.Shapes.{most_files}
+use Rattle.texts.specs.Reads.{IsWithin}
 
 -- a descriptor that a script may name, open or not
 abbrev pub IsDescriptor : ℕ → Type 0
-IsDescriptor fd = fd ≤ 255
+IsDescriptor = IsWithin 0 255
 
 -- an operation that a script may ask for: its numbers are within their limits and types
 abbrev pub IsServedOp : Op → Type 0

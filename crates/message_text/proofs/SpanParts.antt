@@ -8,7 +8,7 @@ use Rattle.model.specs.declared.mode.Mode.{Mode}
 use Rattle.model.specs.declared.owner.Owner.{Owner}
 use Rattle.model.specs.Limits.{IsOwner}
 use Rattle.messages.specs.Wants.{Wants}
-use Rattle.texts.specs.Reads.{Both, pair_text}
+use Rattle.texts.specs.Reads.{Both, IsWithin, pair_text}
 use Rattle.message_text.specs.Names.{lock_text, owner_text}
 use Rattle.texts.specs.Words.{mode_text}
 use Rattle.texts.proofs.Pairs.{AreWords}
@@ -21,15 +21,18 @@ use Rattle.message_text.proofs.Views.{Views}
 
 -- the offset of a byte
 abbrev pub IsOffset : ℕ → Type 0
-IsOffset n = n ≤ greatest
+IsOffset = IsWithin 0 greatest
+
+pub offset_in : (n : ℕ) → n ≤ greatest → IsOffset n
+offset_in n high = (omega arith, high)
 
 pub offset_words : AreWords decimal IsOffset
-offset_words n fits = Lacks-decimal n (omega (arith, fits))
+offset_words n fits = Lacks-decimal n (omega (arith, fits.1))
 
 offset : AreFields decimal IsOffset
 offset = record {
   words = offset_words;
-  texts = record { apart = λ m n m_in n_in e. decimal_injective m n (omega (arith, m_in)) (omega (arith, n_in)) e; feedless = λ n fits. number n (omega (arith, fits)) };
+  texts = record { apart = λ m n m_in n_in e. decimal_injective m n (omega (arith, m_in.1)) (omega (arith, n_in.1)) e; feedless = λ n fits. number n (omega (arith, fits.1)) };
 }
 
 -- the first and the last byte of a span, which may be in the wrong order
@@ -45,7 +48,7 @@ offsets = both offset offset.texts
 abbrev pub spans : Views (ℕ × ℕ) Range offsets_text AreOffsets span_text IsServedSpan
 spans = record {
   parts = λ s. (s.lo, s.hi);
-  fit = λ s fits. (omega (arith, fits.0, fits.1), fits.1);
+  fit = λ s fits. (offset_in s.lo (omega (arith, fits.0, fits.1)), offset_in s.hi fits.1);
   same = λ s. refl;
 }
 
@@ -68,7 +71,7 @@ offsets_and_span = both offset (both offset span)
 abbrev pub ranges : Views (ℕ × (ℕ × Range)) Wants offsets_and_span_text AreOffsetsAndSpan wants_text AreServedWants
 ranges = record {
   parts = λ w. (w.required.lo, (w.required.hi, w.desired));
-  fit = λ w fits. (omega (arith, fits.0.0.0, fits.0.0.1), (fits.0.0.1, fits.0.1));
+  fit = λ w fits. (offset_in w.required.lo (omega (arith, fits.0.0.0, fits.0.0.1)), (offset_in w.required.hi fits.0.0.1, fits.0.1));
   same = λ w. append_assoc (decimal w.required.lo) (32 ∷ decimal w.required.hi) (32 ∷ span_text w.desired);
 }
 
@@ -94,7 +97,7 @@ seven a b c d e f g = simp append_assoc
 abbrev pub locks : Views (Mode × (ℕ × (ℕ × Owner))) LockInfo lock_parts_text AreLockParts lock_text IsServedLock
 locks = record {
   parts = λ l. (l.mode, (l.span.lo, (l.span.hi, l.owner)));
-  fit = λ l fits. (tt, (omega (arith, fits.0.0, fits.0.1), (fits.0.1, fits.1)));
+  fit = λ l fits. (tt, (offset_in l.span.lo (omega (arith, fits.0.0, fits.0.1)), (offset_in l.span.hi fits.0.1, fits.1)));
   same = λ l. seven (mode_text l.mode) (codes " ") (decimal l.span.lo) (codes " ") (decimal l.span.hi) (codes " ") (owner_text l.owner);
 }
 

@@ -1,5 +1,5 @@
 -- No two numbers or words have one text.
-use Rattle.std.proofs.Common.{ℕ, ◌<◌, ◌≤◌, ◌^◌, refl, arith, rules, decimal, FitsSigned, w64}
+use Rattle.std.proofs.Common.{ℕ, ◌<◌, ◌^◌, refl, arith, rules, decimal, FitsSigned, w64}
 use Rattle.std.specs.Prelude.{⊤}
 use Rattle.std.specs.Fmt.{signed_decimal}
 use Rattle.std.proofs.lemmas.Fmt.{decimal_injective, signed_decimal_injective}
@@ -8,14 +8,15 @@ use Rattle.model.specs.declared.mode.Mode.TheVariants.{Read, Write}
 use Rattle.model.specs.declared.access.Access.TheVariants.{ReadOnly, WriteOnly, ReadWrite}
 use Rattle.model.specs.declared.owner.Kind.TheVariants.{OfProcess, OfDescription}
 use Rattle.model.specs.declared.policy.Policy.TheVariants.{Wide, Exact}
+use Rattle.texts.specs.Reads.{IsWithin}
 use Rattle.texts.specs.Words.{access_text, kind_text, mode_text, policy_text}
 use Rattle.texts.proofs.Pairs.{AreApart, heads, tails}
 
 pub apart-number : (most : ℕ) → most < 2 ^ 64 → AreApart decimal (IsNumber most)
 apart-number most small m n m_in n_in e = decimal_injective m n (omega (arith, m_in.1, small)) (omega (arith, n_in.1, small)) e
 
-pub apart-byte : AreApart decimal (λ n. n ≤ 255)
-apart-byte m n m_in n_in e = decimal_injective m n (omega (arith, m_in)) (omega (arith, n_in)) e
+pub apart-byte : AreApart decimal (IsWithin 0 255)
+apart-byte m n m_in n_in e = decimal_injective m n (omega (arith, m_in.1)) (omega (arith, n_in.1)) e
 
 pub apart-offset : AreApart signed_decimal (FitsSigned w64)
 apart-offset y z y_fits z_fits e = signed_decimal_injective y z (search rules) (search rules) e

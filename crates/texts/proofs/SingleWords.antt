@@ -9,7 +9,7 @@ use Rattle.model.specs.Limits.{IsNumber}
 use Rattle.model.specs.declared.mode.Mode.TheVariants.{Read, Write}
 use Rattle.model.specs.declared.owner.Kind.TheVariants.{OfProcess, OfDescription}
 use Rattle.texts.specs.Layout.{space}
-use Rattle.texts.specs.Reads.{Lacks}
+use Rattle.texts.specs.Reads.{IsWithin, Lacks}
 use Rattle.texts.specs.Words.{kind_text, mode_text}
 use Rattle.std.specs.Prelude.{⊤}
 use Rattle.texts.proofs.Pairs.{AreWords, heads, same-split, tails}
@@ -66,8 +66,8 @@ split-first_field bs r split = split-first space (omega arith) bs r split
 pub number_words : (most : ℕ) → most < 2 ^ 64 → AreWords decimal (IsNumber most)
 number_words most small n fits = Lacks-decimal n (omega (arith, small, fits.1))
 
-pub byte_words : AreWords decimal (λ n. n ≤ 255)
-byte_words n fits = Lacks-decimal n (omega (arith, fits))
+pub byte_words : AreWords decimal (IsWithin 0 255)
+byte_words n fits = Lacks-decimal n (omega (arith, fits.1))
 
 pub offset_words : AreWords signed_decimal (FitsSigned w64)
 offset_words = Lacks-signed_decimal

@@ -1,6 +1,6 @@
 -- Reading a value from its text.
 use Rattle.std.specs.List.{list_all}
-use Rattle.std.specs.Prelude.{Bool, not, nat_eq, ◌≡◌, ◌≢◌, ℕ, zero, suc, ◌<◌, ◌≤◌, List, ◌∷◌, ◌++◌, length, slice_index, Option, Some, None}
+use Rattle.std.specs.Prelude.{Bool, not, nat_eq, ◌≡◌, ◌≢◌, ℕ, ◌<◌, ◌≤◌, List, ◌∷◌, ◌++◌, length, slice_index, Option, Some, None}
 use Rattle.texts.specs.Layout.{space}
 
 -- the value that the bytes write, of those that fit, or none where they write no such value
@@ -16,10 +16,9 @@ IsPlain bytes = (slice_index bytes 0 ≢ 43) × (slice_index bytes 0 ≡ 48 → 
 abbrev pub IsPlainSigned : List ℕ → Type 0
 IsPlainSigned bytes = IsPlain bytes × (slice_index bytes 0 ≡ 45 → slice_index bytes 1 ≢ 48)
 
--- a number from the least up to the most; each is at least 0
+-- a number from the least up to the most
 abbrev pub IsWithin : (least most : ℕ) → ℕ → Type 0
-IsWithin zero most n = n ≤ most
-IsWithin (suc least) most n = (suc least ≤ n) × (n ≤ most)
+IsWithin least most n = (least ≤ n) × (n ≤ most)
 
 -- no byte is this one
 abbrev pub Lacks : ℕ → List ℕ → Type 0

@@ -1,5 +1,5 @@
 //! Numbers in texts.
-ghost use Rattle.std.specs.Prelude.{◌≤◌, ◌<◌, ◌^◌, min, decimal, FitsSigned, MatchBool};
+ghost use Rattle.std.specs.Prelude.{◌<◌, ◌^◌, min, decimal, FitsSigned, MatchBool};
 ghost use Rattle.std.specs.Fmt.{signed_decimal};
 ghost use Rattle.std.specs.Int.{w64};
 ghost use Rattle.texts.specs.Reads.{IsPlain, IsPlainSigned, IsWithin, Reads};
@@ -34,7 +34,7 @@ fn natural_of(word: &str) -> Option<u64>
 /// The number from `least` to `most` that the word writes: decimal, without leading zeros and
 /// without a leading `+`.
 pub fn number_of(word: &str, least: u64, most: u64) -> Option<u64>
-    ensures { Reads decimal (λ n. (least ≤ n) × (n ≤ most)) word.now result }
+    ensures { Reads decimal (IsWithin least most) word.now result }
 {
     match natural_of(word) {
         Some(number) => {
