@@ -125,15 +125,12 @@ impl Command {
         ensures value { result ≡ bars self.now mode }
         ensures ordered { IfSome result (λ s. s.lo ≤ s.hi) }
     {
-        match (&self.order, mode) {
-            (
-                Order::Grant {
-                    mode: Mode::Read,
-                    ..
-                },
-                Mode::Read,
-            ) => None,
-            (Order::Grant { span, .. }, _) => {
+        match &self.order {
+            Order::Grant {
+                mode: own,
+                span,
+                ..
+            } if own.excludes(mode) => {
                 let _ = &span.lo; // tells the proof that the span has a byte
                 Some(*span)
             }

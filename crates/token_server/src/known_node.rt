@@ -228,10 +228,7 @@ impl KnownNode {
     pub fn notes_exclusive(&self, noted: bool) -> bool
         ensures { result ≡ (noted || row_conflicts (row_seen self.now.row) whole Mode.Read) }
     {
-        match &self.row {
-            Some(row) => noted || excludes(&row.token),
-            None => noted,
-        }
+        noted || self.row.as_ref().is_some_and(|row| excludes(&row.token))
     }
 
     /// An equal known node.

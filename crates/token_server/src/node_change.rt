@@ -41,11 +41,9 @@ impl NodeChange {
     pub fn dead_after(&self, dead: u16) -> u16
         ensures { result ≡ dead_after self.now dead }
     {
-        match self {
-            NodeChange::Forgotten { incarnation } => dead.max(*incarnation),
-            NodeChange::Asked { host, .. } => dead.max(host.incarnation - 1),
-            NodeChange::Answered | NodeChange::Relieved { .. } | NodeChange::Reported { .. } =>
-                dead,
+        match self.dropped_to() {
+            Some(incarnation) => dead.max(incarnation),
+            None => dead,
         }
     }
 

@@ -14,8 +14,6 @@ ghost use Rattle.token_server.specs.Ready.{AreOfEpoch};
 ghost use Rattle.token_server.specs.Sketches.{commands_of, without, still_active, sketched};
 ghost use Rattle.token_server.specs.Edits.{overlaid, keeps, held_after, drafted, seen, given_to_known_node, with_given, IsDrafted, IsServed};
 ghost use Rattle.token_server.specs.Turns.{kept_of, IsTurn, AreServed};
-ghost use Rattle.token_set.specs.Sets.{token_of};
-ghost use Rattle.token_set.specs.Edits.{edited as edited_token};
 
 use super::{Server, commands_told};
 use crate::change::{Draft, Given};
