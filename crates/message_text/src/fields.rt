@@ -1,5 +1,5 @@
 //! The fields of messages.
-ghost use Rattle.std.specs.Prelude.{◌≡◌, ◌≢◌, ◌++◌, ◌∷◌, ℕ, List, decimal, string_bytes, MatchOption, OnOk};
+ghost use Rattle.std.specs.Prelude.{◌≡◌, ◌≢◌, ◌++◌, ◌∷◌, ℕ, List, decimal, string_bytes, MatchOption, OnOk, ⊤};
 ghost use Rattle.messages.specs.Epochs.{IsRebuilt};
 ghost use Rattle.messages.specs.declared.version.Version.TheVariants.{First, Second};
 ghost use Rattle.texts.specs.Layout.{space};
@@ -23,9 +23,7 @@ use model::mode::Mode;
 use std::alloc::AllocError;
 use std::fmt::Write;
 use std::marker::PhantomData;
-use texts::named;
 use texts::text::{Text, Word, split_field};
-use texts::words::Named;
 
 /// The number of a file that messages name.
 pub(crate) struct FileName;
@@ -145,23 +143,31 @@ pub(crate) fn first_field<A: Word>(text: &str) -> Option<(A::Value, &str)>
 /// What a word says of a request: `now` or `wait`.
 pub(crate) struct BlockingWord;
 
-impl Named for BlockingWord {
+impl Text for BlockingWord {
     type Value = Blocking;
 
-    ghost word_of = { blocking_text };
+    ghost text_of = { blocking_text };
 
-    fn of_word(word: &str) -> Option<Blocking> {
-        named!(word, Blocking::No, Blocking::Yes)
-    }
+    ghost is_served = { λ _. ⊤ };
 
-    fn word(blocking: Blocking) -> &'static str {
-        match blocking {
-            Blocking::No => "now",
-            Blocking::Yes => "wait",
+    fn read(text: &str) -> Option<Blocking> {
+        match text {
+            "now" => Some(Blocking::No),
+            "wait" => Some(Blocking::Yes),
+            _ => None,
         }
     }
 
-    fn are_words() {}
+    fn write(value: &Blocking, out: &mut String) -> Result<(), AllocError> {
+        match value {
+            Blocking::No => out.push_str("now"),
+            Blocking::Yes => out.push_str("wait"),
+        }
+    }
+}
+
+impl Word for BlockingWord {
+    fn is_one_field() {}
 }
 
 /// `LO HI`.
