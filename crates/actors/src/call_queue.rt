@@ -115,8 +115,10 @@ impl<'a, J: Name> CallQueue<'a, J> {
             Err(CallError::Unanswered { call_at }) => LineOutcome::Open(call_at),
             Err(why) => LineOutcome::Denied(why),
         };
-        self.outcomes.push((index, outcome))?;
-        Ok(!outcome.is_open())
+        match self.outcomes.push((index, outcome)) {
+            Ok(()) => Ok(!outcome.is_open()),
+            Err(_) => Err(PlayError::NoMemory),
+        }
     }
 
     /// Whether it was met why no more calls are made.

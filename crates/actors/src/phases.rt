@@ -79,7 +79,9 @@ impl<'a, 'b, J: Name + Send + Sync> Phases<'a, 'b, J> {
             self.join(rt, watcher)?;
         }
         let index = self.lines.len();
-        self.lines.push(played)?;
+        if self.lines.push(played).is_err() {
+            return Err(PlayError::NoMemory);
+        }
         if self.is_over {
             return Ok(());
         }
@@ -102,8 +104,10 @@ impl<'a, 'b, J: Name + Send + Sync> Phases<'a, 'b, J> {
         if self.places.insert((node, pid), self.parts.len()).is_err() {
             return Err(PlayError::NoMemory);
         }
-        self.parts.push(Part::new(self.alloc, node))?;
-        Ok(())
+        match self.parts.push(Part::new(self.alloc, node)) {
+            Ok(()) => Ok(()),
+            Err(_) => Err(PlayError::NoMemory),
+        }
     }
 
     // The line at the index came to this.

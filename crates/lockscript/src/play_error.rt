@@ -2,7 +2,7 @@
 ghost use Rattle.std.specs.Prelude.{◌≡◌};
 ghost use Rattle.lockscript.specs.declared.play_error.PlayError.TheVariants.{NoMemory};
 
-use std::alloc::{AllocError, AllocFailed};
+use std::alloc::AllocError;
 use thiserror::Error;
 
 /// Why a script was not run to its end.
@@ -20,14 +20,6 @@ impl From<AllocError> for PlayError {
     ghost from_gives = { λ error made. made ≡ NoMemory };
 
     fn from(_error: AllocError) -> PlayError {
-        PlayError::NoMemory
-    }
-}
-
-impl<T: Drop> From<AllocFailed<T>> for PlayError {
-    ghost from_gives = { λ error made. made ≡ NoMemory };
-
-    fn from(_error: AllocFailed<T>) -> PlayError {
         PlayError::NoMemory
     }
 }

@@ -161,15 +161,15 @@ impl Player {
         ensures full { IfErr result (λ error. error ≡ JournalFull → refusal ≡ Refused.JournalFull) }
         ensures rests { OnOk result (self.new.settled ≡ self.old.settled) }
     {
-        match refusal {
+        let code = match refusal {
             Refused::NoMemory => return Err(PlayError::NoMemory),
             Refused::JournalFull => return Err(PlayError::JournalFull),
-            listed => self.refused.push(RefusedLine {
-                line,
-                code: listed.number(),
-            })?,
+            listed => listed.number(),
+        };
+        match self.refused.push(RefusedLine { line, code }) {
+            Ok(()) => Ok(()),
+            Err(_) => Err(PlayError::NoMemory),
         }
-        Ok(())
     }
 
     // Why a message that was not sent can't be delivered.
