@@ -27,16 +27,16 @@ entry 2 call 1.1.2 1 open 1 rw
 reply 1.1.2 fd 0
 entry 3 call 1.1.3 1 set 0 proc write 0 100
 send request 1 1.1.3 now write 0 99 0 99
-entry 4 deliver request 1 1.1.3 now write 0 99 0 99
+entry 4 call 2.1.1 1 spawn
+reply 2.1.1 done
+entry 5 call 2.1.2 1 open 1 rw
+reply 2.1.2 fd 0
+entry 6 deliver request 1 1.1.3 now write 0 99 0 99
 send grant 1 1 1 1.1.3 write 0 99
-entry 5 deliver grant 1 1 1 1.1.3 write 0 99
+entry 7 deliver grant 1 1 1 1.1.3 write 0 99
 reply 1.1.3 done
 send taken 1 1 1 1.1.3
-entry 6 deliver taken 1 1 1 1.1.3
-entry 7 call 2.1.1 1 spawn
-reply 2.1.1 done
-entry 8 call 2.1.2 1 open 1 rw
-reply 2.1.2 fd 0
+entry 8 deliver taken 1 1 1 1.1.3
 entry 9 fail-server 1.1
 entry 10 start-server 1.2
 send hello 1 2 1.1
