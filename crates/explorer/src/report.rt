@@ -1,5 +1,5 @@
 //! The text of outcomes.
-ghost use Rattle.std.specs.Prelude.{◌≡◌, ◌++◌, codes, count_by, option_map, slice_get, string_bytes, IfOk, OnOk};
+ghost use Rattle.std.specs.Prelude.{◌≡◌, ◌++◌, codes, count_by, length, option_map, slice_get, string_bytes, IfOk, OnOk};
 ghost use Rattle.explorer.specs.Expectations.{expected};
 ghost use Rattle.explorer.specs.Reports.{answer_part, blocks, call_part, counts, differs, ending, expected_count, first_of, heading, is_other, report_text, told, told_lines};
 
@@ -30,7 +30,7 @@ pub(crate) fn report(
     push_blocks(&mut out, alloc, text, lines, outcomes, seeds)?;
     let expected = count_expected(text, lines);
     let broken = count_breaking(outcomes);
-    push_counts(&mut out, outcomes.len(), seeds, expected, broken)?;
+    push_counts(&mut out, outcomes, seeds, expected, broken)?;
     Ok(out)
 }
 
@@ -207,16 +207,17 @@ fn push_ending(out: &mut String, broken: bool, words: Option<&str>) -> Result<()
 #[tactic(auto, unfolding(crate::specs::Reports::counts, crate::specs::Reports::totals, crate::specs::Reports::expecting, crate::specs::Reports::breaking))]
 fn push_counts(
     out: &mut String,
-    outcomes: usize,
+    outcomes: &[Outcome],
     seeds: u32,
     expected: usize,
     broken: usize,
 ) -> Result<(), AllocError>
-    ensures { OnOk result (string_bytes out.new ≡ string_bytes out.old ++ counts outcomes seeds expected broken) }
+    ensures { OnOk result (string_bytes out.new ≡ string_bytes out.old ++ counts (length outcomes.now) seeds expected broken) }
 {
+    let count = outcomes.len();
     writeln!(
         out,
-        "outcomes {outcomes}, seeds {seeds}, expected {expected}, breaking {broken}"
+        "outcomes {count}, seeds {seeds}, expected {expected}, breaking {broken}"
     )
 }
 
