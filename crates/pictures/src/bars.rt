@@ -1,11 +1,12 @@
 //! The calls that are drawn.
-ghost use Rattle.std.specs.Prelude.{◌≡◌, ◌<◌, ◌^◌, ◌++◌, flat_map, option_map, string_bytes, IfOk, OnOk};
+ghost use Rattle.std.specs.Prelude.{◌≡◌, ◌<◌, ◌^◌, ◌++◌, flat_map, option_map, string_bytes, IfOk, List, OnOk};
+ghost use Rattle.messages.specs.Entries.{EntryFields};
 ghost use Rattle.pictures.specs.Bars.{bars, op_word};
-ghost use Rattle.pictures.specs.Indexes.{bar_with};
+ghost use Rattle.pictures.specs.Indexes.{KnowsAnswers, bar_with};
 ghost use Rattle.pictures.specs.Pictures.{bar_text, bar_title, boxed, op_name, outcome_text, width_of};
 
 use crate::answer::answer_class;
-use crate::answers::Answers;
+use crate::answers::{Answers, answers_of};
 use crate::bar::Bar;
 use crate::elements::{push_box, push_label};
 use crate::row::Row;
@@ -32,7 +33,7 @@ use texts::text::Text;
 pub fn bars(alloc: Global, window: &Window, entries: &[Entry]) -> Result<Vec<Bar>, AllocError>
     ensures { IfOk result (λ made. made.items ≡ bars window.now entries.now) }
 {
-    let answers = Answers::of(alloc, entries)?;
+    let answers = answers_of(alloc, entries)?;
     let mut bars = Vec::new(alloc);
     let mut ends = HashMap::new(alloc);
     for index in (0..entries.len()).rev() {
@@ -51,14 +52,14 @@ pub fn bars(alloc: Global, window: &Window, entries: &[Entry]) -> Result<Vec<Bar
 // The call that an entry makes, where it is drawn, with the first entry of the index that ends it.
 fn bar_with(
     window: &Window,
-    answers: &Answers<'_>,
+    answers: &Answers,
     ends: &Ends<'_>,
     made: Option<MadeCall>,
 ) -> Option<Bar>
-    ensures { result ≡ bar_with window.now answers.now ends.now made }
+    ensures { (entries : List EntryFields) → KnowsAnswers answers.now entries → result ≡ bar_with window.now entries ends.now made }
 {
     let made = made?;
-    let answer = answers.to_call(&made.call);
+    let answer = answers.get(&made.call).copied();
     let end = position_of(&first_end(ends, &made));
     Bar::of(window, made, answer, end)
 }

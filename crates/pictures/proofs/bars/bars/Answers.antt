@@ -39,7 +39,7 @@ loop-index-preserved c =
       | in_default w ↦ ap (λ (v : Vec Bar). v.items) w.bars-is ∙ sym (append-nil bars) ∙ ap (λ (b : Option Bar). bars ++ option_to_list b) (sym w.in_default.is)
     ] in
     let indexed : c.match-bar_with.bars.items ≡ bars ++ option_to_list (bar_with w es ends o) =
-    added ∙ ap (λ (b : Option Bar). bars ++ option_to_list b) (c.bar_with.ensures ∙ ap (λ (xs : List EntryFields). bar_with w xs ends o) c.in_ok-answers.ensures) in
+    added ∙ ap (λ (b : Option Bar). bars ++ option_to_list b) (c.bar_with.ensures es c.in_ok-answers.ensures) in
     record {
       found =
           bars_next w es ends o n rest bars c.match-bar_with.bars.items (subst (λ (m : ℕ). IfSome o (λ made. made.position ≡ m)) (sym last) c.of-made.ensures.place) c.loop-index.invariant.known indexed c.loop-index.invariant.found

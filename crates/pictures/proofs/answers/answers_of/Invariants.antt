@@ -1,6 +1,6 @@
 use Rattle.std.proofs.Common.{◌≡◌, take}
 use Rattle.pictures.specs.Indexes.{KnowsAnswers}
-use Rattle.pictures.proofs.answers.Answers.of.Given as goal
+use Rattle.pictures.proofs.answers.answers_of.Given as goal
 
 abbrev pub invariant-loop-entry : goal.invariant-loop-entry
 invariant-loop-entry l = record {
