@@ -17,7 +17,7 @@ use Rattle.replay.specs.declared.fault.Fault.TheVariants.{BadLine, CannotRead, C
 use Rattle.cluster_core.specs.Runs.{IsRun}
 use Rattle.replay.specs.Audits.{HasNewJournal}
 use Rattle.replay.specs.Commands.{IsGoingFault}
-use Rattle.replay.specs.Faults.{IsBehindFault, IsOldFault, IsOldTextFault, IsTextFault, fault_of_parse, fault_of_play}
+use Rattle.replay.specs.Faults.{IsBehindFault, IsOldFault, IsTextFault, fault_of_parse, fault_of_play}
 use Rattle.player.specs.Played.{FillsBehind, PlayedState}
 use Rattle.replay.specs.Scripts.{HasRunBehind, HasScriptFor}
 use Rattle.replay.specs.Stores.{Files, SameFiles}
@@ -36,27 +36,16 @@ new-version Second not_old = refl
 pub is_new : (text : List ℕ) (j : JournalFields) → (IsOld text → ⊥) → WritesJournal text j.shape j.entries → j.shape.version ≡ Second
 is_new text j not_old writes = new-version j.shape.version (λ is. not_old (old-journal text j writes is))
 
--- a fault of a text that is not old
-pub new-fault : (text : List ℕ) (fault : Fault) → (IsOld text → ⊥) → IsTextFault text fault → IsOldTextFault text fault
-new-fault text (BadLine line) not_old is = (is, not_old)
-new-fault text (CannotRead named) not_old is = absurd is
-new-fault text (CannotWrite named) not_old is = absurd is
-new-fault text CannotWriteOutput not_old is = absurd is
-new-fault text NoMemory not_old is = (is.0, is.1, is_new text is.0 not_old is.1.0)
-new-fault text JournalFull not_old is = (is.0, is.1, is_new text is.0 not_old is.1, is.2)
-new-fault text OldJournal not_old is = absurd is
-new-fault text (Faulty report) not_old is = absurd is
-
--- a fault of the text is one of the file
-pub old-text-fault : (Holds : Option (List ℕ) → Type 0) (RanShort : Type 0) (path bytes : List ℕ) (f : Fault) → Holds (Some bytes) → IsUtf8 bytes → IsOldTextFault bytes f → IsOldFault Holds RanShort path f
-old-text-fault Holds RanShort path bytes (BadLine line) holds text is = (bytes, holds, text, is)
-old-text-fault Holds RanShort path bytes (CannotRead named) holds text is = absurd is
-old-text-fault Holds RanShort path bytes (CannotWrite named) holds text is = absurd is
-old-text-fault Holds RanShort path bytes CannotWriteOutput holds text is = absurd is
-old-text-fault Holds RanShort path bytes NoMemory holds text is = inr (is.0, (has-journal Holds bytes is.0 holds text is.1, is.2))
-old-text-fault Holds RanShort path bytes JournalFull holds text is = (is.0, (bytes, holds, text, is.1), is.2, is.3)
-old-text-fault Holds RanShort path bytes OldJournal holds text is = (bytes, holds, text, is)
-old-text-fault Holds RanShort path bytes (Faulty report) holds text is = absurd is
+-- a fault of a text that is not old is one of the file, behind whose journal a run goes on
+pub old-fault : (Holds : Option (List ℕ) → Type 0) (RanShort : Type 0) (path bytes : List ℕ) (fault : Fault) → Holds (Some bytes) → IsUtf8 bytes → (IsOld bytes → ⊥) → IsTextFault bytes fault → IsOldFault Holds RanShort path fault
+old-fault Holds RanShort path bytes (BadLine line) holds text not_old is = (bytes, holds, text, (is, not_old))
+old-fault Holds RanShort path bytes (CannotRead named) holds text not_old is = absurd is
+old-fault Holds RanShort path bytes (CannotWrite named) holds text not_old is = absurd is
+old-fault Holds RanShort path bytes CannotWriteOutput holds text not_old is = absurd is
+old-fault Holds RanShort path bytes NoMemory holds text not_old is = inr (is.0, (has-journal Holds bytes is.0 holds text is.1, is_new bytes is.0 not_old is.1.0))
+old-fault Holds RanShort path bytes JournalFull holds text not_old is = (is.0, (bytes, holds, text, is.1), is_new bytes is.0 not_old is.1, is.2)
+old-fault Holds RanShort path bytes OldJournal holds text not_old is = absurd is
+old-fault Holds RanShort path bytes (Faulty report) holds text not_old is = absurd is
 
 -- why the text of the file is no script of the journal's cluster
 pub parse-fault : (j : JournalFields) (Holds : Option (List ℕ) → Type 0) (RanShort : Type 0) (path bytes : List ℕ) (error : ParseError) → Holds (Some bytes) → IsUtf8 bytes → IsRefusedForShape j.shape bytes error

@@ -110,14 +110,6 @@ JournalFault Holds fault = ⊥
 abbrev pub IsJournalFault : (Option (List ℕ) → Type 0) → Type 0 → List ℕ → Fault → Type 0
 IsJournalFault Holds RanShort path = IsFileFault Holds RanShort path (JournalFault Holds)
 
--- why the journal that the text writes is none behind which a run goes on: version 1, a bad line, too many entries; memory is short for the audit of one that has not too many
-abbrev pub IsOldTextFault : List ℕ → Fault → Type 0
-IsOldTextFault text OldJournal = readings.IsOld text
-IsOldTextFault text (BadLine line) = readings.IsFirstBad text line × ¬ (readings.IsOld text)
-IsOldTextFault text NoMemory = (j : JournalFields) × WritesFew text j × (j.shape.version ≡ Second)
-IsOldTextFault text JournalFull = (j : JournalFields) × readings.WritesJournal text j.shape j.entries × (j.shape.version ≡ Second) × (journal_limit < length j.entries)
-IsOldTextFault text fault = ⊥
-
 -- why the journal of the file is none behind which a run goes on: version 1, a bad line, too many entries, or short memory for the audit of a journal that has not too many
 abbrev pub OldFault : (Option (List ℕ) → Type 0) → Fault → Type 0
 OldFault Holds OldJournal = HasText Holds readings.IsOld

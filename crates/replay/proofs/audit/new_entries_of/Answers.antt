@@ -5,7 +5,7 @@ use Rattle.std.proofs.lemmas.Str.{IsUtf8-string_bytes}
 use Rattle.journal_text.specs.Readings.{IsOld}
 use Rattle.replay.specs.Audits.{HasNewJournal, WritesFew}
 use Rattle.replay.specs.Faults.{IsOldFault, IsTextFault}
-use Rattle.replay.proofs.LaterRuns.{is_new, new-fault, old-text-fault}
+use Rattle.replay.proofs.LaterRuns.{is_new, old-fault}
 use Rattle.replay.proofs.Journals.{has-journal}
 use Rattle.replay.proofs.audit.new_entries_of.Goals as goal
 
@@ -28,4 +28,4 @@ returns-clause-fault g c =
     let utf8 = subst IsUtf8 (sym c.as_str-text.ensures.value) (IsUtf8-string_bytes c.in_ok-text.text) in
     let not_old : IsOld text → ⊥ = λ old. false≢true (sym c.if-is_old.false ∙ c.is_old.ensures.1 old) in
     IfErr-weaker c.entries_in.result (IsTextFault text) (IsOldFault Holds RanShort c.args.path.now)
-    (λ fault is. old-text-fault Holds RanShort c.args.path.now text fault held utf8 (new-fault text fault not_old is)) c.entries_in.ensures.fault
+    (λ fault is. old-fault Holds RanShort c.args.path.now text fault held utf8 not_old is) c.entries_in.ensures.fault
