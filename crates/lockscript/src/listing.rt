@@ -148,7 +148,11 @@ pub fn push_history(out: &mut String, history: &[Item]) -> Result<(), AllocError
     Ok(())
 }
 
-fn push_item(out: &mut String, item: &Item) -> Result<(), AllocError>
+/// Writes the line of an item of a history.
+///
+/// # Errors
+/// `AllocError` where a request for memory was refused.
+pub fn push_item(out: &mut String, item: &Item) -> Result<(), AllocError>
     ensures { OnOk result (string_bytes out.new ≡ string_bytes out.old ++ history_line item.now) }
 {
     match item {

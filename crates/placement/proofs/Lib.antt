@@ -5,3 +5,4 @@ pub mod Placing
 pub mod Placements
 pub mod Replays
 pub mod Waits
+pub mod Rests

@@ -116,11 +116,14 @@ pub record Placing (all past : List Entry) (calls : Calls) (conflicts : Conflict
   pub located : Locates conflicts past
   pub placed : standing all slots ≡ slots_of past
 
-length-placing : (all past : List Entry) (calls : Calls) (conflicts : Conflicts) (slots : List Slot) → Placing all past calls conflicts slots → length slots ≡ length past
-length-placing all past calls conflicts slots p =
+pub length-placed : (all past : List Entry) (slots : List Slot) → standing all slots ≡ slots_of past → length slots ≡ length past
+length-placed all past slots placed =
     let whole = length-slots_from [] [] past in
-    let long : length slots ≡ length (slots_of past) = sym (length-standing all slots) ∙ ap length p.placed in
+    let long : length slots ≡ length (slots_of past) = sym (length-standing all slots) ∙ ap length placed in
     long ∙ omega arith
+
+length-placing : (all past : List Entry) (calls : Calls) (conflicts : Conflicts) (slots : List Slot) → Placing all past calls conflicts slots → length slots ≡ length past
+length-placing all past calls conflicts slots p = length-placed all past slots p.placed
 
 pub placing_empty : (all : List Entry) (calls : Calls) (conflicts : Conflicts) (slots : List Slot) → calls.entries ≡ [] → conflicts.entries ≡ [] → slots ≡ [] → Placing all [] calls conflicts slots
 placing_empty all calls conflicts slots none untold empty = record { indexed = indexes_start all calls none; located = located_none conflicts untold; placed = ap (standing all) empty }

@@ -5,5 +5,7 @@ mod answers;
 pub mod history;
 pub mod legal;
 pub mod placed;
+pub mod placed_entries;
+pub mod placed_run;
 mod revoke_id;
 mod slot;

@@ -1,5 +1,5 @@
 //! The history of a run.
-ghost use Rattle.std.specs.Prelude.{◌≡◌, ◌≤◌, ◌<◌, ⊤, List, ◌++◌, ◌∷◌, [], length, slice_get, Some, IfOk, OnOk, MatchOption};
+ghost use Rattle.std.specs.Prelude.{ℕ, ◌≡◌, ◌≤◌, ◌<◌, ⊤, List, ◌++◌, ◌∷◌, [], length, slice_get, Some, IfOk, OnOk, MatchOption};
 ghost use Rattle.model.specs.declared.call.CallId.{CallId};
 ghost use Rattle.model.specs.declared.reply.Reply.{Reply};
 ghost use Rattle.messages.specs.declared.entry.Entry.{Entry};
@@ -9,6 +9,7 @@ ghost use Rattle.cluster_core.specs.Histories.{HasHistory, EachAtItsPlace};
 ghost use Rattle.cluster_core.specs.Placement.{find_call, item_of, slots_after, slots_of, items_in, history_of};
 ghost use Rattle.placement.specs.Indexes.{Indexes, Locates, Notes, AreBefore, slot_of};
 ghost use Rattle.placement.specs.Standing.{stands, standing};
+ghost use Rattle.placement.specs.Rests.{IsAhead, AreAhead};
 
 use crate::history::History;
 use crate::revoke_id::RevokeId;
@@ -59,9 +60,10 @@ fn items_of(alloc: Global, entries: &[Entry]) -> Result<Vec<Item>, AllocError>
 }
 
 // The slots of the history, one for each entry, in one pass over them.
-fn slots_of(alloc: Global, entries: &[Entry]) -> Result<Vec<Slot>, AllocError>
+pub(crate) fn slots_of(alloc: Global, entries: &[Entry]) -> Result<Vec<Slot>, AllocError>
     requires { length entries.now ≤ journal_limit }
-    ensures { IfOk result (λ slots. standing entries.now slots.items ≡ slots_of entries.now) }
+    ensures placed { IfOk result (λ slots. standing entries.now slots.items ≡ slots_of entries.now) }
+    ensures ahead { IfOk result (λ slots. AreAhead 0 slots.items) }
 {
     let mut calls = HashMap::new(alloc);
     let mut conflicts = HashMap::new(alloc);
@@ -141,7 +143,8 @@ fn answer(
 ) -> Result<(), AllocError>
     requires room { length slots.now.items < journal_limit }
     requires before { AreBefore conflicts.now (length slots.now.items) }
-    ensures { OnOk result ((all es : List Entry) → slice_get all (length slots.old.items) ≡ Some entry.now → length es ≡ length slots.old.items → Indexes all calls.now (es ++ entry.now ∷ []) → Locates conflicts.now es → standing all slots.new.items ≡ slots_after es (standing all slots.old.items) entry.now entry.now.reply) }
+    ensures ahead { OnOk result (AreAhead 0 slots.old.items → AreAhead 0 slots.new.items) }
+    ensures standing { OnOk result ((all es : List Entry) → slice_get all (length slots.old.items) ≡ Some entry.now → length es ≡ length slots.old.items → Indexes all calls.now (es ++ entry.now ∷ []) → Locates conflicts.now es → standing all slots.new.items ≡ slots_after es (standing all slots.old.items) entry.now entry.now.reply) }
 {
     let own = slots.len();
     let Some(answered) = entry.reply() else {
@@ -187,7 +190,8 @@ fn slot_of(conflicts: &Conflicts, own: usize, event: &Event) -> Option<usize>
 
 // The slot at that position of a call of the index, which the entry with the index `reply` answers.
 fn slot_at(calls: &Calls, position: u32, id: CallId, reply: u32) -> Slot
-    ensures { (all es : List Entry) → Indexes all calls.now es → (e : Entry) (r : CallId × Reply) → slice_get all reply ≡ Some e → e.reply ≡ Some r → r.0 ≡ id → stands all result ≡ item_of position r.0 r.1 (find_call es r.0) }
+    ensures ahead { (k : ℕ) → k ≤ reply → IsAhead k result }
+    ensures stands { (all es : List Entry) → Indexes all calls.now es → (e : Entry) (r : CallId × Reply) → slice_get all reply ≡ Some e → e.reply ≡ Some r → r.0 ≡ id → stands all result ≡ item_of position r.0 r.1 (find_call es r.0) }
 {
     match calls.get(&id) {
         Some(call) => Slot::Answered {

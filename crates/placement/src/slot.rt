@@ -49,7 +49,7 @@ impl Slot {
 }
 
 // The failure of a node that the entry at that position declares.
-fn gone_at(position: u32, entry: &Entry) -> Option<Item>
+pub(crate) fn gone_at(position: u32, entry: &Entry) -> Option<Item>
     ensures { result ≡ gone_at position entry.now.incarnation entry.now.event }
 {
     let Event::Declare { node } = entry.event() else {
@@ -63,7 +63,7 @@ fn gone_at(position: u32, entry: &Entry) -> Option<Item>
 }
 
 // The process that makes a call at the entry, and what it asks for.
-fn made_by(entry: &Entry) -> Option<(u16, Op)>
+pub(crate) fn made_by(entry: &Entry) -> Option<(u16, Op)>
     ensures { result ≡ called_by entry.now.event None }
 {
     let Event::Call { pid, op, .. } = entry.event() else {
@@ -73,7 +73,7 @@ fn made_by(entry: &Entry) -> Option<(u16, Op)>
 }
 
 // The item at that position of the call that the entry answers, by a process that asks for this.
-fn answered_at(position: u32, made: (u16, Op), entry: &Entry) -> Option<Item>
+pub(crate) fn answered_at(position: u32, made: (u16, Op), entry: &Entry) -> Option<Item>
     ensures { result ≡ answered_so position (Some made) entry.now.reply }
 {
     let (id, reply) = entry.reply()?;

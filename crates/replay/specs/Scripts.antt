@@ -7,7 +7,7 @@ use Rattle.cluster_core.specs.Histories.{HasHistory, EachAtItsPlace}
 use Rattle.cluster_core.specs.Listings.{IsTokenListing, IsLockListing}
 use Rattle.cluster_core.specs.Journals.{JournalFields}
 use Rattle.cluster_core.specs.Safe.{IsSafe}
-use Rattle.lockscript.specs.Listing.{listing_text}
+use Rattle.lockscript.specs.Listing.{listing_start, listing_text}
 use Rattle.lockscript.specs.Scripts.{ScriptFields, IsScript}
 use Rattle.lockscript.specs.ShapedScripts.{IsForShape}
 use Rattle.messages.specs.Shapes.{ShapeFields}
@@ -45,3 +45,12 @@ pub record IsListing (played : PlayedState) (text : List ℕ) : Type 0 where
   pub history : List Item
   pub lists : Lists played tokens locks history
   pub sections : text ≡ listing_text played.refused played.journal.entries tokens locks history
+
+-- the listing of a run up to its history
+pub record IsListingBegun (played : PlayedState) (text : List ℕ) : Type 0 where
+  pub tokens : List TokenRun
+  pub locks : List HeldLock
+  pub tokens_at_end : IsTokenListing played.world tokens
+  pub locks_at_end : IsLockListing played.world locks
+  pub safe_at_end : IsSafe played.world
+  pub start : text ≡ listing_start played.refused played.journal.entries tokens locks

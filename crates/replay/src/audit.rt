@@ -13,16 +13,16 @@ ghost use Rattle.replay.specs.Stores.{SameFiles};
 use crate::auditor::Auditor;
 use crate::fault::Fault;
 use crate::input::text_of;
+use crate::listing::push_history_of;
 use crate::shown::Shown;
 use crate::store::Store;
 use cluster_core::check_error::CheckError;
 use cluster_core::journal::Journal;
 use cluster_core::world::JOURNAL_LIMIT;
 use journal_text::parse::{is_old, measure, read_each, shape_of};
-use lockscript::listing::push_history;
 use messages::entry::Entry;
 use messages::shape::Shape;
-use placement::placed::placed;
+use placement::placed_run::PlacedRun;
 use player::watcher::Watcher;
 use std::alloc::{AllocError, Global};
 
@@ -247,9 +247,8 @@ fn entries_read<'a>(alloc: Global, text: &str) -> Result<(Shape, Vec<Entry>), Fa
 fn history_of(alloc: Global, journal: Journal) -> Result<String, AllocError>
     ensures { IfOk result (λ text. IsHistoryText journal (string_bytes text)) }
 {
-    let history = placed(alloc, &journal)?;
-    drop(journal);
+    let run = PlacedRun::new(alloc, journal)?;
     let mut text = String::new(alloc);
-    push_history(&mut text, history.items())?;
+    push_history_of(&mut text, alloc, run)?;
     Ok(text)
 }

@@ -1,28 +1,35 @@
 //! Listings of runs.
-ghost use Rattle.std.specs.Prelude.{◌≡◌, List, string_bytes, IfOk};
-ghost use Rattle.cluster_core.specs.declared.held_lock.HeldLock.{HeldLock};
-ghost use Rattle.cluster_core.specs.declared.token_run.TokenRun.{TokenRun};
+ghost use Rattle.std.specs.Prelude.{◌≡◌, ◌++◌, [], ℕ, List, flat_map, string_bytes, IfOk, OnOk};
+ghost use Rattle.std.specs.List.{cons_option};
+ghost use Rattle.cluster_core.specs.Listings.{IsTokenListing, IsLockListing};
 ghost use Rattle.cluster_core.specs.Parts.{world_state};
-ghost use Rattle.cluster_core.specs.Runs.{Leads};
-ghost use Rattle.cluster_core.specs.World.{WorldState, first_world};
-ghost use Rattle.lockscript.specs.Listing.{listing_start};
+ghost use Rattle.cluster_core.specs.Placement.{items_in};
+ghost use Rattle.journal_text.specs.Journals.{entries_text, journal_text};
+ghost use Rattle.lockscript.specs.Listing.{history_line};
 ghost use Rattle.player.specs.Parts.{state_of};
 ghost use Rattle.player.specs.Played.{EndsIn};
-ghost use Rattle.replay.specs.Scripts.{IsListing, Lists};
+ghost use Rattle.replay.specs.Audits.{IsHistoryText};
+ghost use Rattle.replay.specs.Scripts.{IsListing, IsListingBegun};
 
+use cluster_core::held_lock::HeldLock;
+use cluster_core::item::Item;
 use cluster_core::journal::Journal;
+use cluster_core::token_run::TokenRun;
 use cluster_core::world::World;
-use lockscript::listing::{listing_start, push_history};
+use journal_text::journal::{push_entry, push_head};
+use lockscript::listing::{listing, listing_start, push_item};
 use lockscript::refused_line::RefusedLine;
-use placement::history::History;
+use messages::version::Version;
 use placement::placed::placed;
+use placement::placed_entries::PlacedEntries;
+use placement::placed_run::PlacedRun;
 use std::alloc::{AllocError, Global};
+use std::fmt::Write;
 
 /// The listing of the run of a journal that ends in this world, in which these lines were refused.
 ///
 /// # Errors
 /// `AllocError` where a request for memory was refused.
-#[tactic(auto, using(crate::proofs::Sections::whole_listing))]
 pub(crate) fn listing_of_journal(
     alloc: Global,
     journal: &Journal,
@@ -32,37 +39,127 @@ pub(crate) fn listing_of_journal(
     requires { EndsIn journal.now (world_state world) }
     ensures { IfOk result (λ text. IsListing (state_of (record { journal = journal.now; world = world; refused = refused.now })) (string_bytes text)) }
 {
-    let (mut text, history) = listing_begun(alloc, journal, world, refused)?;
-    push_history(&mut text, history.items())?;
-    Ok(text)
-}
-
-/// The listing of a run up to its history, and the history. The world at its end goes once its tokens
-/// and locks are listed.
-///
-/// # Errors
-/// `AllocError` where a request for memory was refused.
-pub(crate) fn listing_begun(
-    alloc: Global,
-    journal: &Journal,
-    world: World,
-    refused: &[RefusedLine],
-) -> Result<(String, History), AllocError>
-    requires { EndsIn journal.now (world_state world) }
-    ensures { IfOk result (λ begun. (tokens : List TokenRun) × (locks : List HeldLock)
-        × Lists (state_of (record { journal = journal.now; world = world; refused = refused.now })) tokens locks begun.1.items
-        × (string_bytes begun.0 ≡ listing_start refused.now journal.now.entries tokens locks)) }
-{
-    let tokens = world.tokens(alloc)?;
-    let locks = world.locks(alloc)?;
-    drop(world);
+    let (tokens, locks) = ends_of(alloc, world)?;
     let history = placed(alloc, journal)?;
-    let text = listing_start(
+    listing(
         alloc,
         refused,
         journal.entries(),
         tokens.as_slice(),
         locks.as_slice(),
+        history.items(),
+    )
+}
+
+/// The listing of a run up to its history, and the run, whose calls have their places. The world at its end
+/// goes before.
+///
+/// # Errors
+/// `AllocError` where a request for memory was refused.
+pub(crate) fn listing_begun(
+    alloc: Global,
+    journal: Journal,
+    world: World,
+    refused: &[RefusedLine],
+) -> Result<(String, PlacedRun), AllocError>
+    requires { EndsIn journal (world_state world) }
+    ensures run { IfOk result (λ begun. begun.1 ≡ journal) }
+    ensures text { IfOk result (λ begun. IsListingBegun (state_of (record { journal = journal; world = world; refused = refused.now })) (string_bytes begun.0)) }
+{
+    let (tokens, locks) = ends_of(alloc, world)?;
+    let run = PlacedRun::new(alloc, journal)?;
+    let text = listing_start(
+        alloc,
+        refused,
+        run.journal().entries(),
+        tokens.as_slice(),
+        locks.as_slice(),
     )?;
-    Ok((text, history))
+    Ok((text, run))
+}
+
+// The tokens and the locks of a world, which goes.
+fn ends_of(alloc: Global, world: World) -> Result<(Vec<TokenRun>, Vec<HeldLock>), AllocError>
+    ensures tokens { IfOk result (λ ends. IsTokenListing (world_state world) ends.0.items) }
+    ensures locks { IfOk result (λ ends. IsLockListing (world_state world) ends.1.items) }
+{
+    Ok((world.tokens(alloc)?, world.locks(alloc)?))
+}
+
+/// Writes the history of a run, with its heading. Each entry of the run goes once what stands there is written.
+///
+/// # Errors
+/// `AllocError` where a request for memory was refused.
+pub(crate) fn push_history_of(
+    out: &mut String,
+    alloc: Global,
+    run: PlacedRun,
+) -> Result<(), AllocError>
+    ensures { OnOk result ((told : List ℕ) × IsHistoryText run told × (string_bytes out.new ≡ string_bytes out.old ++ told)) }
+{
+    out.push_str("history\n")?;
+    push_items(out, run.into_entries(alloc))
+}
+
+// Writes the lines of what stands at these entries.
+fn push_items(out: &mut String, entries: PlacedEntries) -> Result<(), AllocError>
+    ensures { OnOk result (string_bytes out.new ≡ string_bytes out.old ++ flat_map history_line (items_in entries.standing)) }
+{
+    let mut entries = entries;
+    while let Some((_, item)) = entries.next()? {
+        push_standing(out, &item)?;
+    }
+    Ok(())
+}
+
+/// The same, with the journal of the run as text.
+///
+/// # Errors
+/// `AllocError` where a request for memory was refused.
+pub(crate) fn push_history_and_journal(
+    out: &mut String,
+    alloc: Global,
+    run: PlacedRun,
+) -> Result<String, AllocError>
+    ensures history { OnOk result ((told : List ℕ) × IsHistoryText run told × (string_bytes out.new ≡ string_bytes out.old ++ told)) }
+    ensures journal { IfOk result (λ text. string_bytes text ≡ journal_text run.shape run.entries) }
+{
+    let shape = run.journal().shape();
+    let count = run.journal().entries().len();
+    let mut journal = String::new(alloc);
+    push_head(&mut journal, &shape)?;
+    out.push_str("history\n")?;
+    push_items_and_entries(out, &mut journal, shape.version(), run.into_entries(alloc))?;
+    writeln!(journal, "end {count}")?;
+    Ok(journal)
+}
+
+// Writes the lines of what stands at these entries, and those of the entries, the first of which has position 1.
+fn push_items_and_entries(
+    out: &mut String,
+    journal: &mut String,
+    version: Version,
+    entries: PlacedEntries,
+) -> Result<(), AllocError>
+    ensures items { OnOk result (string_bytes out.new ≡ string_bytes out.old ++ flat_map history_line (items_in entries.standing)) }
+    ensures entries { OnOk result (string_bytes journal.new ≡ string_bytes journal.old ++ entries_text version 1 entries.entries) }
+{
+    let mut entries = entries;
+    let mut position = 0u64;
+    while let Some((entry, item)) = entries.next()? {
+        position += 1;
+        push_entry(journal, version, position, &entry)?;
+        push_standing(out, &item)?;
+    }
+    Ok(())
+}
+
+// Writes the line of what stands at an entry, if anything does.
+fn push_standing(out: &mut String, item: &Option<Item>) -> Result<(), AllocError>
+    ensures { OnOk result (string_bytes out.new ≡ string_bytes out.old ++ flat_map history_line (cons_option item.now [])) }
+{
+    match item {
+        Some(item) => push_item(out, item),
+        None => Ok(()),
+    }
 }

@@ -1,32 +1,28 @@
 //! Running the script of a file.
 ghost use Rattle.std.specs.Prelude.{◌≡◌, ◌≢◌, List, None, Some, true, false, string_bytes, IfErr, IfOk};
-ghost use Rattle.cluster_core.specs.declared.held_lock.HeldLock.{HeldLock};
-ghost use Rattle.cluster_core.specs.declared.token_run.TokenRun.{TokenRun};
 ghost use Rattle.command_line.specs.Tasks.{run};
 ghost use Rattle.journal_text.specs.Journals.{journal_text};
 ghost use Rattle.journal_text.specs.Readings.{WritesJournal};
-ghost use Rattle.lockscript.specs.Listing.{listing_start};
 ghost use Rattle.replay.specs.declared.fault.Fault.TheVariants.{CannotWriteOutput};
 ghost use Rattle.replay.specs.declared.shown.Shown.TheVariants.{Text};
 ghost use Rattle.replay.specs.Commands.{Does, IsFault, IsRunText};
 ghost use Rattle.replay.specs.Faults.{IsScriptFault};
 ghost use Rattle.player.specs.Parts.{state_of};
-ghost use Rattle.replay.specs.Scripts.{HasRun, HasScript, IsListing, Lists};
+ghost use Rattle.replay.specs.Scripts.{HasRun, HasScript, IsListing, IsListingBegun};
 ghost use Rattle.replay.specs.Stores.{SameFiles};
 ghost use Rattle.replay.specs.Tellings.{open_section};
 
 use crate::explain::open_in;
 use crate::fault::Fault;
 use crate::input::text_of;
-use crate::listing::listing_begun;
+use crate::listing::{listing_begun, push_history_and_journal, push_history_of};
 use crate::store::Store;
 use crate::wanted::Wanted;
 use cluster_core::journal::Journal;
 use journal_text::journal::into_text;
 use journal_text::laws::each_journal_is_read;
-use lockscript::listing::push_history;
 use lockscript::script::Script;
-use placement::history::History;
+use placement::placed_run::PlacedRun;
 use player::play::play;
 use player::played::Played;
 use player::watcher::Watcher;
@@ -123,14 +119,13 @@ pub(crate) fn text_and_journal(
 }
 
 // The listing of a run, with the calls without a reply behind it, if that is asked for. What is no longer needed
-// goes as soon as it can: the journal before the history is written.
+// goes as soon as it can: each entry once what stands there is written.
 fn listing_of(alloc: Global, played: Played, with_open: bool) -> Result<String, AllocError>
     ensures { IfOk result (λ text. IsRunText (state_of played) with_open false (string_bytes text)) }
 {
-    let (mut text, journal, history) = listing_of_played(alloc, played)?;
-    let open = open_section(alloc, &journal, with_open)?;
-    drop(journal);
-    push_history(&mut text, history.items())?;
+    let (mut text, run) = listing_of_played(alloc, played)?;
+    let open = open_section(alloc, run.journal(), with_open)?;
+    push_history_of(&mut text, alloc, run)?;
     text.push_str(&open)?;
     Ok(text)
 }
@@ -145,11 +140,10 @@ fn listing_and_journal(
     ensures journal { IfOk result (λ texts. string_bytes texts.1 ≡ journal_text played.journal.shape played.journal.entries) }
     ensures read { IfOk result (λ texts. WritesJournal (journal_text played.journal.shape played.journal.entries) played.journal.shape played.journal.entries) }
 {
-    let (mut text, journal, history) = listing_of_played(alloc, played)?;
-    let open = open_section(alloc, &journal, with_open)?;
-    each_journal_is_read(&journal);
-    let printed = into_text(alloc, journal)?;
-    push_history(&mut text, history.items())?;
+    let (mut text, run) = listing_of_played(alloc, played)?;
+    let open = open_section(alloc, run.journal(), with_open)?;
+    each_journal_is_read(run.journal());
+    let printed = push_history_and_journal(&mut text, alloc, run)?;
     text.push_str(&open)?;
     Ok((text, printed))
 }
@@ -199,16 +193,11 @@ fn open_section(alloc: Global, journal: &Journal, with_open: bool) -> Result<Str
     Ok(text)
 }
 
-// The listing of a run up to its history, its journal, and the history.
-fn listing_of_played(
-    alloc: Global,
-    played: Played,
-) -> Result<(String, Journal, History), AllocError>
-    ensures journal { IfOk result (λ begun. begun.1 ≡ played.journal) }
-    ensures listing { IfOk result (λ begun. (tokens : List TokenRun) × (locks : List HeldLock) × Lists (state_of played) tokens locks begun.2.items
-        × (string_bytes begun.0 ≡ listing_start played.refused played.journal.entries tokens locks)) }
+// The listing of a run up to its history, and the run, whose calls have their places.
+fn listing_of_played(alloc: Global, played: Played) -> Result<(String, PlacedRun), AllocError>
+    ensures run { IfOk result (λ begun. begun.1 ≡ played.journal) }
+    ensures text { IfOk result (λ begun. IsListingBegun (state_of played) (string_bytes begun.0)) }
 {
     let (journal, world, refused) = played.into_parts();
-    let (text, history) = listing_begun(alloc, &journal, world, refused.as_slice())?;
-    Ok((text, journal, history))
+    listing_begun(alloc, journal, world, refused.as_slice())
 }

@@ -1,0 +1,132 @@
+//! Entries of a run, each with what stands there in its history.
+ghost use Rattle.std.specs.Prelude.{◌≡◌, ◌<◌, ◌≤◌, ◌-◌, reverse as reversed, length, slice_get, option_copied, IfOk, OnErr};
+ghost use Rattle.placement.specs.Standing.{made_by, standing};
+ghost use Rattle.placement.specs.Rests.{Takes, IsAhead, AreAhead, called_at, stands_from};
+
+use crate::slot::{Slot, answered_at, gone_at, made_by};
+use cluster_core::item::Item;
+use messages::entry::Entry;
+use model::op::Op;
+use std::alloc::{AllocError, Global};
+use std::marker::Model;
+
+// After so many entries the memory of those that went is given back.
+const ENTRIES_AT_ONCE: usize = 16_384;
+
+/// The entries of a run from one on, each with the item that stands there in the history, if one does. What was
+/// taken out takes less memory: of an entry only what it calls is kept, in 40 bytes.
+#[derive(Drop)]
+pub struct PlacedEntries {
+    // What the entries that are gone call, the first of them first.
+    made: Vec<Option<(u16, Op)>>,
+    // Those that are left, and their slots, the last of them first.
+    entries: Vec<Entry>,
+    slots: Vec<Slot>,
+}
+
+impl Model for PlacedEntries {
+    ghost use Rattle.std.specs.Prelude.{◌≡◌, length, map, reverse};
+    ghost use Rattle.placement.specs.Rests.{RestFields, AreAhead, stands_from};
+
+    ghost Value = { RestFields };
+
+    ghost view = { λ p. record { entries = reverse p.entries.items; standing = map (stands_from p.made.items (reverse p.entries.items)) (reverse p.slots.items) } };
+
+    ghost invariant = { λ p. AreAhead (length p.made.items) (reverse p.slots.items) × (length p.slots.items ≡ length p.entries.items) };
+}
+
+impl PlacedEntries {
+    // All entries of a run, with its slots.
+    pub(crate) fn new(alloc: Global, entries: Vec<Entry>, slots: Vec<Slot>) -> PlacedEntries
+        requires ahead { AreAhead 0 slots.items }
+        requires each { length slots.items ≡ length entries.items }
+        ensures entries { result.entries ≡ entries.items }
+        ensures standing { result.standing ≡ standing entries.items slots.items }
+    {
+        let (mut entries, mut slots) = (entries, slots);
+        entries.reverse();
+        slots.reverse();
+        PlacedEntries {
+            made: Vec::new(alloc),
+            entries,
+            slots,
+        }
+    }
+
+    /// Takes the first entry out, with the item that stands there, if one does; none where no entry is left.
+    ///
+    /// # Errors
+    /// `AllocError` where a request for memory was refused. Then nothing was taken out.
+    pub fn next(&mut self) -> Result<Option<(Entry, Option<Item>)>, AllocError>
+        ensures takes { IfOk result (λ first. Takes self.old first self.new) }
+        ensures unchanged { OnErr result (self.new ≡ self.old) }
+    {
+        self.made.reserve(1)?;
+        let Some(slot) = self.slots.pop() else {
+            return Ok(None);
+        };
+        let item = item_at(self.made.as_slice(), self.entries.as_slice(), slot);
+        let Some(entry) = self.entries.pop() else {
+            return Ok(None);
+        };
+        self.made.push_reserved(made_by(&entry));
+        give_back(&mut self.entries);
+        give_back(&mut self.slots);
+        Ok(Some((entry, item)))
+    }
+}
+
+// Gives back the memory of what went, where so much went that it is worth it.
+fn give_back<T>(left: &mut Vec<T>)
+    ensures { left.new.items ≡ left.old.items }
+{
+    if left.len() % ENTRIES_AT_ONCE == 0 {
+        left.shrink_to_fit();
+    }
+}
+
+// What stands in the slot of the first entry that is left, if anything does.
+fn item_at(made: &[Option<(u16, Op)>], entries: &[Entry], slot: Slot) -> Option<Item>
+    requires { IsAhead (length made.now) slot }
+    ensures { result ≡ stands_from made.now (reversed entries.now) slot }
+{
+    match slot {
+        Slot::Empty => None,
+        Slot::Declared { position, entry } => {
+            gone_at(position, left_at(entries, entry as usize - made.len())?)
+        }
+        Slot::Answered {
+            position,
+            call,
+            reply,
+        } => {
+            let called = called_at(made, entries, call as usize)?;
+            answered_at(
+                position,
+                called,
+                left_at(entries, reply as usize - made.len())?,
+            )
+        }
+    }
+}
+
+// What the entry with that index calls.
+fn called_at(made: &[Option<(u16, Op)>], entries: &[Entry], index: usize) -> Option<(u16, Op)>
+    ensures { result ≡ called_at made.now (reversed entries.now) index }
+{
+    if index < made.len() {
+        return made[index];
+    }
+    made_by(left_at(entries, index - made.len())?)
+}
+
+// The entry with that index among those that are left.
+fn left_at(entries: &[Entry], index: usize) -> Option<&Entry>
+    ensures { option_copied result ≡ slice_get (reversed entries.now) index }
+{
+    if index < entries.len() {
+        Some(&entries[entries.len() - 1 - index])
+    } else {
+        None
+    }
+}

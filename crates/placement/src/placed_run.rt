@@ -1,0 +1,59 @@
+//! Runs whose calls have their places.
+ghost use Rattle.std.specs.Prelude.{◌≡◌, IfOk};
+ghost use Rattle.cluster_core.specs.Histories.{HasHistory, EachAtItsPlace};
+ghost use Rattle.cluster_core.specs.Placement.{items_in};
+
+use crate::placed::slots_of;
+use crate::placed_entries::PlacedEntries;
+use crate::slot::Slot;
+use cluster_core::journal::Journal;
+use std::alloc::{AllocError, Global};
+use std::marker::Model;
+
+/// The journal of a run, with the place of each of its calls in the one history: of each entry it is known
+/// what stands there, in 16 bytes, and the items are made when they are asked for.
+#[derive(Drop)]
+pub struct PlacedRun {
+    journal: Journal,
+    slots: Vec<Slot>,
+}
+
+impl Model for PlacedRun {
+    ghost use Rattle.cluster_core.specs.Journals.{JournalFields};
+    ghost use Rattle.placement.specs.Rests.{ArePlaces};
+
+    ghost Value = { JournalFields };
+
+    ghost view = { λ r. r.journal };
+
+    ghost invariant = { λ r. ArePlaces r.journal.shape r.journal.entries r.slots.items };
+}
+
+impl PlacedRun {
+    /// The run of a journal.
+    ///
+    /// # Errors
+    /// `AllocError` where a request for memory was refused; the journal is dropped.
+    pub fn new(alloc: Global, journal: Journal) -> Result<PlacedRun, AllocError>
+        ensures { IfOk result (λ run. run ≡ journal) }
+    {
+        let slots = slots_of(alloc, journal.entries())?;
+        Ok(PlacedRun { journal, slots })
+    }
+
+    pub fn journal(&self) -> &Journal
+        ensures { result.now ≡ self.now }
+    {
+        &self.journal
+    }
+
+    /// Its entries, each with the item that stands there in the history, if one does: that of `placed`. A
+    /// single machine's table allows the items from the first to the last, and ends as what the live nodes hold.
+    pub fn into_entries(self, alloc: Global) -> PlacedEntries
+        ensures entries { result.entries ≡ self.entries }
+        ensures history { HasHistory self.shape self.entries (items_in result.standing) }
+        ensures at_places { EachAtItsPlace self.entries (items_in result.standing) }
+    {
+        PlacedEntries::new(alloc, self.journal.into_entries(), self.slots)
+    }
+}
