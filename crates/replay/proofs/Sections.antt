@@ -1,17 +1,22 @@
 -- The sections of a listing, one after the other.
-use Rattle.std.proofs.Common.{◌≡◌, ℕ, refl, sym, ◌∙◌, ap, List, [], ◌∷◌, ◌++◌, append_assoc, append-nil, Option, Some, None}
+use Rattle.std.proofs.Common.{◌≡◌, ℕ, Bool, false, ◌+◌, refl, sym, ◌∙◌, ap, subst, List, [], ◌∷◌, ◌++◌, append_assoc, append-nil, Option, Some, None}
 use Rattle.std.specs.Prelude.{flat_map}
 use Rattle.std.specs.List.{cons_option}
 use Rattle.messages.specs.declared.entry.Entry.{Entry}
+use Rattle.messages.specs.declared.version.Version.{Version}
 use Rattle.cluster_core.specs.declared.held_lock.HeldLock.{HeldLock}
 use Rattle.cluster_core.specs.declared.item.Item.{Item}
 use Rattle.cluster_core.specs.declared.token_run.TokenRun.{TokenRun}
+use Rattle.cluster_core.specs.Journals.{JournalFields}
 use Rattle.cluster_core.specs.Placement.{items_in}
+use Rattle.journal_text.specs.Journals.{entries_text, entry_text}
 use Rattle.lockscript.specs.declared.refused_line.RefusedLine.{RefusedLine}
 use Rattle.lockscript.specs.Listing.{listing_text, listing_start, history_line, history_text}
 use Rattle.player.specs.Played.{PlayedState}
 use Rattle.replay.specs.Audits.{IsHistoryText}
+use Rattle.replay.specs.Commands.{IsRunText}
 use Rattle.replay.specs.Scripts.{IsListing, IsListingBegun}
+use Rattle.replay.specs.Tellings.{open_section}
 
 -- what begins as a listing does, and goes on with the history, is the listing
 whole_listing : (refused : List RefusedLine) (entries : List Entry) (tokens : List TokenRun) (locks : List HeldLock) (history : List Item) (start text : List ℕ) → start ≡ listing_start refused entries tokens locks → text ≡ start ++ history_text history → text ≡ listing_text refused entries tokens locks history
@@ -24,11 +29,32 @@ listing_goes_on played start told text begun h is = record {
   tokens = begun.tokens;
   locks = begun.locks;
   history = h.0;
-  lists = record { tokens_at_end = begun.tokens_at_end; locks_at_end = begun.locks_at_end; safe_at_end = begun.safe_at_end; one_table = h.1.0; at_places = h.1.1.0 };
-  sections = whole_listing played.refused played.journal.entries begun.tokens begun.locks h.0 start text begun.start (is ∙ ap (λ (bytes : List ℕ). start ++ bytes) h.1.1.1);
+  lists = record { tokens_at_end = begun.tokens_at_end; locks_at_end = begun.locks_at_end; safe_at_end = begun.safe_at_end; one_table = h.1; at_places = h.2 };
+  sections = whole_listing played.refused played.journal.entries begun.tokens begun.locks h.0 start text begun.start (is ∙ ap (λ (bytes : List ℕ). start ++ bytes) h.3);
 }
+
+-- so is it with the section of open calls behind it
+pub run_shown : (played : PlayedState) (with_open : Bool) (j : JournalFields) (start told text behind whole : List ℕ) → IsListingBegun played start → j ≡ played.journal → IsHistoryText j told → text ≡ start ++ told → behind ≡ open_section with_open j → whole ≡ text ++ behind → IsRunText played with_open false whole
+run_shown played with_open j start told text behind whole begun same h text_is behind_is is =
+    let history = subst (λ (i : JournalFields). IsHistoryText i told) same h in
+    (text, listing_goes_on played start told text begun history text_is, is ∙ ap (λ (bytes : List ℕ). text ++ bytes) (behind_is ∙ ap (open_section with_open) same))
 
 -- what stands at one more entry
 pub items_go_on : (first : Option Item) (rest : List (Option Item)) → flat_map history_line (items_in (first ∷ rest)) ≡ flat_map history_line (cons_option first []) ++ flat_map history_line (items_in rest)
 items_go_on None rest = refl
 items_go_on (Some item) rest = ap (λ (line : List ℕ). line ++ flat_map history_line (items_in rest)) (sym (append-nil (history_line item)))
+
+pub item_told : (start out more : List ℕ) (whole rest : List (Option Item)) (first : Option Item) → out ++ flat_map history_line (items_in whole) ≡ start → whole ≡ first ∷ rest → more ≡ out ++ flat_map history_line (cons_option first []) → more ++ flat_map history_line (items_in rest) ≡ start
+item_told start out more whole rest first so_far is told =
+    let behind = flat_map history_line (items_in rest) in
+    ap (λ (bytes : List ℕ). bytes ++ behind) told
+    ∙ (append_assoc out (flat_map history_line (cons_option first [])) behind
+    ∙ (ap (λ (bytes : List ℕ). out ++ bytes) (sym (items_go_on first rest))
+    ∙ (ap (λ (items : List (Option Item)). out ++ flat_map history_line (items_in items)) (sym is) ∙ so_far)))
+
+pub entry_told : (version : Version) (position : ℕ) (start out more : List ℕ) (whole rest : List Entry) (first : Entry) → out ++ entries_text version position whole ≡ start → whole ≡ first ∷ rest → more ≡ out ++ entry_text version position first → more ++ entries_text version (position + 1) rest ≡ start
+entry_told version position start out more whole rest first so_far is told =
+    let behind = entries_text version (position + 1) rest in
+    ap (λ (bytes : List ℕ). bytes ++ behind) told
+    ∙ (append_assoc out (entry_text version position first) behind
+    ∙ (ap (λ (es : List Entry). out ++ entries_text version position es) (sym is) ∙ so_far))

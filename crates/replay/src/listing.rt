@@ -1,8 +1,9 @@
 //! Listings of runs.
-ghost use Rattle.std.specs.Prelude.{◌≡◌, ◌++◌, [], ℕ, List, flat_map, string_bytes, IfOk, OnOk};
+ghost use Rattle.std.specs.Prelude.{◌≡◌, ◌≤◌, ◌++◌, [], ℕ, length, List, flat_map, string_bytes, IfOk, OnOk};
 ghost use Rattle.std.specs.List.{cons_option};
 ghost use Rattle.cluster_core.specs.Listings.{IsTokenListing, IsLockListing};
 ghost use Rattle.cluster_core.specs.Parts.{world_state};
+ghost use Rattle.cluster_core.specs.World.{journal_limit};
 ghost use Rattle.cluster_core.specs.Placement.{items_in};
 ghost use Rattle.journal_text.specs.Journals.{entries_text, journal_text};
 ghost use Rattle.lockscript.specs.Listing.{history_line};
@@ -106,7 +107,7 @@ fn push_items(out: &mut String, entries: PlacedEntries) -> Result<(), AllocError
     ensures { OnOk result (string_bytes out.new ≡ string_bytes out.old ++ flat_map history_line (items_in entries.standing)) }
 {
     let mut entries = entries;
-    while let Some((_, item)) = entries.next()? {
+    while let Some((_entry, item)) = entries.next()? {
         push_standing(out, &item)?;
     }
     Ok(())
@@ -141,6 +142,7 @@ fn push_items_and_entries(
     version: Version,
     entries: PlacedEntries,
 ) -> Result<(), AllocError>
+    requires { length entries.entries ≤ journal_limit }
     ensures items { OnOk result (string_bytes out.new ≡ string_bytes out.old ++ flat_map history_line (items_in entries.standing)) }
     ensures entries { OnOk result (string_bytes journal.new ≡ string_bytes journal.old ++ entries_text version 1 entries.entries) }
 {

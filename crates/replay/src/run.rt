@@ -8,7 +8,7 @@ ghost use Rattle.replay.specs.declared.shown.Shown.TheVariants.{Text};
 ghost use Rattle.replay.specs.Commands.{Does, IsFault, IsRunText};
 ghost use Rattle.replay.specs.Faults.{IsScriptFault};
 ghost use Rattle.player.specs.Parts.{state_of};
-ghost use Rattle.replay.specs.Scripts.{HasRun, HasScript, IsListing, IsListingBegun};
+ghost use Rattle.replay.specs.Scripts.{HasRun, HasScript, IsListingBegun};
 ghost use Rattle.replay.specs.Stores.{SameFiles};
 ghost use Rattle.replay.specs.Tellings.{open_section};
 
