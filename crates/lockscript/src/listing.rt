@@ -134,11 +134,8 @@ fn push_lock(out: &mut String, held: &HeldLock) -> Result<(), AllocError>
     push_span_line(out, held.file, held.lock.span, Mode::word(held.lock.mode))
 }
 
-/// Writes the last section of a listing, the history, with its heading.
-///
-/// # Errors
-/// `AllocError` where a request for memory was refused.
-pub fn push_history(out: &mut String, history: &[Item]) -> Result<(), AllocError>
+// The last section, the history, with its heading.
+fn push_history(out: &mut String, history: &[Item]) -> Result<(), AllocError>
     ensures { OnOk result (string_bytes out.new ≡ string_bytes out.old ++ history_text history.now) }
 {
     out.push_str("history\n")?;
