@@ -82,7 +82,7 @@ impl Office {
             return Ok(Some(Items::new(rt.alloc())));
         }
         let change = self.server.plan(rt.alloc(), &ServerEvent::Resend)?;
-        if change.outcome().sends.is_empty() {
+        if change.outcome.sends.is_empty() {
             self.pace = None;
             return Ok(Some(Items::new(rt.alloc())));
         }

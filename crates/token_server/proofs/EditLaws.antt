@@ -3,11 +3,12 @@ use Rattle.std.proofs.lemmas.Bool.Decides.{eqb_tells}
 use Rattle.std.specs.Prelude.{Bool, cond, ◌≡◌, ◌≢◌, ℕ, zero, suc, ◌+◌, ◌-◌, ◌<◌, ◌≤◌, ◌==◌, if◌then◌else◌, List, length, slice_get, slice_set, slice_index_or, Option, Some, None, MatchOption}
 use Rattle.std.proofs.Common.{inl, inr, sym, refl, ap, ◌∙◌, arith}
 use Rattle.std.proofs.lemmas.List.{length-set}
-use Rattle.std.proofs.lemmas.Option.{slice_get_past}
+use Rattle.std.proofs.lemmas.Option.{none-some, slice_get_past, slice_get_cases}
 use Rattle.model.specs.Limits.{IsNumber}
 use Rattle.token_server.specs.declared.known_node.KnownNode.{KnownNode}
 use Rattle.token_server.specs.declared.row_edit.RowEdit.{RowEdit}
 use Rattle.token_server.specs.declared.token_holder.RowView.{RowView}
+use Rattle.token_server.specs.declared.token_holder.TokenHolder.{TokenHolder}
 use Rattle.token_server.specs.declared.sketch.Changed.{Changed}
 use Rattle.token_server.specs.Parts.{row_state, row_seen, row_of, dead_of, known_node_at, rows_of, deaths_of}
 use Rattle.token_server.specs.Sketches.{row_after, dead_after, rows_after, deaths_after}
@@ -86,6 +87,34 @@ rows_of-there known_nodes node known_node there = ap row_of there
 pub deaths_of-there : (known_nodes : List KnownNode) (node : ℕ) (known_node : KnownNode) → known_node_at known_nodes node ≡ Some known_node → deaths_of known_nodes node ≡ known_node.dead
 unfolding deaths_of
 deaths_of-there known_nodes node known_node there = ap dead_of there
+
+pub rows_of-none : (known_nodes : List KnownNode) (node : ℕ) → known_node_at known_nodes node ≡ None → rows_of known_nodes node ≡ None
+unfolding rows_of
+rows_of-none known_nodes node none = ap row_of none
+
+pub deaths_of-none : (known_nodes : List KnownNode) (node : ℕ) → known_node_at known_nodes node ≡ None → deaths_of known_nodes node ≡ 0
+unfolding deaths_of
+deaths_of-none known_nodes node none = ap dead_of none
+
+-- a node that is not there is not there after an edit either; what is read of the one that is edited, and of another
+pub read-none : (known_nodes : List KnownNode) (o : Option RowEdit) (node : ℕ) → known_node_at known_nodes node ≡ None → known_node_at (overlaid known_nodes o) node ≡ None
+read-none known_nodes o zero none = refl
+read-none known_nodes o (suc k) none = elim (slice_get_cases known_nodes k).1 [
+  | inl f ↦ absurd (none-some f.0 (sym none ∙ f.2))
+  | inr p ↦ slice_get_past (overlaid known_nodes o) k (omega (arith, p.0, overlaid-length known_nodes o))
+]
+
+pub read-here : (known_nodes : List KnownNode) (o : Option RowEdit) (e : RowEdit) (node : ℕ) (x : KnownNode) (row : Option TokenHolder) → o ≡ Some e → IsNumber (length known_nodes) node → e.place ≡ node - 1 → known_node_at known_nodes node ≡ Some x → row ≡ row_kept e.row x.row → IsReadAs (known_node_at (overlaid known_nodes o) node) row
+read-here known_nodes o e node x row is within at there made = (
+  e.dead,
+  ap (λ (p : Option RowEdit). known_node_at (overlaid known_nodes p) node) is
+      ∙ overlaid-here known_nodes e node x within at there
+      ∙ ap (λ (r : Option TokenHolder). let y : Option KnownNode = Some (record { dead = e.dead; row = r }) in y) (sym made),
+)
+
+pub read-elsewhere : (known_nodes : List KnownNode) (o : Option RowEdit) (node : ℕ) (x : KnownNode) (row : Option TokenHolder) → known_node_at (overlaid known_nodes o) node ≡ known_node_at known_nodes node → known_node_at known_nodes node ≡ Some x → row ≡ x.row → IsReadAs (known_node_at (overlaid known_nodes o) node) row
+read-elsewhere known_nodes o node x row same there made =
+    (x.dead, same ∙ there ∙ ap (λ (r : Option TokenHolder). let y : Option KnownNode = Some (record { dead = x.dead; row = r }) in y) (sym made))
 
 -- and what is read of it
 pub row_matches : (o : Option RowView) (known_nodes : List KnownNode) (node : ℕ) → IsReadAs (known_node_at known_nodes node) (seen_row o) → MatchOption o (rows_of known_nodes node ≡ None) (λ r. rows_of known_nodes node ≡ Some (row_state (seen r)))

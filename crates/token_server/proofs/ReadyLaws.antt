@@ -1,14 +1,16 @@
 -- What holds of a server between two steps, once a planned step is made.
-use Rattle.std.specs.Prelude.{◌≡◌, ℕ, ◌+◌, ◌<◌, ◌≤◌, Bool, true, false, not, cond, ◌&&◌, ◌||◌, nat_le, List, [], ◌∷◌, ◌++◌, All, filter, find, length, Option, Some, None, Result, Ok, Vec}
-use Rattle.std.proofs.Common.{refl, sym, ap, subst, ◌∙◌, inl, inr, arith, append-nil}
-use Rattle.std.proofs.lemmas.Bool.{both_ways, leb-true, and_from}
+use Rattle.std.specs.Prelude.{◌≡◌, ◌≢◌, ℕ, ◌+◌, ◌<◌, ◌≤◌, Bool, true, false, not, cond, ◌&&◌, ◌||◌, nat_le, List, [], ◌∷◌, ◌++◌, All, filter, find, length, Option, Some, None, Result, Ok, Err}
+use Rattle.std.proofs.Common.{refl, sym, ap, subst, ◌∙◌, inl, inr, arith, append-nil, append_assoc}
+use Rattle.std.proofs.lemmas.Bool.{both_ways, leb-true, and_from, and_parts}
 use Rattle.std.proofs.lemmas.Bool.Decides.{eqb_tells}
 use Rattle.std.proofs.lemmas.List.Elements.{All-head, All-tail, All-filter}
-use Rattle.std.specs.Global.{Global}
 use Rattle.intervals.specs.Search.{some_passes}
 use Rattle.model.specs.declared.call.CallId.{CallId}
 use Rattle.messages.specs.declared.message.Message.{Message}
 use Rattle.messages.specs.declared.refusal.StepError.{StepError}
+use Rattle.messages.specs.declared.refusal.StepError.TheVariants.{NoMemory, Busy, Stranger, Spent}
+use Rattle.messages.specs.declared.outcome.Outcome.{Outcome}
+use Rattle.messages.specs.Messages.{sending}
 use Rattle.token_queue.specs.declared.token_request.TokenRequest.{TokenRequest}
 use Rattle.token_queue.specs.declared.held.Held.{Held}
 use Rattle.token_queue.specs.Requests.{LineParts, is_of_call, is_up_to, AreOfDistinctCalls}
@@ -20,13 +22,13 @@ use Rattle.token_server.specs.declared.change.Parts.{Parts}
 use Rattle.token_server.specs.declared.change.Edit.{Edit}
 use Rattle.token_server.specs.declared.change.Given.{Given}
 use Rattle.token_server.specs.declared.lists.Lists.{Lists}
-use Rattle.token_server.specs.declared.lists.Spares.{Spares}
 use Rattle.token_server.specs.declared.sketch.Sketch.{Sketch}
 use Rattle.token_server.specs.declared.sketch.Moved.{Moved}
 use Rattle.token_server.specs.declared.sketch.Moved.TheVariants.{Nothing, New, Again, Waiting, PutOff}
 use Rattle.token_server.specs.declared.told.Told.{Told}
 use Rattle.token_server.specs.State.{Row, ServerState, is_awaited, awaits}
-use Rattle.token_server.specs.Serve.{meets_some, each_served, ready, serve}
+use Rattle.token_server.specs.Serve.{meets_some, admitted, served, with_more, and_then, each_served, ready, serve}
+use Rattle.token_server.specs.Resends.{sending_first}
 use Rattle.token_server.specs.Told.{with_told}
 use Rattle.token_server.specs.Obstacles.{obstacle, are_apart, is_idle}
 use Rattle.token_server.specs.Admitting.{all_but, all_stay}
@@ -40,6 +42,7 @@ use Rattle.token_server.proofs.AdmittingLaws.{all_but-none, calls, calls-append,
 use Rattle.token_server.proofs.StayLaws.{Stay}
 use Rattle.token_server.proofs.EditLaws.{overlaid-length}
 use Rattle.token_server.proofs.TurnLaws.{held_after-requests}
+use Rattle.token_server.proofs.ObstacleLaws.{served-silent}
 use Rattle.token_server.proofs.OrderlyLaws.{Living, calls-kinds, calls-one, orderly-ready}
 
 -- where none of the requests is of a dead incarnation, none goes
@@ -270,49 +273,43 @@ applied p awaiting e v known_nodes active queue waiting is server fits rows deat
     whole : ◌≡◌ {A = ServerState × List Held} (made p v, held_after v.draft.lists p.active.held) (server_state (record { shape = p.shape; file = p.file; epoch = p.epoch; known_nodes = known_nodes; active = active; queue = queue; waiting = waiting }), active.held)
     whole = λ i. (record { shape = p.shape; file = p.file; epoch = p.epoch; rows = λ n. sym (rows n) i; dead = sym deaths i; queue = sym queued i; active = requests_of (sym held i); waiting = sym put_off i }, sym held i)
 
--- lists by which nothing changes
-pub record SameLists (l : Lists) : Type 0 where
-  pub dropped : l.dropped ≡ None
-  pub ats : l.ats.items ≡ []
-  pub ended : l.ended ≡ None
-  pub moved : l.moved ≡ Nothing
-  pub fresh : l.fresh.items ≡ []
+-- nothing more is served between two steps
+settled-stays : (active before queue : List TokenRequest) → all_stay active before queue ≡ true → admitted active before queue ≡ (active, before ++ queue)
+settled-stays active before [] stay = ap (λ (q : List TokenRequest). let x : List TokenRequest × List TokenRequest = (active, q) in x) (sym (append-nil before))
+settled-stays active before (r ∷ rest) stay =
+    let parts = and_parts (meets_some r active || meets_some r before) (all_stay active (before ++ r ∷ []) rest) stay in
+    ap (λ (b : Bool). cond b (admitted active (before ++ r ∷ []) rest) (admitted (active ++ r ∷ []) before rest)) parts.0
+    ∙ settled-stays active (before ++ r ∷ []) rest parts.1
+    ∙ ap (λ (q : List TokenRequest). let x : List TokenRequest × List TokenRequest = (active, q) in x) (append_assoc before (r ∷ []) rest)
 
-module _ (p : ServerParts) (l : Lists) (awaiting : Bool) (given : Vec Given Global) (same : SameLists l) (nothing : given.items ≡ []) where
-  held-same : held_after l p.active.held ≡ p.active.held
-  held-same =
-      (λ i. held_still (same.ended i) (held_without (same.dropped i) (waiting_for (same.ats i) p.active.held)) ++ same.fresh i)
-      ∙ append-nil p.active.held
+each-silent : (s : ServerState) (held : List Held) → All (λ h. obstacle s h.request ≡ h.at) held → All (λ h. is_idle (s.rows h.at) ≡ false) held → each_served (requests_of held) s ≡ Ok (s, [])
+each-silent s [] waits quiet = refl
+each-silent s (h ∷ held) waits quiet =
+    let W : Held → Type 0 = λ x. obstacle s x.request ≡ x.at in
+    let Q : Held → Type 0 = λ x. is_idle (s.rows x.at) ≡ false in
+    let one : served s h.request ≡ Ok (s, []) = served-silent s h.request (ap (λ (k : ℕ). is_idle (s.rows k)) (All-head W h held waits) ∙ All-head Q h held quiet) in
+    ap (λ (x : Answer). and_then x (each_served (requests_of held))) one
+    ∙ ap (with_more []) (each-silent s held (All-tail W h held waits) (All-tail Q h held quiet))
 
-  queue-same : queue_after l p.queue.requests p.waiting.requests ≡ p.queue.requests
-  queue-same =
-      (λ i. all_but (requests_of (same.fresh i)) (queue_moved (same.moved i) (without (same.dropped i) p.queue.requests) (without (same.dropped i) p.waiting.requests)))
-      ∙ all_but-none p.queue.requests
+serves-nothing : (s : ServerState) (held : List Held) → IsReady s held → s.active ≡ requests_of held → serve s ≡ Ok (s, [])
+serves-nothing s held holds is = by (awaits s) refl
+  where
+    by : (b : Bool) → awaits s ≡ b → serve s ≡ Ok (s, [])
+    by true waits = ap (λ (b : Bool). let x : Answer = cond b (Ok (s, [])) (each_served (ready s).active (ready s)) in x) waits
+    by false told =
+        ap (λ (b : Bool). let x : Answer = cond b (Ok (s, [])) (each_served (ready s).active (ready s)) in x) told
+        ∙ ap (λ (q : List TokenRequest × List TokenRequest). let t : ServerState = record s { active = q.0; queue = q.1 } in each_served t.active t) (settled-stays s.active [] s.queue (holds.settled told))
+        ∙ ap (λ (rs : List TokenRequest). each_served rs s) is
+        ∙ each-silent s held holds.waits holds.quiet
 
-  waiting-same : waiting_after l p.waiting.requests ≡ p.waiting.requests
-  waiting-same = λ i. waiting_moved (same.moved i) (without (same.dropped i) p.waiting.requests)
+pub nothing-served : (p : ServerParts) (k : Sketch) (first : List Message) → k ≡ record { changed = None; moved = Nothing; ended = None } → first ≡ [] → IsReady (server_state p) p.active.held → sending_first first (serve (sketched p k)) ≡ Ok (server_state p, sending [])
+nothing-served p k first is empty holds =
+    (λ i. sending_first (empty i) (serve (sketched p (is i))))
+    ∙ ap (sending_first []) (serves-nothing (server_state p) p.active.held holds refl)
 
-  -- leave a server as it is
-  pub same-state : with_given given.items p.known_nodes (drafted p (record { rows = None; lists = l; awaits = awaiting })) ≡ server_state p
-  same-state =
-      λ i. record {
-        shape = p.shape;
-        file = p.file;
-        epoch = p.epoch;
-        rows = given_rows (nothing i) p.known_nodes;
-        dead = deaths_of p.known_nodes;
-        queue = queue-same i;
-        active = requests_of (held-same i);
-        waiting = waiting-same i;
-      }
-
-  pub same-fits : (spares : Spares) → spares ≡ record { active = None; queue = None; waiting = None } → awaiting ≡ awaits (server_state p) → IsReady (server_state p) p.active.held → PartsFit p (record { draft = record { rows = None; lists = l; awaits = awaiting }; given = given; spares = spares })
-  same-fits spares empty known ready = record {
-    new = subst (λ (m : Moved). IsNewCall m (without l.dropped p.queue.requests) (without l.dropped p.waiting.requests)) (sym same.moved) tt;
-    served = subst (λ (h : List Held). HeldHasRoom p.active spares.active (length h)) (sym same.fresh) (subst (λ (x : Spares). HeldHasRoom p.active x.active 0) (sym empty) (omega arith));
-    queued = subst (λ (m : Moved). HasRoom p.queue spares.queue (many_moved m (without l.dropped p.waiting.requests))) (sym same.moved) (subst (λ (x : Spares). HasRoom p.queue x.queue 0) (sym empty) (omega arith));
-    put_off = subst (λ (m : Moved). HasRoom p.waiting spares.waiting (many_put_off m)) (sym same.moved) (subst (λ (x : Spares). HasRoom p.waiting x.waiting 0) (sym empty) (omega arith));
-    nodes = refl;
-    awaited = known ∙ sym (ap awaits same-state);
-    ready = subst (λ (x : ServerState × List Held). IsReady x.0 x.1) (λ i. let x : ServerState × List Held = (sym same-state i, sym held-same i) in x) ready;
-  }
+-- then none is refused but for want of memory
+pub never-refused : (e : StepError) (x : Result (ServerState × Outcome) StepError) (done : ServerState × Outcome) → (e ≢ NoMemory → x ≡ Err e) → x ≡ Ok done → e ≡ NoMemory
+never-refused NoMemory x done refused is = refl
+never-refused Busy x done refused is = let never : x ≡ Err Busy = refused (λ other. absurd (cc)) in absurd (cc)
+never-refused Stranger x done refused is = let never : x ≡ Err Stranger = refused (λ other. absurd (cc)) in absurd (cc)
+never-refused Spent x done refused is = let never : x ≡ Err Spent = refused (λ other. absurd (cc)) in absurd (cc)

@@ -1,7 +1,6 @@
 -- What comes of serving each request that is served, in order.
 use Rattle.std.specs.Prelude.{◌≡◌, ℕ, zero, suc, ◌+◌, ◌<◌, ◌≤◌, Bool, true, false, not, cond, ◌&&◌, ◌||◌, ◌==◌, nat_le, nat_lt, List, [], ◌∷◌, ◌++◌, filter, length, slice_get, slice_index_or, All, is_some, Option, Some, None, Result, Ok, Err}
-use Rattle.std.specs.List.{list_any}
-use Rattle.std.specs.Option.{option_to_list}
+use Rattle.std.specs.Option.{option_map, option_to_list}
 use Rattle.std.proofs.Common.{refl, sym, ap, subst, ◌∙◌, inl, inr, arith, take, drop, get_or, append-nil, append_assoc}
 use Rattle.std.proofs.lemmas.Bool.{both_ways, and_parts, leb-true, le-leb, lt-leb, cases_lt}
 use Rattle.std.proofs.lemmas.Bool.Decides.{eqb_tells}
@@ -23,9 +22,13 @@ use Rattle.token_queue.specs.Actives.{requests_of, waiting_for}
 use Rattle.token_queue.proofs.ActiveLaws.{waiting_for-at, waiting_for-length}
 use Rattle.token_server.specs.declared.lists.Lists.{Lists}
 use Rattle.token_server.specs.declared.told.Told.{Told}
-use Rattle.token_server.specs.State.{Row, ServerState, with_row, begin}
-use Rattle.token_server.specs.Sketches.{without, still_active}
-use Rattle.token_server.specs.Serve.{row_conflicts, conflicting_node, commanded, granted_to, revoked_from, served, each_served}
+use Rattle.token_server.specs.declared.command.Order.{Order}
+use Rattle.token_server.specs.declared.command.Order.TheVariants.{Grant, Revoke}
+use Rattle.token_server.specs.Orders.{message_of}
+use Rattle.token_server.specs.State.{Commands, Row, ServerState, with_row, begin}
+use Rattle.token_server.specs.Parts.{next_number, told_commands}
+use Rattle.token_server.specs.Sketches.{commands_of, without, still_active}
+use Rattle.token_server.specs.Serve.{row_conflicts, narrowed, granted_span, conflicting_node, commanded, granted_to, revoked_from, served, each_served}
 use Rattle.token_server.specs.Obstacles.{obstacle, are_apart, is_idle}
 use Rattle.token_server.specs.Told.{told_to, row_told, with_told, commands_told, cut}
 use Rattle.token_server.specs.Edits.{is_up_to_any, is_of_any, keeps, held_still, held_without, held_after}
@@ -35,7 +38,7 @@ use Rattle.token_server.proofs.CutLaws.{HasByte, IsLeft, left-more}
 use Rattle.token_server.proofs.ObstacleLaws.{obstacle-same, served-silent}
 use Rattle.token_server.proofs.KeepLaws.{StandSame, served-same}
 use Rattle.token_server.proofs.CareLaws.{All-right}
-use Rattle.token_server.proofs.ToldLaws.{silent, told-next, nodes-next, served-spent, list-at}
+use Rattle.token_server.proofs.ToldLaws.{silent, told-next, nodes-next, served-spent, list-at, grant-gone, grant-busy, grant-spent, grant-sent, revoke-gone, revoke-busy, revoke-spent, revoke-sent}
 
 -- the requests that wait for other rows are the same
 pub waiting_for-requests : (ats : List ℕ) (held : List Held) → requests_of (waiting_for ats held) ≡ requests_of held
@@ -60,12 +63,12 @@ still-requests None held = refl
 still-requests (Some call) held = filter-requests (λ r. not (is_of_call call r)) held
 
 -- the requests that are served after the edit: those that are served on, then those that come
-pub held_after-requests : (l : Lists) (held : List Held) → requests_of (held_after l held) ≡ still_active l.ended (without l.dropped (requests_of held)) ++ requests_of l.fresh.items
+pub held_after-requests : (l : Lists) (held : List Held) → requests_of (held_after l held) ≡ still_active l.gone.ended (without l.gone.dropped (requests_of held)) ++ requests_of l.fresh.items
 held_after-requests l held =
-    map-append (λ (h : Held). h.request) (held_still l.ended (held_without l.dropped (waiting_for l.ats.items held))) l.fresh.items
+    map-append (λ (h : Held). h.request) (held_still l.gone.ended (held_without l.gone.dropped (waiting_for l.ats.items held))) l.fresh.items
     ∙ ap (λ (rs : List TokenRequest). rs ++ requests_of l.fresh.items)
-    (still-requests l.ended (held_without l.dropped (waiting_for l.ats.items held))
-    ∙ ap (still_active l.ended) (without-requests l.dropped (waiting_for l.ats.items held) ∙ ap (without l.dropped) (waiting_for-requests l.ats.items held)))
+    (still-requests l.gone.ended (held_without l.gone.dropped (waiting_for l.ats.items held))
+    ∙ ap (still_active l.gone.ended) (without-requests l.gone.dropped (waiting_for l.ats.items held) ∙ ap (without l.gone.dropped) (waiting_for-requests l.ats.items held)))
 
 filter-all : (held : List Held) → held ≡ filter (λ h. true) held
 filter-all [] = refl
@@ -90,32 +93,32 @@ still-filter : (ended : Option CallId) (held : List Held) → held_still ended h
 still-filter None held = filter-all held
 still-filter (Some call) held = refl
 
-pub kept-is : (l : Lists) (held : List Held) → held_still l.ended (held_without l.dropped held) ≡ kept l held
+pub kept-is : (l : Lists) (held : List Held) → held_still l.gone.ended (held_without l.gone.dropped held) ≡ kept l held
 kept-is l held =
-    still-filter l.ended (held_without l.dropped held)
-    ∙ ap (λ (hs : List Held). filter (λ h. not (is_of_any l.ended h.request)) hs) (without-filter l.dropped held)
-    ∙ filter-twice (λ h. not (is_of_any l.ended h.request)) (λ h. not (is_up_to_any l.dropped h.request)) held
+    still-filter l.gone.ended (held_without l.gone.dropped held)
+    ∙ ap (λ (hs : List Held). filter (λ h. not (is_of_any l.gone.ended h.request)) hs) (without-filter l.gone.dropped held)
+    ∙ filter-twice (λ h. not (is_of_any l.gone.ended h.request)) (λ h. not (is_up_to_any l.gone.dropped h.request)) held
 
 pub held_after-kept : (l : Lists) (held : List Held) → held_after l held ≡ kept_of l held ++ l.fresh.items
 held_after-kept l held = ap (λ (hs : List Held). hs ++ l.fresh.items) (kept-is l (waiting_for l.ats.items held))
 
-pub kept-requests : (l : Lists) (held : List Held) → requests_of (kept l held) ≡ still_active l.ended (without l.dropped (requests_of held))
+pub kept-requests : (l : Lists) (held : List Held) → requests_of (kept l held) ≡ still_active l.gone.ended (without l.gone.dropped (requests_of held))
 kept-requests l held =
     ap requests_of (sym (kept-is l held))
-    ∙ still-requests l.ended (held_without l.dropped held)
-    ∙ ap (still_active l.ended) (without-requests l.dropped held)
+    ∙ still-requests l.gone.ended (held_without l.gone.dropped held)
+    ∙ ap (still_active l.gone.ended) (without-requests l.gone.dropped held)
 
 -- one more that is served on, and one that is not
-pub kept-more : (l : Lists) (xs next : List Held) (h : Held) → next ≡ xs ++ h ∷ [] → keeps l.dropped l.ended h.request ≡ true → kept l next ≡ kept l xs ++ h ∷ []
+pub kept-more : (l : Lists) (xs next : List Held) (h : Held) → next ≡ xs ++ h ∷ [] → keeps l.gone.dropped l.gone.ended h.request ≡ true → kept l next ≡ kept l xs ++ h ∷ []
 kept-more l xs next h is on =
     ap (kept l) is
-    ∙ filter-append (λ x. keeps l.dropped l.ended x.request) xs (h ∷ [])
+    ∙ filter-append (λ x. keeps l.gone.dropped l.gone.ended x.request) xs (h ∷ [])
     ∙ ap (λ (b : Bool). kept l xs ++ cond b (h ∷ []) []) on
 
-pub kept-less : (l : Lists) (xs next : List Held) (h : Held) → next ≡ xs ++ h ∷ [] → keeps l.dropped l.ended h.request ≡ false → kept l next ≡ kept l xs
+pub kept-less : (l : Lists) (xs next : List Held) (h : Held) → next ≡ xs ++ h ∷ [] → keeps l.gone.dropped l.gone.ended h.request ≡ false → kept l next ≡ kept l xs
 kept-less l xs next h is off =
     ap (kept l) is
-    ∙ filter-append (λ x. keeps l.dropped l.ended x.request) xs (h ∷ [])
+    ∙ filter-append (λ x. keeps l.gone.dropped l.gone.ended x.request) xs (h ∷ [])
     ∙ ap (λ (b : Bool). kept l xs ++ cond b (h ∷ []) []) off
     ∙ append-nil (kept l xs)
 
@@ -135,11 +138,11 @@ pub take-next : {X : Type 0} (xs : List X) (i : ℕ) (x : X) → slice_get xs i 
 take-next xs i x there = take_more xs i x (slice_get_within xs i x there) ∙ ap (λ y. take i xs ++ y ∷ []) (get_or_from_slice_get xs i x x there)
 
 -- those that are served on, about one of them
-pub kept-around : (l : Lists) (ws : List Held) (i : ℕ) (w : Held) → slice_get ws i ≡ Some w → keeps l.dropped l.ended w.request ≡ true → kept l ws ++ l.fresh.items ≡ kept l (take i ws) ++ w ∷ (kept l (drop (i + 1) ws) ++ l.fresh.items)
+pub kept-around : (l : Lists) (ws : List Held) (i : ℕ) (w : Held) → slice_get ws i ≡ Some w → keeps l.gone.dropped l.gone.ended w.request ≡ true → kept l ws ++ l.fresh.items ≡ kept l (take i ws) ++ w ∷ (kept l (drop (i + 1) ws) ++ l.fresh.items)
 kept-around l ws i w there on =
     ap (λ (hs : List Held). kept l hs ++ l.fresh.items) (list-at ws i w (take-next ws i w there))
     ∙ ap (λ (hs : List Held). hs ++ l.fresh.items)
-    (filter-append (λ x. keeps l.dropped l.ended x.request) (take i ws) (w ∷ drop (i + 1) ws)
+    (filter-append (λ x. keeps l.gone.dropped l.gone.ended x.request) (take i ws) (w ∷ drop (i + 1) ws)
     ∙ ap (λ (b : Bool). kept l (take i ws) ++ cond b (w ∷ kept l (drop (i + 1) ws)) (kept l (drop (i + 1) ws))) on)
     ∙ append_assoc (kept l (take i ws)) (w ∷ kept l (drop (i + 1) ws)) l.fresh.items
 
@@ -171,7 +174,7 @@ own-unopposed s r at is own = by (nat_le (conflicting_node s r) s.shape.nodes) r
         absurd (both_ways (conflicting_node s r == r.call.node) other.1 (ap (λ (k : ℕ). k == r.call.node) same ∙ own))
     by false h = above (conflicting_node s r) s.shape.nodes h
 
-pub own-granted : (s : ServerState) (r : TokenRequest) (at : ℕ) → obstacle s r ≡ at → (at == r.call.node) ≡ true → served s r ≡ granted_to s r (s.rows r.call.node)
+own-granted : (s : ServerState) (r : TokenRequest) (at : ℕ) → obstacle s r ≡ at → (at == r.call.node) ≡ true → served s r ≡ granted_to s r (s.rows r.call.node)
 own-granted s r at is own =
     let node = conflicting_node s r in
     ap (λ (b : Bool). cond b (revoked_from s r node (s.rows node)) (granted_to s r (s.rows r.call.node))) (lt-leb node s.shape.nodes (own-unopposed s r at is own))
@@ -195,12 +198,44 @@ other-within s r at is other =
     let within = leb-true (conflicting_node s r) s.shape.nodes o.0 in
     (subst (λ (k : ℕ). 1 ≤ k) o.1 (opposing-other s r within).0, subst (λ (k : ℕ). k ≤ s.shape.nodes) o.1 within)
 
-pub other-revoked : (s : ServerState) (r : TokenRequest) (at : ℕ) → obstacle s r ≡ at → (at == r.call.node) ≡ false → served s r ≡ revoked_from s r at (s.rows at)
+other-revoked : (s : ServerState) (r : TokenRequest) (at : ℕ) → obstacle s r ≡ at → (at == r.call.node) ≡ false → served s r ≡ revoked_from s r at (s.rows at)
 other-revoked s r at is other =
     let o = other-opposes s r at is other in
     let node = conflicting_node s r in
     ap (λ (b : Bool). cond b (revoked_from s r node (s.rows node)) (granted_to s r (s.rows r.call.node))) o.0
     ∙ ap (λ (k : ℕ). revoked_from s r k (s.rows k)) o.1
+
+-- where the node can be told nothing, where no number is left, and where it is told something
+module _ (ts : List Told) (s : ServerState) (r : TokenRequest) (at : ℕ) (is : obstacle (with_told ts s) r ≡ at) where
+  abbrev before : ServerState
+  before = with_told ts s
+
+  commands_at : (c : Option Commands) → (at ≡ r.call.node) → c ≡ option_map commands_of (before.rows at) → c ≡ option_map commands_of (before.rows r.call.node)
+  commands_at c own known = known ∙ ap (λ (k : ℕ). option_map commands_of (before.rows k)) own
+
+  pub turn-gone : None ≡ option_map commands_of (before.rows at) → served before r ≡ Ok (with_told (ts ++ []) s, [])
+  turn-gone none = elim (eqb_tells at r.call.node) [
+    | inl own ↦ own-granted before r at is own.0 ∙ grant-gone ts s r (commands_at None own.1 none)
+    | inr other ↦ other-revoked before r at is other.0 ∙ revoke-gone ts s r at none
+  ]
+
+  pub turn-busy : (c : Commands) → Some c ≡ option_map commands_of (before.rows at) → next_number (begin s) c ≡ Ok None → served before r ≡ Ok (with_told (ts ++ []) s, [])
+  turn-busy c known next = elim (eqb_tells at r.call.node) [
+    | inl own ↦ own-granted before r at is own.0 ∙ grant-busy ts s r c (commands_at (Some c) own.1 known) next
+    | inr other ↦ other-revoked before r at is other.0 ∙ revoke-busy ts s r at c known next
+  ]
+
+  pub turn-refused : (c : Commands) (e : StepError) → Some c ≡ option_map commands_of (before.rows at) → next_number (begin s) c ≡ Err e → served before r ≡ Err e
+  turn-refused c e known next = elim (eqb_tells at r.call.node) [
+    | inl own ↦ own-granted before r at is own.0 ∙ grant-spent ts s r c e (commands_at (Some c) own.1 known) next
+    | inr other ↦ other-revoked before r at is other.0 ∙ revoke-spent ts s r at c e known next
+  ]
+
+  pub turn-sent : (c : Commands) (k : ℕ) (o : Order) (t : Told) → Some c ≡ option_map commands_of (before.rows at) → next_number (begin s) c ≡ Ok (Some k) → t.node ≡ at → t.command ≡ message_of s.file o → t.commands ≡ told_commands t.command c → ((at == r.call.node) ≡ true → o ≡ Grant k r.call r.mode (granted_span before r)) → ((at == r.call.node) ≡ false → o ≡ Revoke k (record { node = at; incarnation = c.incarnation }) r.call r.mode (record { required = r.wanted.required; desired = narrowed s.active r })) → served before r ≡ Ok (with_told (ts ++ t ∷ []) s, t.command ∷ [])
+  turn-sent c k o t known next to command commands own_order other_order = elim (eqb_tells at r.call.node) [
+    | inl own ↦ own-granted before r at is own.0 ∙ grant-sent ts s r c k t (commands_at (Some c) own.1 known) next (to ∙ own.1) (command ∙ ap (message_of s.file) (own_order own.0)) commands
+    | inr other ↦ other-revoked before r at is other.0 ∙ revoke-sent ts s r at c k t known next to (command ∙ ap (message_of s.file) (other_order other.0)) commands
+  ]
 
 -- once a request is served no command may go to the node whose row it waits for
 silent-busy : (s t : ServerState) (node : ℕ) (out : List Message) → is_idle (s.rows node) ≡ false → ◌≡◌ {A = Answer} (Ok (s, [])) (Ok (t, out)) → is_idle (t.rows node) ≡ false
@@ -227,7 +262,7 @@ commanded-busy s t node row token command out there is = by (is_some row.outstan
         subst (λ (x : ServerState). is_idle (x.rows node) ≡ false) (ap (λ (p : ServerState × List Message). p.0) pair) (ap (λ (e : Bool). is_idle (cond e (Some made) (s.rows node))) here)
     by false false b h = absurd (cc)
 
-pub served-busy : (s t : ServerState) (r : TokenRequest) (at : ℕ) (out : List Message) → obstacle s r ≡ at → served s r ≡ Ok (t, out) → is_idle (t.rows at) ≡ false
+served-busy : (s t : ServerState) (r : TokenRequest) (at : ℕ) (out : List Message) → obstacle s r ≡ at → served s r ≡ Ok (t, out) → is_idle (t.rows at) ≡ false
 served-busy s t r at out where_is is = subst (λ (k : ℕ). is_idle (t.rows k) ≡ false) where_is (by (nat_le node s.shape.nodes) is)
   where
     node : ℕ
@@ -267,13 +302,12 @@ quiet-more (t ∷ ts) more s n quiet = by (t.node == n) quiet (quiet-more ts mor
     by false quiet rest = rest quiet
 
 -- a node that is told something is not idle then
-pub told-quiet : (ts : List Told) (s : ServerState) (n : ℕ) → list_any (λ t. t.node == n) ts ≡ true → is_idle ((with_told ts s).rows n) ≡ false
-told-quiet [] s n some = absurd (cc)
-told-quiet (t ∷ ts) s n some = by (t.node == n) some (told-quiet ts s n)
+pub told-quiet : (ts : List Told) (s : ServerState) (n : ℕ) → is_some (told_to ts n) ≡ true → is_idle ((with_told ts s).rows n) ≡ false
+told-quiet ts s n some = by (told_to ts n) some
   where
-    by : (b : Bool) → (b || list_any (λ x. x.node == n) ts) ≡ true → (list_any (λ x. x.node == n) ts ≡ true → is_idle ((with_told ts s).rows n) ≡ false) → is_idle (row_told (cond b (Some t) (told_to ts n)) (s.rows n)) ≡ false
-    by true some rest = quiet-some t (s.rows n)
-    by false some rest = rest some
+    by : (o : Option Told) → is_some o ≡ true → is_idle (row_told o (s.rows n)) ≡ false
+    by None some = absurd (cc)
+    by (Some t) some = quiet-some t (s.rows n)
 
 -- nothing is served so far
 pub served-start : (s : ServerState) (all : List Held) → All (λ h. obstacle s h.request ≡ h.at) all → AreServed s all [] []
@@ -307,7 +341,7 @@ turn-next s all done rest h before after is active apart a t =
       comes = told-next s (requests_of done) (requests_of (done ++ h ∷ [])) before new h.request t.next a.comes (requests-around done [] h) t.comes refl;
       nodes = nodes-next before new t.next a.nodes t.node refl;
       waits = waits-same (with_told before s) (with_told new s) all refl (subst (All (StandSame (with_told before s) (with_told new s))) (sym split) same) a.waits;
-      quiet = All-push (λ (x : Held). is_idle ((with_told new s).rows x.at) ≡ false) done h (λ k d within. quiet-more before (option_to_list t.next) s _ (a.quiet k d within)) t.busy;
+      quiet = All-push (λ (x : Held). is_idle ((with_told new s).rows x.at) ≡ false) done h (λ k d within. quiet-more before (option_to_list t.next) s _ (a.quiet k d within)) (served-busy (with_told before s) (with_told new s) h.request h.at (commands_told (option_to_list t.next)) (waits-here s all done rest h before is a) t.comes);
     })
   where
     new : List Told
@@ -365,21 +399,21 @@ module _ (l : Lists) (held : List Held) (s : ServerState) (told : List Told) (i 
     kept-next : take (i + 1) waiting ≡ take i waiting ++ w ∷ []
     kept-next = take-next waiting i w there
 
-    pub kept-split : keeps l.dropped l.ended w.request ≡ true → all ≡ kept l (take i waiting) ++ w ∷ (kept l (drop (i + 1) waiting) ++ l.fresh.items)
+    pub kept-split : keeps l.gone.dropped l.gone.ended w.request ≡ true → all ≡ kept l (take i waiting) ++ w ∷ (kept l (drop (i + 1) waiting) ++ l.fresh.items)
     kept-split on = held_after-kept l held ∙ kept-around l waiting i w there on
 
-    pub kept-turn : (after : List Told) → keeps l.dropped l.ended w.request ≡ true → s.active ≡ requests_of all → are_apart s.active ≡ true → AreServed s all (kept l (take i waiting)) told → IsTurn s w told after → AreServed s all (kept l (take (i + 1) waiting)) after
+    pub kept-turn : (after : List Told) → keeps l.gone.dropped l.gone.ended w.request ≡ true → s.active ≡ requests_of all → are_apart s.active ≡ true → AreServed s all (kept l (take i waiting)) told → IsTurn s w told after → AreServed s all (kept l (take (i + 1) waiting)) after
     kept-turn after on active apart a t =
         subst (λ (hs : List Held). AreServed s all hs after) (sym (kept-more l (take i waiting) (take (i + 1) waiting) w kept-next on))
         (turn-next s all (kept l (take i waiting)) (kept l (drop (i + 1) waiting) ++ l.fresh.items) w told after (kept-split on) active apart a t)
 
-    pub kept-left : keeps l.dropped l.ended w.request ≡ false → AreServed s all (kept l (take i waiting)) told → AreServed s all (kept l (take (i + 1) waiting)) told
+    pub kept-left : keeps l.gone.dropped l.gone.ended w.request ≡ false → AreServed s all (kept l (take i waiting)) told → AreServed s all (kept l (take (i + 1) waiting)) told
     kept-left off a = subst (λ (hs : List Held). AreServed s all hs told) (sym (kept-less l (take i waiting) (take (i + 1) waiting) w kept-next off)) a
 
     pub kept-silent : is_idle ((with_told told s).rows w.at) ≡ false → AreServed s all (kept l (take i waiting)) told → AreServed s all (kept l (take (i + 1) waiting)) told
-    kept-silent quiet a = by (keeps l.dropped l.ended w.request) refl
+    kept-silent quiet a = by (keeps l.gone.dropped l.gone.ended w.request) refl
       where
-        by : (b : Bool) → keeps l.dropped l.ended w.request ≡ b → AreServed s all (kept l (take (i + 1) waiting)) told
+        by : (b : Bool) → keeps l.gone.dropped l.gone.ended w.request ≡ b → AreServed s all (kept l (take (i + 1) waiting)) told
         by false off = kept-left off a
         by true on =
             subst (λ (hs : List Held). AreServed s all hs told) (sym (kept-more l (take i waiting) (take (i + 1) waiting) w kept-next on))
@@ -431,17 +465,17 @@ module _ (s t : ServerState) (l : Lists) (held : List Held) (told : List Told) (
   rest-untouched none j w above there = rest-apart j w above there (λ h. none-some w.at (sym none ∙ h))
 
   -- where that node was told something
-  pub rest-told : (at : ℕ) → touched ≡ Some at → list_any (λ (x : Told). x.node == at) told ≡ true → (j : ℕ) (w : Held) → i ≤ j → slice_get (waiting_for l.ats.items held) j ≡ Some w → is_idle ((with_told told t).rows w.at) ≡ false
+  pub rest-told : (at : ℕ) → touched ≡ Some at → is_some (told_to told at) ≡ true → (j : ℕ) (w : Held) → i ≤ j → slice_get (waiting_for l.ats.items held) j ≡ Some w → is_idle ((with_told told t).rows w.at) ≡ false
   rest-told at is some j w above there = elim (eqb_tells w.at at) [
     | inl same ↦ subst (λ (k : ℕ). is_idle ((with_told told t).rows k) ≡ false) (sym same.1) (told-quiet told t at some)
     | inr other ↦ rest-apart j w above there (λ h. other.1 (same_Some w.at at (sym h ∙ is)))
   ]
 
 -- what a request is left with, by one request more
-pub left-next : (l : Lists) (xs next : List Held) (h : Held) (r : TokenRequest) (span new : Range) → next ≡ xs ++ h ∷ [] → HasByte h.request → (keeps l.dropped l.ended h.request ≡ true → new ≡ cut r.wanted.required span h.request.wanted.required) → (keeps l.dropped l.ended h.request ≡ false → new ≡ span) → IsLeft (requests_of (kept l xs)) r span → IsLeft (requests_of (kept l next)) r new
-left-next l xs next h r span new is full on off left = by (keeps l.dropped l.ended h.request) refl
+pub left-next : (l : Lists) (xs next : List Held) (h : Held) (r : TokenRequest) (span new : Range) → next ≡ xs ++ h ∷ [] → HasByte h.request → (keeps l.gone.dropped l.gone.ended h.request ≡ true → new ≡ cut r.wanted.required span h.request.wanted.required) → (keeps l.gone.dropped l.gone.ended h.request ≡ false → new ≡ span) → IsLeft (requests_of (kept l xs)) r span → IsLeft (requests_of (kept l next)) r new
+left-next l xs next h r span new is full on off left = by (keeps l.gone.dropped l.gone.ended h.request) refl
   where
-    by : (b : Bool) → keeps l.dropped l.ended h.request ≡ b → IsLeft (requests_of (kept l next)) r new
+    by : (b : Bool) → keeps l.gone.dropped l.gone.ended h.request ≡ b → IsLeft (requests_of (kept l next)) r new
     by true k =
         let more : requests_of (kept l next) ≡ requests_of (kept l xs) ++ h.request ∷ [] =
         ap requests_of (kept-more l xs next h is k) ∙ map-append (λ (x : Held). x.request) (kept l xs) (h ∷ []) in
@@ -452,9 +486,9 @@ left-next l xs next h r span new is full on off left = by (keeps l.dropped l.end
         (subst (λ (s : Range). IsLeft (requests_of (kept l xs)) r s) (sym (off k)) left)
 
 -- those of the first requests, and of the others
-pub kept-parts : (l : Lists) (held : List Held) (i : ℕ) → still_active l.ended (without l.dropped (requests_of held)) ≡ requests_of (kept l (take i held)) ++ requests_of (kept l (drop i held))
+pub kept-parts : (l : Lists) (held : List Held) (i : ℕ) → still_active l.gone.ended (without l.gone.dropped (requests_of held)) ≡ requests_of (kept l (take i held)) ++ requests_of (kept l (drop i held))
 kept-parts l held i =
     sym (kept-requests l held)
     ∙ ap (λ (hs : List Held). requests_of (kept l hs)) (sym (take-append-drop i held))
-    ∙ ap requests_of (filter-append (λ (h : Held). keeps l.dropped l.ended h.request) (take i held) (drop i held))
+    ∙ ap requests_of (filter-append (λ (h : Held). keeps l.gone.dropped l.gone.ended h.request) (take i held) (drop i held))
     ∙ map-append (λ (h : Held). h.request) (kept l (take i held)) (kept l (drop i held))

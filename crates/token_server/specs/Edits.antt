@@ -93,15 +93,15 @@ keeps dropped ended r = not (is_up_to_any dropped r) && not (is_of_any ended r)
 
 -- the requests that are served after the edit
 abbrev pub held_after : Lists → List Held → List Held
-held_after l held = held_still l.ended (held_without l.dropped (waiting_for l.ats.items held)) ++ l.fresh.items
+held_after l held = held_still l.gone.ended (held_without l.gone.dropped (waiting_for l.ats.items held)) ++ l.fresh.items
 
 -- the queue
 abbrev pub queue_after : Lists → List TokenRequest → List TokenRequest → List TokenRequest
-queue_after l queue waiting = all_but (requests_of l.fresh.items) (queue_moved l.moved (without l.dropped queue) (without l.dropped waiting))
+queue_after l queue waiting = all_but (requests_of l.fresh.items) (queue_moved l.moved (without l.gone.dropped queue) (without l.gone.dropped waiting))
 
 -- those that wait
 abbrev pub waiting_after : Lists → List TokenRequest → List TokenRequest
-waiting_after l waiting = waiting_moved l.moved (without l.dropped waiting)
+waiting_after l waiting = waiting_moved l.moved (without l.gone.dropped waiting)
 
 -- the state once a row is edited, where no request moves
 abbrev pub reached : ServerParts → Option RowEdit → ServerState
@@ -109,9 +109,9 @@ reached p rows = record { shape = p.shape; file = p.file; epoch = p.epoch; rows 
 
 -- the requests change as the sketch has it; then, unless a node has not told its token, these come from the queue, and each that is served is known with the node whose row it waits for
 pub record AreListed (p : ServerParts) (k : Sketch) (rows : Option RowEdit) (l : Lists) : Type 0 where
-  pub served : still_active l.ended (without l.dropped (requests_of p.active.held)) ≡ (sketched p k).active
-  pub queued : queue_moved l.moved (without l.dropped p.queue.requests) (without l.dropped p.waiting.requests) ≡ (sketched p k).queue
-  pub put_off : waiting_moved l.moved (without l.dropped p.waiting.requests) ≡ (sketched p k).waiting
+  pub served : still_active l.gone.ended (without l.gone.dropped (requests_of p.active.held)) ≡ (sketched p k).active
+  pub queued : queue_moved l.moved (without l.gone.dropped p.queue.requests) (without l.gone.dropped p.waiting.requests) ≡ (sketched p k).queue
+  pub put_off : waiting_moved l.moved (without l.gone.dropped p.waiting.requests) ≡ (sketched p k).waiting
   pub comes : awaits (sketched p k) ≡ false → IsAdmitted (sketched p k).active (sketched p k).queue (requests_of l.fresh.items)
   pub rests : awaits (sketched p k) ≡ true → l.fresh.items ≡ []
   pub waits : All (λ h. obstacle (reached p rows) h.request ≡ h.at) (held_after l p.active.held)
@@ -208,9 +208,9 @@ IsNewCall Nothing queue waiting = Unit {0}
 
 -- these parts of an edit were planned from a server with those: there is room for it, and what holds between two steps holds after it
 pub record PartsFit (p : ServerParts) (v : Parts) : Type 0 where
-  pub new : IsNewCall v.draft.lists.moved (without v.draft.lists.dropped p.queue.requests) (without v.draft.lists.dropped p.waiting.requests)
+  pub new : IsNewCall v.draft.lists.moved (without v.draft.lists.gone.dropped p.queue.requests) (without v.draft.lists.gone.dropped p.waiting.requests)
   pub served : HeldHasRoom p.active v.spares.active (length v.draft.lists.fresh.items)
-  pub queued : HasRoom p.queue v.spares.queue (many_moved v.draft.lists.moved (without v.draft.lists.dropped p.waiting.requests))
+  pub queued : HasRoom p.queue v.spares.queue (many_moved v.draft.lists.moved (without v.draft.lists.gone.dropped p.waiting.requests))
   pub put_off : HasRoom p.waiting v.spares.waiting (many_put_off v.draft.lists.moved)
   pub nodes : length (overlaid p.known_nodes v.draft.rows) ≡ length p.known_nodes
   pub awaited : v.draft.awaits ≡ awaits (made p v)

@@ -1,6 +1,8 @@
 -- What the code keeps of a server, and the state that it stands for.
 use Rattle.std.specs.Prelude.{◌≡◌, ℕ, zero, suc, ◌+◌, ◌<◌, ◌==◌, nat_lt, if◌then◌else◌, List, length, slice_get, is_some, Option, Some, None, Result, Ok, Err}
 use Rattle.intervals.specs.Bytes.{Range}
+use Rattle.intervals.specs.declared.tree_map.TreeMap.{TreeMap}
+use Rattle.model.specs.declared.level.Level.{Level}
 use Rattle.model.specs.declared.mode.Mode.{Mode}
 use Rattle.token_set.specs.Tokens.{Token}
 use Rattle.token_set.specs.Releases.{lowered}
@@ -78,6 +80,11 @@ told_commands command c = record { incarnation = c.incarnation; number = c.numbe
 -- the row once its command is answered
 abbrev pub answered : Row → Row
 answered row = record row { outstanding = None }
+
+-- and with that token from then on, if there is one
+abbrev pub answering : Option (TreeMap Level) → Row → Row
+answering None row = answered row
+answering (Some token) row = record row { token = token_of token; outstanding = None }
 
 -- the row once its node has given up the span
 abbrev pub relieved : Range → Mode → Row → Row

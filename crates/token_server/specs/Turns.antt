@@ -13,19 +13,18 @@ use Rattle.token_server.specs.Edits.{keeps}
 
 -- those of the requests that are served on
 abbrev pub kept : Lists → List Held → List Held
-kept l held = filter (λ h. keeps l.dropped l.ended h.request) held
+kept l held = filter (λ h. keeps l.gone.dropped l.gone.ended h.request) held
 
 -- those that are served on of those that were served, each with the row that it waits for from now on
 abbrev pub kept_of : Lists → List Held → List Held
 kept_of l held = kept l (waiting_for l.ats.items held)
 
--- after those nodes were told, the request is served: the node whose row it waits for is told something if it can be, and no command may go to it then
+-- after those nodes were told, the request is served: the node whose row it waits for is told something if it can be
 pub record IsTurn (s : ServerState) (h : Held) (before after : List Told) : Type 0 where
   pub next : Option Told
   pub made : after ≡ before ++ option_to_list next
   pub node : IfSome next (λ t. 1 ≤ t.node)
   pub comes : served (with_told before s) h.request ≡ Ok (with_told (before ++ option_to_list next) s, commands_told (option_to_list next))
-  pub busy : is_idle ((with_told (before ++ option_to_list next) s).rows h.at) ≡ false
   pub order : h.request.wanted.required.lo ≤ h.request.wanted.required.hi
   pub starts : h.request.wanted.desired.lo ≤ h.request.wanted.required.lo
   pub ends : h.request.wanted.required.hi ≤ h.request.wanted.desired.hi

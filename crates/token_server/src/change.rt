@@ -67,12 +67,3 @@ pub struct Change {
     pub edit: Edit,
     pub outcome: Outcome,
 }
-
-impl Change {
-    /// What the step gives.
-    pub fn outcome(&self) -> &Outcome
-        ensures { result.now ≡ self.now.outcome }
-    {
-        &self.outcome
-    }
-}

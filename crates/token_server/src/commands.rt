@@ -3,7 +3,6 @@ ghost use Rattle.std.specs.Prelude.{◌≡◌, ◌≤◌, ◌+◌, ◌↔◌, Is
 ghost use Rattle.messages.specs.Epochs.{IsEpoch, before_epoch};
 ghost use Rattle.messages.specs.declared.message.Message.TheVariants.{Hello};
 ghost use Rattle.token_server.specs.State.{is_hello};
-ghost use Rattle.token_server.specs.Server.{is_grant, revoked_mode, asks_token};
 ghost use Rattle.token_server.specs.Told.{awaiting};
 ghost use Rattle.token_server.specs.Parts.{next_number, told_commands, answered_commands};
 
@@ -13,7 +12,6 @@ use messages::epoch_number::EpochNumber;
 use messages::file_number::FileNumber;
 use messages::refusal::StepError;
 use model::host::Host;
-use model::mode::Mode;
 use std::marker::Model;
 
 /// The commands to a node in one incarnation (from 1): the number of the last (at first the one after which
@@ -96,29 +94,6 @@ impl Commands {
             return Err(StepError::Spent);
         }
         Ok(Some(CommandNumber::of(epoch, sent as u32 + 1)))
-    }
-
-    /// Whether the Grant with that number is under way.
-    pub fn grants(&self, number: u64) -> bool
-        ensures { result ≡ is_grant number self.now.outstanding }
-    {
-        self.outstanding
-            .is_some_and(|command| command.is_grant(number))
-    }
-
-    /// The mode of the Revoke with that number, if it is under way.
-    pub fn revoked_mode(&self, number: u64) -> Option<Mode>
-        ensures { result ≡ revoked_mode number self.now.outstanding }
-    {
-        self.outstanding.as_ref()?.revoked_mode(number)
-    }
-
-    /// Whether the node is asked for its token with that number.
-    pub fn asks_token(&self, number: u64) -> bool
-        ensures { result ≡ asks_token number self.now.outstanding }
-    {
-        self.outstanding
-            .is_some_and(|command| command.asks_token(number))
     }
 
     /// Whether the node is asked for its token.

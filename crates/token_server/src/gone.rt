@@ -12,7 +12,7 @@ use token_queue::token_request::TokenRequest;
 /// Which requests go before others come from the queue: those of the incarnations of a node up to one, and the
 /// call's, of those that are served.
 #[derive(Clone, Copy)]
-pub(crate) struct Gone {
+pub struct Gone {
     pub dropped: Option<(u8, u16)>,
     pub ended: Option<CallId>,
 }

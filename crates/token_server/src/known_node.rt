@@ -6,7 +6,7 @@ ghost use Rattle.model.specs.Limits.{IsNumber, most_nodes};
 ghost use Rattle.members.specs.Parts.{members_state};
 ghost use Rattle.token_server.specs.State.{row_above};
 ghost use Rattle.token_server.specs.Serve.{row_conflicts};
-ghost use Rattle.token_server.specs.Parts.{row_seen, answered, relieved, reporting, SameKnown};
+ghost use Rattle.token_server.specs.Parts.{row_seen, answering, relieved, SameKnown};
 ghost use Rattle.token_server.specs.Rebuilds.{rebuilt_row, rebuilt_dead};
 ghost use Rattle.token_server.specs.Resends.{outstanding_of};
 ghost use Rattle.token_server.specs.Sketches.{row_or_empty, row_after, dead_after};
@@ -104,9 +104,11 @@ impl KnownNode {
             NodeChange::Asked { host, begin } => {
                 Ok(Some(self.asking_row(alloc, host.incarnation, *begin)))
             }
-            NodeChange::Answered => Ok(self.answered_row()),
+            NodeChange::Answered => Ok(self.answered_row(None)),
             NodeChange::Relieved { span, mode } => self.relieved_row(*span, *mode),
-            NodeChange::Reported { runs } => self.reporting_row(alloc, runs),
+            NodeChange::Reported { runs } => {
+                Ok(self.answered_row(Some(token_told(alloc, runs)?)))
+            }
         }
     }
 
@@ -141,13 +143,13 @@ impl KnownNode {
         }
     }
 
-    // Its row once the command to it is answered.
-    fn answered_row(&self) -> Option<RowAfter>
-        ensures { row_seen (row_kept result self.now.row) ≡ option_map answered (row_seen self.now.row) }
+    // Its row once the command to it is answered, with that token, if there is one.
+    fn answered_row(&self, token: Option<TokenSet>) -> Option<RowAfter>
+        ensures { row_seen (row_kept result self.now.row) ≡ option_map (answering token) (row_seen self.now.row) }
     {
         Some(RowAfter {
             commands: self.row.as_ref()?.commands.answered(),
-            token: None,
+            token,
         })
     }
 
@@ -163,19 +165,6 @@ impl KnownNode {
         Ok(Some(RowAfter {
             commands: row.commands.answered(),
             token: Some(token),
-        }))
-    }
-
-    // Its row once it has told its token, which has these runs.
-    fn reporting_row(&self, alloc: Global, runs: &TokenRuns) -> Result<Option<RowAfter>, AllocError>
-        ensures { IfOk result (λ after. row_seen (row_kept after self.now.row) ≡ option_map (reporting runs.now) (row_seen self.now.row)) }
-    {
-        let Some(row) = &self.row else {
-            return Ok(None);
-        };
-        Ok(Some(RowAfter {
-            commands: row.commands.answered(),
-            token: Some(token_told(alloc, runs)?),
         }))
     }
 
@@ -213,7 +202,8 @@ impl KnownNode {
         ensures dead { self.new.dead ≡ self.old.dead }
     {
         if let Some(row) = &mut self.row {
-            row.put(commands, token);
+            row.commands = commands;
+            row.token.apply(token);
         }
     }
 

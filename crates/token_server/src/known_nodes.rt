@@ -52,18 +52,6 @@ impl Model for KnownNodes {
     ghost invariant = { λ c. c.may_exclude ≡ false → NoneExclusive (rows_of c.nodes.items) };
 }
 
-// So many nodes of which nothing is known yet.
-fn unknown(alloc: Global, nodes: u8) -> Result<Vec<KnownNode>, AllocError>
-    ensures unknown { IfOk result (λ known_nodes. All (λ known_node. known_node ≡ record { dead = 0; row = None }) known_nodes.items) }
-    ensures len { IfOk result (λ known_nodes. length known_nodes.items ≡ nodes) }
-{
-    let mut known_nodes = Vec::new(alloc);
-    for _node in 0..nodes {
-        known_nodes.push(KnownNode { dead: 0, row: None })?;
-    }
-    Ok(known_nodes)
-}
-
 // Each of so many nodes, as a server of the file knows them that was rebuilt.
 fn rebuilt(
     alloc: Global,
@@ -82,17 +70,6 @@ fn rebuilt(
         known_nodes.push(KnownNode::rebuilt(alloc, file, number, place + 1, members))?;
     }
     Ok(known_nodes)
-}
-
-// Equal known nodes.
-fn copies(alloc: Global, known_nodes: &[KnownNode]) -> Result<Vec<KnownNode>, AllocError>
-    ensures { IfOk result (λ copies. copies.items ≡ known_nodes.now) }
-{
-    let mut copies = Vec::new(alloc);
-    for known_node in known_nodes {
-        copies.push(known_node.copy()?)?;
-    }
-    Ok(copies)
 }
 
 // Whether the same is known of each two.
@@ -118,8 +95,12 @@ impl KnownNodes {
         ensures deaths { IfOk result (λ known_nodes. deaths_of known_nodes ≡ (λ node. 0)) }
         ensures len { IfOk result (λ known_nodes. length known_nodes ≡ nodes) }
     {
+        let mut known_nodes = Vec::new(alloc);
+        for _node in 0..nodes {
+            known_nodes.push(KnownNode { dead: 0, row: None })?;
+        }
         Ok(KnownNodes {
-            nodes: unknown(alloc, nodes)?,
+            nodes: known_nodes,
             may_exclude: false,
         })
     }
@@ -149,32 +130,37 @@ impl KnownNodes {
         })
     }
 
-    /// The greatest incarnation of a node known to be dead, 0 where none is.
-    pub fn dead(&self, node: u8) -> u16
-        ensures { result ≡ deaths_of self.now node }
+    // A node, if it is one of the cluster.
+    fn get(&self, node: u8) -> Option<&KnownNode>
+        ensures value { option_copied result ≡ known_node_at self.now node }
+        ensures within { OnSome result (IsNumber (length self.now) node) }
     {
-        if node == 0 || usize::from(node) > self.nodes.len() {
-            return 0;
-        }
-        self.at(node).dead
+        self.nodes.get(usize::from(node).checked_sub(1)?)
     }
 
-    /// A node.
-    pub fn at(&self, node: u8) -> &KnownNode
+    // A node of the cluster.
+    fn at(&self, node: u8) -> &KnownNode
         requires { IsNumber (length self.now) node }
         ensures { known_node_at self.now node ≡ Some result.now }
     {
         &self.nodes[usize::from(node) - 1]
     }
 
+    /// The greatest incarnation of a node known to be dead, 0 where none is.
+    pub fn dead(&self, node: u8) -> u16
+        ensures { result ≡ deaths_of self.now node }
+    {
+        match self.get(node) {
+            Some(known_node) => known_node.dead,
+            None => 0,
+        }
+    }
+
     /// The row of a node.
     pub fn row(&self, node: u8) -> Option<&TokenHolder>
         ensures { row_seen (option_copied result) ≡ rows_of self.now node }
     {
-        if node == 0 || usize::from(node) > self.nodes.len() {
-            return None;
-        }
-        self.at(node).row.as_ref()
+        self.get(node)?.row.as_ref()
     }
 
     /// The row of a node, if it is of that incarnation.
@@ -215,29 +201,17 @@ impl KnownNodes {
         }))
     }
 
-    // The row of a node once the edit is made.
-    fn edited_row<'a>(&'a self, edit: &'a Option<RowEdit>, node: u8) -> Option<RowView<'a>>
-        requires { IsNumber (length self.now) node }
-        ensures { IsReadAs (known_node_at (overlaid self.now edit.now) node) (seen_row result) }
+    /// The row of a node once the edit is made, if there is one.
+    pub fn row_after<'a>(&'a self, edit: &'a Option<RowEdit>, node: u8) -> Option<RowView<'a>>
+        ensures row { MatchOption result (rows_of (overlaid self.now edit.now) node ≡ None) (λ row. rows_of (overlaid self.now edit.now) node ≡ Some (row_state (seen row))) }
+        ensures known_node { MatchOption result (rows_of (overlaid self.now edit.now) node ≡ None) (λ row. (dead : ℕ) × (known_node_at (overlaid self.now edit.now) node ≡ Some (record { dead = dead; row = Some (seen row) }))) }
+        ensures within { OnSome result (IsNumber (length self.now) node) }
     {
-        let known_node = self.at(node);
+        let known_node = self.get(node)?;
         match edit {
             Some(edit) if edit.place == usize::from(node) - 1 => edit.row_over(known_node),
             _ => known_node.row_view(),
         }
-    }
-
-    /// The row of a node once the edit is made, if there is one.
-    pub fn row_after<'a>(&'a self, edit: &'a Option<RowEdit>, node: u8) -> Option<RowView<'a>>
-        requires { 1 ≤ node }
-        ensures row { MatchOption result (rows_of (overlaid self.now edit.now) node ≡ None) (λ row. rows_of (overlaid self.now edit.now) node ≡ Some (row_state (seen row))) }
-        ensures known_node { MatchOption result (rows_of (overlaid self.now edit.now) node ≡ None) (λ row. (dead : ℕ) × (known_node_at (overlaid self.now edit.now) node ≡ Some (record { dead = dead; row = Some (seen row) }))) }
-        ensures within { OnSome result (node ≤ length self.now) }
-    {
-        if usize::from(node) > self.nodes.len() {
-            return None;
-        }
-        self.edited_row(edit, node)
     }
 
     /// Whether it is known at once that no row has an exclusive byte once the edit is made.
@@ -255,7 +229,6 @@ impl KnownNodes {
 
     /// Whether the node is asked for its token, once the edit is made.
     pub fn is_awaited(&self, edit: &Option<RowEdit>, node: u8) -> bool
-        requires { 1 ≤ node }
         ensures { result ≡ is_awaited (rows_of (overlaid self.now edit.now) node) }
     {
         self.row_after(edit, node)
@@ -274,23 +247,17 @@ impl KnownNodes {
         false
     }
 
-    // The edit is made, if a node stands at its place.
-    fn change(&mut self, edit: RowEdit)
-        ensures { self.new ≡ with_known_node self.old edit (slice_get self.old edit.place) }
+    /// The edit is made, if there is one, and if a node stands at its place. Takes no memory.
+    pub fn apply(&mut self, edit: Option<RowEdit>)
+        ensures { self.new ≡ overlaid self.old edit }
     {
+        let Some(edit) = edit else {
+            return;
+        };
         let place = edit.place;
         if place < self.nodes.len() {
             self.nodes[place].change(edit);
             self.may_exclude = self.nodes[place].notes_exclusive(self.may_exclude);
-        }
-    }
-
-    /// The edit is made, if there is one. Takes no memory.
-    pub fn apply(&mut self, edit: Option<RowEdit>)
-        ensures { self.new ≡ overlaid self.old edit }
-    {
-        if let Some(edit) = edit {
-            self.change(edit);
         }
     }
 
@@ -358,8 +325,12 @@ impl KnownNodes {
     pub fn copy(&self) -> Result<KnownNodes, AllocError>
         ensures { IfOk result (λ copy. copy ≡ self.now) }
     {
+        let mut nodes = Vec::new(*self.nodes.allocator());
+        for known_node in &self.nodes {
+            nodes.push(known_node.copy()?)?;
+        }
         Ok(KnownNodes {
-            nodes: copies(*self.nodes.allocator(), &self.nodes)?,
+            nodes,
             may_exclude: self.may_exclude,
         })
     }

@@ -7,6 +7,7 @@ ghost use Rattle.token_server.specs.Ready.{AreDistinct};
 ghost use Rattle.token_server.specs.Sketches.{without, queue_moved, waiting_moved};
 ghost use Rattle.token_server.specs.Edits.{held_without, held_still, held_after, queue_after, waiting_after, HasRoom, HeldHasRoom, IsNewCall, many_moved, many_put_off};
 
+use crate::gone::Gone;
 use crate::lists::{Lists, Spares};
 use crate::sketch::Moved;
 use model::call::CallId;
@@ -103,54 +104,45 @@ pub(crate) fn change(
     spares: Spares,
 )
     requires distinct { AreDistinct (requests_of active.old.held) }
-    requires new { IsNewCall lists.moved (without lists.dropped queue.old.requests) (without lists.dropped waiting.old.requests) }
+    requires new { IsNewCall lists.moved (without lists.gone.dropped queue.old.requests) (without lists.gone.dropped waiting.old.requests) }
     requires served { HeldHasRoom active.old spares.active (length lists.fresh.items) }
-    requires queued { HasRoom queue.old spares.queue (many_moved lists.moved (without lists.dropped waiting.old.requests)) }
+    requires queued { HasRoom queue.old spares.queue (many_moved lists.moved (without lists.gone.dropped waiting.old.requests)) }
     requires put_off { HasRoom waiting.old spares.waiting (many_put_off lists.moved) }
     ensures active { active.new.held ≡ held_after lists active.old.held }
     ensures queue { queue.new.requests ≡ queue_after lists queue.old.requests waiting.old.requests }
     ensures waiting { waiting.new.requests ≡ waiting_after lists waiting.old.requests }
 {
     let Lists {
-        dropped,
+        gone,
         ats,
-        ended,
         moved,
         fresh,
     } = lists;
     serve_on(
         active,
         spares.active,
-        dropped,
+        &gone,
         ats.as_slice(),
-        ended,
         fresh.as_slice(),
     );
     refill(waiting, spares.waiting, moved.put_off());
-    forget(waiting, dropped);
+    forget(waiting, gone.dropped);
     refill(queue, spares.queue, moved.many(waiting));
-    forget(queue, dropped);
+    forget(queue, gone.dropped);
     move_requests(queue, waiting, moved, fresh.as_slice());
     leave(queue, fresh.as_slice());
 }
 
 // The requests that are served change so.
-fn serve_on(
-    active: &mut Active,
-    spare: Option<Vec<Held>>,
-    dropped: Option<(u8, u16)>,
-    ats: &[u8],
-    ended: Option<CallId>,
-    fresh: &[Held],
-)
+fn serve_on(active: &mut Active, spare: Option<Vec<Held>>, gone: &Gone, ats: &[u8], fresh: &[Held])
     requires distinct { AreDistinct (requests_of active.old.held) }
     requires room { HeldHasRoom active.old spare (length fresh.now) }
-    ensures { active.new.held ≡ held_still ended (held_without dropped (waiting_for ats.now active.old.held)) ++ fresh.now }
+    ensures { active.new.held ≡ held_still gone.now.ended (held_without gone.now.dropped (waiting_for ats.now active.old.held)) ++ fresh.now }
 {
     refill_served(active, spare, fresh.len());
     active.wait_for(ats);
-    drop_served(active, dropped);
-    end_served(active, ended);
+    drop_served(active, gone.dropped);
+    end_served(active, gone.ended);
     serve(active, fresh);
 }
 

@@ -17,8 +17,10 @@ ghost use Rattle.token_server.specs.Sketches.{is_answer, dropped, without, moved
 ghost use Rattle.token_server.specs.Edits.{overlaid, reached, planned, AreListed, IsDrafted, Fits, HasRoom, HeldHasRoom, many_moved, many_put_off};
 
 use crate::change::{Change, Draft, Edit, Parts};
+use crate::command::Command;
 use crate::commands::before_epoch;
 use crate::event::ServerEvent;
+use crate::gone::Gone;
 use crate::known_nodes::KnownNodes;
 use crate::lists::{Lists, Spares};
 use crate::moves;
@@ -60,7 +62,7 @@ mod serving;
 #[derive(Drop)]
 pub struct Server {
     shape: Shape,
-    file: u16,
+    file: FileNumber,
     // 1 until it was rebuilt.
     epoch: u16,
     known_nodes: KnownNodes,
@@ -91,9 +93,10 @@ impl Server {
         requires { IsNumber shape.files file }
         ensures { IfOk result (λ server. server_state server ≡ first_server shape file) }
     {
+        let _ = shape.files(); // tells the proof how many files there may be
         Ok(Server {
             shape,
-            file,
+            file: FileNumber::of(file),
             epoch: 1,
             known_nodes: KnownNodes::new(alloc, shape.nodes())?,
             active: Active::new(alloc),
@@ -123,7 +126,8 @@ impl Server {
         ensures outcome { let nodes = members_state members.now.nodes in IfOk result (λ r. r.1 ≡ sending (outstanding (rebuilt shape file epoch nodes.alive nodes.incarnation))) }
     {
         let _ = shape.files(); // tells the proof how many files there may be
-        let known_nodes = KnownNodes::rebuilt(alloc, shape, FileNumber::of(file), epoch, members)?;
+        let file = FileNumber::of(file);
+        let known_nodes = KnownNodes::rebuilt(alloc, shape, file, epoch, members)?;
         let hellos = known_nodes.outstanding(alloc)?;
         let awaits = known_nodes.awaits(&None, shape.nodes());
         let server = Server {
@@ -163,13 +167,16 @@ impl Server {
     pub fn same(&self, other: &Server) -> bool
         ensures { IsTrue result ↔ (server_state self.now ≡ server_state other.now) }
     {
-        if self.shape != other.shape || self.file != other.file || self.epoch != other.epoch {
+        if self.shape != other.shape || self.file.get() != other.file.get() {
             return false;
         }
-        if !self.queue.same(&other.queue) || !self.active.same(&other.active) {
+        if self.epoch != other.epoch || !self.queue.same(&other.queue) {
             return false;
         }
-        self.waiting.same(&other.waiting) && self.known_nodes.same(&other.known_nodes)
+        if !self.active.same(&other.active) || !self.waiting.same(&other.waiting) {
+            return false;
+        }
+        self.known_nodes.same(&other.known_nodes)
     }
 
     /// The epoch in which the server is: 1 until it was rebuilt.
@@ -178,20 +185,6 @@ impl Server {
         ensures from_one { 1 ≤ result }
     {
         self.epoch
-    }
-
-    // The incarnations of a node up to this one are known to be dead, and what waits is asked for again.
-    fn forgotten(&self, node: u8, incarnation: u16) -> Sketch
-        requires { IsNumber self.now.shape.nodes node }
-        ensures state { sketched self.now result ≡ requeued (forgotten (server_state self.now) node incarnation) }
-        ensures in_cluster { IfSome result.changed (λ c. IsNumber self.now.shape.nodes c.node) }
-    {
-        Sketch::of(
-            node,
-            NodeChange::Forgotten { incarnation },
-            Moved::Waiting,
-            None,
-        )
     }
 
     // What comes last in the queue for a request: its call's that waits, or the request itself, unless its
@@ -221,14 +214,18 @@ impl Server {
         Sketch::of(host.node, NodeChange::Asked { host, begin }, moved, None)
     }
 
+    // The command that is under way to that holder, if one is.
+    fn command_to(&self, holder: Host) -> Option<Command>
+        ensures { MatchOption (row_of_host (server_state self.now) holder) (result ≡ None) (λ row. result ≡ row.outstanding) }
+    {
+        self.known_nodes.row_of(holder)?.commands.outstanding
+    }
+
     // The mode that the command with that number revokes, if it is under way to that holder.
     fn revoked_mode(&self, number: u64, holder: Host) -> Option<Mode>
         ensures { MatchOption (row_of_host (server_state self.now) holder) (result ≡ None) (λ row. result ≡ revoked_mode number row.outstanding) }
     {
-        self.known_nodes
-            .row_of(holder)?
-            .commands
-            .revoked_mode(number)
+        self.command_to(holder)?.revoked_mode(number)
     }
 
     // Takes a node's answer to a Grant: the call's request is served no longer. `None` where the answer
@@ -238,9 +235,8 @@ impl Server {
         ensures state { taken (server_state self.now) number call (row_of_host (server_state self.now) (host_of_call call)) ≡ option_map (λ k. (sketched self.now k, [])) result }
         ensures in_cluster { IfSome result (λ k. IfSome k.changed (λ c. IsNumber self.now.shape.nodes c.node)) }
     {
-        match self.known_nodes.row_of(call.host()) {
-            Some(row) if row.commands.grants(number) => {}
-            _ => return None,
+        if !self.command_to(call.host())?.is_grant(number) {
+            return None;
         }
         let answered = NodeChange::Answered;
         Some(Sketch::of(call.node, answered, Moved::Nothing, Some(call)))
@@ -257,14 +253,6 @@ impl Server {
         Some(Sketch::of(holder.node, relieved, Moved::Nothing, None))
     }
 
-    // The number of the file.
-    fn file_number(&self) -> FileNumber
-        ensures { result ≡ self.now.file }
-    {
-        let _ = self.shape.files(); // tells the proof how many files there may be
-        FileNumber::of(self.file)
-    }
-
     // Takes a holder's answer that a lock is in the way: the call's request is served no longer, and is
     // denied or waits. What is sent, or `None` where the answer doesn't count.
     fn on_conflict(
@@ -279,13 +267,12 @@ impl Server {
         ensures in_cluster { IfSome result (λ d. IfSome d.0.changed (λ c. IsNumber self.now.shape.nodes c.node)) }
     {
         self.revoked_mode(number.get(), holder)?;
-        let file = self.file_number();
         let own = self.active.find(call);
         let (moved, denial) = match own {
             Some(request) if request.blocking == Blocking::Yes => (Moved::PutOff(request), None),
             Some(_) => {
                 let deny = Message::Deny {
-                    file,
+                    file: self.file,
                     call,
                     holder,
                     number,
@@ -312,8 +299,8 @@ impl Server {
         ensures state { IfOk result (λ r. heard (server_state self.now) number holder runs.now (row_of_host (server_state self.now) holder) ≡ option_map (λ k. (sketched self.now k, [])) r) }
         ensures in_cluster { IfOk result (λ r. IfSome r (λ k. IfSome k.changed (λ c. IsNumber self.now.shape.nodes c.node))) }
     {
-        match self.known_nodes.row_of(holder) {
-            Some(row) if row.commands.asks_token(number) => {}
+        match self.command_to(holder) {
+            Some(command) if command.asks_token(number) => {}
             _ => return Ok(None),
         }
         let reported = NodeChange::Reported {
@@ -372,11 +359,14 @@ impl Server {
         ensures { IfOk result (λ lists. AreListed self.now sketch.now rows.now lists) }
     {
         let dropped = self.newly_dead(sketch);
-        let fresh = self.admit(alloc, awaiting, dropped, sketch)?;
-        Ok(Lists {
+        let gone = Gone {
             dropped,
-            ats: self.awaited(alloc, rows, &sketch.changed)?,
             ended: sketch.ended,
+        };
+        let fresh = self.admit(alloc, awaiting, &gone, &sketch.moved)?;
+        Ok(Lists {
+            gone,
+            ats: self.awaited(alloc, rows, &sketch.changed)?,
             moved: sketch.moved,
             fresh: self.hold(alloc, rows, fresh.as_slice())?,
         })
@@ -385,7 +375,7 @@ impl Server {
     // The memory for a change of the requests.
     fn spares(&self, lists: &Lists) -> Result<Spares, AllocError>
         ensures active { IfOk result (λ spares. HeldHasRoom self.now.active spares.active (length lists.now.fresh.items)) }
-        ensures queue { IfOk result (λ spares. HasRoom self.now.queue spares.queue (many_moved lists.now.moved (without lists.now.dropped self.now.waiting.requests))) }
+        ensures queue { IfOk result (λ spares. HasRoom self.now.queue spares.queue (many_moved lists.now.moved (without lists.now.gone.dropped self.now.waiting.requests))) }
         ensures waiting { IfOk result (λ spares. HasRoom self.now.waiting spares.waiting (many_put_off lists.now.moved)) }
     {
         Ok(Spares {
@@ -502,61 +492,43 @@ impl Server {
     fn is_addressed_by(&self, message: &Message) -> bool
         ensures { result ≡ (is_server self.now.file (addressee message.now) && is_within self.now.shape.nodes (host_of message.now).node) }
     {
-        if message.addressee() != Actor::Server(self.file) {
+        if message.addressee() != Actor::Server(self.file.get()) {
             return false;
         }
         message.host().node <= self.shape.nodes()
     }
 
-    // Serves after that message was sent, if there is one.
+    // Serves after those messages were sent.
     fn serve_after(
         &self,
         sketch: &Sketch,
         alloc: Global,
-        first: Option<Message>,
+        first: Items<Message>,
     ) -> Result<Change, StepError>
         requires in_cluster { IfSome sketch.now.changed (λ c. IsNumber self.now.shape.nodes c.node) }
         requires orderly { IsOrderly (sketched self.now sketch.now) }
         ensures fits { IfOk result (λ change. Fits self.now change.edit) }
-        ensures ok { IfOk result (λ change. sending_first (option_to_list first) (serve (sketched self.now sketch.now)) ≡ Ok (planned self.now change.edit, change.outcome)) }
-        ensures err { IfErr result (λ e. e ≢ StepError.NoMemory → sending_first (option_to_list first) (serve (sketched self.now sketch.now)) ≡ Err e) }
+        ensures ok { IfOk result (λ change. sending_first first (serve (sketched self.now sketch.now)) ≡ Ok (planned self.now change.edit, change.outcome)) }
+        ensures err { IfErr result (λ e. e ≢ StepError.NoMemory → sending_first first (serve (sketched self.now sketch.now)) ≡ Err e) }
     {
         let (edit, served) = self.serve(sketch, alloc)?;
-        let sends = match first {
-            Some(message) => Items::one(alloc, message)?,
-            None => Items::new(alloc),
-        };
-        Ok(sending(edit, sends, served)?)
+        let mut sends = first;
+        sends.append(served)?;
+        Ok(Change {
+            edit,
+            outcome: Outcome::sending(sends),
+        })
     }
 
     // Nothing changes, nothing is sent.
-    fn no_change(&self, alloc: Global) -> Result<Change, AllocError>
+    fn no_change(&self, alloc: Global) -> Result<Change, StepError>
         ensures state { IfOk result (λ change. planned self.now change.edit ≡ server_state self.now) }
         ensures fits { IfOk result (λ change. Fits self.now change.edit) }
         ensures outcome { IfOk result (λ change. change.outcome ≡ sending []) }
+        ensures err { IfErr result (λ e. e ≡ StepError.NoMemory) }
     {
         let _ = &self.shape; // tells the proof what holds between two steps
-        let lists = Lists {
-            dropped: None,
-            ats: Vec::new(alloc),
-            ended: None,
-            moved: Moved::Nothing,
-            fresh: Vec::new(alloc),
-        };
-        let spares = Spares {
-            active: None,
-            queue: None,
-            waiting: None,
-        };
-        let draft = Draft {
-            rows: None,
-            lists,
-            awaits: self.awaits,
-        };
-        Ok(Change {
-            edit: Edit::new(alloc, draft, Vec::new(alloc), spares)?,
-            outcome: Outcome::sending(Items::new(alloc)),
-        })
+        self.serve_after(&Sketch::moving(Moved::Nothing), alloc, Items::new(alloc))
     }
 
     /// Plans what the delivery of the message changes, as `plan` does.
@@ -574,11 +546,11 @@ impl Server {
         }
         let host = message.host();
         if host.incarnation <= self.known_nodes.dead(host.node) {
-            return Ok(self.no_change(alloc)?);
+            return self.no_change(alloc);
         }
         match self.deliver(alloc, message)? {
-            Some((sketch, first)) => self.serve_after(&sketch, alloc, first),
-            None => Ok(self.no_change(alloc)?),
+            Some((sketch, first)) => self.serve_after(&sketch, alloc, in_list(alloc, first)?),
+            None => self.no_change(alloc),
         }
     }
 
@@ -590,9 +562,8 @@ impl Server {
         ensures refused { (r : StepError) → resend_rule (server_state self.now) ≡ Err r → r ≡ StepError.Spent }
     {
         let _ = &self.shape; // tells the proof what holds between two steps
-        let (edit, served) = self.serve(&Sketch::moving(Moved::Waiting), alloc)?;
         let commands = self.known_nodes.outstanding(alloc)?;
-        Ok(sending(edit, commands, served)?)
+        self.serve_after(&Sketch::moving(Moved::Waiting), alloc, commands)
     }
 
     // The incarnation is known as dead from now on, what waits is asked for again, and then the server serves.
@@ -606,7 +577,9 @@ impl Server {
             return Err(StepError::Stranger);
         }
         let _ = &self.shape; // tells the proof what holds between two steps
-        self.serve_after(&self.forgotten(node, incarnation), alloc, None)
+        let forgotten = NodeChange::Forgotten { incarnation };
+        let sketch = Sketch::of(node, forgotten, Moved::Waiting, None);
+        self.serve_after(&sketch, alloc, Items::new(alloc))
     }
 
     /// What the server will do at an event, as `step` says: only what the event changes is made anew.
@@ -694,17 +667,14 @@ fn silent(sketch: Option<Sketch>) -> Option<(Sketch, Option<Message>)>
     Some((sketch?, None))
 }
 
-// What an edit changes, where those messages are sent and then what serving sends.
-fn sending(edit: Edit, first: Items<Message>, served: Items<Message>) -> Result<Change, AllocError>
-    ensures edit { IfOk result (λ change. change.edit ≡ edit) }
-    ensures outcome { IfOk result (λ change. change.outcome ≡ sending (first ++ served)) }
+// The message, if there is one, as a list.
+fn in_list(alloc: Global, message: Option<Message>) -> Result<Items<Message>, AllocError>
+    ensures { IfOk result (λ items. items ≡ option_to_list message) }
 {
-    let mut sends = first;
-    sends.append(served)?;
-    Ok(Change {
-        edit,
-        outcome: Outcome::sending(sends),
-    })
+    match message {
+        Some(message) => Items::one(alloc, message),
+        None => Ok(Items::new(alloc)),
+    }
 }
 
 // The commands, in order.

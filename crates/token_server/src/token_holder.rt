@@ -4,13 +4,11 @@ ghost use Rattle.intervals.specs.Bytes.{whole};
 ghost use Rattle.token_set.specs.Tokens.{conflicts};
 ghost use Rattle.token_set.specs.Sets.{token_of};
 ghost use Rattle.token_server.specs.Parts.{row_state, SameRow};
-ghost use Rattle.token_server.specs.Edits.{given_row};
 
 use crate::commands::Commands;
 use intervals::span::{GREATEST, Span};
 use model::mode::Mode;
 use std::alloc::AllocError;
-use token_set::edit::TokenEdit;
 use token_set::set::TokenSet;
 
 /// What a server keeps of a node that asked: the commands to it, and its token.
@@ -39,14 +37,6 @@ pub fn excludes(token: &TokenSet) -> bool
 }
 
 impl TokenHolder {
-    /// The commands are these from now on, and the token changes so. Takes no memory.
-    pub fn put(&mut self, commands: Commands, token: TokenEdit)
-        ensures { row_state self.new ≡ given_row commands token self.old }
-    {
-        self.commands = commands;
-        self.token.apply(token);
-    }
-
     /// An equal row.
     ///
     /// # Errors

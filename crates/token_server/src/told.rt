@@ -1,12 +1,10 @@
 //! Commands that a server sends as it serves.
-ghost use Rattle.std.specs.Prelude.{◌≡◌, ◌≤◌, ◌+◌};
-ghost use Rattle.token_server.specs.Parts.{told_commands};
+ghost use Rattle.std.specs.Prelude.{◌≡◌, ◌≤◌};
 ghost use Rattle.token_server.specs.Told.{told_to, cut};
 
 use crate::command::Command;
 use crate::commands::Commands;
 use intervals::span::Span;
-use messages::command_number::CommandNumber;
 
 /// A node that is sent a command, and the commands to it from then on.
 #[derive(Clone, Copy)]
@@ -39,18 +37,4 @@ pub fn cut(required: Span, within: Span, other: Span) -> Span
         span.hi = within.hi.min((other.lo.max(1) - 1).max(required.hi));
     }
     span
-}
-
-impl Told {
-    /// A node that is sent the next command, which has that number.
-    pub fn new(node: u8, commands: Commands, number: CommandNumber, command: Command) -> Told
-        requires { number ≡ commands.number + 1 }
-        ensures { result ≡ record { node = node; commands = told_commands command commands; command = command } }
-    {
-        Told {
-            node,
-            commands: commands.told(number, command),
-            command,
-        }
-    }
 }

@@ -10,7 +10,7 @@ ghost use Rattle.token_server.specs.Comes.{served_on, left_in, NeedsAllOf, HasEn
 
 use super::Server;
 use crate::gone::Gone;
-use crate::sketch::{Moved, Sketch};
+use crate::sketch::Moved;
 use intervals::span::Span;
 use model::call::CallId;
 use std::alloc::{AllocError, Global};
@@ -26,29 +26,25 @@ impl Server {
         &self,
         alloc: Global,
         awaiting: bool,
-        dropped: Option<(u8, u16)>,
-        sketch: &Sketch,
+        gone: &Gone,
+        moved: &Moved,
     ) -> Result<Vec<TokenRequest>, AllocError>
-        requires { AreDistinct (queue_moved sketch.now.moved (without dropped self.now.queue.requests) (without dropped self.now.waiting.requests)) }
-        ensures comes { IfOk result (λ fresh. awaiting ≡ false → IsAdmitted (still_active sketch.now.ended (without dropped (requests_of self.now.active.held))) (queue_moved sketch.now.moved (without dropped self.now.queue.requests) (without dropped self.now.waiting.requests)) fresh.items) }
+        requires { AreDistinct (queue_moved moved.now (without gone.now.dropped self.now.queue.requests) (without gone.now.dropped self.now.waiting.requests)) }
+        ensures comes { IfOk result (λ fresh. awaiting ≡ false → IsAdmitted (still_active gone.now.ended (without gone.now.dropped (requests_of self.now.active.held))) (queue_moved moved.now (without gone.now.dropped self.now.queue.requests) (without gone.now.dropped self.now.waiting.requests)) fresh.items) }
         ensures rests { IfOk result (λ fresh. awaiting ≡ true → fresh.items ≡ []) }
     {
         let mut fresh = Vec::new(alloc);
         if awaiting {
             return Ok(fresh);
         }
-        let gone = Gone {
-            dropped,
-            ended: sketch.ended,
-        };
-        admit_queued(&mut fresh, &gone, !self.awaits, &self.active, &self.queue)?;
+        admit_queued(&mut fresh, gone, !self.awaits, &self.active, &self.queue)?;
         admit_moved(
             &mut fresh,
-            &gone,
+            gone,
             &self.active,
             &self.queue,
             &self.waiting,
-            &sketch.moved,
+            moved,
         )?;
         Ok(fresh)
     }

@@ -1,5 +1,5 @@
 //! How a token server serves its requests.
-ghost use Rattle.std.specs.Prelude.{◌≡◌, ◌==◌, ◌≢◌, ℕ, ◌+◌, ◌<◌, ◌≤◌, ◌++◌, true, false, length, IfSome, All, IfOk, IfErr, OnOk, slice_index_or, Some, None, Ok, Err};
+ghost use Rattle.std.specs.Prelude.{◌≡◌, ◌==◌, ◌≢◌, ℕ, ◌+◌, ◌<◌, ◌≤◌, ◌++◌, true, false, length, IfSome, All, IfOk, IfErr, OnOk, OnSome, slice_index_or, Some, None, Ok, Err};
 ghost use Rattle.std.specs.List.{list_any};
 ghost use Rattle.std.specs.Option.{option_map, option_to_list};
 ghost use Rattle.model.specs.Limits.{IsNumber, most_nodes};
@@ -24,6 +24,7 @@ use crate::sketch::Sketch;
 use crate::token_holder::RowView;
 use crate::told::{Told, cut, told_to};
 use intervals::span::Span;
+use messages::command_number::CommandNumber;
 use messages::items::Items;
 use messages::message::Message;
 use messages::refusal::StepError;
@@ -98,10 +99,10 @@ impl Server {
 
     // The commands to a node once those are told, if it has a row.
     fn commands_to(&self, draft: &Draft, told: &[Told], node: u8) -> Option<Commands>
-        requires node_in { 1 ≤ node }
-        requires counted { AreOfEpoch (drafted self.now draft.now) }
+        requires { AreOfEpoch (drafted self.now draft.now) }
         ensures value { result ≡ option_map commands_of ((with_told told.now (drafted self.now draft.now)).rows node) }
         ensures counted { IfSome result (λ c. c.outstanding ≡ None → before_epoch self.now.epoch ≤ c.number) }
+        ensures node_in { OnSome result (1 ≤ node) }
     {
         let row = self.known_nodes.row_after(&draft.rows, node)?;
         match told_to(told, node) {
@@ -110,8 +111,8 @@ impl Server {
         }
     }
 
-    // What a request comes to: the node whose row it waits for is told to give up its token, or, where that is
-    // its own, that it is granted. Nothing where a command to that is under way.
+    // What a request comes to: the node whose row it waits for is told something. Nothing where a command to that is
+    // under way.
     fn command(
         &self,
         draft: &Draft,
@@ -123,76 +124,58 @@ impl Server {
         requires counted { AreOfEpoch (drafted self.now draft.now) }
         ensures ok { IfOk result (λ o. served (with_told told.now (drafted self.now draft.now)) request.now ≡ Ok (with_told (told.now ++ option_to_list o) (drafted self.now draft.now), commands_told (option_to_list o))) }
         ensures node { IfOk result (λ o. IfSome o (λ t. 1 ≤ t.node)) }
-        ensures busy { IfOk result (λ o. is_idle ((with_told (told.now ++ option_to_list o) (drafted self.now draft.now)).rows at) ≡ false) }
         ensures err { IfErr result (λ e. served (with_told told.now (drafted self.now draft.now)) request.now ≡ Err e) }
+    {
+        let Some(commands) = self.commands_to(draft, told, at) else {
+            return Ok(None);
+        };
+        let Some(number) = commands.next_number(self.epoch)? else {
+            return Ok(None);
+        };
+        let order = self.order(draft, told, request, at, number, commands.incarnation());
+        let command = Command::of(self.file, order);
+        Ok(Some(Told {
+            node: at,
+            commands: commands.told(number, command),
+            command,
+        }))
+    }
+
+    // What the node whose row a request waits for is told: where that is its own, that it is granted, or else to give
+    // up what the request needs.
+    fn order(
+        &self,
+        draft: &Draft,
+        told: &[Told],
+        request: &TokenRequest,
+        at: u8,
+        number: CommandNumber,
+        incarnation: u16,
+    ) -> Order
+        requires waits { obstacle (with_told told.now (drafted self.now draft.now)) request.now ≡ at }
+        requires counted { 1 ≤ incarnation }
+        ensures own { (at == request.now.call.node) ≡ true → result ≡ Order.Grant number request.now.call request.now.mode (granted_span (with_told told.now (drafted self.now draft.now)) request.now) }
+        ensures other { (at == request.now.call.node) ≡ false → result ≡ Order.Revoke number (record { node = at; incarnation = incarnation }) request.now.call request.now.mode (record { required = request.now.wanted.required; desired = narrowed (drafted self.now draft.now).active request.now }) }
     {
         let _ = self.shape.nodes(); // tells the proof how many nodes there may be
         if request.is_of_node(at) {
-            return self.grant(draft, told, request);
+            return Order::Grant {
+                number,
+                call: request.call,
+                mode: request.mode,
+                span: self.granted_span(draft, told, request),
+            };
         }
-        self.revoke(draft, told, at, request)
-    }
-
-    // The command that tells a node to give up what the request needs, unless one to it is under way.
-    fn revoke(
-        &self,
-        draft: &Draft,
-        told: &[Told],
-        node: u8,
-        request: &TokenRequest,
-    ) -> Result<Option<Told>, StepError>
-        requires node_in { IsNumber self.now.shape.nodes node × IsNumber most_nodes node }
-        requires counted { AreOfEpoch (drafted self.now draft.now) }
-        ensures ok { IfOk result (λ o. revoked_from (with_told told.now (drafted self.now draft.now)) request.now node ((with_told told.now (drafted self.now draft.now)).rows node) ≡ Ok (with_told (told.now ++ option_to_list o) (drafted self.now draft.now), commands_told (option_to_list o))) }
-        ensures node { IfOk result (λ o. IfSome o (λ t. 1 ≤ t.node)) }
-        ensures err { IfErr result (λ e. revoked_from (with_told told.now (drafted self.now draft.now)) request.now node ((with_told told.now (drafted self.now draft.now)).rows node) ≡ Err e) }
-    {
-        let Some(commands) = self.commands_to(draft, told, node) else {
-            return Ok(None);
-        };
-        let Some(number) = commands.next_number(self.epoch)? else {
-            return Ok(None);
-        };
-        let incarnation = commands.incarnation();
-        let order = Order::Revoke {
+        Order::Revoke {
             number,
-            holder: Host { node, incarnation },
+            holder: Host {
+                node: at,
+                incarnation,
+            },
             call: request.call,
             mode: request.mode,
             wanted: Wanted::new(request.required(), self.narrowed(draft, request)),
-        };
-        let command = Command::of(self.file_number(), order);
-        Ok(Some(Told::new(node, commands, number, command)))
-    }
-
-    // The command that tells the request's node what it is granted, unless one to it is under way.
-    fn grant(
-        &self,
-        draft: &Draft,
-        told: &[Told],
-        request: &TokenRequest,
-    ) -> Result<Option<Told>, StepError>
-        requires unopposed { self.now.shape.nodes < conflicting_node (with_told told.now (drafted self.now draft.now)) request.now }
-        requires counted { AreOfEpoch (drafted self.now draft.now) }
-        ensures ok { IfOk result (λ o. granted_to (with_told told.now (drafted self.now draft.now)) request.now ((with_told told.now (drafted self.now draft.now)).rows request.now.call.node) ≡ Ok (with_told (told.now ++ option_to_list o) (drafted self.now draft.now), commands_told (option_to_list o))) }
-        ensures node { IfOk result (λ o. IfSome o (λ t. 1 ≤ t.node)) }
-        ensures err { IfErr result (λ e. granted_to (with_told told.now (drafted self.now draft.now)) request.now ((with_told told.now (drafted self.now draft.now)).rows request.now.call.node) ≡ Err e) }
-    {
-        let node = request.call.host().node;
-        let Some(commands) = self.commands_to(draft, told, node) else {
-            return Ok(None);
-        };
-        let Some(number) = commands.next_number(self.epoch)? else {
-            return Ok(None);
-        };
-        let order = Order::Grant {
-            number,
-            call: request.call,
-            mode: request.mode,
-            span: self.granted_span(draft, told, request),
-        };
-        let command = Command::of(self.file_number(), order);
-        Ok(Some(Told::new(node, commands, number, command)))
+        }
     }
 
     // Serves a request: what it comes to is told last.
@@ -238,13 +221,13 @@ impl Server {
             if !may_come(held.at, at, touched) {
                 continue;
             }
-            if is_told(told.as_slice(), at) {
+            if told_to(told.as_slice(), at).is_some() {
                 if ats.len() <= place {
                     return Ok(told);
                 }
                 continue;
             }
-            if draft.lists.keeps(held) {
+            if draft.lists.gone.keeps(&held.request) {
                 let request = held.request;
                 self.serve_one(draft, &mut told, &Held { request, at })?;
             }
@@ -332,13 +315,6 @@ fn awaited(ats: &[u8], place: usize, before: u8) -> u8
     ats.get(place).copied().unwrap_or(before)
 }
 
-// Whether the node is told something: then no other command may go to it.
-fn is_told(told: &[Told], node: u8) -> bool
-    ensures { result ≡ list_any (λ t. t.node == node) told.now }
-{
-    told.iter().any(|told| told.node == node)
-}
-
 // Whether a command may go to the node whose row a request waits for, where none could go to the node for whose
 // row it waited before, and no row has changed but that of the node that is touched.
 fn may_come(before: u8, at: u8, touched: Option<u8>) -> bool
@@ -364,7 +340,7 @@ fn none_may_come(ats: &[u8], touched: Option<u8>) -> bool
 // What the request would like to have, without the bytes that requests need which are served on. Once no more is left
 // than it needs, none of them takes a byte away.
 fn cut_by(request: &TokenRequest, held: &[Held], lists: &Lists) -> Span
-    ensures value { result ≡ narrowed (still_active lists.now.ended (without lists.now.dropped (requests_of held.now))) request.now }
+    ensures value { result ≡ narrowed (still_active lists.now.gone.ended (without lists.now.gone.dropped (requests_of held.now))) request.now }
     ensures starts_before { result.lo ≤ request.now.wanted.required.lo }
     ensures ends_after { request.now.wanted.required.hi ≤ result.hi }
 {
@@ -384,8 +360,8 @@ fn cut_by(request: &TokenRequest, held: &[Held], lists: &Lists) -> Span
 fn cut_by_one(required: Span, within: Span, other: &Held, lists: &Lists) -> Span
     requires starts_within { within.lo ≤ required.lo }
     requires ends_within { required.hi ≤ within.hi }
-    ensures kept { keeps lists.now.dropped lists.now.ended other.now.request ≡ true → result ≡ cut required within other.now.request.wanted.required }
-    ensures gone { keeps lists.now.dropped lists.now.ended other.now.request ≡ false → result ≡ within }
+    ensures kept { keeps lists.now.gone.dropped lists.now.gone.ended other.now.request ≡ true → result ≡ cut required within other.now.request.wanted.required }
+    ensures gone { keeps lists.now.gone.dropped lists.now.gone.ended other.now.request ≡ false → result ≡ within }
     ensures ordered { other.now.request.wanted.required.lo ≤ other.now.request.wanted.required.hi }
 {
     let _ = &required.lo; // tells the proof that the span has a byte
@@ -393,7 +369,7 @@ fn cut_by_one(required: Span, within: Span, other: &Held, lists: &Lists) -> Span
     if !other.request.meets(within) {
         return within;
     }
-    if !lists.keeps(other) {
+    if !lists.gone.keeps(&other.request) {
         return within;
     }
     cut(required, within, needed)

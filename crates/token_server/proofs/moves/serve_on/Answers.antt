@@ -10,11 +10,11 @@ use Rattle.token_server.proofs.moves.serve_on.Goals as goal
 pub end_served-requires : goal.end_served-requires
 end_served-requires c =
     subst (λ (hs : List Held). AreDistinct (requests_of hs))
-    (sym (c.drop_served.ensures.held ∙ ap (held_without c.args.dropped) (c.wait_for.ensures.held ∙ ap (waiting_for c.args.ats.now) c.refill_served.ensures.held)))
-    (distinct-kept c.args.dropped c.args.ats.now c.args.active.now.held c.requires.distinct)
+    (sym (c.drop_served.ensures.held ∙ ap (held_without c.args.gone.now.dropped) (c.wait_for.ensures.held ∙ ap (waiting_for c.args.ats.now) c.refill_served.ensures.held)))
+    (distinct-kept c.args.gone.now.dropped c.args.ats.now c.args.active.now.held c.requires.distinct)
 
 pub returns : goal.returns
 returns c =
     c.serve.ensures
     ∙ ap (λ (hs : List Held). hs ++ c.args.fresh.now)
-    (c.end_served.ensures.held ∙ ap (held_still c.args.ended) (c.drop_served.ensures.held ∙ ap (held_without c.args.dropped) (c.wait_for.ensures.held ∙ ap (waiting_for c.args.ats.now) c.refill_served.ensures.held)))
+    (c.end_served.ensures.held ∙ ap (held_still c.args.gone.now.ended) (c.drop_served.ensures.held ∙ ap (held_without c.args.gone.now.dropped) (c.wait_for.ensures.held ∙ ap (waiting_for c.args.ats.now) c.refill_served.ensures.held)))

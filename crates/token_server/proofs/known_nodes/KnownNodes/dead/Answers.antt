@@ -1,18 +1,9 @@
-use Rattle.std.specs.Prelude.{length, ◌<◌}
-use Rattle.std.proofs.Common.{arith, sym, ap}
-use Rattle.token_server.proofs.KnownNodeLaws.{deaths_of-zero, deaths_of-past}
-use Rattle.token_server.proofs.EditLaws.{deaths_of-there}
-use Rattle.token_server.proofs.known_nodes.KnownNodes.dead.Goals.{then-node-eq0-via-then-node-eq0, then-node-eq0-via-else-node-eq0+then-from-len}
+use Rattle.std.proofs.Common.{sym}
+use Rattle.token_server.proofs.EditLaws.{deaths_of-there, deaths_of-none}
 use Rattle.token_server.proofs.known_nodes.KnownNodes.dead.Goals as goal
 
-pub returns-then-node-eq0 : goal.returns-then-node-eq0
-returns-then-node-eq0 c =
-    elim c.then-node-eq0.branch [
-      | then-node-eq0-via-then-node-eq0 w ↦ sym (deaths_of-zero c.args.self.now c.args.node (omega (arith, w.if-node-eq0.true)))
-      | then-node-eq0-via-else-node-eq0+then-from-len w ↦
-          let past : length c.args.self.now < c.args.node = omega (arith, w.if-from-len.true, ap length c.self.view_is) in
-          sym (deaths_of-past c.args.self.now c.args.node past)
-    ]
+pub returns-in-Some : goal.returns-in-Some
+returns-in-Some c = sym (deaths_of-there c.args.self.now c.args.node _ (sym c.in-Some.ensures.value))
 
-pub returns : goal.returns
-returns c = sym (deaths_of-there c.args.self.now c.args.node _ c.at.ensures)
+pub returns-in-None : goal.returns-in-None
+returns-in-None c = sym (deaths_of-none c.args.self.now c.args.node (sym c.in-None.ensures.value))

@@ -14,11 +14,11 @@ admit_queued-requires-clause-served c =
 pub admit_queued-requires-clause-queued : goal.admit_queued-requires-clause-queued
 admit_queued-requires-clause-queued c =
     let p = c.args.self.now in
-    let dropped = c.args.dropped in
+    let dropped = c.args.gone.now.dropped in
     subst (λ (s : ServerParts). AreDistinct (without dropped s.queue.requests)) (sym c.self.view_is)
-    (distinct-before_moved c.args.sketch.now.moved (without dropped p.queue.requests) (without dropped p.waiting.requests) c.requires)
+    (distinct-before_moved c.args.moved.now (without dropped p.queue.requests) (without dropped p.waiting.requests) c.requires)
 
 pub admit_moved-requires-clause-distinct : goal.admit_moved-requires-clause-distinct
 admit_moved-requires-clause-distinct c =
-    let dropped = c.args.dropped in
-    subst (λ (s : ServerParts). AreDistinct (queue_moved c.args.sketch.now.moved (without dropped s.queue.requests) (without dropped s.waiting.requests))) (sym c.self.view_is) c.requires
+    let dropped = c.args.gone.now.dropped in
+    subst (λ (s : ServerParts). AreDistinct (queue_moved c.args.moved.now (without dropped s.queue.requests) (without dropped s.waiting.requests))) (sym c.self.view_is) c.requires

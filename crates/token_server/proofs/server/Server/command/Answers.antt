@@ -1,54 +1,37 @@
-use Rattle.std.specs.Prelude.{◌≡◌, ◌++◌, false, Option, Ok}
-use Rattle.std.specs.Option.{option_to_list}
-use Rattle.std.proofs.Common.{sym, ap, ◌∙◌, arith}
-use Rattle.std.proofs.lemmas.Result.{IfOk-weaker}
-use Rattle.token_queue.specs.declared.token_request.TokenRequest.{TokenRequest}
+use Rattle.std.specs.Prelude.{◌≡◌, ℕ, Option, Some, None, Result, Ok, Err}
+use Rattle.std.specs.Option.{option_map}
+use Rattle.std.proofs.Common.{sym, ap, refl, ◌∙◌}
+use Rattle.messages.specs.declared.refusal.StepError.{StepError}
+use Rattle.messages.specs.Epochs.{before_epoch}
 use Rattle.token_server.specs.declared.told.Told.{Told}
-use Rattle.token_server.specs.State.{ServerState}
-use Rattle.token_server.specs.Parts.{ServerParts}
-use Rattle.token_server.specs.Serve.{granted_to, revoked_from, served}
-use Rattle.token_server.specs.Obstacles.{is_idle}
-use Rattle.token_server.specs.Told.{with_told, commands_told}
+use Rattle.token_server.specs.State.{Commands, ServerState, begin}
+use Rattle.token_server.specs.Parts.{ServerParts, next_number}
+use Rattle.token_server.specs.Sketches.{commands_of}
+use Rattle.token_server.specs.declared.command.Order.TheVariants.{Revoke}
+use Rattle.token_server.specs.Serve.{narrowed}
+use Rattle.token_server.specs.Orders.{message_of}
+use Rattle.token_server.specs.Told.{with_told}
 use Rattle.token_server.specs.Edits.{drafted}
-use Rattle.token_server.proofs.ToldLaws.{Answer}
-use Rattle.token_server.proofs.TurnLaws.{own-unopposed, own-granted, other-within, other-revoked, served-busy}
+use Rattle.token_server.proofs.ToldLaws.{has_number}
+use Rattle.token_server.proofs.TurnLaws.{turn-gone, turn-busy, turn-refused, turn-sent}
 use Rattle.token_server.proofs.server.Server.command.Goals as goal
 
-pub grant-requires-clause-unopposed : goal.grant-requires-clause-unopposed
-grant-requires-clause-unopposed c =
-    own-unopposed (with_told c.args.told.now (drafted c.args.self.now c.args.draft.now)) c.args.request.now c.args.at c.requires.waits (sym c.is_of_node.ensures ∙ c.if-is_of_node.true)
+pub returns-in_default-clause-ok : goal.returns-in_default-clause-ok
+returns-in_default-clause-ok c =
+    turn-gone c.args.told.now (drafted c.args.self.now c.args.draft.now) c.args.request.now c.args.at c.requires.waits (sym c.in_default.is ∙ c.commands_to.ensures.value)
 
-pub returns-then-is_of_node-clause-ok : goal.returns-then-is_of_node-clause-ok
-returns-then-is_of_node-clause-ok c =
+pub returns-clause-ok : goal.returns-clause-ok
+returns-clause-ok c =
     let s : ServerState = drafted c.args.self.now c.args.draft.now in
-    let now : ServerState = with_told c.args.told.now s in
-    let r : TokenRequest = c.args.request.now in
-    let comes : Option Told → Answer = λ o. Ok (with_told (c.args.told.now ++ option_to_list o) s, commands_told (option_to_list o)) in
-    IfOk-weaker c.grant.result (λ o. granted_to now r (now.rows r.call.node) ≡ comes o) (λ o. served now r ≡ comes o)
-    (λ o granted. own-granted now r c.args.at c.requires.waits (sym c.is_of_node.ensures ∙ c.if-is_of_node.true) ∙ granted) c.grant.ensures.ok
+    let commands : Commands = c.in-Some.commands in
+    let t : Told = record { node = c.args.at; commands = c.told.result; command = c.of-command.result } in
+    let known : Some commands ≡ option_map commands_of ((with_told c.args.told.now s).rows c.args.at) = sym c.in-Some.is ∙ c.commands_to.ensures.value in
+    let next : next_number (begin s) commands ≡ Ok (Some c.in-Some-2.number) = ap (λ (p : ServerParts). next_number (before_epoch p.epoch) commands) (sym c.self.view_is) ∙ sym c.next_number.ensures ∙ c.in_ok-number.was ∙ ap (λ (o : Option ℕ). let x : Result (Option ℕ) StepError = Ok o in x) c.in-Some-2.is in
+    let command : t.command ≡ message_of s.file c.order-order.result = c.of-command.ensures ∙ ap (λ (p : ServerParts). message_of p.file c.order-order.result) c.self.view_is in
+    turn-sent c.args.told.now s c.args.request.now c.args.at c.requires.waits commands c.in-Some-2.number c.order-order.result t known next refl command c.told.ensures c.order-order.ensures.own
+    (λ other. c.order-order.ensures.other other ∙ ap (λ (k : ℕ). Revoke c.in-Some-2.number (record { node = c.args.at; incarnation = k }) c.args.request.now.call c.args.request.now.mode (record { required = c.args.request.now.wanted.required; desired = narrowed s.active c.args.request.now })) c.incarnation.ensures.value)
 
-pub returns-then-is_of_node-clause-busy : goal.returns-then-is_of_node-clause-busy
-returns-then-is_of_node-clause-busy c =
-    let s : ServerState = drafted c.args.self.now c.args.draft.now in
-    let now : ServerState = with_told c.args.told.now s in
-    let r : TokenRequest = c.args.request.now in
-    let after : Option Told → ServerState = λ o. with_told (c.args.told.now ++ option_to_list o) s in
-    let comes : Option Told → Answer = λ o. Ok (after o, commands_told (option_to_list o)) in
-    IfOk-weaker c.grant.result (λ o. granted_to now r (now.rows r.call.node) ≡ comes o) (λ o. is_idle ((after o).rows c.args.at) ≡ false)
-    (λ o granted. served-busy now (after o) r c.args.at (commands_told (option_to_list o)) c.requires.waits (own-granted now r c.args.at c.requires.waits (sym c.is_of_node.ensures ∙ c.if-is_of_node.true) ∙ granted)) c.grant.ensures.ok
-
-pub revoke-requires-clause-node_in : goal.revoke-requires-clause-node_in
-revoke-requires-clause-node_in c =
-    let nodes : c.nodes.result ≡ c.args.self.now.shape.nodes = c.nodes.ensures.value ∙ ap (λ (p : ServerParts). p.shape.nodes) c.self.view_is in
-    let within = other-within (with_told c.args.told.now (drafted c.args.self.now c.args.draft.now)) c.args.request.now c.args.at c.requires.waits (sym c.is_of_node.ensures ∙ c.if-is_of_node.false) in
-    (within, (within.0, omega (arith, nodes, within.1, c.nodes.ensures.within.1)))
-
-pub returns-clause-busy : goal.returns-clause-busy
-returns-clause-busy c =
-    let s : ServerState = drafted c.args.self.now c.args.draft.now in
-    let now : ServerState = with_told c.args.told.now s in
-    let r : TokenRequest = c.args.request.now in
-    let after : Option Told → ServerState = λ o. with_told (c.args.told.now ++ option_to_list o) s in
-    let comes : Option Told → Answer = λ o. Ok (after o, commands_told (option_to_list o)) in
-    IfOk-weaker c.revoke.result (λ o. revoked_from now r c.args.at (now.rows c.args.at) ≡ comes o) (λ o. is_idle ((after o).rows c.args.at) ≡ false)
-    (λ o revoked. served-busy now (after o) r c.args.at (commands_told (option_to_list o)) c.requires.waits (other-revoked now r c.args.at c.requires.waits (sym c.is_of_node.ensures ∙ c.if-is_of_node.false) ∙ revoked)) c.revoke.ensures.ok
+pub told-requires : goal.told-requires
+told-requires c =
+    let next : next_number (before_epoch c.self.inside.epoch) c.in-Some.commands ≡ Ok (Some c.in-Some-2.number) = sym c.next_number.ensures ∙ c.in_ok-number.was ∙ ap (λ (o : Option ℕ). let x : Result (Option ℕ) StepError = Ok o in x) c.in-Some-2.is in
+    (has_number (before_epoch c.self.inside.epoch) c.in-Some.commands c.in-Some-2.number next).number

@@ -1,5 +1,4 @@
-use Rattle.std.specs.Prelude.{◌==◌, ◌≡◌, ◌+◌, ◌≤◌, ℕ, true, false, List, [], ◌∷◌, ◌++◌, length, slice_get, slice_index_or, All, Some}
-use Rattle.std.specs.List.{list_any}
+use Rattle.std.specs.Prelude.{◌==◌, ◌≡◌, ◌+◌, ◌≤◌, ℕ, true, false, List, [], ◌∷◌, ◌++◌, length, slice_get, slice_index_or, All, is_some, Some}
 use Rattle.std.proofs.Common.{refl, sym, ap, subst, ◌∙◌, take, drop, arith}
 use Rattle.std.proofs.lemmas.List.{take_all}
 use Rattle.std.proofs.lemmas.Result.{err_from_is_err_and}
@@ -10,6 +9,7 @@ use Rattle.token_server.specs.declared.lists.Lists.{Lists}
 use Rattle.token_server.specs.declared.told.Told.{Told}
 use Rattle.token_server.specs.State.{ServerState}
 use Rattle.token_server.specs.Obstacles.{is_idle}
+use Rattle.token_server.specs.Told.{told_to}
 use Rattle.token_server.specs.Parts.{ServerParts, server_state}
 use Rattle.token_server.specs.Edits.{keeps, held_after, drafted}
 use Rattle.token_server.specs.Turns.{kept, kept_of, AreServed}
@@ -27,7 +27,7 @@ serve_one-requires-clause-waits c =
     let w : Held = record { request = item.request; at = c.awaited-at.result } in
     let read : c.as_slice-active.result.now ≡ held = c.as_slice-active.ensures ∙ ap (λ (p : ServerParts). p.active.held) c.self.view_is in
     let there : slice_get (waiting_for l.ats.items held) i ≡ Some w = waits-place l c.as_slice-active.result.now held i item c.as_slice-ats.result.now c.awaited-at.result read c.as_slice-ats.ensures.value c.loop-place-test.true c.index-active-place.is c.awaited-at.ensures in
-    let on : keeps l.dropped l.ended item.request ≡ true = sym c.keeps.ensures ∙ c.if-keeps.true in
+    let on : keeps l.gone.dropped l.gone.ended item.request ≡ true = sym c.keeps.ensures ∙ c.if-keeps.true in
     let done : List Held = kept l (take i (waiting_for l.ats.items held)) in
     let rest : List Held = kept l (drop (i + 1) (waiting_for l.ats.items held)) ++ l.fresh.items in
     let split : held_after l held ≡ done ++ w ∷ rest = kept-split l held s c.loop-place.told.items i w there on in
@@ -43,7 +43,7 @@ returns-in_err-serve_one-clause-err c =
     let w : Held = record { request = item.request; at = c.awaited-at.result } in
     let read : c.as_slice-active.result.now ≡ held = c.as_slice-active.ensures ∙ ap (λ (p : ServerParts). p.active.held) c.self.view_is in
     let there : slice_get (waiting_for l.ats.items held) i ≡ Some w = waits-place l c.as_slice-active.result.now held i item c.as_slice-ats.result.now c.awaited-at.result read c.as_slice-ats.ensures.value c.loop-place-test.true c.index-active-place.is c.awaited-at.ensures in
-    let on : keeps l.dropped l.ended item.request ≡ true = sym c.keeps.ensures ∙ c.if-keeps.true in
+    let on : keeps l.gone.dropped l.gone.ended item.request ≡ true = sym c.keeps.ensures ∙ c.if-keeps.true in
     let done : List Held = kept l (take i (waiting_for l.ats.items held)) in
     let rest : List Held = kept l (drop (i + 1) (waiting_for l.ats.items held)) ++ l.fresh.items in
     let split : held_after l held ≡ done ++ w ∷ rest = kept-split l held s c.loop-place.told.items i w there on in
@@ -62,7 +62,7 @@ loop-place-preserved c =
     let there : slice_get (waiting_for l.ats.items held) i ≡ Some w = waits-place l c.as_slice-active.result.now held i item c.as_slice-ats.result.now c.awaited-at.result read c.as_slice-ats.ensures.value c.loop-place-test.true c.index-active-place.is c.awaited-at.ensures in
     elim c.if-keeps.branch [
       | then-keeps+in_ok-serve_one v ↦
-          let on : keeps l.dropped l.ended item.request ≡ true = sym c.keeps.ensures ∙ v.if-keeps.true in
+          let on : keeps l.gone.dropped l.gone.ended item.request ≡ true = sym c.keeps.ensures ∙ v.if-keeps.true in
           rw v.told-is (kept-turn l held s c.loop-place.told.items i w there v.serve_one.new.told.items on refl c.requires.apart c.loop-place.invariant v.in_ok-serve_one.ensures.ok)
       | else-keeps v ↦ rw v.told-is (kept-left l held s c.loop-place.told.items i w there (sym c.keeps.ensures ∙ v.if-keeps.false) c.loop-place.invariant)
     ]
@@ -85,8 +85,8 @@ loop-place-preserved-then-not-may_come c =
     (quiet-told told s c.awaited-at.result (quiet-place (server_state c.args.self.now) s c.args.touched held i item c.awaited-at.result quiet here (c.may_come.ensures.same c.if-not-may_come.true) (c.may_come.ensures.untouched c.if-not-may_come.true) c.requires.untouched))
     c.loop-place.invariant
 
-pub loop-place-preserved-then-is_told : goal.loop-place-preserved-then-is_told
-loop-place-preserved-then-is_told c =
+pub loop-place-preserved-then-is_some : goal.loop-place-preserved-then-is_some
+loop-place-preserved-then-is_some c =
     let i = c.loop-place.place in
     let s : ServerState = drafted c.args.self.now c.args.draft.now in
     let l : Lists = c.args.draft.now.lists in
@@ -96,8 +96,8 @@ loop-place-preserved-then-is_told c =
     let read : c.as_slice-active.result.now ≡ held = c.as_slice-active.ensures ∙ ap (λ (p : ServerParts). p.active.held) c.self.view_is in
     let there : slice_get (waiting_for l.ats.items held) i ≡ Some w = waits-place l c.as_slice-active.result.now held i item c.as_slice-ats.result.now c.awaited-at.result read c.as_slice-ats.ensures.value c.loop-place-test.true c.index-active-place.is c.awaited-at.ensures in
     let told : List Told = c.loop-place.told.items in
-    let some : list_any (λ (t : Told). t.node == c.awaited-at.result) told ≡ true =
-    ap (λ (ts : List Told). list_any (λ (t : Told). t.node == c.awaited-at.result) ts) (sym c.as_slice.ensures.value) ∙ sym c.is_told.ensures ∙ c.if-is_told.true in
+    let some : is_some (told_to told c.awaited-at.result) ≡ true =
+    ap (λ (ts : List Told). is_some (told_to ts c.awaited-at.result)) (sym c.as_slice.ensures.value) ∙ ap is_some (sym c.told_to.ensures) ∙ sym c.is_some.ensures ∙ c.if-is_some.true in
     kept-silent l held s told i w there (told-quiet told s c.awaited-at.result some) c.loop-place.invariant
 
 pub returns-then-none_may_come-clause-ok : goal.returns-then-none_may_come-clause-ok
@@ -125,8 +125,8 @@ returns-then-ats-place-clause-ok c =
     let told : List Told = c.loop-place.told.items in
     let quiet : All (λ h. is_idle ((server_state c.args.self.now).rows h.at) ≡ false) held =
     subst (λ (p : ServerParts). All (λ h. is_idle ((server_state p).rows h.at) ≡ false) p.active.held) c.self.view_is c.self.invariant.ready.quiet in
-    let some : list_any (λ (t : Told). t.node == c.awaited-at.result) told ≡ true =
-    ap (λ (ts : List Told). list_any (λ (t : Told). t.node == c.awaited-at.result) ts) (sym c.as_slice.ensures.value) ∙ sym c.is_told.ensures ∙ c.if-is_told.true in
+    let some : is_some (told_to told c.awaited-at.result) ≡ true =
+    ap (λ (ts : List Told). is_some (told_to ts c.awaited-at.result)) (sym c.as_slice.ensures.value) ∙ ap is_some (sym c.told_to.ensures) ∙ sym c.is_some.ensures ∙ c.if-is_some.true in
     let many : length c.as_slice-ats.result.now ≡ length l.ats.items = ap (λ (xs : List ℕ). length xs) c.as_slice-ats.ensures.value in
     let past : length l.ats.items ≤ i = omega (arith, many, c.if-ats-place.true) in
     let same : c.awaited-at.result ≡ item.at = c.awaited-at.ensures ∙ ap (λ (xs : List ℕ). slice_index_or xs i item.at) c.as_slice-ats.ensures.value ∙ index-past l.ats.items i item.at past in

@@ -2,6 +2,7 @@ use Rattle.std.specs.Prelude.{◌≡◌, ℕ, ◌≤◌, Bool, false, IfSome, Op
 use Rattle.std.proofs.Common.{sym, ap, subst, ◌∙◌, arith}
 use Rattle.intervals.specs.Search.{some_passes}
 use Rattle.token_set.proofs.SearchLaws.{none_passes-from}
+use Rattle.model.specs.Limits.{IsNumber}
 use Rattle.messages.specs.Epochs.{before_epoch}
 use Rattle.token_server.specs.State.{Row, is_awaited}
 use Rattle.token_server.specs.Parts.{rows_of}
@@ -13,7 +14,7 @@ invariant_of-result c =
     let rows = rows_of c.in_ok-new.field-0 in
     let passes : ℕ → Bool = λ n. is_awaited (rows n) in
     let none : some_passes passes 1 c.args.shape.nodes ≡ false = none_passes-from passes 1 c.args.shape.nodes (λ n above below. ap (λ (f : ℕ → Option Row). is_awaited (f n)) c.in_ok-new.ensures.rows) in
-    idle-server c.args.shape c.args.file 1 c.in_ok-new.field-0 false c.new-2.result c.new-3.result c.new-4.result
-    (c.in_ok-new.ensures.len ∙ c.nodes.ensures.value) c.requires (omega arith, omega arith) (sym none)
+    idle-server c.args.shape c.of.result 1 c.in_ok-new.field-0 false c.new-2.result c.new-3.result c.new-4.result
+    (c.in_ok-new.ensures.len ∙ c.nodes.ensures.value) (subst (λ (n : ℕ). IsNumber c.args.shape.files n) (sym c.of.ensures) c.requires) (omega arith, omega arith) (sym none)
     (subst (λ (f : ℕ → Option Row). (n : ℕ) → IfSome (f n) (λ row. before_epoch 1 ≤ row.number)) (sym c.in_ok-new.ensures.rows) (λ n. tt))
     c.new-2.ensures c.new-3.ensures c.new-4.ensures

@@ -1,28 +1,50 @@
-use Rattle.std.specs.Prelude.{◌≡◌, None}
-use Rattle.std.proofs.Common.{refl, ap, sym, subst, ◌∙◌}
-use Rattle.token_server.specs.declared.lists.Lists.{Lists}
-use Rattle.token_server.specs.declared.lists.Spares.{Spares}
-use Rattle.token_server.specs.declared.sketch.Moved.TheVariants.{Nothing}
-use Rattle.token_server.specs.State.{awaits}
+use Rattle.std.specs.Prelude.{◌≡◌, ◌≢◌, [], Result, Ok, Err}
+use Rattle.std.proofs.Common.{sym, ap, subst, ◌∙◌}
+use Rattle.std.proofs.lemmas.Result.{IfOk-weaker, IfErr-weaker}
+use Rattle.messages.specs.declared.outcome.Outcome.{Outcome}
+use Rattle.messages.specs.declared.refusal.StepError.{StepError}
+use Rattle.messages.specs.declared.refusal.StepError.TheVariants.{NoMemory}
+use Rattle.messages.specs.Messages.{sending}
+use Rattle.token_server.specs.State.{ServerState}
+use Rattle.token_server.specs.Serve.{serve}
+use Rattle.token_server.specs.Resends.{sending_first}
 use Rattle.token_server.specs.Parts.{ServerParts, server_state}
-use Rattle.token_server.specs.Ready.{IsReady}
-use Rattle.token_server.specs.Edits.{PartsFit, made}
-use Rattle.token_server.proofs.ReadyLaws.{SameLists, same-state, same-fits}
+use Rattle.token_server.specs.Ready.{IsReady, IsOrderly}
+use Rattle.token_server.specs.Sketches.{sketched}
+use Rattle.token_server.specs.Edits.{planned}
+use Rattle.token_server.proofs.ReadyLaws.{nothing-served, never-refused}
 use Rattle.token_server.proofs.server.Server.no_change.Goals as goal
+
+abbrev Done : Type 0
+Done = Result (ServerState × Outcome) StepError
+
+same-done : (a b : ServerState × Outcome) → ◌≡◌ {A = Done} (Ok a) (Ok b) → a ≡ b
+same-done a b is = cc
+
+pub serve_after-requires-clause-orderly : goal.serve_after-requires-clause-orderly
+serve_after-requires-clause-orderly c =
+    subst IsOrderly (sym (ap (sketched c.args.self.now) c.moving.ensures)) (subst (λ (p : ServerParts). IsOrderly (server_state p)) c.self.view_is c.self.invariant.ready.orderly)
 
 pub returns-clause-state : goal.returns-clause-state
 returns-clause-state c =
-    let l : Lists = record { dropped = None; ats = c.new.result; ended = None; moved = Nothing; fresh = c.new-2.result } in
-    let same : SameLists l = record { dropped = refl; ats = c.new.ensures.items; ended = refl; moved = refl; fresh = c.new-2.ensures.items } in
-    ap (made c.args.self.now) c.in_ok-new.ensures
-    ∙ same-state c.args.self.now l c.self.inside.awaits c.new-3.result same c.new-3.ensures.items
-
-pub returns-clause-fits : goal.returns-clause-fits
-returns-clause-fits c =
     let p = c.args.self.now in
-    let l : Lists = record { dropped = None; ats = c.new.result; ended = None; moved = Nothing; fresh = c.new-2.result } in
-    let same : SameLists l = record { dropped = refl; ats = c.new.ensures.items; ended = refl; moved = refl; fresh = c.new-2.ensures.items } in
-    let spares : Spares = record { active = None; queue = None; waiting = None } in
-    let ready : IsReady (server_state p) p.active.held = subst (λ (q : ServerParts). IsReady (server_state q) q.active.held) c.self.view_is c.self.invariant.ready in
-    let known : c.self.inside.awaits ≡ awaits (server_state p) = c.self.invariant.awaited ∙ ap (λ (q : ServerParts). awaits (server_state q)) c.self.view_is in
-    subst (PartsFit p) (sym c.in_ok-new.ensures) (same-fits p l c.self.inside.awaits c.new-3.result same c.new-3.ensures.items spares refl known ready)
+    let holds : IsReady (server_state p) p.active.held = subst (λ (q : ServerParts). IsReady (server_state q) q.active.held) c.self.view_is c.self.invariant.ready in
+    let done : Done = sending_first c.new.result (serve (sketched p c.moving.result)) in
+    IfOk-weaker c.serve_after.result (λ change. done ≡ Ok (planned p change.edit, change.outcome)) (λ change. planned p change.edit ≡ server_state p)
+    (λ change is. ap (λ (x : ServerState × Outcome). x.0) (same-done _ _ (sym is ∙ nothing-served p c.moving.result c.new.result c.moving.ensures c.new.ensures holds))) c.serve_after.ensures.ok
+
+pub returns-clause-outcome : goal.returns-clause-outcome
+returns-clause-outcome c =
+    let p = c.args.self.now in
+    let holds : IsReady (server_state p) p.active.held = subst (λ (q : ServerParts). IsReady (server_state q) q.active.held) c.self.view_is c.self.invariant.ready in
+    let done : Done = sending_first c.new.result (serve (sketched p c.moving.result)) in
+    IfOk-weaker c.serve_after.result (λ change. done ≡ Ok (planned p change.edit, change.outcome)) (λ change. change.outcome ≡ sending [])
+    (λ change is. ap (λ (x : ServerState × Outcome). x.1) (same-done _ _ (sym is ∙ nothing-served p c.moving.result c.new.result c.moving.ensures c.new.ensures holds))) c.serve_after.ensures.ok
+
+pub returns-clause-err : goal.returns-clause-err
+returns-clause-err c =
+    let p = c.args.self.now in
+    let holds : IsReady (server_state p) p.active.held = subst (λ (q : ServerParts). IsReady (server_state q) q.active.held) c.self.view_is c.self.invariant.ready in
+    let done : Done = sending_first c.new.result (serve (sketched p c.moving.result)) in
+    IfErr-weaker c.serve_after.result (λ e. e ≢ NoMemory → done ≡ Err e) (λ e. e ≡ NoMemory)
+    (λ e refused. never-refused e done _ refused (nothing-served p c.moving.result c.new.result c.moving.ensures c.new.ensures holds)) c.serve_after.ensures.err

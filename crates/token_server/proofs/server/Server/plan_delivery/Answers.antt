@@ -24,10 +24,14 @@ serve_after-requires-clause-orderly c =
     let living : s.dead (host_of m).node < (host_of m).incarnation = omega (arith, known, incarnation, c.if-host-dead.false) in
     orderly-delivered s m (sketched c.args.self.now c.in-Some.sketch, option_to_list c.in-Some.first) counted living (c.in_ok-sketch.ensures.state ∙ ap (λ (o : Option (Sketch × Option Message)). option_map (λ d. (sketched c.args.self.now d.0, option_to_list d.1)) o) c.in-Some.is) (subst (λ (p : ServerParts). IsOrderly (server_state p)) c.self.view_is c.self.invariant.ready.orderly)
 
-pub returns-in-Some-clause-refused : goal.returns-in-Some-clause-refused
-returns-in-Some-clause-refused c = λ r other refused.
-    absurd (other (deliver-spent (server_state c.args.self.now) c.args.message.now r (sym c.is_addressed_by.ensures ∙ c.if-not-is_addressed_by.false) refused))
-
 pub returns-in_err-sketch-clause-refused : goal.returns-in_err-sketch-clause-refused
 returns-in_err-sketch-clause-refused c = λ r other refused.
+    absurd (other (deliver-spent (server_state c.args.self.now) c.args.message.now r (sym c.is_addressed_by.ensures ∙ c.if-not-is_addressed_by.false) refused))
+
+pub returns-in_err-in_list-in-Some-clause-refused : goal.returns-in_err-in_list-in-Some-clause-refused
+returns-in_err-in_list-in-Some-clause-refused c = λ r other refused.
+    absurd (other (deliver-spent (server_state c.args.self.now) c.args.message.now r (sym c.is_addressed_by.ensures ∙ c.if-not-is_addressed_by.false) refused))
+
+pub returns-in_ok-in_list-in-Some-clause-refused : goal.returns-in_ok-in_list-in-Some-clause-refused
+returns-in_ok-in_list-in-Some-clause-refused c = λ r other refused.
     absurd (other (deliver-spent (server_state c.args.self.now) c.args.message.now r (sym c.is_addressed_by.ensures ∙ c.if-not-is_addressed_by.false) refused))

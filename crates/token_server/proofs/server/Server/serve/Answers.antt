@@ -26,7 +26,7 @@ returns-clause-fits c =
     let l = d.lists in
     let so = c.in_ok-draft.ensures in
     subst (PartsFit p) (sym c.in_ok-new.ensures) (record {
-      new = moved-new l.moved (without l.dropped p.queue.requests) (without l.dropped p.waiting.requests) (subst AreDistinct (sym so.listed.queued) (distinct-queue (sketched p k) so.orderly)) (subst AreDistinct (sym so.listed.put_off) (distinct-waiting (sketched p k) so.orderly));
+      new = moved-new l.moved (without l.gone.dropped p.queue.requests) (without l.gone.dropped p.waiting.requests) (subst AreDistinct (sym so.listed.queued) (distinct-queue (sketched p k) so.orderly)) (subst AreDistinct (sym so.listed.put_off) (distinct-waiting (sketched p k) so.orderly));
       served = c.in_ok-spares.ensures.active;
       queued = c.in_ok-spares.ensures.queue;
       put_off = c.in_ok-spares.ensures.waiting;

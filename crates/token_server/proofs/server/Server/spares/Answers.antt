@@ -12,6 +12,6 @@ returns-clause-queue c =
     let l = c.args.lists.now in
     let spare = c.in_ok-spare_line.field-0 in
     let many : c.many.result ≡ many_moved l.moved p.waiting.requests = c.many.ensures ∙ ap (λ (q : ServerParts). many_moved l.moved q.waiting.requests) c.self.view_is in
-    room-fewer p.queue spare c.many.result (many_moved l.moved (without l.dropped p.waiting.requests))
-    (subst (λ (n : ℕ). many_moved l.moved (without l.dropped p.waiting.requests) ≤ n) (sym many) (many-fewer l.moved l.dropped p.waiting.requests))
+    room-fewer p.queue spare c.many.result (many_moved l.moved (without l.gone.dropped p.waiting.requests))
+    (subst (λ (n : ℕ). many_moved l.moved (without l.gone.dropped p.waiting.requests) ≤ n) (sym many) (many-fewer l.moved l.gone.dropped p.waiting.requests))
     (subst (λ (q : ServerParts). HasRoom q.queue spare c.many.result) c.self.view_is c.in_ok-spare_line.ensures)

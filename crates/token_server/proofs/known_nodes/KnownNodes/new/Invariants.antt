@@ -1,5 +1,5 @@
 use Rattle.std.specs.Prelude.{◌≡◌, All, length, None}
-use Rattle.token_server.proofs.known_nodes.unknown.Given as goal
+use Rattle.token_server.proofs.known_nodes.KnownNodes.new.Given as goal
 
 abbrev pub invariant-loop-node : goal.invariant-loop-node
 invariant-loop-node l = record {
