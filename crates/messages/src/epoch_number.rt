@@ -7,7 +7,7 @@ use std::marker::Model;
 
 /// The number after which the commands of a server that was rebuilt begin: that of an epoch, from 2 to
 /// 65,535.
-#[derive(Clone, Copy, Debug, PartialEq, Eq, Hash)]
+#[derive(Clone, Copy, PartialEq, Eq, Hash)]
 pub struct EpochNumber {
     count: u64,
 }

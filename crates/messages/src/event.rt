@@ -6,7 +6,7 @@ use model::op::Op;
 use std::alloc::{AllocError, Global};
 
 /// What may happen. A loss is a message that no event delivers, a repeat a second delivery.
-#[derive(Clone, Debug, PartialEq, Eq, Drop)]
+#[derive(Clone, PartialEq, Eq, Drop)]
 pub enum Event {
     /// A process of a node makes a call.
     Call {

@@ -18,7 +18,7 @@ use model::mode::Mode;
 use std::alloc::{AllocError, Global};
 
 /// Whether a request waits where a lock blocks it (POSIX.1-2017 `fcntl()`, F_SETLKW), or is denied.
-#[derive(Clone, Copy, Debug, PartialEq, Eq, Hash)]
+#[derive(Clone, Copy, PartialEq, Eq, Hash)]
 pub enum Blocking {
     No,
     Yes,
@@ -27,7 +27,7 @@ pub enum Blocking {
 /// A message, with the file that it is about, 1 to 256. `call` is the call of the node that asks,
 /// `number` the number of a command of the server to a node, from 1; of a revoke and its answers the
 /// command is the one to the `holder`, the node whose token is in the way.
-#[derive(Clone, Debug, PartialEq, Eq, Hash, Drop)]
+#[derive(Clone, PartialEq, Eq, Hash, Drop)]
 pub enum Message {
     /// A node asks the server for a token.
     Request {

@@ -15,7 +15,7 @@ pub const MOST_FILES: u16 = 256;
 
 /// The version of a cluster, its size and how much its nodes ask for: the number of nodes (1 to 64),
 /// the number of files (1 to 256), and the policy.
-#[derive(Clone, Copy, Debug, PartialEq, Eq)]
+#[derive(Clone, Copy, PartialEq, Eq)]
 pub struct Shape {
     version: Version,
     nodes: u8,

@@ -9,14 +9,14 @@ use std::hash::{Hash, Hasher};
 use std::marker::Model;
 
 /// A longest run of bytes of a token, with its level.
-#[derive(Clone, Copy, Debug, PartialEq, Eq)]
+#[derive(Clone, Copy, PartialEq, Eq)]
 pub struct TokenRun {
     pub span: Span,
     pub level: Level,
 }
 
 /// The longest runs of a token, by first byte, which contracts see as their list.
-#[derive(Debug, Drop)]
+#[derive(Drop)]
 pub struct TokenRuns {
     runs: Vec<TokenRun>,
 }

@@ -4,7 +4,7 @@ ghost use Rattle.messages.specs.Versions.{most_regions, may_rebuild};
 
 /// The version of a cluster: how many regions an owner may have in a file, whether its token servers
 /// may fail and be rebuilt, and how its journals are written.
-#[derive(Clone, Copy, Debug, PartialEq, Eq)]
+#[derive(Clone, Copy, PartialEq, Eq)]
 pub enum Version {
     /// 1,024 regions, and no server is rebuilt.
     First,

@@ -6,7 +6,7 @@ use std::marker::Model;
 
 /// The bytes that a call needs, and those that its node would like to have with them, which contain
 /// the first. (The required and the desired range: Schmuck and Haskin, FAST 2002.)
-#[derive(Clone, Copy, Debug, PartialEq, Eq, Hash)]
+#[derive(Clone, Copy, PartialEq, Eq, Hash)]
 pub struct Wanted {
     pub required: Span,
     pub desired: Span,

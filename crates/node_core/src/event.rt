@@ -3,7 +3,7 @@ use messages::message::Message;
 use model::op::Op;
 
 /// What may happen at a node.
-#[derive(Debug, PartialEq, Eq, Drop)]
+#[derive(PartialEq, Eq, Drop)]
 pub enum NodeEvent {
     /// A process of the node makes a call.
     Call { pid: u16, op: Op },
