@@ -22,7 +22,6 @@ use members::members::Members;
 use messages::epoch_number::EpochNumber;
 use messages::file_number::FileNumber;
 use messages::message::Message;
-use messages::token_run::TokenRuns;
 use model::host::Host;
 use model::mode::Mode;
 use std::alloc::{AllocError, Global};

@@ -1,5 +1,5 @@
 //! The nodes of a cluster, as a token server knows them.
-ghost use Rattle.std.specs.Prelude.{◌≡◌, ◌≢◌, ℕ, ◌+◌, ◌<◌, ◌≤◌, ◌↔◌, true, length, slice_get, All, IsTrue, IfOk, IfSome, OnSome, MatchOption, [], ◌∷◌, ◌++◌, ◌==◌, Some, None};
+ghost use Rattle.std.specs.Prelude.{◌≡◌, ◌≢◌, ℕ, ◌+◌, ◌<◌, ◌≤◌, ◌↔◌, true, length, IsTrue, IfOk, IfSome, OnSome, MatchOption, [], ◌∷◌, ◌++◌, ◌==◌, Some, None};
 ghost use Rattle.std.specs.List.{list_any};
 ghost use Rattle.std.specs.Option.{option_copied};
 ghost use Rattle.intervals.specs.Search.{some_passes};
@@ -11,7 +11,7 @@ ghost use Rattle.token_server.specs.Parts.{row_seen, row_state, known_node_at, r
 ghost use Rattle.token_server.specs.Resends.{outstanding_to};
 ghost use Rattle.token_server.specs.Server.{row_of_incarnation};
 ghost use Rattle.token_server.specs.Sketches.{rows_after, deaths_after};
-ghost use Rattle.token_server.specs.Edits.{seen, seen_row, with_known_node, overlaid, IsReadAs, with_given_row, given_rows};
+ghost use Rattle.token_server.specs.Edits.{seen, overlaid, with_given_row, given_rows};
 ghost use Rattle.token_server.specs.Marks.{NoneExclusive};
 
 use crate::change::Given;

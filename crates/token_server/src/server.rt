@@ -1,12 +1,12 @@
 //! The token server of a file.
-ghost use Rattle.std.specs.Prelude.{◌≡◌, ◌≢◌, ℕ, ◌+◌, ◌-◌, ◌<◌, ◌≤◌, ◌↔◌, ◌++◌, true, false, not, ◌&&◌, ◌||◌, ◌==◌, IsTrue, length, IfSome, IfOk, IfErr, MatchOption, [], Option, Some, None, Ok, Err};
+ghost use Rattle.std.specs.Prelude.{◌≡◌, ◌≢◌, ℕ, ◌-◌, ◌<◌, ◌≤◌, ◌↔◌, true, false, not, ◌&&◌, ◌||◌, ◌==◌, IsTrue, length, IfSome, IfOk, IfErr, MatchOption, [], Option, Some, None, Ok, Err};
 ghost use Rattle.std.specs.Option.{option_map, option_to_list};
 ghost use Rattle.model.specs.Limits.{IsNumber};
 ghost use Rattle.model.specs.Owners.{host_of_call};
 ghost use Rattle.messages.specs.Messages.{sending, addressee, host_of, is_within};
 ghost use Rattle.members.specs.Parts.{members_state};
 ghost use Rattle.token_queue.specs.Actives.{requests_of};
-ghost use Rattle.token_server.specs.State.{first_server, rebuilt, awaits, forgotten, requeued};
+ghost use Rattle.token_server.specs.State.{first_server, rebuilt, awaits};
 ghost use Rattle.token_server.specs.Serve.{serve};
 ghost use Rattle.token_server.specs.Told.{commands_told};
 ghost use Rattle.token_server.specs.Resends.{outstanding, sending_first, resend_rule};

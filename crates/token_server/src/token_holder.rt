@@ -3,7 +3,7 @@ ghost use Rattle.std.specs.Prelude.{◌≡◌, ◌↔◌, IsTrue, IfOk};
 ghost use Rattle.intervals.specs.Bytes.{whole};
 ghost use Rattle.token_set.specs.Tokens.{conflicts};
 ghost use Rattle.token_set.specs.Sets.{token_of};
-ghost use Rattle.token_server.specs.Parts.{row_state, SameRow};
+ghost use Rattle.token_server.specs.Parts.{SameRow};
 
 use crate::commands::Commands;
 use intervals::span::{GREATEST, Span};

@@ -1,12 +1,11 @@
 //! How a token server serves its requests.
 ghost use Rattle.std.specs.Prelude.{◌≡◌, ◌==◌, ◌≢◌, ℕ, ◌+◌, ◌<◌, ◌≤◌, ◌++◌, true, false, length, IfSome, All, IfOk, IfErr, OnOk, OnSome, slice_index_or, Some, None, Ok, Err};
-ghost use Rattle.std.specs.List.{list_any};
 ghost use Rattle.std.specs.Option.{option_map, option_to_list};
-ghost use Rattle.model.specs.Limits.{IsNumber, most_nodes};
+ghost use Rattle.model.specs.Limits.{IsNumber};
 ghost use Rattle.intervals.specs.Bytes.{largest_around};
 ghost use Rattle.messages.specs.Epochs.{before_epoch};
 ghost use Rattle.token_queue.specs.Actives.{requests_of};
-ghost use Rattle.token_server.specs.Serve.{narrowed, row_conflicts, row_conflicts_at, granted_span, conflicting_node, granted_to, revoked_from, served, each_served, serve};
+ghost use Rattle.token_server.specs.Serve.{narrowed, row_conflicts, row_conflicts_at, granted_span, conflicting_node, served, each_served, serve};
 ghost use Rattle.token_server.specs.Told.{promised, row_told, with_told, commands_told, cut, cut_all};
 ghost use Rattle.token_server.specs.Obstacles.{obstacle, are_apart, is_idle};
 ghost use Rattle.token_server.specs.Parts.{server_state, row_state, known_node_at, rows_of};
