@@ -2,3 +2,4 @@ pub mod Tasks
 pub mod Program
 pub mod Words
 pub mod Kinds
+pub mod Table
