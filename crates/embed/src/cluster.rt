@@ -11,10 +11,8 @@ use messages::message::Message;
 use messages::shape::Shape;
 use model::op::Op;
 use model::policy::Policy;
-use node_core::event::NodeEvent;
 use node_core::node::Node;
-use std::alloc::Global;
-use token_server::event::ServerEvent;
+use std::alloc::{AllocError, Global};
 use token_server::server::Server;
 
 // The one file of the cluster, and the one process of each node.
@@ -41,10 +39,12 @@ impl Cluster {
     pub fn new(alloc: Global, nodes: u8) -> anyhow::Result<Cluster> {
         let shape = Shape::new(nodes, FILE, Policy::Wide)?;
         let server = Box::new(alloc, Server::new(alloc, shape, FILE)?)?;
+        let seats = seats(alloc, shape)?;
+        let members = Members::new(alloc, shape)?;
         Ok(Cluster {
             shape,
-            members: Members::new(alloc, shape)?,
-            seats: seats(alloc, shape)?,
+            members,
+            seats,
             office: Office::of(alloc, server),
             sent: 0,
         })
@@ -53,8 +53,7 @@ impl Cluster {
     /// The process of the node calls, and letters are read until none is left.
     pub fn call(&mut self, rt: &HostRuntime, node: u8, op: Op) -> anyhow::Result<()> {
         println!(rt; "node {node} calls {op:?}")?;
-        let call = NodeEvent::Call { pid: PROCESS, op };
-        self.put(node, NodeLetter::Event(call))?;
+        self.put(node, NodeLetter::Call { pid: PROCESS, op })?;
         self.settle(rt)
     }
 
@@ -62,44 +61,48 @@ impl Cluster {
     pub fn pass(&mut self, rt: &HostRuntime, ticks: u32) -> anyhow::Result<()> {
         println!(rt; "{ticks} ticks go by")?;
         for _ in 0..ticks {
-            for seat in self.seats.iter_mut() {
-                seat.put(NodeLetter::Tick)?;
-            }
-            self.office.put(ServerLetter::Tick)?;
+            self.tick()?;
             self.settle(rt)?;
         }
         Ok(())
+    }
+
+    // A tick goes by.
+    fn tick(&mut self) -> Result<(), AllocError> {
+        for seat in self.seats.iter_mut() {
+            seat.put(NodeLetter::Tick)?;
+        }
+        self.office.put(ServerLetter::Tick)
     }
 
     /// The node is dead: it is declared failed, it is fenced, and then the server learns of it.
     pub fn fail(&mut self, rt: &HostRuntime, node: u8) -> anyhow::Result<()> {
         let incarnation = self.members.declare(node)?;
         println!(rt; "node {node} is declared failed in incarnation {incarnation}")?;
-        match self.seats.get_mut(place_of(node)) {
-            Some(seat) => seat.fence(),
-            None => bail!("no seat of node {node}"),
-        }
-        let learn = ServerEvent::Learn { node, incarnation };
-        self.office.put(ServerLetter::Event(learn))?;
+        self.seat(node)?.fence();
+        self.office
+            .put(ServerLetter::Declared { node, incarnation })?;
         self.settle(rt)?;
         self.office.show_node(rt, node)
     }
 
     /// The node restarts: empty, in its next incarnation.
     pub fn restart(&mut self, rt: &HostRuntime, node: u8) -> anyhow::Result<()> {
+        let empty = self.empty(rt.alloc(), node)?;
+        let incarnation = self.members.restart(node)?;
+        self.seat(node)?.sit(empty);
+        println!(rt; "node {node} restarts in incarnation {incarnation}")?;
+        Ok(())
+    }
+
+    // The node as it would restart now.
+    fn empty(&self, alloc: Global, node: u8) -> anyhow::Result<Box<Node>> {
         if node == 0 || node > self.shape.nodes() {
             bail!("no node {node}");
         }
-        let alloc = rt.alloc();
         let incarnation = self.members.next(node)?;
-        let empty = Box::new(alloc, Node::new(alloc, self.shape, node, incarnation)?)?;
-        let Some(seat) = self.seats.get_mut(place_of(node)) else {
-            bail!("no seat of node {node}");
-        };
-        self.members.restart(node)?;
-        *seat = Seat::of(alloc, empty);
-        println!(rt; "node {node} restarts in incarnation {incarnation}")?;
-        Ok(())
+        let empty = Node::new(alloc, self.shape, node, incarnation)?;
+        Ok(Box::new(alloc, empty)?)
     }
 
     /// Prints which calls are open, and what the server does and knows.
@@ -147,10 +150,15 @@ impl Cluster {
         let line = line_of(rt.alloc(), message)?;
         let to = message.addressee();
         println!(rt; "message {} to {to:?}: {line}", self.sent)?;
-        if self.sent % 5 == 4 {
-            println!(rt; "message {} is lost", self.sent)?;
-            return Ok(());
+        if self.sent % 5 != 4 {
+            return self.put_line(to, line);
         }
+        println!(rt; "message {} is lost", self.sent)?;
+        Ok(())
+    }
+
+    // The line goes into the inbox of its addressee.
+    fn put_line(&mut self, to: Actor, line: String) -> anyhow::Result<()> {
         match to {
             Actor::Node(node) => self.put(node, NodeLetter::Line(line)),
             Actor::Server(_) => Ok(self.office.put(ServerLetter::Line(line))?),
@@ -159,16 +167,16 @@ impl Cluster {
 
     // The letter goes into the inbox of the node.
     fn put(&mut self, node: u8, letter: NodeLetter) -> anyhow::Result<()> {
-        match self.seats.get_mut(place_of(node)) {
-            Some(seat) => Ok(seat.put(letter)?),
+        Ok(self.seat(node)?.put(letter)?)
+    }
+
+    // The node's seat: nodes are numbered from 1.
+    fn seat(&mut self, node: u8) -> anyhow::Result<&mut Seat> {
+        match self.seats.get_mut(usize::from(node).wrapping_sub(1)) {
+            Some(seat) => Ok(seat),
             None => bail!("no seat of node {node}"),
         }
     }
-}
-
-// The place of the node's seat: nodes are numbered from 1.
-fn place_of(node: u8) -> usize {
-    usize::from(node).wrapping_sub(1)
 }
 
 // A seat with each node of the cluster, in its first incarnation.

@@ -1,12 +1,11 @@
 //! What lies in an inbox.
-use node_core::event::NodeEvent;
-use token_server::event::ServerEvent;
+use model::op::Op;
 
 /// What a node reads.
 #[derive(Drop)]
 pub enum NodeLetter {
-    /// Something happens at it: a call.
-    Event(NodeEvent),
+    /// A process of the node makes a call.
+    Call { pid: u16, op: Op },
     /// The line of a message that came.
     Line(String),
     /// A tick of the clock went by.
@@ -16,8 +15,8 @@ pub enum NodeLetter {
 /// What a token server reads.
 #[derive(Drop)]
 pub enum ServerLetter {
-    /// Something happens at it: a declaration that it learns.
-    Event(ServerEvent),
+    /// An incarnation of a node was declared failed.
+    Declared { node: u8, incarnation: u16 },
     /// The line of a message that came.
     Line(String),
     /// A tick of the clock went by.

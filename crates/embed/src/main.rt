@@ -73,7 +73,7 @@ const UNLOCK: Op = Op::Unlock {
 };
 
 fn main(rt: HostRuntime) -> anyhow::Result<()> {
-    let mut cluster = Cluster::new(rt.alloc(), 2)?;
+    let mut cluster = Box::new(rt.alloc(), Cluster::new(rt.alloc(), 2)?)?;
     pass_on(&rt, &mut cluster)?;
     outlive(&rt, &mut cluster)
 }

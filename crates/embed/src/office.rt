@@ -4,8 +4,10 @@ use crate::names::name_of;
 use crate::pace::Pace;
 use crate::shown::show_span;
 use crate::wire::message_in;
+use intervals::span::Span;
 use messages::items::Items;
 use messages::message::Message;
+use model::level::Level;
 use std::alloc::{AllocError, Global};
 use std::collections::VecDeque;
 use token_queue::token_request::TokenRequest;
@@ -41,32 +43,42 @@ impl Office {
     /// The server reads its first letter, if it has one. What it sends.
     pub fn read(&mut self, rt: &HostRuntime) -> anyhow::Result<Option<Items<Message>>> {
         match self.inbox.pop_front() {
-            Some(ServerLetter::Event(event)) => self.learn(rt.alloc(), &event),
-            Some(ServerLetter::Line(line)) => self.deliver(rt.alloc(), &line),
-            Some(ServerLetter::Tick) => self.tick(rt),
+            Some(letter) => Ok(Some(self.take(rt, letter)?)),
             None => Ok(None),
         }
     }
 
+    // The server takes a letter. What it sends.
+    fn take(&mut self, rt: &HostRuntime, letter: ServerLetter) -> anyhow::Result<Items<Message>> {
+        match letter {
+            ServerLetter::Declared { node, incarnation } => {
+                self.learn(rt.alloc(), &ServerEvent::Learn { node, incarnation })
+            }
+            ServerLetter::Line(line) => self.deliver(rt.alloc(), &line),
+            ServerLetter::Tick => self.tick(rt),
+        }
+    }
+
     // The server learns of a declaration. What it sends.
-    fn learn(
-        &mut self,
-        alloc: Global,
-        event: &ServerEvent,
-    ) -> anyhow::Result<Option<Items<Message>>> {
+    fn learn(&mut self, alloc: Global, event: &ServerEvent) -> anyhow::Result<Items<Message>> {
         self.begin(false);
         let change = self.server.plan(alloc, event)?;
-        Ok(Some(self.server.apply(change).sends))
+        Ok(self.server.apply(change).sends)
     }
 
     // The message of the line comes. What the server sends. A line of no message is lost.
-    fn deliver(&mut self, alloc: Global, line: &str) -> anyhow::Result<Option<Items<Message>>> {
-        let Some(message) = message_in(alloc, line)? else {
-            return Ok(Some(Items::new(alloc)));
-        };
-        self.begin(is_answer(&message));
-        let change = self.server.plan_delivery(alloc, &message)?;
-        Ok(Some(self.server.apply(change).sends))
+    fn deliver(&mut self, alloc: Global, line: &str) -> anyhow::Result<Items<Message>> {
+        match message_in(alloc, line)? {
+            Some(message) => self.receive(alloc, &message),
+            None => Ok(Items::new(alloc)),
+        }
+    }
+
+    // The message comes. What the server sends.
+    fn receive(&mut self, alloc: Global, message: &Message) -> anyhow::Result<Items<Message>> {
+        self.begin(is_answer(message));
+        let change = self.server.plan_delivery(alloc, message)?;
+        Ok(self.server.apply(change).sends)
     }
 
     // The first distance begins with a step after a rest, and with each answer of a node.
@@ -77,52 +89,56 @@ impl Office {
     }
 
     // A tick goes by: when it is time the server sends again what has no answer. If there is nothing, it rests.
-    fn tick(&mut self, rt: &HostRuntime) -> anyhow::Result<Option<Items<Message>>> {
-        if !is_due(&mut self.pace) {
-            return Ok(Some(Items::new(rt.alloc())));
-        }
-        let change = self.server.plan(rt.alloc(), &ServerEvent::Resend)?;
-        if change.outcome.sends.is_empty() {
+    fn tick(&mut self, rt: &HostRuntime) -> anyhow::Result<Items<Message>> {
+        if is_due(&mut self.pace) {
+            if let Some(sends) = self.resend(rt.alloc())? {
+                println!(rt; "the server sends again")?;
+                return Ok(sends);
+            }
             self.pace = None;
-            return Ok(Some(Items::new(rt.alloc())));
         }
-        println!(rt; "the server sends again")?;
+        Ok(Items::new(rt.alloc()))
+    }
+
+    // What the server sends again, if there is any.
+    fn resend(&mut self, alloc: Global) -> anyhow::Result<Option<Items<Message>>> {
+        let change = self.server.plan(alloc, &ServerEvent::Resend)?;
+        if change.outcome.sends.is_empty() {
+            return Ok(None);
+        }
         Ok(Some(self.server.apply(change).sends))
     }
 
     /// Prints what the server does and knows.
     pub fn show(&self, rt: &HostRuntime) -> anyhow::Result<()> {
-        self.show_requests(rt)?;
+        self.show_served(rt)?;
+        show_requests(rt, "queued", &self.server.queued(rt.alloc())?)?;
+        show_requests(rt, "waiting", &self.server.waiting(rt.alloc())?)?;
+        self.show_rows(rt)?;
+        show_awaited(rt, &self.server.awaited_nodes(rt.alloc())?)
+    }
+
+    // Prints what the server knows of each node.
+    fn show_rows(&self, rt: &HostRuntime) -> anyhow::Result<()> {
         for row in &self.server.rows(rt.alloc())? {
             show_row(rt, row)?;
-        }
-        for node in &self.server.awaited_nodes(rt.alloc())? {
-            println!(rt; "  awaited: the token of node {node}")?;
         }
         Ok(())
     }
 
-    // Prints the requests that the server has.
-    fn show_requests(&self, rt: &HostRuntime) -> anyhow::Result<()> {
+    // Prints the requests that the server serves.
+    fn show_served(&self, rt: &HostRuntime) -> anyhow::Result<()> {
         for held in self.server.served() {
             show_request(rt, "served", &held.request)?;
             println!(rt; "    for the row of node {}", held.at)?;
-        }
-        for request in &self.server.queued(rt.alloc())? {
-            show_request(rt, "queued", request)?;
-        }
-        for request in &self.server.waiting(rt.alloc())? {
-            show_request(rt, "waiting", request)?;
         }
         Ok(())
     }
 
     /// Prints what the server knows of one node.
     pub fn show_node(&self, rt: &HostRuntime, node: u8) -> anyhow::Result<()> {
-        println!(rt;
-            "  node {node} is known as dead up to incarnation {}",
-            self.server.dead(node)
-        )?;
+        let dead = self.server.dead(node);
+        println!(rt; "  node {node} is known as dead up to incarnation {dead}")?;
         match &self.server.row(rt.alloc(), node)? {
             Some(row) => show_row(rt, row),
             None => Ok(println!(rt; "  no row of node {node}")?),
@@ -149,6 +165,22 @@ fn is_answer(message: &Message) -> bool {
     )
 }
 
+// Prints the requests of a list.
+fn show_requests(rt: &HostRuntime, list: &str, requests: &[TokenRequest]) -> anyhow::Result<()> {
+    for request in requests {
+        show_request(rt, list, request)?;
+    }
+    Ok(())
+}
+
+// Prints whose tokens the server awaits.
+fn show_awaited(rt: &HostRuntime, nodes: &[u8]) -> anyhow::Result<()> {
+    for node in nodes {
+        println!(rt; "  awaited: the token of node {node}")?;
+    }
+    Ok(())
+}
+
 // Prints a request that stands in a list.
 fn show_request(rt: &HostRuntime, list: &str, request: &TokenRequest) -> anyhow::Result<()> {
     let call = request.call;
@@ -167,7 +199,12 @@ fn show_row(rt: &HostRuntime, row: &ShownRow) -> anyhow::Result<()> {
         row.node, row.incarnation
     )?;
     println!(rt; "    {command} under way, last command {}", row.number)?;
-    for (span, level) in &row.token {
+    show_token(rt, &row.token)
+}
+
+// Prints each run of a token.
+fn show_token(rt: &HostRuntime, token: &[(Span, Level)]) -> anyhow::Result<()> {
+    for (span, level) in token {
         println!(rt; "    {level:?} from {} to {}", span.lo, span.hi)?;
     }
     Ok(())

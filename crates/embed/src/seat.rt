@@ -6,6 +6,8 @@ use crate::wire::message_in;
 use messages::items::Items;
 use messages::message::Message;
 use messages::outcome::Outcome;
+use model::call::CallId;
+use model::reply::Reply;
 use node_core::event::NodeEvent;
 use node_core::node::Node;
 use node_core::open_call::OpenCall;
@@ -31,6 +33,12 @@ impl Seat {
         }
     }
 
+    /// Another node sits down at the empty seat.
+    pub fn sit(&mut self, node: Box<Node>) {
+        self.node = Some(node);
+        self.pace = Pace::begun();
+    }
+
     /// The node takes no more steps, and what it has not read is lost.
     pub fn fence(&mut self) {
         self.node = None;
@@ -51,9 +59,7 @@ impl Seat {
             return Ok(None);
         };
         match self.inbox.pop_front() {
-            Some(NodeLetter::Event(event)) => Ok(Some(step(rt, node, &event)?)),
-            Some(NodeLetter::Line(line)) => Ok(Some(deliver(rt, node, &line)?)),
-            Some(NodeLetter::Tick) => Ok(Some(tick(rt, node, &mut self.pace)?)),
+            Some(letter) => Ok(Some(take(rt, node, &mut self.pace, letter)?)),
             None => Ok(None),
         }
     }
@@ -70,20 +76,37 @@ impl Seat {
     }
 }
 
+// The node takes a letter. What is sent.
+fn take(
+    rt: &HostRuntime,
+    node: &mut Node,
+    pace: &mut Pace,
+    letter: NodeLetter,
+) -> anyhow::Result<Items<Message>> {
+    match letter {
+        NodeLetter::Call { pid, op } => step(rt, node, &NodeEvent::Call { pid, op }),
+        NodeLetter::Line(line) => deliver(rt, node, &line),
+        NodeLetter::Tick => tick(rt, node, pace),
+    }
+}
+
 // Lets the event happen, and prints the reply if it answers a call. What is sent.
 fn step(rt: &HostRuntime, node: &mut Node, event: &NodeEvent) -> anyhow::Result<Items<Message>> {
     let change = node.plan(rt.alloc(), event)?;
     told(rt, node.apply(change))
 }
 
-// The message of the line comes, and the reply is printed if it answers a call. What is sent. A line of no message is
-// lost.
+// The message of the line comes. What is sent. A line of no message is lost.
 fn deliver(rt: &HostRuntime, node: &mut Node, line: &str) -> anyhow::Result<Items<Message>> {
-    let alloc = rt.alloc();
-    let Some(message) = message_in(alloc, line)? else {
-        return Ok(Items::new(alloc));
-    };
-    let change = node.plan_delivery(alloc, &message)?;
+    match message_in(rt.alloc(), line)? {
+        Some(message) => receive(rt, node, &message),
+        None => Ok(Items::new(rt.alloc())),
+    }
+}
+
+// The message comes, and the reply is printed if it answers a call. What is sent.
+fn receive(rt: &HostRuntime, node: &mut Node, message: &Message) -> anyhow::Result<Items<Message>> {
+    let change = node.plan_delivery(rt.alloc(), message)?;
     told(rt, node.apply(change))
 }
 
@@ -91,12 +114,18 @@ fn deliver(rt: &HostRuntime, node: &mut Node, line: &str) -> anyhow::Result<Item
 fn told(rt: &HostRuntime, outcome: Outcome) -> anyhow::Result<Items<Message>> {
     let Outcome { reply, sends, .. } = outcome;
     if let Some((call, reply)) = reply {
-        println!(rt;
-            "node {} answers call {}: {reply:?}",
-            call.node, call.number
-        )?;
+        show_reply(rt, call, reply)?;
     }
     Ok(sends)
+}
+
+// Prints the reply to a call.
+fn show_reply(rt: &HostRuntime, call: CallId, reply: Reply) -> anyhow::Result<()> {
+    println!(rt;
+        "node {} answers call {}: {reply:?}",
+        call.node, call.number
+    )?;
+    Ok(())
 }
 
 // A tick goes by: when it is time each open call is tried again. What is sent.
@@ -104,24 +133,30 @@ fn tick(rt: &HostRuntime, node: &mut Node, pace: &mut Pace) -> anyhow::Result<It
     let mut sends = Items::new(rt.alloc());
     if node.open_calls().is_empty() {
         *pace = Pace::begun();
-        return Ok(sends);
-    }
-    if pace.tick() {
+    } else if pace.tick() {
         let calls = Vec::from_slice(rt.alloc(), node.open_calls())?;
-        for call in &calls {
-            sends.append(retry(rt, node, call)?)?;
-        }
+        retry_all(rt, node, &calls, &mut sends)?;
     }
     Ok(sends)
 }
 
+// Tries these open calls again. What is sent is put behind what is.
+fn retry_all(
+    rt: &HostRuntime,
+    node: &mut Node,
+    calls: &[OpenCall],
+    sends: &mut Items<Message>,
+) -> anyhow::Result<()> {
+    for call in calls {
+        sends.append(retry(rt, node, call)?)?;
+    }
+    Ok(())
+}
+
 // Tries an open call again. What is sent.
 fn retry(rt: &HostRuntime, node: &mut Node, call: &OpenCall) -> anyhow::Result<Items<Message>> {
-    println!(rt;
-        "node {} tries call {} again",
-        node.host().node,
-        call.number
-    )?;
+    let by = node.host().node;
+    println!(rt; "node {by} tries call {} again", call.number)?;
     step(rt, node, &NodeEvent::Retry { pid: call.pid })
 }
 
