@@ -1,10 +1,35 @@
 use Rattle.std.proofs.Common.{◌≡◌, ◌+◌, ◌++◌, ℕ, take, length, sym, ap, ◌∙◌, arith}
 use Rattle.std.proofs.Math.Seq.{take-append_seam}
+use Rattle.std.proofs.lemmas.List.{length-append}
 use Rattle.intervals.specs.Bytes.{greatest, put}
 use Rattle.intervals.specs.Runs.{value_at, AreRuns, EndsBelow}
 use Rattle.intervals.proofs.Written.{ends_below-both, ends_below-front, ends_below-rest, runs-written, at-written}
 use Rattle.intervals.proofs.StartsWith.{put-pieces}
 use Rattle.intervals.proofs.run.write.Goals as goal
+
+pub splice-requires-clause-room : goal.splice-requires-clause-room
+splice-requires-clause-room g c =
+    let all : length c.deref.result.now ≡ length c.split_before.result.0.now + length c.split_before.result.1.now = ap length c.split_before.ensures.whole ∙ length-append c.split_before.result.0.now c.split_before.result.1.now in
+    let same = ap length c.deref.ensures.value in
+    omega arith
+
+pub overflow_sub-capacity : goal.overflow_sub-capacity
+overflow_sub-capacity g c =
+    let all : length c.deref.result.now ≡ length c.split_before.result.0.now + length c.split_before.result.1.now = ap length c.split_before.ensures.whole ∙ length-append c.split_before.result.0.now c.split_before.result.1.now in
+    let same = ap length c.deref.ensures.value in
+    omega arith
+
+pub replace_rest-requires-clause-kept : goal.replace_rest-requires-clause-kept
+replace_rest-requires-clause-kept g c =
+    let all : length c.deref.result.now ≡ length c.split_before.result.0.now + length c.split_before.result.1.now = ap length c.split_before.ensures.whole ∙ length-append c.split_before.result.0.now c.split_before.result.1.now in
+    let same = ap length c.deref.ensures.value in
+    omega arith
+
+pub replace_rest-requires-clause-room : goal.replace_rest-requires-clause-room
+replace_rest-requires-clause-room g c =
+    let all : length c.deref.result.now ≡ length c.split_before.result.0.now + length c.split_before.result.1.now = ap length c.split_before.ensures.whole ∙ length-append c.split_before.result.0.now c.split_before.result.1.now in
+    let same = ap length c.deref.ensures.value in
+    omega arith
 
 pub splice-requires-clause-bounded : goal.splice-requires-clause-bounded
 splice-requires-clause-bounded g c =
