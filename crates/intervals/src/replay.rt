@@ -8,7 +8,7 @@ use crate::span_map::{Exact, SpanMap};
 use std::alloc::{AllocError, Global};
 
 /// A write of a map: the value at each byte of the span, or none there.
-#[derive(Clone, Copy, Debug, PartialEq, Eq)]
+#[derive(Clone, Copy)]
 pub struct Command<V> {
     pub span: Span,
     pub value: Option<V>,

@@ -50,7 +50,6 @@ pub(crate) fn next_of<'a, V: Exact>(
     requires { AreSome parts.now }
     ensures next { MatchOption result (runs.now ++ all_runs parts.now ≡ []) (λ x. runs.now ++ all_runs parts.now ≡ x.0 ∷ (x.1.now ++ all_runs x.2.now)) }
     ensures some { IfSome result (λ x. AreSome x.2.now) }
-    ensures fewer { IfSome result (λ x. length (x.1.now ++ all_runs x.2.now) < length (runs.now ++ all_runs parts.now)) }
 {
     if let Some((run, rest)) = runs.split_first() {
         return Some((*run, rest, parts));
@@ -93,15 +92,7 @@ fn kept_of<V: Exact>(runs: &[Run<V>], span: Span) -> usize
 fn are_same<V: Exact>(runs: &[Run<V>], others: &[Run<V>]) -> bool
     ensures { result ≡ true → runs.now ≡ others.now }
 {
-    if runs.len() != others.len() {
-        return false;
-    }
-    for i in 0..runs.len() {
-        if runs[i] != others[i] {
-            return false;
-        }
-    }
-    true
+    runs == others
 }
 
 // Whether the parts have the same runs, one after another.
@@ -119,6 +110,21 @@ fn are_same_parts<V: Exact>(parts: &[Part<V>], others: &[Part<V>]) -> bool
     true
 }
 
+// Equal parts, each with room for so many runs at least.
+fn copies<V: Exact>(
+    alloc: Global,
+    parts: &[Part<V>],
+    least: usize,
+) -> Result<Vec<Part<V>>, AllocError>
+    ensures { IfOk result (λ copies. copies.items ≡ parts.now) }
+{
+    let mut copies = Vec::with_capacity(alloc, parts.len())?;
+    for part in parts {
+        copies.push(part.copy(alloc, least)?)?;
+    }
+    Ok(copies)
+}
+
 impl<V: Exact> Row<V> {
     // A row of no runs. It takes no memory.
     pub(crate) fn new(alloc: Global) -> Row<V>
@@ -131,25 +137,16 @@ impl<V: Exact> Row<V> {
         }
     }
 
-    // An equal row.
+    // An equal row. One of a single part has no more room than its runs take.
     pub(crate) fn copy(&self) -> Result<Row<V>, AllocError>
         ensures first { IfOk result (λ copy. copy.first ≡ self.now.first) }
         ensures rest { IfOk result (λ copy. copy.rest.items ≡ self.now.rest.items) }
     {
         let alloc = *self.rest.allocator();
-        if self.rest.is_empty() {
-            return Ok(Row {
-                first: self.first.copy(alloc, 0)?,
-                rest: Vec::new(alloc),
-            });
-        }
-        let mut rest = Vec::with_capacity(alloc, self.rest.len())?;
-        for part in &self.rest {
-            rest.push(part.copy(alloc, MOST + 2)?)?;
-        }
+        let least = if self.rest.is_empty() { 0 } else { MOST + 2 };
         Ok(Row {
-            first: self.first.copy(alloc, MOST + 2)?,
-            rest,
+            first: self.first.copy(alloc, least)?,
+            rest: copies(alloc, &self.rest, least)?,
         })
     }
 

@@ -9,7 +9,7 @@ use crate::span::Span;
 use crate::span_map::Exact;
 
 /// Consecutive bytes of a file, from `lo` to `hi`, both included, that have one value.
-#[derive(Clone, Copy, Debug, PartialEq, Eq)]
+#[derive(Clone, Copy, PartialEq, Eq)]
 pub struct Run<V> {
     pub lo: u64,
     pub hi: u64,

@@ -55,3 +55,6 @@ returns-in_default g c =
     let s : Range = record { lo = c.span.inside.lo; hi = c.span.inside.hi } in
     let left = c.loop-run.runs.now ++ all_runs c.loop-run.parts.now in
     rw (← c.span.view_is) (left_end c.args.self.now left c.args.bar s c.loop-run.invariant.left c.in_default.ensures.next)
+
+pub loop-run-smaller : goal.loop-run-smaller
+loop-run-smaller g c = rw c.in-Some.ensures.next (omega arith)
