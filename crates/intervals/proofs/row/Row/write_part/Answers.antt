@@ -1,7 +1,34 @@
-use Rattle.std.proofs.Common.{◌≡◌, [], length, refl, ap, sym, ◌∙◌, rules, arith}
+use Rattle.std.proofs.Common.{◌≡◌, ◌+◌, ◌<◌, [], length, refl, ap, subst, sym, ◌∙◌, rules, arith}
+use Rattle.std.specs.Vec.{vec_capacity}
+use Rattle.intervals.specs.Bytes.{greatest}
+use Rattle.intervals.specs.Runs.{AreRuns, EndsBelow}
 use Rattle.intervals.specs.Parts.{part_at}
 use Rattle.intervals.proofs.Places.{put_part, part_read, rejoined, rewritten, no_runs, put_emptied}
 use Rattle.intervals.proofs.row.Row.write_part.Goals as goal
+
+pub write-requires-clause-room : goal.write-requires-clause-room
+write-requires-clause-room g c = subst (λ i. length (part_at c.args.self.now i) + length (part_at c.args.self.now i) < vec_capacity c.args.room) c.if-at-eq0.true c.requires.room
+
+pub write-requires-clause-runs : goal.write-requires-clause-runs
+write-requires-clause-runs g c = subst (λ i. AreRuns (part_at c.args.self.now i)) c.if-at-eq0.true c.requires.runs
+
+pub write-requires-clause-bounded : goal.write-requires-clause-bounded
+write-requires-clause-bounded g c = subst (λ i. EndsBelow (part_at c.args.self.now i) (greatest + 1)) c.if-at-eq0.true c.requires.bounded
+
+pub write-requires-2-clause-room : goal.write-requires-2-clause-room
+write-requires-2-clause-room g c =
+    let part : part_at c.args.self.now c.args.at ≡ c.index_mut.result.now = part_read c.args.self.now c.args.at c.index_mut.result.now c.if-at-eq0.false (omega arith) (search rules) in
+    rw (← part) c.requires.room
+
+pub write-requires-2-clause-runs : goal.write-requires-2-clause-runs
+write-requires-2-clause-runs g c =
+    let part : part_at c.args.self.now c.args.at ≡ c.index_mut.result.now = part_read c.args.self.now c.args.at c.index_mut.result.now c.if-at-eq0.false (omega arith) (search rules) in
+    rw (← part) c.requires.runs
+
+pub write-requires-2-clause-bounded : goal.write-requires-2-clause-bounded
+write-requires-2-clause-bounded g c =
+    let part : part_at c.args.self.now c.args.at ≡ c.index_mut.result.now = part_read c.args.self.now c.args.at c.index_mut.result.now c.if-at-eq0.false (omega arith) (search rules) in
+    rw (← part) c.requires.bounded
 
 pub returns-then-has-eq0 : goal.returns-then-has-eq0
 returns-then-has-eq0 g c =
