@@ -1,4 +1,4 @@
-use Rattle.std.proofs.Common.{◌++◌, length, ap, arith}
+use Rattle.std.proofs.Common.{length, ap, arith}
 use Rattle.std.proofs.lemmas.List.{append-nil}
 use Rattle.intervals.proofs.row.Row.cut.Goals as goal
 
