@@ -2,7 +2,7 @@
 use descriptors::error::ProcessError;
 use descriptors::processes::Processes;
 use model::access::Access;
-use std::alloc::AllocError;
+use std::alloc::{AllocError, Global};
 use std::test::Fail;
 
 // Whether process 256 begins once, opens a file, has its descriptor twice, and hands both on to a child.
@@ -27,9 +27,14 @@ fn is_copied(processes: &mut Processes) -> Result<bool, AllocError> {
     Ok(was_same && is_left && processes.is_idle() && !copy.same(processes))
 }
 
+fn are_right(alloc: Global) -> Result<bool, AllocError> {
+    let mut processes = Box::new(alloc, Processes::new(alloc))?;
+    Ok(opens(&mut processes) && is_copied(&mut processes)?)
+}
+
 #[test]
 fn descriptors_share_what_they_refer_to(rt: HostRuntime) -> Result<(), Fail> {
-    let mut processes = Box::new(rt.alloc(), Processes::new(rt.alloc()))?;
-    assert!(rt; opens(&mut processes) && is_copied(&mut processes)?);
+    let is_right = are_right(rt.alloc())?;
+    assert!(rt; is_right);
     Ok(())
 }

@@ -90,23 +90,13 @@ fn takes_all<S: SpanMap<Mode>>(map: &mut S) -> Result<bool, AllocError> {
     takes_each(map, &STEPS)
 }
 
-// Bytes, a value, and the first of them that has it, or any value where there is none.
-type First = (u64, u64, Option<Mode>, Option<u64>);
-
-const FIRSTS: [First; 4] = [
-    (5, 40, None, Some(5)),
-    (5, 40, B, Some(20)),
-    (10, 19, None, None),
-    (10, 40, A, Some(30)),
-];
-
-fn has_first<S: SpanMap<Mode>>(map: &S, first: &First) -> bool {
-    let (lo, hi, value, first) = *first;
-    lo <= hi && hi <= GREATEST && map.first_where(Span { lo, hi }, value) == first
-}
-
+// Whether each of the runs is the first that has some value, or has its own, among bytes where it is, and there is none between them.
 fn has_firsts<S: SpanMap<Mode>>(map: &S) -> bool {
-    FIRSTS.iter().all(|first| has_first(map, first))
+    let most = Span { lo: 5, hi: 40 };
+    map.first_where(most, None) == Some(5)
+        && map.first_where(most, B) == Some(20)
+        && map.first_where(Span { lo: 10, hi: 40 }, A) == Some(30)
+        && map.first_where(Span { lo: 10, hi: 19 }, None).is_none()
 }
 
 // Whether the last run covers those bytes, and the bytes between the other two are free for a write.
@@ -147,14 +137,9 @@ fn goes_on<S: SpanMap<Mode>>(map: &mut S) -> Result<bool, AllocError> {
     Ok(is_made && takes_all(map)? && has_firsts(map) && covers(map) && copies(map)?)
 }
 
-// The map of the writes. (In a box, since that is dropped in fewer steps, each of which the check proves.)
-fn made<S: SpanMap<Mode>>(alloc: Global) -> Result<Box<S>, AllocError> {
-    Ok(Box::new(alloc, replay(alloc, &WRITES)?)?)
-}
-
 fn is_right<S: SpanMap<Mode>>(alloc: Global) -> Result<bool, AllocError> {
-    let mut map: Box<S> = made(alloc)?;
-    goes_on(&mut *map)
+    let mut map: S = replay(alloc, &WRITES)?;
+    goes_on(&mut map)
 }
 
 #[test]
@@ -169,16 +154,21 @@ fn is_stale<V: Exact>(map: &mut TreeMap<V>, value: V) -> Result<bool, AllocError
     map.set(Span { lo: 10, hi: 14 }, value)?;
     let edit = map.plan(Span { lo: 0, hi: 4 }, Some(value))?;
     let did_fit = map.fits(&edit);
-    map.set(Span { lo: 20, hi: 24 }, value)?;
+    let is_set = map.set(Span { lo: 20, hi: 24 }, value).is_ok();
     let fits = map.fits(&edit);
     map.apply(edit);
     let is_kept = map.starts() == 2 && map.covers(Span { lo: 10, hi: 14 }, value);
-    Ok(did_fit && !fits && is_kept && map.get(4).is_none())
+    Ok(did_fit && is_set && !fits && is_kept && map.get(4).is_none())
+}
+
+fn is_stale_in_new<V: Exact>(alloc: Global, value: V) -> Result<bool, AllocError> {
+    let mut map = Box::new(alloc, TreeMap::new(alloc))?;
+    is_stale(&mut map, value)
 }
 
 #[test]
 fn a_write_that_was_planned_for_fewer_runs_changes_nothing(rt: HostRuntime) -> Result<(), Fail> {
-    let is_stale = is_stale(&mut TreeMap::new(rt.alloc()), Mode::Read)?;
+    let is_stale = is_stale_in_new(rt.alloc(), Mode::Read)?;
     assert!(rt; is_stale);
     Ok(())
 }
@@ -219,18 +209,26 @@ fn writes_again<S: SpanMap<Mode>>(
     writes_over(map, &before, lo, value)
 }
 
+// Whether four writes and one within the second are made so, and then there are four runs.
+fn keeps_all<S: SpanMap<Mode>>(map: &mut S) -> Result<bool, AllocError> {
+    for place in 0..4 {
+        if !writes_again(map, 10 * place, B)? {
+            return Ok(false);
+        }
+    }
+    Ok(writes_again(map, 12, None)? && map.starts() == 4)
+}
+
+fn is_copied<S: SpanMap<Mode>>(map: &S) -> Result<bool, AllocError> {
+    let copy = copy_again(map)?;
+    Ok(map.same(&copy))
+}
+
 // Whether a new map is as it was where a request for memory is refused, and the same call then goes through. `scripts/refused-memory`
 // refuses the Nth request of the test, which passes at each N, so it keeps no map in a box.
 fn keeps<S: SpanMap<Mode>>(alloc: Global) -> Result<bool, AllocError> {
     let mut map = S::new(alloc);
-    for place in 0..4 {
-        if !writes_again(&mut map, 10 * place, B)? {
-            return Ok(false);
-        }
-    }
-    let is_free = writes_again(&mut map, 12, None)?;
-    let copy = copy_again(&map)?;
-    Ok(is_free && map.starts() == 4 && map.same(&copy))
+    Ok(keeps_all(&mut map)? && is_copied(&map)?)
 }
 
 #[test]

@@ -4,7 +4,7 @@ use intervals::span::Span;
 use lock_table::error::LockError;
 use lock_table::lock_table::LockTable;
 use lock_table::{Kind, LockInfo, Mode, Owner};
-use std::alloc::AllocError;
+use std::alloc::{AllocError, Global};
 use std::test::Fail;
 
 const FILE: u16 = 1;
@@ -94,15 +94,10 @@ fn changes_over(
     Ok(is_same)
 }
 
-// Whether the changes are made, one after the other.
-fn all_change(table: &mut LockTable, changes: &[(LockInfo, bool)]) -> Result<bool, LockError> {
-    for (lock, sets) in changes {
-        let before = copy_again(table)?;
-        if !changes_over(table, &before, lock, *sets)? {
-            return Ok(false);
-        }
-    }
-    Ok(true)
+// Whether the change is made so, and the table is as it was where it is refused at first.
+fn changes_again(table: &mut LockTable, lock: &LockInfo, sets: bool) -> Result<bool, LockError> {
+    let before = copy_again(table)?;
+    changes_over(table, &before, lock, sets)
 }
 
 // Whether the file has just these locks.
@@ -120,12 +115,19 @@ fn is_blocked_by(table: &LockTable, owner: Owner, lock: LockInfo) -> bool {
 }
 
 fn sets(table: &mut LockTable) -> Result<bool, LockError> {
-    all_change(table, &[(last(), true), (middle(), true), (low(), true)])
+    Ok(
+        changes_again(table, &last(), true)?
+            && changes_again(table, &middle(), true)?
+            && changes_again(table, &low(), true)?,
+    )
 }
 
 // Unlocks a byte within a lock, and the first half of another.
 fn unlocks(table: &mut LockTable) -> Result<bool, LockError> {
-    all_change(table, &[(on(low(), BYTE), false), (on(last(), TEN), false)])
+    Ok(
+        changes_again(table, &on(low(), BYTE), false)?
+            && changes_again(table, &on(last(), TEN), false)?,
+    )
 }
 
 fn has_all(table: &LockTable) -> Result<bool, AllocError> {
@@ -147,10 +149,15 @@ fn goes_twice(table: &mut LockTable, owner: Owner) {
 }
 
 // Whether the locks are in their order as they are set, name what blocks, and are freed.
-fn is_right(table: &mut LockTable) -> Result<bool, LockError> {
+fn takes_all(table: &mut LockTable) -> Result<bool, LockError> {
     let is_free = sets(table)? && has_all(table)? && are_blocked(table) && unlocks(table)?;
     goes_twice(table, low().owner);
     Ok(is_free && has_rest(table)?)
+}
+
+fn is_right(alloc: Global) -> Result<bool, LockError> {
+    let mut table = LockTable::new(alloc, 1024);
+    takes_all(&mut table)
 }
 
 // The lowest first byte goes before the lowest owner, processes go before descriptions, and these before the next incarnation.
@@ -158,8 +165,7 @@ fn is_right(table: &mut LockTable) -> Result<bool, LockError> {
 // refuses the Nth request of the test, which passes at each N, so it keeps no table in a box.
 #[test]
 fn keeps_what_it_had(rt: HostRuntime) -> Result<(), Fail> {
-    let mut table = LockTable::new(rt.alloc(), 1024);
-    let is_right = is_right(&mut table)?;
+    let is_right = is_right(rt.alloc())?;
     assert!(rt; is_right);
     Ok(())
 }

@@ -33,10 +33,14 @@ const REFUSALS: [(Refused, &str); 9] = [
     (Refused::Fenced, "the node was declared failed"),
 ];
 
+fn says<E: Display>(alloc: Global, refusal: &E, text: &str) -> Result<bool, AllocError> {
+    Ok(format!(in alloc; "{refusal}")?.as_str() == text)
+}
+
 // Whether each refusal says why.
 fn say<E: Display>(alloc: Global, refusals: &[(E, &str)]) -> Result<bool, AllocError> {
     for (refusal, text) in refusals {
-        if format!(in alloc; "{refusal}")?.as_str() != *text {
+        if !says(alloc, refusal, text)? {
             return Ok(false);
         }
     }

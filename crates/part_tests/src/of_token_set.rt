@@ -1,5 +1,6 @@
 //! What a token gives up at once. (A node plans what it gives up.)
 use intervals::span::{GREATEST, Span};
+use lock_table::error::LockError;
 use lock_table::lock_table::LockTable;
 use model::level::Level;
 use model::lock_info::LockInfo;
@@ -42,12 +43,19 @@ fn high() -> LockInfo {
     }
 }
 
+fn set(locks: &mut LockTable, lock: LockInfo) -> Result<(), LockError> {
+    locks.set(lock.owner, FILE, lock.span, lock.mode)
+}
+
+fn set_both(locks: &mut LockTable) -> Result<(), LockError> {
+    set(locks, high())?;
+    set(locks, low())
+}
+
 // The node's locks of the file: both. (In a box, since that is dropped in fewer steps, each of which the check proves.)
 fn both_locks(alloc: Global) -> Result<Box<LockTable>, Fail> {
     let mut locks = Box::new(alloc, LockTable::new(alloc, 1024))?;
-    for lock in [high(), low()] {
-        locks.set(lock.owner, FILE, lock.span, lock.mode)?;
-    }
+    set_both(&mut locks)?;
     Ok(locks)
 }
 
@@ -122,16 +130,16 @@ fn is_left(alloc: Global, token: &TokenSet) -> Result<bool, AllocError> {
     Ok(token.runs(alloc)?.as_slice() == LEFT.as_slice())
 }
 
-// Whether the token answers so, and that is left of it.
-fn is_right(alloc: Global, locks: &LockTable, token: &mut TokenSet) -> Result<bool, AllocError> {
-    Ok(gives_all_up(locks, token)? && is_left(alloc, token)?)
+// Whether the node's token answers so, and that is left of it.
+fn is_right(alloc: Global, locks: &LockTable) -> Result<bool, AllocError> {
+    let mut token = of_all(alloc)?;
+    Ok(gives_all_up(locks, &mut token)? && is_left(alloc, &token)?)
 }
 
 #[test]
 fn the_first_lock_in_the_way_is_a_conflict(rt: HostRuntime) -> Result<(), Fail> {
-    let mut token = of_all(rt.alloc())?;
     let locks = both_locks(rt.alloc())?;
-    let is_right = is_right(rt.alloc(), &locks, &mut token)?;
+    let is_right = is_right(rt.alloc(), &locks)?;
     assert!(rt; is_right);
     Ok(())
 }
