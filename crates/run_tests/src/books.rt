@@ -5,6 +5,7 @@ use book::book::Book;
 use book::new_trail::NewTrail;
 use book::seat::Seat;
 use book::stamp::Stamp;
+use messages::event::Event;
 use messages::shape::Shape;
 use std::alloc::{AllocError, Global};
 use trail::name::Name;
@@ -31,6 +32,17 @@ pub fn open<J: Name>(
 /// Where a step's entry stands, from 1, if it was taken.
 pub fn position<E: Drop>(made: Result<Stamp, E>) -> Option<u32> {
     Some(made.ok()?.position())
+}
+
+/// Prepares the event's step and commits it at once: where its entry stands, if it was taken.
+pub fn commits<J: Name>(
+    book: &mut Book<J>,
+    alloc: Global,
+    seat: &mut Seat<J>,
+    event: Event,
+) -> Option<u32> {
+    let prepared = seat.prepare(alloc, event).ok()?;
+    position(book.commit(alloc, seat, prepared, None))
 }
 
 /// Puts what was made in the place of what was there. (Of any type, since a seat is dropped in many steps.)

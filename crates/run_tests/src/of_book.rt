@@ -1,7 +1,7 @@
 //! Commits, and why they are refused.
 ghost use Rattle.std.specs.Prelude.{◌≡◌, IfSome};
 
-use crate::books::{Opened, open, position, put};
+use crate::books::{Opened, commits, open, position, put};
 use book::book::Book;
 use book::commit_error::CommitError;
 use book::confirms::Confirms;
@@ -41,22 +41,22 @@ fn spawn_of(node: u8, pid: u16) -> Event {
     }
 }
 
-// Prepares the event's step and commits it at once. (A stamp in a box is dropped in fewer steps.)
-fn commit<J: Name>(
+// The first step of a node's process, committed at once. (A stamp in a box is dropped in fewer steps.)
+fn begin<J: Name>(
     book: &mut Book<J>,
     alloc: Global,
     seat: &mut Seat<J>,
-    event: Event,
+    node: u8,
     seen: Option<&Mark>,
 ) -> Option<Box<Stamp>> {
-    let prepared = seat.prepare(alloc, event).ok()?;
+    let prepared = seat.prepare(alloc, spawn(node)).ok()?;
     let stamp = book.commit(alloc, seat, prepared, seen).ok()?;
     Box::new(alloc, stamp).ok()
 }
 
 // Whether the event's step is taken.
 fn takes<J: Name>(book: &mut Book<J>, alloc: Global, seat: &mut Seat<J>, event: Event) -> bool {
-    commit(book, alloc, seat, event, None).is_some()
+    commits(book, alloc, seat, event).is_some()
 }
 
 // Why the event's step is not taken, if it was prepared and is not.
@@ -84,9 +84,9 @@ fn is_confirmed<J: Name>(book: &Book<J>, first: &Stamp, second: &Stamp) -> bool 
 // Whether a process of each node begins, the second once the first did, and there is a receipt of the second.
 fn begin_both<J: Name>(opened: &mut Opened<J>, alloc: Global) -> Option<bool> {
     let Opened { book, seats } = opened;
-    let first = commit(book, alloc, seats.first_mut()?, spawn(1), None)?;
+    let first = begin(book, alloc, seats.first_mut()?, 1, None)?;
     let seen = first.mark();
-    let second = commit(book, alloc, seats.get_mut(1)?, spawn(2), Some(&seen))?;
+    let second = begin(book, alloc, seats.get_mut(1)?, 2, Some(&seen))?;
     Some(is_confirmed(book, &first, &second))
 }
 
@@ -103,29 +103,44 @@ fn keeps_strangers_out<J: Name>(opened: &mut Opened<J>, alloc: Global) -> Option
     Some(foreign == Some(StepError::Stranger) && refused == Some(CommitError::Stranger))
 }
 
+// Whether the first step of a seat of another book is not taken behind that of the node.
+fn is_stale<J: Name>(opened: &mut Opened<J>, alloc: Global, other: &mut Opened<J>) -> Option<bool> {
+    let refused = refusal(&mut opened.book, alloc, other.seats.first_mut()?, spawn(1));
+    Some(refused == Some(CommitError::Stale))
+}
+
+// Whether the server, once it was declared failed, is not again, and takes no step that was prepared before. (That a node's is not taken, too,
+// is looked at on threads.)
+fn is_fenced<J: Name>(opened: &mut Opened<J>, alloc: Global) -> Option<bool> {
+    let Opened { book, seats } = opened;
+    let seat = seats.last_mut()?;
+    let prepared = seat.prepare(alloc, Event::Resend { file: 1 }).ok()?;
+    let failed = position(book.fail_server(alloc, 1));
+    let again = book.fail_server(alloc, 1).err();
+    let refused = book.commit(alloc, seat, prepared, None).err();
+    Some(
+        failed == Some(3)
+            && again == Some(Refused::NotAlive)
+            && refused == Some(CommitError::Fenced),
+    )
+}
+
+// Whether a book takes steps of its own actors that are alive, each behind the last one of its seat, and no other.
+fn is_of_actors<J: Name>(alloc: Global) -> Result<bool, Fail> {
+    let mut opened = begins::<J>(alloc, None)?;
+    let mut other = begins::<J>(alloc, None)?;
+    Ok(
+        begin_both(&mut opened, alloc) == Some(true)
+            && keeps_strangers_out(&mut opened, alloc) == Some(true)
+            && is_stale(&mut opened, alloc, &mut other) == Some(true)
+            && is_fenced(&mut opened, alloc) == Some(true),
+    )
+}
+
 #[test]
 fn a_step_is_of_an_actor(rt: HostRuntime) -> Result<(), Fail> {
-    let mut opened = begins::<Brand>(rt.alloc(), None)?;
-    let both = begin_both(&mut opened, rt.alloc());
-    let neither = keeps_strangers_out(&mut opened, rt.alloc());
-    assert!(rt; both == Some(true) && neither == Some(true));
-    Ok(())
-}
-
-// Whether a step of a seat of another book, which is where node 1 begins, is not taken where it began.
-fn is_stale<J: Name>(opened: &mut Opened<J>, alloc: Global, other: &mut Opened<J>) -> Option<bool> {
-    let Opened { book, seats } = opened;
-    let is_taken = takes(book, alloc, seats.first_mut()?, spawn(1));
-    let refused = refusal(book, alloc, other.seats.first_mut()?, spawn(1));
-    Some(is_taken && refused == Some(CommitError::Stale))
-}
-
-#[test]
-fn a_step_is_of_a_book(rt: HostRuntime) -> Result<(), Fail> {
-    let mut opened = begins::<Brand>(rt.alloc(), None)?;
-    let mut other = begins::<Brand>(rt.alloc(), None)?;
-    let is_stale = is_stale(&mut opened, rt.alloc(), &mut other);
-    assert!(rt; is_stale == Some(true));
+    let is_of_actors = is_of_actors::<Brand>(rt.alloc())?;
+    assert!(rt; is_of_actors);
     Ok(())
 }
 
@@ -188,29 +203,5 @@ fn takes_the_same<J: Name>(alloc: Global, trail: NewTrail) -> Result<bool, Fail>
 fn a_book_with_a_trail_takes_the_same(rt: HostRuntime) -> Result<(), Fail> {
     let taken = takes_the_same::<Brand>(rt.alloc(), NewTrail::new())?;
     assert!(rt; taken);
-    Ok(())
-}
-
-// Whether the server, once it was declared failed, is not again, and takes no step that was prepared before.
-fn is_fenced<J: Name>(opened: &mut Opened<J>, alloc: Global) -> Option<bool> {
-    let Opened { book, seats } = opened;
-    let seat = seats.last_mut()?;
-    let prepared = seat.prepare(alloc, Event::Resend { file: 1 }).ok()?;
-    let failed = position(book.fail_server(alloc, 1));
-    let again = book.fail_server(alloc, 1).err();
-    let refused = book.commit(alloc, seat, prepared, None).err();
-    Some(
-        failed == Some(1)
-            && again == Some(Refused::NotAlive)
-            && refused == Some(CommitError::Fenced),
-    )
-}
-
-// (That of a node is, too, is looked at on threads.)
-#[test]
-fn a_failed_server_is_fenced(rt: HostRuntime) -> Result<(), Fail> {
-    let mut opened = begins::<Brand>(rt.alloc(), None)?;
-    let is_fenced = is_fenced(&mut opened, rt.alloc());
-    assert!(rt; is_fenced == Some(true));
     Ok(())
 }

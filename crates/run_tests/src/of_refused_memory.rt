@@ -2,7 +2,7 @@
 //! one journal.
 ghost use Rattle.std.specs.Prelude.{◌≡◌};
 
-use crate::books::{Opened, open, position, put, put_first};
+use crate::books::{Opened, commits, open, position, put, put_first};
 use crate::journals::read;
 use book::book::Book;
 use book::new_trail::NewTrail;
@@ -122,6 +122,36 @@ entry 53 deliver taken 1 2 4 2.1.9
 end 53
 ";
 
+/// What takes the entries of a journal, one after the other.
+trait Taker {
+    /// Whether the entry's event comes to the entry. No answer is a refused request for memory, where nothing has changed.
+    fn takes(&mut self, alloc: Global, entry: &Entry) -> Option<bool>;
+}
+
+// Whether the entry is taken, which is asked again where a request is refused.
+fn takes_again<T: Taker>(alloc: Global, taker: &mut T, entry: &Entry) -> bool {
+    match taker.takes(alloc, entry) {
+        Some(is_taken) => is_taken,
+        None => taker.takes(alloc, entry) == Some(true),
+    }
+}
+
+// Whether all are.
+fn takes_all<T: Taker>(alloc: Global, taker: &mut T, entries: &[Entry]) -> bool {
+    for entry in entries {
+        if !takes_again(alloc, taker, entry) {
+            return false;
+        }
+    }
+    true
+}
+
+impl Taker for World {
+    fn takes(&mut self, alloc: Global, entry: &Entry) -> Option<bool> {
+        comes_next(self, alloc, entry).ok()
+    }
+}
+
 // The world before any event, in a box. (What a test keeps in a box is dropped in fewer steps.)
 fn begins(alloc: Global, shape: Shape) -> Result<Box<World>, AllocError> {
     Ok(Box::new(alloc, World::new(alloc, shape)?)?)
@@ -134,52 +164,32 @@ fn begins_again(alloc: Global, shape: Shape) -> Result<Box<World>, AllocError> {
     }
 }
 
-// Whether the entry is the world's next step, which is made again where it is refused.
-fn comes_next_again(alloc: Global, world: &mut World, entry: &Entry) -> Result<bool, AllocError> {
-    match comes_next(world, alloc, entry) {
-        Ok(is_next) => Ok(is_next),
-        Err(_) => comes_next(world, alloc, entry),
-    }
-}
-
-// Whether the entries are the steps of a world of that shape, one after the other.
-fn all_come_next(alloc: Global, shape: Shape, entries: &[Entry]) -> Result<bool, AllocError> {
+// Whether a world of that shape takes the entries.
+fn world_takes(alloc: Global, shape: Shape, entries: &[Entry]) -> Result<bool, AllocError> {
     let mut world = begins_again(alloc, shape)?;
-    for entry in entries {
-        if !comes_next_again(alloc, &mut world, entry)? {
-            return Ok(false);
-        }
-    }
-    Ok(true)
+    Ok(takes_all(alloc, &mut *world, entries))
 }
 
-// The seat of the actor that takes the event. There is one file.
-fn seat_of<'a, J: Name>(seats: &'a mut Vec<Seat<J>>, event: &Event) -> Option<&'a mut Seat<J>> {
-    let actor = match event {
+// The actor that takes the event, if one does. There is one file.
+fn actor_of(event: &Event) -> Actor {
+    match event {
         Event::Call { node, .. } | Event::Retry { node, .. } | Event::Interrupt { node, .. } => {
             Actor::Node(*node)
         }
         Event::Deliver(message) => message.addressee(),
         _ => Actor::Server(1),
-    };
+    }
+}
+
+// The actor's seat.
+fn seat_of<J: Name>(seats: &mut Vec<Seat<J>>, actor: Actor) -> Option<&mut Seat<J>> {
     match actor {
         Actor::Node(node) => seats.get_mut(usize::from(node).saturating_sub(1)),
         Actor::Server(_) => seats.last_mut(),
     }
 }
 
-// The actor's step, by its seat; no answer is a refusal, here and below.
-fn commits<J: Name>(
-    alloc: Global,
-    book: &mut Book<J>,
-    seat: &mut Seat<J>,
-    event: &Event,
-) -> Option<u32> {
-    let prepared = seat.prepare(alloc, event.copy(alloc).ok()?).ok()?;
-    position(book.commit(alloc, seat, prepared, None))
-}
-
-// The server begins again, with another seat.
+// The server begins again, with another seat. Where the entry stands, from 1; no answer is a refusal, here and below.
 fn starts<J: Name>(
     alloc: Global,
     book: &mut Book<J>,
@@ -200,7 +210,7 @@ fn restarts<J: Name>(
     Some(book.len())
 }
 
-// Where the entry of the event stands, from 1.
+// Where the entry of the event stands.
 fn taken<J: Name>(
     alloc: Global,
     book: &mut Book<J>,
@@ -212,22 +222,10 @@ fn taken<J: Name>(
         Event::Restart { node } => restarts(alloc, book, seats, *node),
         Event::FailServer { file } => position(book.fail_server(alloc, *file)),
         Event::StartServer { file } => starts(alloc, book, seats, *file),
-        _ => commits(alloc, book, seat_of(seats, event)?, event),
-    }
-}
-
-// The same of the step that is made again where it is refused, if the book then has no entry of it.
-fn taken_again<J: Name>(
-    alloc: Global,
-    book: &mut Book<J>,
-    seats: &mut Vec<Seat<J>>,
-    event: &Event,
-) -> Option<u32> {
-    let before = book.len();
-    match taken(alloc, book, seats, event) {
-        Some(position) => Some(position),
-        None if book.len() == before => taken(alloc, book, seats, event),
-        None => None,
+        _ => {
+            let seat = seat_of(seats, actor_of(event))?;
+            commits(book, alloc, seat, event.copy(alloc).ok()?)
+        }
     }
 }
 
@@ -239,24 +237,20 @@ fn ends_with<J: Name>(book: &Book<J>, position: u32, entry: &Entry) -> bool {
     }
 }
 
-// Whether the events of the entries come to them.
-fn takes_all<J: Name>(
-    alloc: Global,
-    book: &mut Book<J>,
-    seats: &mut Vec<Seat<J>>,
-    entries: &[Entry],
-) -> bool {
-    for entry in entries {
-        match taken_again(alloc, book, seats, entry.event()) {
-            Some(position) if ends_with(book, position, entry) => {}
-            _ => return false,
+impl<J: Name> Taker for Opened<J> {
+    fn takes(&mut self, alloc: Global, entry: &Entry) -> Option<bool> {
+        let Opened { book, seats } = self;
+        let before = book.len();
+        match taken(alloc, book, seats, entry.event()) {
+            Some(position) => Some(ends_with(book, position, entry)),
+            None if book.len() == before => None,
+            None => Some(false),
         }
     }
-    true
 }
 
-// Whether a book of that shape takes all of it. (One that is made again has no trail.)
-fn is_taken<J: Name>(
+// Whether a book of that shape takes the entries. (One that is made again has no trail.)
+fn book_takes<J: Name>(
     alloc: Global,
     shape: Shape,
     trail: NewTrail,
@@ -268,8 +262,7 @@ fn is_taken<J: Name>(
         Ok(opened) => opened,
         Err(_) => open::<J>(alloc, shape, None)?,
     };
-    let Opened { book, seats } = &mut *opened;
-    Ok(takes_all(alloc, book, seats, entries))
+    Ok(takes_all(alloc, &mut *opened, entries))
 }
 
 // Where one request for memory is refused, the world stays as it is: the same step then gives what it would have given, and so do
@@ -277,8 +270,8 @@ fn is_taken<J: Name>(
 #[test]
 fn world_keeps_what_it_had(rt: HostRuntime) -> Result<(), Fail> {
     let (shape, entries) = read(rt.alloc(), RUN)?;
-    let come_next = all_come_next(rt.alloc(), shape, &entries)?;
-    assert!(rt; come_next);
+    let is_taken = world_takes(rt.alloc(), shape, &entries)?;
+    assert!(rt; is_taken);
     Ok(())
 }
 
@@ -286,7 +279,7 @@ fn world_keeps_what_it_had(rt: HostRuntime) -> Result<(), Fail> {
 #[test]
 fn book_keeps_what_it_had(rt: HostRuntime) -> Result<(), Fail> {
     let (shape, entries) = read(rt.alloc(), RUN)?;
-    let is_taken = is_taken::<Brand>(rt.alloc(), shape, NewTrail::new(), &entries)?;
+    let is_taken = book_takes::<Brand>(rt.alloc(), shape, NewTrail::new(), &entries)?;
     assert!(rt; is_taken && entries.len() == 53);
     Ok(())
 }
