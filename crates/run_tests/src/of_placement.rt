@@ -190,13 +190,6 @@ fn allows_what_one_machine_may_answer(rt: HostRuntime) {
     assert!(rt; wrong.is_none(), "{wrong:?}");
 }
 
-// The history of nothing.
-#[test]
-fn allows_nothing(rt: HostRuntime) {
-    let is_legal = is_legal(rt.alloc(), Version::Second, Vec::new(rt.alloc()));
-    assert!(rt; is_legal == Some(true));
-}
-
 // A call at that place that is answered so.
 fn answered(position: u32, pid: u16, op: Op, reply: Reply) -> Item {
     Item::Answered {
@@ -280,9 +273,10 @@ fn may_be_full(alloc: Global, version: Version, count: u16) -> Option<bool> {
     is_legal(alloc, version, items)
 }
 
-// Whether the limit of each version is just where it is.
+// Whether a history of nothing is legal, and the limit of each version is just where it is.
 fn has_limits(alloc: Global) -> bool {
-    may_be_full(alloc, Version::First, 1023) == Some(false)
+    is_legal(alloc, Version::Second, Vec::new(alloc)) == Some(true)
+        && may_be_full(alloc, Version::First, 1023) == Some(false)
         && may_be_full(alloc, Version::First, 1024) == Some(true)
         && may_be_full(alloc, Version::First, 1025) == Some(false)
         && may_be_full(alloc, Version::Second, 1024) == Some(false)
