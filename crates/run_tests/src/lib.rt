@@ -1,5 +1,5 @@
-//! Tests of nodes, servers, runs and clusters on threads, through their public calls, where no script leads: messages that no
-//! run sends, histories that no run has, seats and steps of a book, gates that hold an actor.
+//! Tests of the libraries through their public calls, where no script leads: values that no run brings to a map or a table, messages
+//! that no run sends, histories that no run has, seats and steps of a book, gates that hold an actor.
 #![tactic(auto)]
 
 #[cfg(test)]
@@ -17,9 +17,17 @@ mod of_book;
 #[cfg(test)]
 mod of_cluster_core;
 #[cfg(test)]
+mod of_descriptors;
+#[cfg(test)]
+mod of_intervals;
+#[cfg(test)]
 mod of_journal_text;
 #[cfg(test)]
+mod of_lock_table;
+#[cfg(test)]
 mod of_lockscript;
+#[cfg(test)]
+mod of_messages;
 #[cfg(test)]
 mod of_node_core;
 #[cfg(test)]
@@ -28,3 +36,5 @@ mod of_placement;
 mod of_refused_memory;
 #[cfg(test)]
 mod of_token_server;
+#[cfg(test)]
+mod of_token_set;
