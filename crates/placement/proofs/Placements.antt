@@ -29,4 +29,4 @@ are_places shape es given slots is run same found ahead =
     let P : List Entry → Type 0 = λ xs. standing xs slots ≡ slots_of xs in
     let placed = subst P same found in
     let all = is_placed shape es es (items_in (standing es slots)) is run refl (ap items_in placed) in
-    record { each = length-placed es es slots placed; ahead = ahead; history = all.history; at_places = all.at_places }
+    record { each = length-placed es es slots placed; placed = placed; ahead = ahead; history = all.history; at_places = all.at_places }

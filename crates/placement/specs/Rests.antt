@@ -1,11 +1,11 @@
 -- What is left of a run that is told entry by entry, where each entry goes once it is told.
-use Rattle.std.specs.Prelude.{◌≡◌, ◌≤◌, ◌+◌, ◌-◌, ℕ, zero, suc, ⊤, List, [], ◌∷◌, length, map, slice_get, Option, Some, None}
+use Rattle.std.specs.Prelude.{◌≡◌, ◌≤◌, ◌+◌, ◌-◌, ℕ, zero, suc, ⊤, List, [], ◌∷◌, length, slice_get, Option, Some, None}
 use Rattle.model.specs.declared.op.Op.{Op}
 use Rattle.messages.specs.declared.entry.Entry.{Entry}
 use Rattle.messages.specs.Shapes.{ShapeFields}
 use Rattle.cluster_core.specs.declared.item.Item.{Item}
 use Rattle.cluster_core.specs.Histories.{HasHistory, EachAtItsPlace}
-use Rattle.cluster_core.specs.Placement.{items_in}
+use Rattle.cluster_core.specs.Placement.{slots_of, items_in}
 use Rattle.placement.specs.declared.slot.Slot.{Slot}
 use Rattle.placement.specs.declared.slot.Slot.TheVariants.{Empty, Declared, Answered}
 use Rattle.placement.specs.Standing.{made_by, declared_by, answered_by, standing}
@@ -46,6 +46,7 @@ AreAhead k (slot ∷ slots) = IsAhead k slot × AreAhead (k + 1) slots
 -- the slots of a run, one for each of its entries, in which its history stands
 pub record ArePlaces (shape : ShapeFields) (es : List Entry) (slots : List Slot) : Type 0 where
   pub each : length slots ≡ length es
+  pub placed : standing es slots ≡ slots_of es
   pub ahead : AreAhead 0 slots
   pub history : HasHistory shape es (items_in (standing es slots))
   pub at_places : EachAtItsPlace es (items_in (standing es slots))

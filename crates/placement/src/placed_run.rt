@@ -1,7 +1,7 @@
 //! Runs whose calls have their places.
 ghost use Rattle.std.specs.Prelude.{◌≡◌, IfOk};
 ghost use Rattle.cluster_core.specs.Histories.{HasHistory, EachAtItsPlace};
-ghost use Rattle.cluster_core.specs.Placement.{items_in};
+ghost use Rattle.cluster_core.specs.Placement.{items_in, slots_of};
 
 use crate::placed::slots_of;
 use crate::placed_entries::PlacedEntries;
@@ -51,6 +51,7 @@ impl PlacedRun {
     /// single machine's table allows the items from the first to the last, and ends as what the live nodes hold.
     pub fn into_entries(self, alloc: Global) -> PlacedEntries
         ensures entries { result.entries ≡ self.entries }
+        ensures standing { result.standing ≡ slots_of self.entries }
         ensures history { HasHistory self.shape self.entries (items_in result.standing) }
         ensures at_places { EachAtItsPlace self.entries (items_in result.standing) }
     {
