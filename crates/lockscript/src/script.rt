@@ -104,6 +104,13 @@ impl Script {
         self.lines.as_slice()
     }
 
+    /// The same, where the script itself is needed no longer.
+    pub fn into_lines(self) -> Vec<ScriptLine>
+        ensures { result.items ≡ self.lines }
+    {
+        self.lines
+    }
+
     /// The number of the first line that threads don't take, if there is one.
     pub fn bad_line_on_threads(&self) -> Option<u32>
         ensures { result ≡ bad_line self.now.lines }

@@ -1,9 +1,9 @@
 -- Runs of scripts lead from world to world.
-use Rattle.std.proofs.Common.{◌≡◌, ℕ, ◌+◌, ◌<◌, Bool, true, false, if◌then◌else◌, Option, Some, None, refl, sym, ◌∙◌, ap, subst, List, [], ◌∷◌, ◌++◌, length, take, drop, get_or}
+use Rattle.std.proofs.Common.{◌≡◌, ℕ, Bool, true, false, if◌then◌else◌, Option, Some, None, refl, sym, subst, List, [], ◌∷◌, ◌++◌, length, reverse}
 use Rattle.std.specs.Prelude.{nat_le, nat_lt, slice_get, IfSome}
 use Rattle.std.specs.declared.result.Result.{Result}
 use Rattle.std.specs.declared.result.Result.TheVariants.{Ok, Err}
-use Rattle.std.proofs.lemmas.List.{take_more, drop_more, take-append-drop}
+use Rattle.std.proofs.lemmas.List.{reverse-append}
 use Rattle.messages.specs.declared.refusal.Refused.{Refused}
 use Rattle.messages.specs.declared.refusal.Refused.TheVariants.{NoMemory, Stranger, JournalFull, Fenced}
 use Rattle.messages.specs.declared.event.Event.{Event}
@@ -112,18 +112,21 @@ settles_push line p q s end ms m turns same delivers =
     let P : Progress → Type 0 = λ x. Delivers line m x end in
     turns_push (Delivers line) (Some p) q end ms m turns (subst P same delivers)
 
--- one more of these lines is run
-pub runs_more : (p q r : Progress) (ls : List LineFields) (i : ℕ) (l : LineFields) → i < length ls → l ≡ get_or ls i l → RunsTo p (take i ls) (Some q) → Does l.number l.command q (Some r) → RunsTo p (take (i + 1) ls) (Some r)
-runs_more p q r ls i l lt is runs does =
-    let P : List LineFields → Type 0 = λ ks. RunsTo p ks (Some r) in
-    subst P (ap (λ (k : LineFields). take i ls ++ k ∷ []) is ∙ sym (take_more ls i l lt)) (turns_push (λ (k : LineFields). Does k.number k.command) (Some p) q (Some r) (take i ls) l runs does)
+-- a line that is done, before those that are left, of which the last comes first
+pub runs_first : (p q : Progress) (left ls : List LineFields) (l : LineFields) (end : End) → ls ≡ left ++ l ∷ [] → Does l.number l.command p (Some q) → RunsTo q (reverse left) end → RunsTo p (reverse ls) end
+runs_first p q left ls l end is does rest =
+    let P : List LineFields → Type 0 = λ ks. RunsTo p (reverse ks) end in
+    let Q : List LineFields → Type 0 = λ ks. RunsTo p ks end in
+    subst P (sym is) (subst Q (sym (reverse-append left (l ∷ []))) (Some q, does, rest))
 
--- a line finds the journal full
-pub fills : (from : Progress) (ls : List LineFields) (i : ℕ) (l : LineFields) (p : Progress) → i < length ls → l ≡ get_or ls i l → RunsTo from (take i ls) (Some p) → Does l.number l.command p None → RunsTo from ls None
-fills from ls i l p lt is runs full =
-    let P : List LineFields → Type 0 = λ ks. RunsTo from ks None in
-    let in_order : take i ls ++ l ∷ drop (i + 1) ls ≡ ls =
-    ap (λ (k : LineFields). take i ls ++ k ∷ drop (i + 1) ls) is
-    ∙ (ap (λ (ks : List LineFields). take i ls ++ ks) (sym (drop_more ls i l lt))
-    ∙ take-append-drop i ls) in
-    subst P in_order (turns_append (λ (k : LineFields). Does k.number k.command) (Some from) (Some p) None (take i ls) (l ∷ drop (i + 1) ls) runs (None, full, refl))
+-- such a line finds the journal full
+pub fills : (p : Progress) (left ls : List LineFields) (l : LineFields) → ls ≡ left ++ l ∷ [] → Does l.number l.command p None → RunsTo p (reverse ls) None
+fills p left ls l is full =
+    let P : List LineFields → Type 0 = λ ks. RunsTo p (reverse ks) None in
+    let Q : List LineFields → Type 0 = λ ks. RunsTo p ks None in
+    subst P (sym is) (subst Q (sym (reverse-append left (l ∷ []))) (None, full, refl))
+
+-- where no line is left, they all come to this
+pub runs_out : (p : Progress) (ls : List LineFields) → length ls ≡ 0 → RunsTo p (reverse ls) (Some p)
+runs_out p [] none = refl
+runs_out p (l ∷ ls) none = absurd (cc)

@@ -27,26 +27,22 @@ use std::alloc::Global;
 /// # Errors
 /// `JournalFull` where the run needs more entries than a journal may have; `NoMemory` where a
 /// request for memory was refused.
-pub fn play<W: Watcher>(
-    alloc: Global,
-    script: &Script,
-    watcher: &mut W,
-) -> Result<Played, PlayError>
+pub fn play<W: Watcher>(alloc: Global, script: Script, watcher: &mut W) -> Result<Played, PlayError>
     // It is what the lines come to, one after the other.
-    ensures played { IfOk result (λ played. ComesTo script.now.shape script.now.lines (state_of played)) }
+    ensures played { IfOk result (λ played. ComesTo script.shape script.lines (state_of played)) }
 
     // One table explains every reply, and ends as what the nodes hold.
-    ensures history { IfOk result (λ played. HasOneHistory script.now.shape played.journal.entries) }
+    ensures history { IfOk result (λ played. HasOneHistory script.shape played.journal.entries) }
 
     // Tokens of two nodes don't conflict at the end, and locks are covered by tokens.
     ensures safe { IfOk result (λ played. IsSafe (world_state played.world)) }
 
     // Else some line needs an entry for which there is no room.
-    ensures full { IfErr result (λ error. error ≡ JournalFull → FillsJournal script.now.shape script.now.lines) }
+    ensures full { IfErr result (λ error. error ≡ JournalFull → FillsJournal script.shape script.lines) }
 {
     let shape = script.shape();
     let player = Player::new(alloc, shape)?;
-    play_lines(alloc, shape, player, script.lines(), watcher)
+    play_lines(alloc, shape, player, script.into_lines(), watcher)
 }
 
 /// Runs the lines of a script as `play` does, behind the run of a journal of the same shape, which is of
@@ -56,41 +52,49 @@ pub fn play<W: Watcher>(
 /// As at `play`.
 pub fn play_after<W: Watcher>(
     alloc: Global,
-    script: &Script,
+    script: Script,
     journal: Journal,
     watcher: &mut W,
 ) -> Result<Played, PlayError>
-    requires same_shape { script.now.shape ≡ journal.shape }
+    requires same_shape { script.shape ≡ journal.shape }
     requires new { journal.shape.version ≡ Second }
 
     // It is what the lines come to behind the run of the journal, one after the other.
-    ensures played { IfOk result (λ played. GoesOnTo journal script.now.lines (state_of played)) }
+    ensures played { IfOk result (λ played. GoesOnTo journal script.lines (state_of played)) }
     ensures history { IfOk result (λ played. HasOneHistory journal.shape played.journal.entries) }
     ensures safe { IfOk result (λ played. IsSafe (world_state played.world)) }
-    ensures full { IfErr result (λ error. error ≡ JournalFull → FillsBehind journal script.now.lines) }
+    ensures full { IfErr result (λ error. error ≡ JournalFull → FillsBehind journal script.lines) }
 {
     let player = Player::after(alloc, journal)?;
-    play_lines(alloc, script.shape(), player, script.lines(), watcher)
+    let shape = script.shape();
+    play_lines(alloc, shape, player, script.into_lines(), watcher)
 }
 
-// Runs the lines in order from where the player stands, in a cluster of this shape.
+// So many lines go at once.
+const LINES_AT_ONCE: usize = 16_384;
+
+// Runs the lines in order from where the player stands, in a cluster of this shape. Lines that are done go.
 fn play_lines<W: Watcher>(
     alloc: Global,
     shape: Shape,
     mut player: Player,
-    lines: &[ScriptLine],
+    mut lines: Vec<ScriptLine>,
     watcher: &mut W,
 ) -> Result<Played, PlayError>
     requires { Leads (first_world shape) (progress player).entries (progress player).world }
-    ensures played { IfOk result (λ played. ComesFrom shape (progress player) lines.now (state_of played)) }
+    ensures played { IfOk result (λ played. ComesFrom shape (progress player) lines.items (state_of played)) }
     ensures history { IfOk result (λ played. HasOneHistory shape played.journal.entries) }
     ensures safe { IfOk result (λ played. IsSafe (world_state played.world)) }
-    ensures full { IfErr result (λ error. error ≡ JournalFull → RunsTo (progress player) lines.now None) }
+    ensures full { IfErr result (λ error. error ≡ JournalFull → RunsTo (progress player) lines.items None) }
 {
     watcher.begin("lines", Some(lines.len() as u64));
-    for line in lines {
-        player.take(alloc, line)?;
+    lines.reverse();
+    while let Some(line) = lines.pop() {
+        player.take(alloc, &line)?;
         watcher.pass();
+        if lines.len() % LINES_AT_ONCE == 0 {
+            lines.shrink_to_fit();
+        }
     }
     Ok(player.finish(shape))
 }

@@ -112,7 +112,7 @@ fn gone_on<'a, S: Store, V: Watcher>(
     ensures files { SameFiles (S.holds store.old) (S.holds store.new) }
 {
     let script = script_for(alloc, store, path, &journal.shape())?;
-    Ok(play_after(alloc, &script, journal, watcher)?)
+    Ok(play_after(alloc, script, journal, watcher)?)
 }
 
 // The script for a cluster of this shape that a file writes.

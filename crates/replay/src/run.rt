@@ -77,7 +77,7 @@ fn played_of<'a, S: Store, V: Watcher>(
     ensures files { SameFiles (S.holds store.old) (S.holds store.new) }
 {
     let script = script_of(alloc, store, path)?;
-    Ok(play(alloc, &script, watcher)?)
+    Ok(play(alloc, script, watcher)?)
 }
 
 // The script that a file writes.

@@ -1,7 +1,10 @@
-use Rattle.std.proofs.Common.{Some, take}
+use Rattle.std.proofs.Common.{length, reverse}
 use Rattle.player.specs.Parts.{progress}
-use Rattle.player.specs.Progress.{RunsTo}
+use Rattle.player.specs.Progress.{End, RunsTo}
 use Rattle.player.proofs.play.play_lines.Given as goal
 
 abbrev pub invariant-loop-line : goal.invariant-loop-line
-invariant-loop-line g l = RunsTo (progress l.fn.player) (take l.line-index l.lines) (Some (progress l.player))
+invariant-loop-line g l = (end : End) → RunsTo (progress l.player) (reverse l.lines.items) end → RunsTo (progress l.fn.player) l.fn.lines.items end
+
+abbrev pub decreases-loop-line : goal.decreases-loop-line
+decreases-loop-line g l = length l.lines.items
