@@ -3,7 +3,7 @@ use crate::call_error::CallError;
 use book::mark::Mark;
 use book::receipt::Receipt;
 use crossbeam_channel::Sender;
-use messages::message::Message;
+use messages::shared_message::SharedMessage;
 use model::op::Op;
 use model::process::Process;
 
@@ -13,7 +13,7 @@ pub(crate) enum Letter {
     /// A process of the node makes a call.
     Ask(Question),
     /// A message comes.
-    Deliver(Message),
+    Deliver(SharedMessage),
     /// An incarnation of a node was declared failed.
     Learn { node: u8, incarnation: u16 },
     /// A turn has passed.

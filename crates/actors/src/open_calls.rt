@@ -95,7 +95,7 @@ fn retried(event: &Event) -> Option<u16> {
 // The number of the call for which the event brings a token.
 fn granted(event: &Event) -> Option<u32> {
     match event {
-        Event::Deliver(message) => asker(message),
+        Event::Deliver(message) => asker(message.get()),
         _ => None,
     }
 }

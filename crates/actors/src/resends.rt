@@ -53,7 +53,7 @@ impl Resends {
 fn is_answer(event: &Event) -> bool {
     match event {
         Event::Deliver(message) => matches!(
-            message,
+            message.get(),
             Message::Taken { .. }
                 | Message::Released { .. }
                 | Message::Conflict { .. }

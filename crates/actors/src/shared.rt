@@ -9,6 +9,7 @@ use book::seat::Seat;
 use crossbeam_channel::{SendError, Sender};
 use messages::actor::Actor;
 use messages::message::Message;
+use messages::shared_message::SharedMessage;
 use std::alloc::Global;
 use std::sync::atomic::{AtomicU64, Ordering};
 use std::sync::{Mutex, Wait};
@@ -107,7 +108,11 @@ impl<J: Name, G> Shared<'_, J, G> {
         let Some(mailbox) = self.mailbox(message.addressee()) else {
             return;
         };
-        if let Err(SendError::OutOfMemory(_)) = mailbox.letters.send(rt, Letter::Deliver(message)) {
+        let Ok(shared) = SharedMessage::new(self.alloc, message) else {
+            self.halt.note_refused();
+            return;
+        };
+        if let Err(SendError::OutOfMemory(_)) = mailbox.letters.send(rt, Letter::Deliver(shared)) {
             self.halt.note_refused();
         }
     }

@@ -3,6 +3,7 @@ use messages::command_number::CommandNumber;
 use messages::entry::Entry;
 use messages::event::Event;
 use messages::message::{Blocking, Message};
+use messages::shared_message::SharedMessage;
 use model::call::CallId;
 use model::host::Host;
 use std::alloc::{AllocError, Global};
@@ -95,8 +96,8 @@ fn try_of(entry: &Entry) -> Option<Try> {
     }
 }
 
-fn request_of(message: &Message) -> Option<Request> {
-    match message {
+fn request_of(message: &SharedMessage) -> Option<Request> {
+    match message.get() {
         Message::Request {
             file,
             call,
@@ -142,7 +143,7 @@ fn conflict_of(entry: &Entry, call: &CallId) -> Option<(Host, CommandNumber)> {
     entry
         .sends()
         .iter()
-        .find_map(|message| conflict_about(message, call))
+        .find_map(|message| conflict_about(message.get(), call))
 }
 
 fn conflict_about(message: &Message, about: &CallId) -> Option<(Host, CommandNumber)> {

@@ -112,7 +112,7 @@ impl<J: Name> Seat<J> {
             return Err(StepError::Spent);
         }
         let (edit, outcome) = self.state.plan(alloc, &event)?;
-        let told = event.copy(alloc)?;
+        let told = event.copy()?;
         Ok(Prepared::new(self, (event, told), edit, outcome))
     }
 

@@ -67,8 +67,8 @@ fn planned_node(
         Event::Call { node: of, pid, op } if *of == number => {
             node.plan(alloc, &NodeEvent::Call { pid: *pid, op: *op })
         }
-        Event::Deliver(message) if is_node(number, message.addressee()) => {
-            node.plan_delivery(alloc, message)
+        Event::Deliver(message) if is_node(number, message.get().addressee()) => {
+            node.plan_delivery(alloc, message.get())
         }
         Event::Interrupt { node: of, pid } if *of == number => {
             node.plan(alloc, &NodeEvent::Interrupt { pid: *pid })
@@ -93,8 +93,8 @@ fn planned_server(
     ensures fits { IfOk result (λ change. ServerFits server.now change.edit) }
 {
     match event {
-        Event::Deliver(message) if is_server(number, message.addressee()) => {
-            server.plan_delivery(alloc, message)
+        Event::Deliver(message) if is_server(number, message.get().addressee()) => {
+            server.plan_delivery(alloc, message.get())
         }
         Event::Resend { file } if *file == number => server.plan(alloc, &ServerEvent::Resend),
         Event::Learn {

@@ -1,6 +1,7 @@
 //! Journals of runs.
-ghost use Rattle.std.specs.Prelude.{◌≡◌, ◌≢◌, ◌↔◌, ◌<◌, ◌≤◌, ℕ, true, false, Ok, length, IfOk, IfErr, OnOk, IsErrOf, IsOkUnless};
+ghost use Rattle.std.specs.Prelude.{◌≡◌, ◌≢◌, ◌↔◌, ◌<◌, ◌≤◌, ℕ, true, false, Ok, None, length, IfOk, IfErr, IfSome, OnOk, IsErrOf, IsOkUnless, slice_index_or};
 ghost use Rattle.messages.specs.declared.refusal.Refused.TheVariants.{NoMemory};
+ghost use Rattle.messages.specs.declared.entry.Entry.{Entry};
 ghost use Rattle.messages.specs.Shapes.{IsShape};
 ghost use Rattle.cluster_core.specs.Runs.{IsRun};
 ghost use Rattle.cluster_core.specs.World.{WorldState, journal_limit};
@@ -78,8 +79,9 @@ impl Journal {
             return Err(CheckError::JournalFull);
         }
         let mut world = World::new(alloc, shape)?;
+        let mut entries = entries;
         for index in 0..entries.len() {
-            if !comes_next(&mut world, alloc, &entries[index])? {
+            if !is_taken(&mut world, alloc, &mut entries, index)? {
                 return Err(CheckError::NotARun(index as u32 + 1));
             }
         }
@@ -115,6 +117,48 @@ impl Journal {
     }
 }
 
+// The entry that the event makes in the world, where it is this one. Then the world has made the step. Else it may have
+// made another, and is of no use any more. None is made where the world has as many as a journal may have.
+fn made_next(
+    world: &mut World,
+    alloc: Global,
+    event: Event,
+    entry: &Entry,
+) -> Result<Option<Entry>, AllocError>
+    requires { event ≡ entry.now.event }
+    ensures same { IfOk result (λ next. IfSome next (λ made. made ≡ entry.now)) }
+    ensures made { IfOk result (λ n. IfSome n (λ _. next (world_state world.old) entry.now.event ≡ Ok (world_state world.new, entry.now))) }
+    ensures room { IfOk result (λ n. IfSome n (λ _. world.old.length < journal_limit)) }
+    ensures other { IfOk result (λ n. n ≡ None → world.old.length < journal_limit → (v : WorldState) → next (world_state world.old) entry.now.event ≢ Ok (v, entry.now)) }
+{
+    match world.step(alloc, event) {
+        Ok(made) if made.same(entry) => Ok(Some(made)),
+        Err(Refused::NoMemory) => Err(AllocError),
+        _ => Ok(None),
+    }
+}
+
+// Whether the entry with that index is the next step, as `comes_next` has it. All stay what they are; its messages are from
+// then on those that the world keeps.
+fn is_taken(
+    world: &mut World,
+    alloc: Global,
+    entries: &mut Vec<Entry>,
+    index: usize,
+) -> Result<bool, AllocError>
+    requires { index < length entries.old.items }
+    ensures kept { entries.new.items ≡ entries.old.items }
+    ensures taken { IfOk result (λ same. (e : Entry) × (e ≡ slice_index_or entries.old.items index e) × (same ≡ true → next (world_state world.old) e.event ≡ Ok (world_state world.new, e)) × (same ≡ false → world.old.length < journal_limit → (v : WorldState) → next (world_state world.old) e.event ≢ Ok (v, e))) }
+{
+    let entry = &entries[index];
+    let event = world.as_sent(entry.event())?;
+    let Some(made) = made_next(world, alloc, event, entry)? else {
+        return Ok(false);
+    };
+    entries[index] = made;
+    Ok(true)
+}
+
 /// Whether the entry is the next step: its event happens in the world, and makes this entry. Then the
 /// world has made the step. Else it may have made another, and is of no use any more. No entry comes next
 /// where the world has as many as a journal may have.
@@ -126,11 +170,7 @@ pub fn comes_next(world: &mut World, alloc: Global, entry: &Entry) -> Result<boo
     ensures room { IfOk result (λ same. same ≡ true → world.old.length < journal_limit) }
     ensures other { IfOk result (λ same. same ≡ false → world.old.length < journal_limit → (v : WorldState) → next (world_state world.old) entry.now.event ≢ Ok (v, entry.now)) }
 {
-    match world.step(alloc, entry.event().copy(alloc)?) {
-        Ok(made) => Ok(made.same(entry)),
-        Err(Refused::NoMemory) => Err(AllocError),
-        Err(_) => Ok(false),
-    }
+    Ok(made_next(world, alloc, entry.event().copy()?, entry)?.is_some())
 }
 
 /// Makes the events happen, one after the other, in a cluster that begins.
@@ -164,7 +204,7 @@ pub fn run(alloc: Global, shape: Shape, events: &[Event]) -> Result<Journal, Ref
 {
     let mut run = Run::new(alloc, shape)?;
     for event in events {
-        run.take(alloc, event.copy(alloc)?)?;
+        run.take(alloc, event.copy()?)?;
     }
     let (journal, _) = run.into_journal();
     Ok(journal)

@@ -1,16 +1,18 @@
 //! Messages that were sent.
-ghost use Rattle.std.specs.Prelude.{◌≡◌, [], ◌∷◌, ◌++◌, OnOk, OnErr};
+ghost use Rattle.std.specs.Prelude.{◌≡◌, [], ◌∷◌, ◌++◌, IfOk, OnOk, OnErr};
 ghost use Rattle.messages.specs.Messages.{is_among};
 
 use crate::sent_index::SentIndex;
 use messages::message::Message;
+use messages::sends::Sends;
+use messages::shared_message::SharedMessage;
 use std::alloc::{AllocError, Global};
 use std::marker::Model;
 
 /// Every message that was sent so far, in order of sending; equal messages stand there each.
 #[derive(Drop)]
 pub struct Sent {
-    messages: Vec<Message>,
+    messages: Vec<SharedMessage>,
     index: SentIndex,
 }
 
@@ -45,40 +47,51 @@ impl Sent {
     }
 
     /// The messages in order of sending.
-    pub fn as_slice(&self) -> &[Message]
+    pub fn as_slice(&self) -> &[SharedMessage]
         ensures { result.now ≡ self.now }
     {
         self.messages.as_slice()
     }
 
-    /// These messages are sent too, in their order.
+    /// The message as it was sent, so that it is kept once; as it is given where it is not found at once.
+    ///
+    /// # Errors
+    /// `AllocError` where as many name it as can be counted.
+    pub fn as_sent(&self, message: &SharedMessage) -> Result<SharedMessage, AllocError>
+        ensures { IfOk result (λ shared. shared ≡ message.now) }
+    {
+        match self.index.find(self.messages.as_slice(), message.get()) {
+            Some(found) => found.share(),
+            None => message.share(),
+        }
+    }
+
+    /// Copies of these messages are sent too, in their order, and shared with whoever sends them.
     ///
     /// # Errors
     /// `AllocError` where a request for memory was refused.
-    pub fn extend(&mut self, alloc: Global, messages: &[Message]) -> Result<(), AllocError>
+    pub fn extend(&mut self, alloc: Global, messages: &[Message]) -> Result<Sends, AllocError>
         ensures ok { OnOk result (self.new ≡ self.old ++ messages.now) }
+        ensures sends { IfOk result (λ sends. sends ≡ messages.now) }
         ensures err { OnErr result (self.new ≡ self.old) }
     {
+        let sends = Sends::copies(alloc, messages)?;
         self.index.reserve(messages.len())?;
         let start = self.messages.len();
-        add_copies(alloc, &mut self.messages, messages)?;
+        add_shares(&mut self.messages, sends.as_slice())?;
         self.index.note_from(self.messages.as_slice(), start);
-        Ok(())
+        Ok(sends)
     }
 }
 
-// Copies of the messages come last, or none of them.
-fn add_copies(
-    alloc: Global,
-    sent: &mut Vec<Message>,
-    messages: &[Message],
-) -> Result<(), AllocError>
+// The messages come last, shared, or none of them.
+fn add_shares(sent: &mut Vec<SharedMessage>, messages: &[SharedMessage]) -> Result<(), AllocError>
     ensures ok { OnOk result (sent.new.items ≡ sent.old.items ++ messages.now) }
     ensures err { OnErr result (sent.new.items ≡ sent.old.items) }
 {
     let start = sent.len();
     for message in messages {
-        let added = add_copy(alloc, sent, message);
+        let added = add_share(sent, message);
         if added.is_err() {
             sent.truncate(start);
             return added;
@@ -87,11 +100,11 @@ fn add_copies(
     Ok(())
 }
 
-// A copy of the message comes last.
-fn add_copy(alloc: Global, sent: &mut Vec<Message>, message: &Message) -> Result<(), AllocError>
+// The message comes last, shared.
+fn add_share(sent: &mut Vec<SharedMessage>, message: &SharedMessage) -> Result<(), AllocError>
     ensures ok { OnOk result (sent.new.items ≡ sent.old.items ++ message.now ∷ []) }
     ensures err { OnErr result (sent.new.items ≡ sent.old.items) }
 {
-    sent.push(message.copy(alloc)?)?;
+    sent.push(message.share()?)?;
     Ok(())
 }

@@ -1,10 +1,11 @@
 //! An index of messages.
-ghost use Rattle.std.specs.Prelude.{◌≡◌, ◌+◌, ◌<◌, ◌≤◌, [], nat_eq, length, Some, OnOk};
+ghost use Rattle.std.specs.Prelude.{◌≡◌, ◌+◌, ◌<◌, ◌≤◌, [], nat_eq, length, Some, IfSome, OnOk};
 ghost use Rattle.std.specs.HashMap.{get, spare as spare_places};
 ghost use Rattle.std.specs.Vec.{vec_capacity};
 ghost use Rattle.cluster_core.specs.SentIndexes.{fingerprint, has, stands_at, stands_among, KnowsFirst, SaysTheSame};
 
 use messages::message::Message;
+use messages::shared_message::SharedMessage;
 use std::alloc::{AllocError, Global};
 use std::collections::HashMap;
 use std::hash::{FoldHasher, Hash, Hasher};
@@ -27,17 +28,17 @@ fn fingerprint(message: &Message) -> u32
 }
 
 // Whether the message stands at that place of those that were sent.
-fn stands_at(sent: &[Message], message: &Message, place: usize) -> bool
+fn stands_at(sent: &[SharedMessage], message: &Message, place: usize) -> bool
     ensures { result ≡ stands_at sent.now message.now (Some place) }
 {
     match sent.get(place) {
-        Some(other) => message.same(other),
+        Some(other) => other.same(message),
         None => false,
     }
 }
 
 // Whether the message stands at one of the places.
-fn stands_among(sent: &[Message], message: &Message, places: &[usize]) -> bool
+fn stands_among(sent: &[SharedMessage], message: &Message, places: &[usize]) -> bool
     ensures { result ≡ stands_among sent.now message.now places.now }
 {
     places.iter().any(|place| stands_at(sent, message, *place))
@@ -55,19 +56,36 @@ impl SentIndex {
     }
 
     /// Whether the index has the message; `sent` are the messages by their places.
-    pub(crate) fn has(&self, sent: &[Message], message: &Message) -> bool
+    pub(crate) fn has(&self, sent: &[SharedMessage], message: &Message) -> bool
         ensures { result ≡ has self.now.places self.now.others.items sent.now message.now }
     {
         self.is_placed(sent, message) || stands_among(sent, message, self.others.as_slice())
     }
 
     // Whether the message is the one that stands at the place of its fingerprint.
-    fn is_placed(&self, sent: &[Message], message: &Message) -> bool
+    fn is_placed(&self, sent: &[SharedMessage], message: &Message) -> bool
         ensures { result ≡ stands_at sent.now message.now (get nat_eq self.now.places (fingerprint message.now)) }
     {
         match self.places.get(&fingerprint(message)) {
             Some(place) => stands_at(sent, message, *place as usize),
             None => false,
+        }
+    }
+
+    /// The message as it stands among those that were sent, where its fingerprint names its place.
+    pub(crate) fn find<'a>(
+        &self,
+        sent: &'a [SharedMessage],
+        message: &Message,
+    ) -> Option<&'a SharedMessage>
+        ensures { IfSome result (λ found. found.now ≡ message.now) }
+    {
+        let place = *self.places.get(&fingerprint(message))?;
+        let found = sent.get(place as usize)?;
+        if found.same(message) {
+            Some(found)
+        } else {
+            None
         }
     }
 
@@ -85,7 +103,7 @@ impl SentIndex {
     }
 
     // Takes in the message at that place, for which there is room.
-    fn note(&mut self, sent: &[Message], place: usize)
+    fn note(&mut self, sent: &[SharedMessage], place: usize)
         requires within { place < length sent.now }
         requires places { 1 ≤ spare_places self.old.places }
         requires others { length self.old.others.items < vec_capacity self.old.others }
@@ -93,7 +111,7 @@ impl SentIndex {
         ensures room_at_places { spare_places self.old.places ≤ spare_places self.new.places + 1 }
         ensures room_for_others { length self.new.others.items + vec_capacity self.old.others ≤ length self.old.others.items + 1 + vec_capacity self.new.others }
     {
-        let message = &sent[place];
+        let message = sent[place].get();
         let print = fingerprint(message);
         match self.places.get(&print).copied() {
             Some(first) if stands_at(sent, message, first as usize) => {}
@@ -107,20 +125,20 @@ impl SentIndex {
     }
 
     // Takes in the message at that place, whose fingerprint is that of another.
-    fn note_other(&mut self, sent: &[Message], place: usize)
+    fn note_other(&mut self, sent: &[SharedMessage], place: usize)
         requires within { place < length sent.now }
         requires others { length self.old.others.items < vec_capacity self.old.others }
         ensures knows { KnowsFirst self.old.places self.old.others.items sent.now place → KnowsFirst self.new.places self.new.others.items sent.now (place + 1) }
         ensures places { self.new.places ≡ self.old.places }
         ensures room { length self.new.others.items + vec_capacity self.old.others ≤ length self.old.others.items + 1 + vec_capacity self.new.others }
     {
-        if !stands_among(sent, &sent[place], self.others.as_slice()) {
+        if !stands_among(sent, sent[place].get(), self.others.as_slice()) {
             self.others.push_reserved(place);
         }
     }
 
     /// Takes in the messages from that place on, for which there is room.
-    pub(crate) fn note_from(&mut self, sent: &[Message], start: usize)
+    pub(crate) fn note_from(&mut self, sent: &[SharedMessage], start: usize)
         requires places { length sent.now ≤ start + spare_places self.old.places }
         requires others { length sent.now + length self.old.others.items ≤ start + vec_capacity self.old.others }
         requires within { start ≤ length sent.now }

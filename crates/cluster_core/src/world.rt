@@ -35,10 +35,13 @@ use messages::actor::Actor;
 use messages::entry::Entry;
 use messages::event::Event;
 use messages::items::Items;
+use messages::kept_outcome::KeptOutcome;
+use messages::kept_reply::KeptReply;
 use messages::message::Message;
 use messages::outcome::Outcome;
 use messages::refusal::{Refused, StepError};
 use messages::shape::Shape;
+use messages::shared_message::SharedMessage;
 use model::limits::MOST_PROCESSES;
 use model::op::Op;
 use node_core::change::Change as NodeChange;
@@ -133,6 +136,13 @@ fn add<T: Drop>(items: &mut Vec<T>, item: T) -> Result<(), AllocError>
     Ok(())
 }
 
+// The reply of an outcome, as its entry keeps it.
+fn kept_reply(alloc: Global, outcome: &Outcome) -> Result<KeptReply, AllocError>
+    ensures { IfOk result (λ kept. kept ≡ outcome.now.reply) }
+{
+    KeptReply::new(alloc, outcome.reply)
+}
+
 impl World {
     /// A cluster that begins: every node in its first incarnation, with no process.
     ///
@@ -184,6 +194,7 @@ impl World {
                     && is_of_shape(self.shape, op)
             }
             Event::Deliver(message) => {
+                let message = message.get();
                 self.has_actor(&message.addressee()) && self.sent.contains(message)
             }
             Event::Interrupt { node, pid } | Event::Retry { node, pid } => {
@@ -232,7 +243,7 @@ impl World {
             Event::Call { node, .. } => !self.is_alive(*node),
             Event::Interrupt { node, .. } => !self.is_alive(*node),
             Event::Retry { node, .. } => !self.is_alive(*node),
-            Event::Deliver(message) => match message.addressee() {
+            Event::Deliver(message) => match message.get().addressee() {
                 Actor::Node(node) => !self.is_alive(node),
                 Actor::Server(file) => !self.works(file),
             },
@@ -451,9 +462,9 @@ impl World {
                 let step = NodeEvent::Call { pid: *pid, op: *op };
                 self.plan_node(alloc, event, *node, &step)
             }
-            Event::Deliver(message) => match message.addressee() {
-                Actor::Node(node) => self.plan_node_delivery(alloc, node, message),
-                Actor::Server(file) => self.plan_server_delivery(alloc, file, message),
+            Event::Deliver(message) => match message.get().addressee() {
+                Actor::Node(node) => self.plan_node_delivery(alloc, node, message.get()),
+                Actor::Server(file) => self.plan_server_delivery(alloc, file, message.get()),
             },
             Event::Interrupt { node, pid } => {
                 self.plan_node(alloc, event, *node, &NodeEvent::Interrupt { pid: *pid })
@@ -516,11 +527,12 @@ impl World {
         ensures err { OnErr result ((e : Refused) → next (world_state self.old) event ≢ Err e) }
         ensures unchanged { OnErr result (self.new ≡ self.old) }
     {
-        self.sent.extend(alloc, change.outcome.sends.as_slice())?;
+        let reply = kept_reply(alloc, &change.outcome)?;
+        let sends = self.sent.extend(alloc, change.outcome.sends.as_slice())?;
         let stepping = &mut self.nodes[node as usize - 1];
         let outcome = stepping.apply(change);
         self.length += 1;
-        Ok(Entry::at_node(event, incarnation, outcome))
+        Ok(Entry::at_node(event, incarnation, outcome, KeptOutcome { reply, sends }))
     }
 
     // The server does the step that was planned.
@@ -537,11 +549,12 @@ impl World {
         ensures err { OnErr result ((e : Refused) → next (world_state self.old) event ≢ Err e) }
         ensures unchanged { OnErr result (self.new ≡ self.old) }
     {
-        self.sent.extend(alloc, change.outcome.sends.as_slice())?;
+        let reply = kept_reply(alloc, &change.outcome)?;
+        let sends = self.sent.extend(alloc, change.outcome.sends.as_slice())?;
         let server = &mut self.servers[file as usize - 1];
         let outcome = server.apply(change);
         self.length += 1;
-        Ok(Entry::new(event, outcome))
+        Ok(Entry::new(event, outcome, KeptOutcome { reply, sends }))
     }
 
     // The node is declared failed.
@@ -556,7 +569,8 @@ impl World {
         };
         self.length += 1;
         let outcome = Outcome::sending(Items::new(alloc));
-        Entry::at_node(Event::Declare { node }, incarnation, outcome)
+        let kept = KeptOutcome::nothing();
+        Entry::at_node(Event::Declare { node }, incarnation, outcome, kept)
     }
 
     // The node restarts, as this one.
@@ -571,7 +585,8 @@ impl World {
         self.nodes[node as usize - 1] = Box::into_inner(begun);
         self.length += 1;
         let outcome = Outcome::sending(Items::new(alloc));
-        Entry::at_node(Event::Restart { node }, incarnation, outcome)
+        let kept = KeptOutcome::nothing();
+        Entry::at_node(Event::Restart { node }, incarnation, outcome, kept)
     }
 
     /// The event happens as it was planned. Its messages are put among those that were sent, which is
@@ -627,10 +642,23 @@ impl World {
     }
 
     /// Every message that was sent so far, in order of sending; equal messages stand there each.
-    pub fn sent(&self) -> &[Message]
+    pub fn sent(&self) -> &[SharedMessage]
         ensures { result.now ≡ (world_state self.now).sent }
     {
         self.sent.as_slice()
+    }
+
+    /// The same event. The message that comes is kept once with those that were sent.
+    ///
+    /// # Errors
+    /// `AllocError` where as many name the message as can be counted.
+    pub(crate) fn as_sent(&self, event: &Event) -> Result<Event, AllocError>
+        ensures { IfOk result (λ same. same ≡ event.now) }
+    {
+        match event {
+            Event::Deliver(message) => Ok(Event::Deliver(self.sent.as_sent(message)?)),
+            _ => event.copy(),
+        }
     }
 
     // The event of an entry of a run happens again: only memory can be refused.
@@ -639,7 +667,7 @@ impl World {
         requires made { (v : WorldState) × (next (world_state self.old) entry.now.event ≡ Ok (v, entry.now)) }
         ensures { OnOk result (next (world_state self.old) entry.now.event ≡ Ok (world_state self.new, entry.now)) }
     {
-        let event = entry.event().copy(alloc)?;
+        let event = entry.event().copy()?;
         let Err(refusal) = self.step(alloc, event) else {
             return Ok(());
         };

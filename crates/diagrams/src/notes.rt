@@ -12,6 +12,7 @@ use messages::actor::Actor;
 use messages::entry::Entry;
 use messages::event::Event;
 use messages::message::Message;
+use messages::shared_message::SharedMessage;
 use messages::version::Version;
 use model::call::CallId;
 use model::reply::Reply;
@@ -107,7 +108,7 @@ fn push_event_lines(
     let entry = placed.entry();
     match event {
         Event::Call { .. } => push_call_note(out, &MadeCall::of(placed.position(), entry)),
-        Event::Deliver(message) => push_coming_line(out, placed.origin(), message),
+        Event::Deliver(message) => push_coming_line(out, placed.origin(), message.get()),
         Event::Interrupt { node, .. } | Event::Retry { node, .. } => {
             push_event_note_at(out, version, entry, Actor::Node(*node))
         }
@@ -332,12 +333,12 @@ fn push_lost_lines<'a>(
     out: &mut String,
     deliveries: &Deliveries<'a>,
     position: u64,
-    sends: &'a [Message],
+    sends: &'a [SharedMessage],
 ) -> Result<(), AllocError>
     ensures { OnOk result (string_bytes out.new ≡ string_bytes out.old ++ flat_map (lost_line deliveries.now position) sends.entry.now) }
 {
     for message in sends {
-        push_lost_line(out, deliveries, position, message)?;
+        push_lost_line(out, deliveries, position, message.get())?;
     }
     Ok(())
 }

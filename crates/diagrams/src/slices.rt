@@ -110,7 +110,7 @@ fn event_word(event: &Event) -> &'static str
 {
     match event {
         Event::Call { .. } => "call",
-        Event::Deliver(message) => message_word(message),
+        Event::Deliver(message) => message_word(message.get()),
         Event::Interrupt { .. } => "interrupt",
         Event::Retry { .. } => "retry",
         Event::Resend { .. } => "resend",
@@ -241,7 +241,13 @@ fn push_flow_if(
     if !window.has(origin) {
         return Ok(());
     }
-    push_flow(out, placed, message, origin, entry_at(entries, origin))
+    push_flow(
+        out,
+        placed,
+        message.get(),
+        origin,
+        entry_at(entries, origin),
+    )
 }
 
 // The entry at this position, from 1.

@@ -133,7 +133,7 @@ fn track_in(incarnation: u16, event: &Event) -> Track
     ensures { result ≡ track_in incarnation event.now }
 {
     match event {
-        Event::Deliver(message) => track_to(message, message.addressee()),
+        Event::Deliver(message) => track_to(message.get(), message.get().addressee()),
         Event::Call { node, pid, .. }
         | Event::Interrupt { node, pid }
         | Event::Retry { node, pid } => Track::Process {

@@ -14,7 +14,10 @@ use crate::sink::Sink;
 use message_text::written_message::WrittenMessage;
 use messages::entry::Entry;
 use messages::items::Items;
+use messages::kept_outcome::KeptOutcome;
+use messages::kept_reply::KeptReply;
 use messages::outcome::Outcome;
+use messages::sends::Sends;
 use model::call::CallId;
 use model::reply::Reply;
 use std::alloc::{AllocError, Global};
@@ -130,5 +133,9 @@ fn entry_of(alloc: Global, named: NamedEntry<'_>) -> Result<Entry, AllocError>
         reply: named.reply,
         sends: named.sends,
     };
-    Ok(Entry::at_node(event.event(alloc)?, incarnation, outcome))
+    let kept = KeptOutcome {
+        reply: KeptReply::new(alloc, outcome.reply)?,
+        sends: Sends::copies(alloc, outcome.sends.as_slice())?,
+    };
+    Ok(Entry::at_node(event.event(alloc)?, incarnation, outcome, kept))
 }

@@ -7,6 +7,7 @@ use message_text::fits::{call_fits, lock_fits, message_fits};
 use messages::entry::Entry;
 use messages::event::Event;
 use messages::message::Message;
+use messages::shared_message::SharedMessage;
 use model::op::Op;
 use model::reply::Reply;
 
@@ -33,7 +34,7 @@ fn event_fits(event: &Event)
 {
     match event {
         Event::Call { op, .. } => op_fits(*op),
-        Event::Deliver(message) => message_fits(message),
+        Event::Deliver(message) => message_fits(message.get()),
         Event::Learn { incarnation, .. } => {
             let _incarnation = *incarnation;
         }
@@ -41,11 +42,11 @@ fn event_fits(event: &Event)
     }
 }
 
-fn messages_fit(messages: &[Message])
+fn messages_fit(messages: &[SharedMessage])
     ensures { All FitsMessage messages.now }
 {
     for message in messages {
-        message_fits(message);
+        message_fits(message.get());
     }
 }
 

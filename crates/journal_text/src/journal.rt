@@ -9,8 +9,8 @@ use lockscript::replies::push_reply;
 use message_text::names::push_call;
 use message_text::writing::push_message;
 use messages::entry::Entry;
-use messages::message::Message;
 use messages::shape::Shape;
+use messages::shared_message::SharedMessage;
 use messages::version::Version;
 use model::call::CallId;
 use model::policy::Policy;
@@ -143,12 +143,12 @@ fn push_answer(out: &mut String, answer: &Option<(CallId, Reply)>) -> Result<(),
 }
 
 // Writes the lines of messages that are sent.
-fn push_sends(out: &mut String, version: Version, sends: &[Message]) -> Result<(), AllocError>
+fn push_sends(out: &mut String, version: Version, sends: &[SharedMessage]) -> Result<(), AllocError>
     ensures { OnOk result (string_bytes out.new ≡ string_bytes out.old ++ flat_map (send_line version) sends.now) }
 {
     for message in sends {
         out.push_str("send ")?;
-        push_message(out, version, message)?;
+        push_message(out, version, message.get())?;
         out.push_str("\n")?;
     }
     Ok(())

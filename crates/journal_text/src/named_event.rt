@@ -4,6 +4,7 @@ ghost use Rattle.journal_text.specs.Events as named;
 
 use message_text::written_message::WrittenMessage;
 use messages::event::Event;
+use messages::shared_message::SharedMessage;
 use model::call::CallId;
 use model::host::Host;
 use model::op::Op;
@@ -48,7 +49,9 @@ impl NamedEvent<'_> {
                 pid,
                 op,
             },
-            NamedEvent::Deliver(message) => Event::Deliver(message.message(alloc)?),
+            NamedEvent::Deliver(message) => {
+                Event::Deliver(SharedMessage::new(alloc, message.message(alloc)?)?)
+            }
             NamedEvent::Interrupt { host, pid } => Event::Interrupt {
                 node: host.node,
                 pid,

@@ -31,7 +31,7 @@ pub fn push_event(
         },
         Event::Deliver(message) => {
             out.push_str("deliver ")?;
-            push_message(out, version, message)
+            push_message(out, version, message.get())
         }
         Event::Interrupt { node, pid } => write!(out, "interrupt {node}.{incarnation} {pid}"),
         Event::Retry { node, pid } => write!(out, "retry {node}.{incarnation} {pid}"),

@@ -5,5 +5,6 @@ pub mod TokenRuns
 pub mod Wants
 pub mod Messages
 pub mod Reports
+pub mod KeptOutcomes
 pub mod Entries
 pub mod Refusals

@@ -3,9 +3,9 @@ ghost use Rattle.std.specs.Prelude.{◌≡◌, ◌↔◌, IsTrue};
 ghost use Rattle.messages.specs.Entries.{NamesItsCall, NamesItsIncarnation, entry_of, kept_name};
 
 use crate::event::Event;
-use crate::items::Items;
-use crate::message::Message;
+use crate::kept_outcome::KeptOutcome;
 use crate::outcome::Outcome;
+use crate::shared_message::SharedMessage;
 use model::call::CallId;
 use model::reply::Reply;
 use std::marker::Model;
@@ -20,8 +20,7 @@ pub struct Entry {
     incarnation: u16,
     // The number of the call's name, where the event is a call.
     number: u32,
-    reply: Option<(CallId, Reply)>,
-    sends: Items<Message>,
+    outcome: KeptOutcome,
 }
 
 impl Model for Entry {
@@ -29,7 +28,7 @@ impl Model for Entry {
 
     ghost Value = { EntryFields };
 
-    ghost view = { λ e. kept e.event e.incarnation e.number e.reply e.sends };
+    ghost view = { λ e. kept e.event e.incarnation e.number e.outcome.reply e.outcome.sends };
 
     ghost invariant = { λ e. IsKept e.event e.incarnation e.number };
 }
@@ -45,20 +44,24 @@ fn kept_name(incarnation: u16, call: Option<CallId>) -> (u16, u32)
 }
 
 impl Entry {
-    /// The entry of an event that names no incarnation and gave this outcome.
-    pub fn new(event: Event, outcome: Outcome) -> Entry
+    /// The entry of an event that names no incarnation and gave this outcome, of which it keeps this.
+    pub fn new(event: Event, outcome: Outcome, kept: KeptOutcome) -> Entry
         requires named { NamesItsCall event outcome.call }
         requires no_incarnation { NamesItsIncarnation event 0 }
+        requires reply { kept.reply ≡ outcome.reply }
+        requires sends { kept.sends ≡ outcome.sends }
         ensures { result ≡ entry_of event 0 outcome }
     {
-        Entry::at_node(event, 0, outcome)
+        Entry::at_node(event, 0, outcome, kept)
     }
 
-    /// The entry of an event that gave this outcome, with the live incarnation of its node where it
-    /// names one, from 1, else 0.
-    pub fn at_node(event: Event, incarnation: u16, outcome: Outcome) -> Entry
+    /// The entry of an event that gave this outcome, of which it keeps this, with the live incarnation of
+    /// its node where it names one, from 1, else 0.
+    pub fn at_node(event: Event, incarnation: u16, outcome: Outcome, kept: KeptOutcome) -> Entry
         requires named { NamesItsCall event outcome.call }
         requires incarnated { NamesItsIncarnation event incarnation }
+        requires reply { kept.reply ≡ outcome.reply }
+        requires sends { kept.sends ≡ outcome.sends }
         ensures { result ≡ entry_of event incarnation outcome }
     {
         let (incarnation, number) = kept_name(incarnation, outcome.call);
@@ -66,8 +69,7 @@ impl Entry {
             event,
             incarnation,
             number,
-            reply: outcome.reply,
-            sends: outcome.sends.fitted(),
+            outcome: kept,
         }
     }
 
@@ -107,14 +109,14 @@ impl Entry {
     pub fn reply(&self) -> Option<(CallId, Reply)>
         ensures { result ≡ self.now.reply }
     {
-        self.reply
+        self.outcome.reply.get()
     }
 
     /// The messages that are sent, in the order in which the rules name them.
-    pub fn sends(&self) -> &[Message]
+    pub fn sends(&self) -> &[SharedMessage]
         ensures { result.now ≡ self.now.sends }
     {
-        self.sends.as_slice()
+        self.outcome.sends.as_slice()
     }
 
     /// Whether both say the same.
@@ -124,15 +126,17 @@ impl Entry {
         if !self.event.same(&other.event) || self.incarnation() != other.incarnation() {
             return false;
         }
-        if !same_names(&self.call(), &other.call()) || !same_replies(&self.reply, &other.reply) {
+        if !same_names(&self.call(), &other.call())
+            || !same_replies(&self.reply(), &other.reply())
+        {
             return false;
         }
-        same_messages(self.sends.as_slice(), other.sends.as_slice())
+        same_messages(self.sends(), other.sends())
     }
 }
 
 // Whether both are the same messages in the same order.
-fn same_messages(one: &[Message], other: &[Message]) -> bool
+fn same_messages(one: &[SharedMessage], other: &[SharedMessage]) -> bool
     ensures { IsTrue result ↔ (one.now ≡ other.now) }
 {
     one == other

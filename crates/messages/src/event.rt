@@ -1,9 +1,9 @@
 //! Events.
 ghost use Rattle.std.specs.Prelude.{◌≡◌, ◌↔◌, IsTrue, IfOk};
 
-use crate::message::Message;
+use crate::shared_message::SharedMessage;
 use model::op::Op;
-use std::alloc::{AllocError, Global};
+use std::alloc::AllocError;
 
 /// What may happen. A loss is a message that no event delivers, a repeat a second delivery.
 #[derive(Clone, PartialEq, Eq, Drop)]
@@ -15,7 +15,7 @@ pub enum Event {
         op: Op,
     },
     /// A message that was sent comes to its addressee.
-    Deliver(Message),
+    Deliver(SharedMessage),
     /// The wait of a process is interrupted (a signal, in POSIX's words).
     Interrupt {
         node: u8,
@@ -62,15 +62,15 @@ impl Event {
         self == other
     }
 
-    /// An equal event.
+    /// An equal event, which shares its message. It takes no memory.
     ///
     /// # Errors
-    /// `AllocError` where a request for memory was refused.
-    pub fn copy(&self, alloc: Global) -> Result<Event, AllocError>
+    /// `AllocError` where as many name the message as can be counted.
+    pub fn copy(&self) -> Result<Event, AllocError>
         ensures { IfOk result (λ copy. copy ≡ self.now) }
     {
         match self {
-            Event::Deliver(message) => Ok(Event::Deliver(message.copy(alloc)?)),
+            Event::Deliver(message) => Ok(Event::Deliver(message.share()?)),
             _ => self.clone(),
         }
     }

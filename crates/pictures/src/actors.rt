@@ -9,13 +9,14 @@ use messages::actor::Actor;
 use messages::entry::Entry;
 use messages::event::Event;
 use messages::message::Message;
+use messages::shared_message::SharedMessage;
 
 /// Who takes the event.
 pub fn actor_of(event: &Event) -> Actor
     ensures { result ≡ actor_of event.now }
 {
     match event {
-        Event::Deliver(message) => message.addressee(),
+        Event::Deliver(message) => message.get().addressee(),
         Event::Call { node, .. }
         | Event::Interrupt { node, .. }
         | Event::Retry { node, .. }
@@ -59,18 +60,18 @@ fn is_sender(actor: &Actor, event: &Event) -> bool
     ensures { result ≡ delivers (λ m. same_actor (sender_of m) actor.now) event.now }
 {
     match event {
-        Event::Deliver(message) => is_same_actor(&sender_of(message), actor),
+        Event::Deliver(message) => is_same_actor(&sender_of(message.get()), actor),
         _ => false,
     }
 }
 
 // Whether the actor takes one of these messages.
-fn is_any_addressee(actor: &Actor, messages: &[Message]) -> bool
+fn is_any_addressee(actor: &Actor, messages: &[SharedMessage]) -> bool
     ensures { result ≡ list_any (λ m. same_actor (addressee m) actor.now) messages.now }
 {
     messages
         .iter()
-        .any(|message| is_same_actor(&message.addressee(), actor))
+        .any(|message| is_same_actor(&message.get().addressee(), actor))
 }
 
 /// The word for a message.

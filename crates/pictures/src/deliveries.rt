@@ -76,7 +76,7 @@ fn note_delivery<'a>(
     ensures { OnOk result ((before : List EntryFields) → length before + 1 ≡ position → KnowsCome places.old before → KnowsCome places.new (before ++ entry.entry.now ∷ [])) }
 {
     if let Event::Deliver(message) = entry.event() {
-        places.insert(message, position)?;
+        places.insert(message.get(), position)?;
     }
     Ok(())
 }

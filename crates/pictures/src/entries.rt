@@ -15,6 +15,7 @@ use messages::actor::Actor;
 use messages::entry::Entry;
 use messages::event::Event;
 use messages::message::Message;
+use messages::shared_message::SharedMessage;
 use std::alloc::AllocError;
 use std::fmt::Write;
 
@@ -120,6 +121,7 @@ fn push_arrow(
     let (Event::Deliver(message), Some(origin)) = (event, origin) else {
         return Ok(());
     };
+    let message = message.get();
     let from = sheet.spot(u128::from(origin), sender_of(message));
     let to = sheet.spot(position, message.addressee());
     push_line(out, "arrow", &from, &to)
@@ -147,7 +149,7 @@ fn push_word(out: &mut String, at: &Point, event: &Event) -> Result<(), AllocErr
     ensures { OnOk result (string_bytes out.new ≡ string_bytes out.old ++ word_text at.now event.now) }
 {
     match event {
-        Event::Deliver(message) => push_label(out, "word", at, message_word(message)),
+        Event::Deliver(message) => push_label(out, "word", at, message_word(message.get())),
         Event::Interrupt { .. } => push_label(out, "word", at, "interrupt"),
         Event::Retry { .. } => push_label(out, "word", at, "retry"),
         Event::Resend { .. } => push_label(out, "word", at, "resend"),
@@ -162,13 +164,13 @@ fn push_all_unseen<'a>(
     deliveries: &Deliveries<'a>,
     in_time: &Deliveries<'a>,
     placed: &PlacedEntry<'a>,
-    sends: &'a [Message],
+    sends: &'a [SharedMessage],
 ) -> Result<(), AllocError>
     requires { in_time.now ≡ take sheet.now.window.to deliveries.now }
     ensures { OnOk result (string_bytes out.new ≡ string_bytes out.old ++ flat_map (unseen_text sheet.now deliveries.now placed.now) sends.entry.now) }
 {
     for message in sends {
-        push_unseen(out, sheet, deliveries, in_time, placed, message)?;
+        push_unseen(out, sheet, deliveries, in_time, placed, message.get())?;
     }
     Ok(())
 }

@@ -25,7 +25,7 @@ pub(crate) fn note_sends<'a>(
     ensures { OnOk result ((before : List EntryFields) → length before + 1 ≡ position → KnowsSent sends.old before → KnowsSent sends.new (before ++ entry.entry.now ∷ [])) }
 {
     for message in entry.sends() {
-        sends.insert(message, position)?;
+        sends.insert(message.get(), position)?;
     }
     Ok(())
 }
@@ -35,7 +35,7 @@ pub(crate) fn origin_of<'a>(sends: &Sends<'a>, event: &'a Event) -> Option<u64>
     ensures { (before : List EntryFields) → KnowsSent sends.now before → result ≡ origin_of before event.entry.now }
 {
     match event {
-        Event::Deliver(message) => sends.get(&message).copied(),
+        Event::Deliver(message) => sends.get(&message.get()).copied(),
         _ => None,
     }
 }

@@ -100,7 +100,7 @@ fn note_conflicts(conflicts: &mut Conflicts, index: usize, entry: &Entry) -> Res
     ensures { OnOk result ((es : List Entry) → length es ≡ index → Locates conflicts.old es → Locates conflicts.new (es ++ entry.now ∷ [])) }
 {
     for message in entry.sends() {
-        note_conflict(conflicts, index, message)?;
+        note_conflict(conflicts, index, message.get())?;
     }
     Ok(())
 }
@@ -168,24 +168,24 @@ fn slot_of(conflicts: &Conflicts, own: usize, event: &Event) -> Option<usize>
     ensures within { MatchOption result ⊤ (λ index. index ≤ own) }
     ensures slot { (es : List Entry) → Locates conflicts.now es → result ≡ slot_of es own event.now }
 {
-    match *event {
-        Event::Deliver(
-            Message::Deny {
-                file,
-                holder,
-                number,
-                ..
-            },
-        ) => {
-            let revoke = RevokeId {
-                file,
-                number,
-                holder,
-            };
-            conflicts.get(&revoke).copied()
-        }
-        _ => Some(own),
-    }
+    let Event::Deliver(message) = event else {
+        return Some(own);
+    };
+    let Message::Deny {
+        file,
+        holder,
+        number,
+        ..
+    } = message.get()
+    else {
+        return Some(own);
+    };
+    let revoke = RevokeId {
+        file: *file,
+        number: *number,
+        holder: *holder,
+    };
+    conflicts.get(&revoke).copied()
 }
 
 // The slot at that position of a call of the index, which the entry with the index `reply` answers.

@@ -19,9 +19,9 @@ use lockscript::play_error::PlayError;
 use lockscript::refused_line::RefusedLine;
 use lockscript::script_line::{Command, ScriptLine};
 use messages::event::Event;
-use messages::message::Message;
 use messages::refusal::Refused;
 use messages::shape::Shape;
+use messages::shared_message::SharedMessage;
 use std::alloc::Global;
 use std::marker::Model;
 
@@ -191,7 +191,7 @@ impl Player {
         let index = (number as usize).saturating_sub(1);
         match self.run.world().sent().get(index) {
             Some(message) => {
-                let message = message.copy(alloc)?;
+                let message = message.share()?;
                 self.deliver_sent(alloc, line, index, message)
             }
             None => self.refuse(line, self.unsent()),
@@ -204,7 +204,7 @@ impl Player {
         alloc: Global,
         line: u32,
         index: usize,
-        message: Message,
+        message: SharedMessage,
     ) -> Result<(), PlayError>
         ensures ok { OnOk result (Comes line index (progress self.old) (delivery (progress self.old) (Some message)) (Some (progress self.new))) }
         ensures full { IfErr result (λ error. error ≡ JournalFull → Comes line index (progress self.old) (delivery (progress self.old) (Some message)) None) }
@@ -231,7 +231,7 @@ impl Player {
     }
 
     // The earliest message that is not settled, at which the cursor stands from now on.
-    fn next_message(&mut self, alloc: Global) -> Result<Option<Message>, PlayError>
+    fn next_message(&mut self) -> Result<Option<SharedMessage>, PlayError>
         ensures same { OnOk result (progress self.new ≡ progress self.old) }
         ensures message { IfOk result (λ next. MatchOption next (IsSettled (progress self.new)) (λ message. IsNextMessage (progress self.new) self.new.settled.cursor message)) }
         ensures room { IfOk result (λ next. IfSome next (λ _. self.new.settled.cursor < usize.MAX)) }
@@ -240,14 +240,19 @@ impl Player {
     {
         self.settled.advance();
         match self.run.world().sent().get(self.settled.cursor()) {
-            Some(message) => Ok(Some(message.copy(alloc)?)),
+            Some(message) => Ok(Some(message.share()?)),
             None => Ok(None),
         }
     }
 
     // Delivers the message at the cursor, or passes over it where its delivery is refused: silently
     // where its node or its server was declared failed.
-    fn deliver_next(&mut self, alloc: Global, line: u32, message: Message) -> Result<(), PlayError>
+    fn deliver_next(
+        &mut self,
+        alloc: Global,
+        line: u32,
+        message: SharedMessage,
+    ) -> Result<(), PlayError>
         requires next_one { IsNextMessage (progress self.old) self.old.settled.cursor message }
         requires room { self.old.settled.cursor < usize.MAX }
         ensures ok { OnOk result (Delivers line message (progress self.old) (Some (progress self.new))) }
@@ -269,7 +274,7 @@ impl Player {
         ensures ok { OnOk result (Settles line (progress self.old) (Some (progress self.new))) }
         ensures full { IfErr result (λ error. error ≡ JournalFull → Settles line (progress self.old) None) }
     {
-        while let Some(message) = self.next_message(alloc)? {
+        while let Some(message) = self.next_message()? {
             self.deliver_next(alloc, line, message)?;
         }
         Ok(())

@@ -1,8 +1,10 @@
 //! Journals of tests. Their entries say what is to happen and what it has to give, also where no run comes to it.
 use journal_text::parse::parse;
 use messages::entry::Entry;
+use messages::message::Message;
 use messages::outcome::Outcome;
 use messages::shape::Shape;
+use messages::shared_message::SharedMessage;
 use std::alloc::Global;
 use std::test::Fail;
 
@@ -18,5 +20,9 @@ pub fn read(alloc: Global, text: &str) -> Result<(Shape, Vec<Entry>), Fail> {
 pub fn is_of(entry: &Entry, outcome: &Outcome) -> bool {
     outcome.call == entry.call()
         && outcome.reply == entry.reply()
-        && outcome.sends.as_slice() == entry.sends()
+        && same_messages(outcome.sends.as_slice(), entry.sends())
+}
+
+fn same_messages(given: &[Message], sends: &[SharedMessage]) -> bool {
+    given.len() == sends.len() && given.iter().zip(sends).all(|(one, other)| other.same(one))
 }

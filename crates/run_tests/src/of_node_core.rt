@@ -22,7 +22,7 @@ impl Machine for Node {
     fn taken(alloc: Global, event: &Event) -> Option<NodeEvent> {
         match event {
             Event::Call { pid, op, .. } => Some(NodeEvent::Call { pid: *pid, op: *op }),
-            Event::Deliver(message) => Some(NodeEvent::Deliver(message.copy(alloc).ok()?)),
+            Event::Deliver(message) => Some(NodeEvent::Deliver(message.get().copy(alloc).ok()?)),
             Event::Interrupt { pid, .. } => Some(NodeEvent::Interrupt { pid: *pid }),
             Event::Retry { pid, .. } => Some(NodeEvent::Retry { pid: *pid }),
             _ => None,

@@ -176,7 +176,7 @@ fn actor_of(event: &Event) -> Actor {
         Event::Call { node, .. } | Event::Retry { node, .. } | Event::Interrupt { node, .. } => {
             Actor::Node(*node)
         }
-        Event::Deliver(message) => message.addressee(),
+        Event::Deliver(message) => message.get().addressee(),
         _ => Actor::Server(1),
     }
 }
@@ -224,7 +224,7 @@ fn taken<J: Name>(
         Event::StartServer { file } => starts(alloc, book, seats, *file),
         _ => {
             let seat = seat_of(seats, actor_of(event))?;
-            commits(book, alloc, seat, event.copy(alloc).ok()?)
+            commits(book, alloc, seat, event.copy().ok()?)
         }
     }
 }

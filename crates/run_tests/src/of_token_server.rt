@@ -19,7 +19,7 @@ impl Machine for Server {
 
     fn taken(alloc: Global, event: &Event) -> Option<ServerEvent> {
         match event {
-            Event::Deliver(message) => Some(ServerEvent::Deliver(message.copy(alloc).ok()?)),
+            Event::Deliver(message) => Some(ServerEvent::Deliver(message.get().copy(alloc).ok()?)),
             Event::Resend { .. } => Some(ServerEvent::Resend),
             Event::Learn {
                 node,

@@ -8,6 +8,7 @@ ghost use Rattle.stories.specs.OpenIndexes.{call_named};
 use messages::entry::Entry;
 use messages::event::Event;
 use messages::message::Message;
+use messages::shared_message::SharedMessage;
 use model::call::CallId;
 
 /// The call that the message names.
@@ -37,10 +38,10 @@ pub(crate) fn is_about(message: &Message, call: &CallId) -> bool
 }
 
 // Whether a message that names the call is among these.
-fn is_any_about(messages: &[Message], call: &CallId) -> bool
+fn is_any_about(messages: &[SharedMessage], call: &CallId) -> bool
     ensures { result ≡ list_any (is_about call.now) messages.now }
 {
-    messages.iter().any(|message| is_about(message, call))
+    messages.iter().any(|message| is_about(message.get(), call))
 }
 
 // Whether a message comes that names the call.
@@ -48,7 +49,7 @@ fn brings_word(event: &Event, call: &CallId) -> bool
     ensures { result ≡ delivers (is_about call.now) event.now }
 {
     match event {
-        Event::Deliver(message) => is_about(message, call),
+        Event::Deliver(message) => is_about(message.get(), call),
         _ => false,
     }
 }
@@ -65,7 +66,7 @@ pub(crate) fn brings(event: &Event, message: &Message) -> bool
     ensures { result ≡ delivers (same_message message.now) event.now }
 {
     match event {
-        Event::Deliver(coming) => is_same(message, coming),
+        Event::Deliver(coming) => is_same(message, coming.get()),
         _ => false,
     }
 }

@@ -98,7 +98,7 @@ fn note_entry<'a>(
     note(parts, alloc, answered, entry.call(), placed)?;
     note(parts, alloc, answered, call_come(entry.event()), placed)?;
     for message in entry.sends() {
-        note(parts, alloc, answered, call_named(message), placed)?;
+        note(parts, alloc, answered, call_named(message.get()), placed)?;
     }
     Ok(())
 }
@@ -108,7 +108,7 @@ fn call_come(event: &Event) -> Option<CallId>
     ensures { result ≡ call_come event.now }
 {
     match event {
-        Event::Deliver(message) => call_named(message),
+        Event::Deliver(message) => call_named(message.get()),
         _ => None,
     }
 }

@@ -82,6 +82,7 @@ impl<'a> PlacedEntry<'a> {
         let mut sent = Vec::new(alloc);
         let mut number = self.number;
         for message in self.entry.sends() {
+            let message = message.get();
             if is_about(message, call) {
                 sent.push(NumberedMessage::new(number, message))?;
             }

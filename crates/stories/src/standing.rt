@@ -41,7 +41,7 @@ impl Standing {
     {
         let mut standing = self.after_event(entry.event(), call);
         for message in entry.sends() {
-            standing = standing.after_message(message, call);
+            standing = standing.after_message(message.get(), call);
         }
         standing
     }
@@ -50,14 +50,15 @@ impl Standing {
     fn after_event(self, event: &Event, call: &CallId) -> Standing
         ensures { result ≡ after_event call.now self event.now }
     {
-        match event {
-            Event::Deliver(
-                Message::Request {
-                    file,
-                    call: named,
-                    ..
-                },
-            ) if named == call => Standing::AtServer(file.get()),
+        let Event::Deliver(message) = event else {
+            return self;
+        };
+        match message.get() {
+            Message::Request {
+                file,
+                call: named,
+                ..
+            } if named == call => Standing::AtServer(file.get()),
             _ => self,
         }
     }

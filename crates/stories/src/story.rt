@@ -148,6 +148,7 @@ fn push_happening<'a>(
     match entry.event() {
         Event::Call { node, pid, op } if makes(entry, call) => push_calling(out, *pid, *node, op),
         Event::Deliver(message) => {
+            let message = message.get();
             push_coming(out, version, entry, message, sent.number_of(message))
         }
         _ => push_plain(out, version, entry),

@@ -55,6 +55,10 @@ not_found (Some x) h = absurd (cc)
 pub read_there : (sent : List Message) (i : ℕ) (m : Message) → i < length sent → m ≡ get_or sent i m → slice_get sent i ≡ Some m
 read_there sent i m lt is = slice_get-get_or sent i m lt ∙ ap (λ (x : Message). Some x) (sym is)
 
+-- and what is read there by one more name
+pub get_there : (sent : List Message) (i : ℕ) (m : Message) (own : Message) → i < length sent → m ≡ own → own ≡ get_or sent i own → slice_get sent i ≡ Some m
+get_there sent i m own lt same is = subst (λ (x : Message). slice_get sent i ≡ Some x) (sym same) (read_there sent i own lt is)
+
 -- the first n + 1 messages
 module _ (places : Places) (others : Others) (sent : List Message) (n : ℕ) (m : Message) (there : slice_get sent n ≡ Some m) (known : KnowsFirst places others sent n) where
   grown : take (n + 1) sent ≡ take n sent ++ m ∷ []

@@ -14,6 +14,8 @@ use super::change::Change;
 use messages::entry::Entry;
 use messages::event::Event;
 use messages::items::Items;
+use messages::kept_outcome::KeptOutcome;
+use messages::kept_reply::KeptReply;
 use messages::message::Message;
 use messages::outcome::Outcome;
 use messages::refusal::Refused;
@@ -81,7 +83,8 @@ impl World {
         };
         self.length += 1;
         let outcome = Outcome::sending(Items::new(alloc));
-        Entry::at_node(Event::FailServer { file }, epoch, outcome)
+        let kept = KeptOutcome::nothing();
+        Entry::at_node(Event::FailServer { file }, epoch, outcome, kept)
     }
 
     /// The token server of the file begins again, as this one, and asks the nodes for their tokens.
@@ -98,13 +101,21 @@ impl World {
         ensures err { OnErr result ((e : Refused) → start_rule (world_state self.old) file ≢ Err e) }
         ensures unchanged { OnErr result (self.new ≡ self.old) }
     {
-        self.sent.extend(alloc, sends.as_slice())?;
+        let shared = self.sent.extend(alloc, sends.as_slice())?;
         let Ok(epoch) = self.members.start_server(file) else {
             unreachable!()
         };
         self.servers[file as usize - 1] = Box::into_inner(begun);
         self.length += 1;
         let outcome = Outcome::sending(sends);
-        Ok(Entry::at_node(Event::StartServer { file }, epoch, outcome))
+        Ok(Entry::at_node(
+            Event::StartServer { file },
+            epoch,
+            outcome,
+            KeptOutcome {
+                reply: KeptReply::nothing(),
+                sends: shared,
+            },
+        ))
     }
 }

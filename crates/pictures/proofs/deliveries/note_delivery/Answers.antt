@@ -1,6 +1,8 @@
 use Rattle.std.proofs.Common.{◌∙◌, ap, sym, Bool, Some, cond}
 use Rattle.std.specs.Option.{option_or}
 use Rattle.messages.specs.declared.event.Event.{Event}
+use Rattle.messages.specs.declared.event.Event.TheVariants.{Deliver}
+use Rattle.messages.specs.declared.message.Message.{Message}
 use Rattle.messages.specs.Messages.{same_message}
 use Rattle.stories.specs.About.{delivers}
 use Rattle.pictures.specs.Indexes.{place_in}
@@ -18,9 +20,9 @@ returns-in_default c before at knows m =
 pub returns-in_ok-insert : goal.returns-in_ok-insert
 returns-in_ok-insert c before at knows m =
     let old = place_in c.args.places.now m in
-    let come = c.in-Deliver.message in
+    let come = c.get.result.now in
     c.in_ok-insert.ensures.updates.0 m
     ∙ ap (λ (b : Bool). cond b (Some c.args.position) old) (eq-same come m.now)
     ∙ put (same_message m.now come) c.args.position old
-    ∙ ap (λ (e : Event). option_or (position_if (delivers (same_message m.now) e) c.args.position) old) (sym c.in-Deliver.is ∙ c.event.ensures)
+    ∙ ap (λ (e : Event). option_or (position_if (delivers (same_message m.now) e) c.args.position) old) (ap (λ (n : Message). Deliver n) c.get.ensures ∙ sym c.in-Deliver.is ∙ c.event.ensures)
     ∙ come_next before c.args.entry.now c.args.position m.now old at (knows m)

@@ -1,4 +1,4 @@
-use Rattle.std.proofs.Common.{◌≡◌, ◌∙◌, ◌+◌, ap, sym, Bool, Option, Some, cond, drop, List, ℕ, []}
+use Rattle.std.proofs.Common.{◌≡◌, ◌∙◌, ◌+◌, ◌||◌, ap, sym, Bool, Option, Some, cond, drop, List, ℕ, []}
 use Rattle.std.specs.Option.{option_or}
 use Rattle.messages.specs.declared.message.Message.{Message}
 use Rattle.messages.specs.Messages.{is_among, same_message}
@@ -14,8 +14,9 @@ loop-message-preserved c m =
     let items = c.sends-message-items.result.now in
     let rest = is_among (drop (c.loop-message.message-index + 1) items) m.now in
     let old = place_in c.loop-message.sends m in
-    ap (λ (o : Option ℕ). option_or (position_if rest c.args.position) o) (c.in_ok-insert.ensures.updates.0 m ∙ ap (λ (b : Bool). cond b (Some c.args.position) old) (eq-same c.message-item.result m.now))
-    ∙ put_next (same_message m.now c.message-item.result) rest c.args.position old
+    ap (λ (o : Option ℕ). option_or (position_if rest c.args.position) o) (c.in_ok-insert.ensures.updates.0 m ∙ ap (λ (b : Bool). cond b (Some c.args.position) old) (eq-same c.get.result.now m.now))
+    ∙ put_next (same_message m.now c.get.result.now) rest c.args.position old
+    ∙ ap (λ (n : Message). option_or (position_if (same_message m.now n || rest) c.args.position) old) c.get.ensures
     ∙ sym (ap (λ (ms : List Message). option_or (position_if (is_among ms m.now) c.args.position) old) (drop_here items c.loop-message.message-index c.message-item.result c.loop-message-test.true c.message-item.is))
     ∙ c.loop-message.invariant m
 

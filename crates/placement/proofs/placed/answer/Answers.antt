@@ -1,4 +1,4 @@
-use Rattle.std.proofs.Common.{◌≡◌, ◌≤◌, ◌+◌, sym, ap, ◌∙◌, ◌++◌, ◌∷◌, [], refl, subst, arith, length, slice_get}
+use Rattle.std.proofs.Common.{◌+◌, sym, ap, ◌∙◌, ◌++◌, ◌∷◌, [], refl, subst, arith, slice_get}
 use Rattle.placement.specs.declared.slot.Slot.TheVariants.{Empty}
 use Rattle.placement.specs.Rests.{AreAhead}
 use Rattle.placement.proofs.Rests.{ahead_push, ahead_set}

@@ -1,4 +1,5 @@
-use Rattle.std.proofs.Common.{sym}
+use Rattle.std.proofs.Common.{ap, sym, get_or, ◌∙◌}
+use Rattle.messages.specs.declared.message.Message.{Message}
 use Rattle.placement.proofs.Locating.{noted_none, noted_more, noted_all}
 use Rattle.placement.proofs.placed.note_conflicts.Goals as goal
 
@@ -7,7 +8,10 @@ loop-message-init c = noted_none c.args.conflicts.now c.args.index
 
 pub loop-message-preserved : goal.loop-message-preserved
 loop-message-preserved c =
-    noted_more c.args.conflicts.now c.loop-message.conflicts c.note_conflict.new.conflicts c.args.index c.loop-message.message-index c.sends-message-items.result.now c.message-item.result c.loop-message-test.true c.message-item.is c.loop-message.invariant c.in_ok-note_conflict.ensures
+    let ms = c.sends-message-items.result.now in
+    let i = c.loop-message.message-index in
+    let read = c.get.ensures ∙ (c.message-item.is ∙ sym (ap (λ (m : Message). get_or ms i m) c.get.ensures)) in
+    noted_more c.args.conflicts.now c.loop-message.conflicts c.note_conflict.new.conflicts c.args.index i ms c.get.result.now c.loop-message-test.true read c.loop-message.invariant c.in_ok-note_conflict.ensures
 
 pub returns : goal.returns
 returns c =

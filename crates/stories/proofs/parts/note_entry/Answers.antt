@@ -31,13 +31,14 @@ loop-message-preserved c call none fresh =
     let now = part_in c.loop-message.parts call in
     let i = c.loop-message.message-index in
     let ms = c.sends-message-items.result.now in
-    let m = c.message-item.result in
+    let own = c.message-item.result in
+    let m = c.get.result.now in
     let before = makes call p.entry || delivers (is_about call) p.entry.event in
     let here : is_call call c.call_named.result ≡ is_about call m = ap (is_call call) c.call_named.ensures ∙ sym (is_about-named call m) in
     let next = one_more (before || list_any (is_about call) (take i ms)) (is_about call m) old now (part_in c.note-in-loop-message.new.parts call) p fresh (c.loop-message.invariant call none fresh) (c.in_ok-note-3.ensures call none ∙ ap (λ (b : Bool). if b then with_last now p else now) here) in
     next
     ∙ ap (λ (b : Bool). with_one b old p) (or_assoc before (list_any (is_about call) (take i ms)) (is_about call m)
-    ∙ ap (λ (b : Bool). before || b) (ap (λ (n : Message). list_any (is_about call) (take i ms) || is_about call n) c.message-item.is ∙ sym (list_any_more (is_about call) ms i m c.loop-message-test.true)))
+    ∙ ap (λ (b : Bool). before || b) (ap (λ (n : Message). list_any (is_about call) (take i ms) || is_about call n) (c.get.ensures ∙ c.message-item.is) ∙ sym (list_any_more (is_about call) ms i own c.loop-message-test.true)))
 
 pub returns : goal.returns
 returns c call none mine fresh =

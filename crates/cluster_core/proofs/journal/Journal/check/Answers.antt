@@ -1,4 +1,5 @@
-use Rattle.std.proofs.Common.{◌≡◌, ℕ, ◌+◌, ◌<◌, subst, arith, List}
+use Rattle.std.specs.Prelude.{slice_index_or}
+use Rattle.std.proofs.Common.{◌≡◌, ◌∙◌, ℕ, ◌+◌, ◌<◌, sym, subst, arith, List, length, take}
 use Rattle.std.proofs.lemmas.List.{take_all}
 use Rattle.messages.specs.declared.entry.Entry.{Entry}
 use Rattle.cluster_core.specs.World.{first_world, journal_limit}
@@ -15,29 +16,53 @@ pub returns-then-len-clause-accepted : goal.returns-then-len-clause-accepted
 returns-then-len-clause-accepted c = λ run few. absurd (omega (arith, few, c.if-len.true, c.len.ensures))
 
 pub loop-index-preserved : goal.loop-index-preserved
-loop-index-preserved c = leads_read (first_world c.args.shape) (world_state c.loop-index.world) (world_state c.comes_next.new.world) c.args.entries.items c.loop-index.index c.index.result.now (omega (arith, c.loop-index-test.true)) c.index.ensures c.loop-index.invariant (c.in_ok-comes_next.ensures.made c.if-not-branch.false)
+loop-index-preserved c =
+    let taken = c.in_ok-is_taken.ensures.taken in
+    let here : c.loop-index.index < length c.args.entries.items = omega (arith, c.loop-index-test.true) in
+    let within = subst (λ (es : List Entry). c.loop-index.index < length es) (sym c.loop-index.invariant.kept) here in
+    let led = leads_read (first_world c.args.shape) (world_state c.loop-index.world) (world_state c.is_taken.new.world) c.loop-index.entries.items c.loop-index.index taken.0 within taken.1 c.loop-index.invariant.leads (taken.2 c.if-not-branch.false) in
+    record {
+      leads = subst (λ (es : List Entry). Leads (first_world c.args.shape) (take (c.loop-index.index + 1) es) (world_state c.is_taken.new.world)) (sym c.is_taken.ensures.kept) led;
+      kept = c.is_taken.ensures.kept ∙ c.loop-index.invariant.kept;
+    }
 
 pub returns-then-not-branch-clause-accepted : goal.returns-then-not-branch-clause-accepted
 returns-then-not-branch-clause-accepted c = λ run few.
-    let count = replayed_count c.args.shape c.args.entries.items c.loop-index.index (world_state c.loop-index.world) (omega (arith, c.loop-index-test.true)) c.loop-index.invariant in
-    let room : (world_state c.loop-index.world).length < journal_limit = omega (arith, count, few, c.loop-index-test.true) in
-    let wrong = first_wrong c.args.shape c.args.entries.items c.loop-index.index (world_state c.loop-index.world) c.index.result.now (omega (arith, c.loop-index-test.true)) c.index.ensures c.loop-index.invariant (c.in_ok-comes_next.ensures.other c.if-not-branch.true room) in
+    let taken = c.in_ok-is_taken.ensures.taken in
+    let w = world_state c.loop-index.world in
+    let led = subst (λ (es : List Entry). Leads (first_world c.args.shape) (take c.loop-index.index es) w) c.loop-index.invariant.kept c.loop-index.invariant.leads in
+    let read = subst (λ (es : List Entry). taken.0 ≡ slice_index_or es c.loop-index.index taken.0) c.loop-index.invariant.kept taken.1 in
+    let within : c.loop-index.index < length c.args.entries.items = omega (arith, c.loop-index-test.true) in
+    let count = replayed_count c.args.shape c.args.entries.items c.loop-index.index w (omega (arith, within)) led in
+    let room : w.length < journal_limit = omega (arith, count, few, within) in
+    let wrong = first_wrong c.args.shape c.args.entries.items c.loop-index.index w taken.0 within read led (taken.3 c.if-not-branch.true room) in
     absurd (none_wrong c.args.shape c.args.entries.items (c.loop-index.index + 1) wrong run)
 
 pub returns-then-not-branch-clause-wrong : goal.returns-then-not-branch-clause-wrong
 returns-then-not-branch-clause-wrong c = λ position told.
-    let count = replayed_count c.args.shape c.args.entries.items c.loop-index.index (world_state c.loop-index.world) (omega (arith, c.loop-index-test.true)) c.loop-index.invariant in
-    let room : (world_state c.loop-index.world).length < journal_limit = omega (arith, count, c.if-len.false, c.len.ensures, c.loop-index-test.true) in
-    let wrong = first_wrong c.args.shape c.args.entries.items c.loop-index.index (world_state c.loop-index.world) c.index.result.now (omega (arith, c.loop-index-test.true)) c.index.ensures c.loop-index.invariant (c.in_ok-comes_next.ensures.other c.if-not-branch.true room) in
+    let taken = c.in_ok-is_taken.ensures.taken in
+    let w = world_state c.loop-index.world in
+    let led = subst (λ (es : List Entry). Leads (first_world c.args.shape) (take c.loop-index.index es) w) c.loop-index.invariant.kept c.loop-index.invariant.leads in
+    let read = subst (λ (es : List Entry). taken.0 ≡ slice_index_or es c.loop-index.index taken.0) c.loop-index.invariant.kept taken.1 in
+    let within : c.loop-index.index < length c.args.entries.items = omega (arith, c.loop-index-test.true) in
+    let count = replayed_count c.args.shape c.args.entries.items c.loop-index.index w (omega (arith, within)) led in
+    let room : w.length < journal_limit = omega (arith, count, c.if-len.false, c.len.ensures, within) in
+    let wrong = first_wrong c.args.shape c.args.entries.items c.loop-index.index w taken.0 within read led (taken.3 c.if-not-branch.true room) in
     let P : ℕ → Type 0 = λ k. IsFirstWrong c.args.shape c.args.entries.items k in
     let same : c.loop-index.index + 1 ≡ position = cc in
     subst P same wrong
 
+-- the entries are all taken
+all_led : (c : goal.After-drop-world-inside-8) → Leads (first_world c.args.shape) c.args.entries.items (world_state c.loop-index.world)
+all_led c =
+    let led = subst (λ (es : List Entry). Leads (first_world c.args.shape) (take c.loop-index.index es) (world_state c.loop-index.world)) c.loop-index.invariant.kept c.loop-index.invariant.leads in
+    subst (λ (es : List Entry). Leads (first_world c.args.shape) es (world_state c.loop-index.world)) (take_all c.loop-index.index c.args.entries.items (omega (arith, c.loop-index-test.false))) led
+
 pub returns-clause-one_table : goal.returns-clause-one_table
-returns-clause-one_table c = every_run c.args.shape c.args.entries.items (world_state c.loop-index.world) c.in_ok-world.ensures.within (subst (λ (es : List Entry). Leads (first_world c.args.shape) es (world_state c.loop-index.world)) (take_all c.loop-index.index c.args.entries.items (omega (arith, c.loop-index-test.false))) c.loop-index.invariant)
+returns-clause-one_table c = every_run c.args.shape c.args.entries.items (world_state c.loop-index.world) c.in_ok-world.ensures.within (all_led c)
 
 pub returns-clause-plain : goal.returns-clause-plain
-returns-clause-plain c = every_plain c.args.shape c.args.entries.items (world_state c.loop-index.world) c.in_ok-world.ensures.within (subst (λ (es : List Entry). Leads (first_world c.args.shape) es (world_state c.loop-index.world)) (take_all c.loop-index.index c.args.entries.items (omega (arith, c.loop-index-test.false))) c.loop-index.invariant)
+returns-clause-plain c = every_plain c.args.shape c.args.entries.items (world_state c.loop-index.world) c.in_ok-world.ensures.within (all_led c)
 
 pub returns-clause-safe : goal.returns-clause-safe
 returns-clause-safe c = λ w leads. safe_run c.args.shape c.args.entries.items w c.in_ok-world.ensures.within leads

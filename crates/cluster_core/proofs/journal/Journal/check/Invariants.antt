@@ -1,8 +1,11 @@
-use Rattle.std.proofs.Common.{take}
+use Rattle.std.proofs.Common.{◌≡◌, take}
 use Rattle.cluster_core.specs.World.{first_world}
 use Rattle.cluster_core.specs.Parts.{world_state}
 use Rattle.cluster_core.specs.Runs.{Leads}
 use Rattle.cluster_core.proofs.journal.Journal.check.Given as goal
 
 abbrev pub invariant-loop-index : goal.invariant-loop-index
-invariant-loop-index l = Leads (first_world l.shape) (take l.index l.entries.items) (world_state l.world)
+invariant-loop-index l = record {
+  leads : Leads (first_world l.shape) (take l.index l.entries.items) (world_state l.world);
+  kept : l.entries.items ≡ l.fn.entries.items;
+}

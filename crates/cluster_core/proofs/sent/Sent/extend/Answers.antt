@@ -7,4 +7,4 @@ invariant_of-self-2 c =
     let old = c.self.inside in
     let middle = c.reserve.new.self in
     let new = c.note_from.new.self in
-    knows_more old.index.places middle.places new.places old.index.others.items middle.others.items new.others.items old.messages.items c.args.messages.now c.add_copies.new.sent.items c.as_slice.result.now c.len-start.result c.reserve.ensures.same c.self.invariant c.as_slice.ensures.value c.in_ok-add_copies.ensures.ok (c.len-start.ensures ∙ old.messages.ok.0) c.note_from.ensures
+    knows_more old.index.places middle.places new.places old.index.others.items middle.others.items new.others.items old.messages.items c.as_slice.result.now c.add_shares.new.sent.items c.as_slice-2.result.now c.len-start.result c.reserve.ensures.same c.self.invariant c.as_slice-2.ensures.value c.in_ok-add_shares.ensures.ok (c.len-start.ensures ∙ old.messages.ok.0) c.note_from.ensures

@@ -44,8 +44,14 @@ returns-clause-ok c =
     let plan = c.requires.made in
     plan.gives ∙ node_returns _ _ c.self.view_is c.self.invariant c.apply-outcome.result _ _ (sends c.before) refl c.args.node plan.step c.apply-outcome.new.self _ refl plan.number plan.alive (does c.before) c.args.event _ c.at_node.result plan.incarnation_is c.at_node.ensures
 
-pub returns-in_err-extend-clause-err : goal.returns-in_err-extend-clause-err
-returns-in_err-extend-clause-err c =
+pub returns-in_err-reply-clause-err : goal.returns-in_err-reply-clause-err
+returns-in_err-reply-clause-err c =
     let plan = c.requires.made in
     let p = err_from_is_err_and c.from_residual.result c.from_residual.ensures.1 in
+    rw p.1 (λ e refused. node_goes (world_state c.args.self.now) c.args.event c.args.node _ _ _ e plan.done plan.gives refused)
+
+pub returns-in_err-sends-clause-err : goal.returns-in_err-sends-clause-err
+returns-in_err-sends-clause-err c =
+    let plan = c.requires.made in
+    let p = err_from_is_err_and c.from_residual-in_err-sends.result c.from_residual-in_err-sends.ensures.1 in
     rw p.1 (λ e refused. node_goes (world_state c.args.self.now) c.args.event c.args.node _ _ _ e plan.done plan.gives refused)

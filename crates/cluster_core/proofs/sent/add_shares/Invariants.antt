@@ -1,5 +1,5 @@
 use Rattle.std.proofs.Common.{◌≡◌, ◌++◌, length, take}
-use Rattle.cluster_core.proofs.sent.add_copies.Given as goal
+use Rattle.cluster_core.proofs.sent.add_shares.Given as goal
 
 abbrev pub invariant-loop-message : goal.invariant-loop-message
 invariant-loop-message l = record {

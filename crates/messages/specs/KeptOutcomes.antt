@@ -1,0 +1,22 @@
+-- What an entry keeps of an outcome.
+use Rattle.std.specs.Prelude.{List, [], ◌∷◌, Option, Some, None}
+use Rattle.model.specs.declared.call.CallId.{CallId}
+use Rattle.model.specs.declared.reply.Reply.{Reply}
+use Rattle.model.specs.declared.reply.Reply.TheVariants.{Done}
+use Rattle.messages.specs.declared.message.Message.{Message}
+use Rattle.messages.specs.declared.kept_reply.Kept.{Kept as KeptReply}
+use Rattle.messages.specs.declared.kept_reply.Kept.TheVariants as reply
+use Rattle.messages.specs.declared.sends.Kept.{Kept as KeptSends}
+use Rattle.messages.specs.declared.sends.Kept.TheVariants as sends
+
+-- the call that is answered, and its reply
+abbrev pub reply_of : KeptReply → Option (CallId × Reply)
+reply_of reply.Nothing = None
+reply_of (reply.Done call) = Some (call, Done)
+reply_of (reply.Other answer) = Some answer.value
+
+-- the messages in their order
+abbrev pub messages_of : KeptSends → List Message
+messages_of sends.Nothing = []
+messages_of (sends.One message) = message ∷ []
+messages_of (sends.Many items) = items.value

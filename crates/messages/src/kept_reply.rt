@@ -1,0 +1,71 @@
+//! Replies as entries keep them.
+ghost use Rattle.std.specs.Prelude.{◌≡◌, None, IfOk};
+ghost use Rattle.messages.specs.KeptOutcomes.{reply_of};
+
+use model::call::CallId;
+use model::reply::Reply;
+use std::alloc::{AllocError, Global};
+use std::marker::Model;
+
+// Most entries reply nothing, or that a call is done.
+#[derive(Drop)]
+enum Kept {
+    Nothing,
+    Done(CallId),
+    Other(Box<(CallId, Reply)>),
+}
+
+/// The call that an entry answers and its reply, or none, in 16 bytes; a reply that says more than that
+/// the call is done has memory of its own. Contracts see the call and the reply.
+#[derive(Drop)]
+pub struct KeptReply {
+    kept: Kept,
+}
+
+impl Model for KeptReply {
+    ghost use Rattle.std.specs.Prelude.{Option};
+    ghost use Rattle.model.specs.declared.reply.Reply.{Reply};
+    ghost use Rattle.model.specs.declared.call.CallId.{CallId};
+    ghost use Rattle.messages.specs.KeptOutcomes.{reply_of};
+
+    ghost Value = { Option (CallId × Reply) };
+
+    ghost view = { λ r. reply_of r.kept };
+}
+
+impl KeptReply {
+    /// No call is answered. It takes no memory.
+    pub fn nothing() -> KeptReply
+        ensures { result ≡ None }
+    {
+        KeptReply {
+            kept: Kept::Nothing,
+        }
+    }
+
+    /// This call is answered, with this reply, or none is.
+    ///
+    /// # Errors
+    /// `AllocError` where a request for memory was refused.
+    pub fn new(alloc: Global, reply: Option<(CallId, Reply)>) -> Result<KeptReply, AllocError>
+        ensures { IfOk result (λ kept. kept ≡ reply) }
+    {
+        let kept = match reply {
+            None => Kept::Nothing,
+            Some((call, Reply::Done)) => Kept::Done(call),
+            Some(other) => Kept::Other(Box::new(alloc, other)?),
+        };
+        Ok(KeptReply { kept })
+    }
+
+    /// The call that is answered, and its reply.
+    pub fn get(&self) -> Option<(CallId, Reply)>
+        ensures { result ≡ self.now }
+    {
+        match &self.kept {
+            Kept::Nothing => None,
+            Kept::Done(call) => Some((*call, Reply::Done)),
+            Kept::Other(reply) => Some(**reply),
+        }
+    }
+}

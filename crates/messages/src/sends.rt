@@ -1,0 +1,89 @@
+//! What an entry sends.
+ghost use Rattle.std.specs.Prelude.{◌≡◌, ◌↔◌, IsTrue, [], ◌∷◌, IfOk};
+ghost use Rattle.messages.specs.KeptOutcomes.{messages_of};
+
+use crate::items::Items;
+use crate::message::Message;
+use crate::shared_message::SharedMessage;
+use std::alloc::{AllocError, Global};
+use std::array;
+use std::marker::Model;
+
+// Most entries send no message, or one.
+#[derive(Drop)]
+enum Kept {
+    Nothing,
+    One(SharedMessage),
+    Many(Box<Items<SharedMessage>>),
+}
+
+/// The messages that an entry sends, in the order in which the rules name them. Contracts see the list.
+#[derive(Drop)]
+pub struct Sends {
+    kept: Kept,
+}
+
+impl Model for Sends {
+    ghost use Rattle.std.specs.Prelude.{List};
+    ghost use Rattle.messages.specs.declared.message.Message.{Message};
+    ghost use Rattle.messages.specs.KeptOutcomes.{messages_of};
+
+    ghost Value = { List Message };
+
+    ghost view = { λ s. messages_of s.kept };
+}
+
+// A copy of the message, which one names so far.
+fn shared(alloc: Global, message: &Message) -> Result<SharedMessage, AllocError>
+    ensures { IfOk result (λ shared. shared ≡ message.now) }
+{
+    SharedMessage::new(alloc, message.copy(alloc)?)
+}
+
+// Copies of the messages, each of which one names so far.
+fn all_shared(alloc: Global, messages: &[Message]) -> Result<Items<SharedMessage>, AllocError>
+    ensures { IfOk result (λ items. items ≡ messages.now) }
+{
+    let mut items = Items::new(alloc);
+    for message in messages {
+        items.push(shared(alloc, message)?)?;
+    }
+    Ok(items)
+}
+
+impl Sends {
+    /// No message. It takes no memory.
+    pub fn nothing() -> Sends
+        ensures { result ≡ [] }
+    {
+        Sends {
+            kept: Kept::Nothing,
+        }
+    }
+
+    /// Copies of these messages.
+    ///
+    /// # Errors
+    /// `AllocError` where a request for memory was refused.
+    pub fn copies(alloc: Global, messages: &[Message]) -> Result<Sends, AllocError>
+        ensures { IfOk result (λ sends. sends ≡ messages.now) }
+    {
+        let kept = match messages {
+            [] => Kept::Nothing,
+            [message] => Kept::One(shared(alloc, message)?),
+            _ => Kept::Many(Box::new(alloc, all_shared(alloc, messages)?.fitted())?),
+        };
+        Ok(Sends { kept })
+    }
+
+    /// The messages, in their order.
+    pub fn as_slice(&self) -> &[SharedMessage]
+        ensures { result.now ≡ self.now }
+    {
+        match &self.kept {
+            Kept::Nothing => &[],
+            Kept::One(message) => array::from_ref(message),
+            Kept::Many(items) => items.as_slice(),
+        }
+    }
+}
