@@ -107,7 +107,8 @@ fn push_items(out: &mut String, entries: PlacedEntries) -> Result<(), AllocError
     ensures { OnOk result (string_bytes out.new ≡ string_bytes out.old ++ flat_map history_line (items_in entries.standing)) }
 {
     let mut entries = entries;
-    while let Some((_entry, item)) = entries.next()? {
+    while let Some((entry, item)) = entries.next()? {
+        drop(entry);
         push_standing(out, &item)?;
     }
     Ok(())
@@ -151,6 +152,7 @@ fn push_items_and_entries(
     while let Some((entry, item)) = entries.next()? {
         position += 1;
         push_entry(journal, version, position, &entry)?;
+        drop(entry);
         push_standing(out, &item)?;
     }
     Ok(())

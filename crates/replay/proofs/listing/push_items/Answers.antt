@@ -7,5 +7,5 @@ use Rattle.replay.proofs.listing.push_items.Goals as goal
 
 pub loop-entries-preserved : goal.loop-entries-preserved
 loop-entries-preserved c =
-    let taken = subst (λ (first : Option (Entry × Option Item)). Takes c.loop-entries.entries first c.next.new.self) c.in-Some.is c.in_ok-_entry.ensures.takes in
+    let taken = subst (λ (first : Option (Entry × Option Item)). Takes c.loop-entries.entries first c.next.new.self) c.in-Some.is c.in_ok-entry.ensures.takes in
     item_told _ _ _ _ _ c.in-Some.item c.loop-entries.invariant taken.1 c.in_ok-push_standing.ensures
