@@ -10,6 +10,7 @@ use Rattle.command_line.specs.declared.subcommand.Subcommand.{Subcommand}
 abbrev pub default_rule : Text → Text → Text → Rule
 default_rule id long default = record (option_rule id long) { defaults = default ∷ [] }
 
+-- what the command line takes for an argument
 abbrev pub rule_given : Argument → Rule
 rule_given (Word id help) = path_rule id.now
 rule_given (Value id long help) = option_rule id.now long.now
