@@ -23,11 +23,11 @@ Has s o = HasFlag s.flags (flag_of o)
 
 -- the place of a page's set, which the page shares with others
 abbrev pub slot_of : ℕ → ℕ → ℕ
-slot_of file page = (page + file * 1031) % 8192
+slot_of file page = (page + file * 1031) % 32768
 
 -- the index has memory
 abbrev pub IsKept : PageIndex → Type 0
-IsKept x = (length x.sets.items ≡ 8192) × (length x.files.items ≡ 256)
+IsKept x = (length x.sets.items ≡ 32768) × (length x.files.items ≡ 256)
 
 -- the set of the page has the owner
 abbrev pub HasPage : PageIndex → ℕ → Owner → ℕ → Type 0
@@ -44,7 +44,7 @@ pub record HasFile (x : PageIndex) (file : ℕ) (o : Owner) : Type 0 where
 -- where the index is kept, it has the owner among those of long runs or of the byte's page, and the file
 -- among the owner's, or the owner among those of other files
 pub record MayHold (x : PageIndex) (file : ℕ) (o : Owner) (b : ℕ) : Type 0 where
-  pub noted : IsKept x → Has x.long o ⊎ HasPage x file o (b / 8192)
+  pub noted : IsKept x → Has x.long o ⊎ HasPage x file o (b / 2048)
   pub in_file : IsKept x → Has x.wide o ⊎ HasFile x file o
 
 -- each owner that holds a byte may do so by the index

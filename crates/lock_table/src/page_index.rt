@@ -17,10 +17,10 @@ use model::owner::Owner;
 use std::alloc::{AllocError, Global};
 
 // How many bytes a page has.
-const PAGE: u64 = 8192;
+const PAGE: u64 = 2048;
 
 // How many sets of owners an index has for pages, where it is kept, and how many of files.
-const SETS: usize = 8192;
+const SETS: usize = 32768;
 
 const FILE_SETS: usize = 256;
 
@@ -28,7 +28,7 @@ const FILE_SETS: usize = 256;
 const MOST_FILES: u16 = 256;
 
 // A run of more pages is noted as a long one, and a span of more is not looked up.
-const MOST_PAGES: u64 = 32;
+const MOST_PAGES: u64 = 128;
 
 // After so many notes an index is due to be made anew, since it doesn't lose what rows give up.
 const MOST_NOTES: u32 = 4096;
@@ -50,7 +50,7 @@ pub struct PageIndex {
 fn slot_of(file: u16, page: u64) -> usize
     requires { page < 2 ^ 60 }
     ensures result { result ≡ slot_of file page }
-    ensures within { result < 8192 }
+    ensures within { result < 32768 }
 {
     ((page + file as u64 * 1031) % SETS as u64) as usize
 }
