@@ -13,7 +13,6 @@ use crate::edit::Edit;
 use cluster_core::world::World;
 use messages::actor::Actor;
 use messages::event::Event;
-use messages::message::Message;
 use messages::outcome::Outcome;
 use messages::refusal::StepError;
 use node_core::change::Change as NodeChange;

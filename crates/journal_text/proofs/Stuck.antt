@@ -1,13 +1,12 @@
 -- What the next line of a journal is, or why it may not stand there.
 use Rattle.std.proofs.Common.{◌≡◌, List, ℕ, Option, Some, None, Result, Err, ok_or, sym, subst, ◌∙◌}
 use Rattle.messages.specs.declared.version.Version.{Version}
-use Rattle.texts.specs.LineFeeds.{BeginsWithLine}
 use Rattle.texts.specs.Reads.{Reads}
 use Rattle.lockscript.specs.declared.error.ParseError.{ParseError}
 use Rattle.journal_text.specs.declared.lines.JournalLine.{JournalLine}
 use Rattle.journal_text.specs.declared.place.Place.{Place}
 use Rattle.journal_text.specs.Lines.{IsServedLine, line_text}
-use Rattle.journal_text.specs.Places.{IsMisplaced, StandsNext, next_place}
+use Rattle.journal_text.specs.Places.{IsMisplaced, next_place}
 use Rattle.journal_text.proofs.LineKinds.{line as line_texts}
 
 -- no line
@@ -18,14 +17,6 @@ misplaced-none version p bytes none j served e = absurd (none j served e)
 pub misplaced-line : (version : Version) (p : Place) (bytes : List ℕ) (j : JournalLine) → IsServedLine version j → bytes ≡ line_text version j → next_place p.count p.phase j ≡ None → IsMisplaced version p bytes
 misplaced-line version p bytes j j_in text none k k_in e =
     subst (λ (x : JournalLine). next_place p.count p.phase x ≡ None) ((line_texts version).apart j k j_in k_in (sym text ∙ e)) none
-
--- a line that may
-pub stands-next : (version : Version) (p : Place) (rest bytes after : List ℕ) (j : JournalLine) (q : Place) → BeginsWithLine rest bytes after → IsServedLine version j → bytes ≡ line_text version j → next_place p.count p.phase j ≡ Some q → StandsNext version p rest j q after
-stands-next version p rest bytes after j q begins j_in text next = record {
-  begins = subst (λ (x : List ℕ). BeginsWithLine rest x after) text begins;
-  served = j_in;
-  next = next;
-}
 
 -- the error that stands for what is not there
 pub refusal-is : {A : Type 0} (found : Option A) (bad error : ParseError) → ◌≡◌ {A = Result A ParseError} (Err error) (ok_or found bad) → found ≡ None → error ≡ bad

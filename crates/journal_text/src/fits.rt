@@ -6,7 +6,6 @@ ghost use Rattle.journal_text.specs.Served.{IsServedReply};
 use message_text::fits::{call_fits, lock_fits, message_fits};
 use messages::entry::Entry;
 use messages::event::Event;
-use messages::message::Message;
 use messages::shared_message::SharedMessage;
 use model::op::Op;
 use model::reply::Reply;

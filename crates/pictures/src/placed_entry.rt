@@ -4,7 +4,7 @@ ghost use Rattle.messages.specs.Entries.{EntryFields};
 ghost use Rattle.pictures.specs.Indexes.{KnowsSent};
 ghost use Rattle.pictures.specs.Stretches.{placed_at, stretch};
 
-use crate::sends::{Sends, note_sends, origin_of};
+use crate::sends::{SentAt, note_sends, origin_of};
 use crate::window::Window;
 use messages::entry::Entry;
 use std::alloc::{AllocError, Global};
@@ -77,7 +77,7 @@ pub fn stretch<'a>(
 fn add_placed<'a>(
     part: &mut Vec<PlacedEntry<'a>>,
     window: &Window,
-    sends: &Sends<'a>,
+    sends: &SentAt<'a>,
     position: u64,
     entry: &'a Entry,
 ) -> Result<(), AllocError>

@@ -11,14 +11,14 @@ use std::alloc::AllocError;
 use std::collections::HashMap;
 
 /// By a message: the position of the last entry that sends it.
-pub(crate) type Sends<'a> = HashMap<&'a Message, u64>;
+pub(crate) type SentAt<'a> = HashMap<&'a Message, u64>;
 
 /// Takes the messages that the entry at this position sends into the index of those before it.
 ///
 /// # Errors
 /// `AllocError` where a request for memory was refused.
 pub(crate) fn note_sends<'a>(
-    sends: &mut Sends<'a>,
+    sends: &mut SentAt<'a>,
     position: u64,
     entry: &'a Entry,
 ) -> Result<(), AllocError>
@@ -31,7 +31,7 @@ pub(crate) fn note_sends<'a>(
 }
 
 /// The last of the entries before that sends the message that comes by the event.
-pub(crate) fn origin_of<'a>(sends: &Sends<'a>, event: &'a Event) -> Option<u64>
+pub(crate) fn origin_of<'a>(sends: &SentAt<'a>, event: &'a Event) -> Option<u64>
     ensures { (before : List EntryFields) → KnowsSent sends.now before → result ≡ origin_of before event.entry.now }
 {
     match event {
