@@ -5,4 +5,5 @@ pub mod Placing
 pub mod Placements
 pub mod Replays
 pub mod Waits
+pub mod CallsMade
 pub mod Rests

@@ -1,7 +1,8 @@
 -- What is left of a run that is told entry by entry.
 use Rattle.std.proofs.Common.{◌≡◌, ℕ, zero, suc, ◌+◌, ◌-◌, ◌<◌, ◌≤◌, refl, sym, ◌∙◌, ap, subst, arith, List, [], ◌∷◌, ◌++◌, length, length-append, map, reverse, get_or, slice_get, slice_set, Option, Some, None}
 use Rattle.std.proofs.lemmas.List.{length-reverse, get_or-reverse, reverse-append}
-use Rattle.std.proofs.lemmas.Option.{slice_get-get_or, slice_get_past}
+use Rattle.std.proofs.Math.Seq.{get_or-append_seam}
+use Rattle.std.proofs.lemmas.Option.{slice_get-get_or, slice_get_past, get_or_from_slice_get}
 use Rattle.model.specs.declared.op.Op.{Op}
 use Rattle.messages.specs.declared.entry.Entry.{Entry}
 use Rattle.cluster_core.specs.declared.item.Item.{Item}
@@ -108,7 +109,14 @@ left_past es k le =
     let long = length-reverse es in
     slice_get_past (reverse es) k (omega arith)
 
--- the last goes
+-- the last is read, and goes
+pub last_is : {A : Type 0} (old new : List A) (x y : A) → old ≡ new ++ x ∷ [] → Some y ≡ slice_get old (length old - 1) → y ≡ x
+last_is {A} old new x y is at =
+    let read = get_or_from_slice_get old (length old - 1) y y (sym at) in
+    let long = ap length is ∙ length-append new (x ∷ []) in
+    let place : length old - 1 ≡ length new = omega arith in
+    sym read ∙ (ap (λ (n : ℕ). get_or old n y) place ∙ (ap (λ (xs : List A). get_or xs (length new) y) is ∙ get_or-append_seam new x [] y))
+
 reverse_last : {A : Type 0} (old new : List A) (x : A) → old ≡ new ++ x ∷ [] → reverse old ≡ x ∷ reverse new
 reverse_last old new x is = ap reverse is ∙ reverse-append new (x ∷ [])
 

@@ -1,8 +1,9 @@
 -- What is left of a run that is told entry by entry, where each entry goes once it is told.
-use Rattle.std.specs.Prelude.{◌≡◌, ◌≤◌, ◌+◌, ◌-◌, ℕ, zero, suc, ⊤, List, [], ◌∷◌, length, slice_get, Option, Some, None}
+use Rattle.std.specs.Prelude.{◌≡◌, ◌≤◌, ◌+◌, ◌-◌, ℕ, zero, suc, ⊤, List, [], ◌∷◌, length, reverse, slice_get, Option, Some, None}
 use Rattle.model.specs.declared.op.Op.{Op}
 use Rattle.messages.specs.declared.entry.Entry.{Entry}
 use Rattle.messages.specs.Shapes.{ShapeFields}
+use Rattle.cluster_core.specs.World.{journal_limit}
 use Rattle.cluster_core.specs.declared.item.Item.{Item}
 use Rattle.cluster_core.specs.Histories.{HasHistory, EachAtItsPlace}
 use Rattle.cluster_core.specs.Placement.{slots_of, items_in}
@@ -42,6 +43,12 @@ IsAhead k (Answered at call reply) = k ≤ reply
 abbrev pub AreAhead : ℕ → List Slot → Type 0
 AreAhead k [] = ⊤
 AreAhead k (slot ∷ slots) = IsAhead k slot × AreAhead (k + 1) slots
+
+-- entries and slots that are left, the last of them first, after n entries that are gone
+pub record AreLeft (n : ℕ) (es : List Entry) (slots : List Slot) : Type 0 where
+  pub ahead : AreAhead n (reverse slots)
+  pub each : length slots ≡ length es
+  pub few : n + length es ≤ journal_limit
 
 -- the slots of a run, one for each of its entries, in which its history stands
 pub record ArePlaces (shape : ShapeFields) (es : List Entry) (slots : List Slot) : Type 0 where

@@ -4,6 +4,8 @@
 mod answers;
 pub mod history;
 pub mod legal;
+mod made;
+mod made_call;
 pub mod placed;
 pub mod placed_entries;
 pub mod placed_run;

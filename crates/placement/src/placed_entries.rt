@@ -1,8 +1,10 @@
 //! Entries of a run, each with what stands there in its history.
 ghost use Rattle.std.specs.Prelude.{◌≡◌, ◌<◌, ◌≤◌, ◌-◌, reverse as reversed, length, slice_get, option_copied, IfOk, OnErr};
+ghost use Rattle.cluster_core.specs.World.{journal_limit};
 ghost use Rattle.placement.specs.Standing.{made_by, standing};
 ghost use Rattle.placement.specs.Rests.{Takes, IsAhead, AreAhead, called_at, stands_from};
 
+use crate::made::Made;
 use crate::slot::{Slot, answered_at, gone_at, made_by};
 use cluster_core::item::Item;
 use messages::entry::Entry;
@@ -14,25 +16,25 @@ use std::marker::Model;
 const ENTRIES_AT_ONCE: usize = 16_384;
 
 /// The entries of a run from one on, each with the item that stands there in the history, if one does. What was
-/// taken out takes less memory: of an entry only what it calls is kept, in 40 bytes.
+/// taken out takes less memory: of the entries only the calls that they make are kept, each in 32 bytes.
 #[derive(Drop)]
 pub struct PlacedEntries {
     // What the entries that are gone call, the first of them first.
-    made: Vec<Option<(u16, Op)>>,
+    made: Made,
     // Those that are left, and their slots, the last of them first.
     entries: Vec<Entry>,
     slots: Vec<Slot>,
 }
 
 impl Model for PlacedEntries {
-    ghost use Rattle.std.specs.Prelude.{◌≡◌, length, map, reverse};
-    ghost use Rattle.placement.specs.Rests.{RestFields, AreAhead, stands_from};
+    ghost use Rattle.std.specs.Prelude.{length, map, reverse};
+    ghost use Rattle.placement.specs.Rests.{RestFields, AreLeft, stands_from};
 
     ghost Value = { RestFields };
 
-    ghost view = { λ p. record { entries = reverse p.entries.items; standing = map (stands_from p.made.items (reverse p.entries.items)) (reverse p.slots.items) } };
+    ghost view = { λ p. record { entries = reverse p.entries.items; standing = map (stands_from p.made (reverse p.entries.items)) (reverse p.slots.items) } };
 
-    ghost invariant = { λ p. AreAhead (length p.made.items) (reverse p.slots.items) × (length p.slots.items ≡ length p.entries.items) };
+    ghost invariant = { λ p. AreLeft (length p.made) p.entries.items p.slots.items };
 }
 
 impl PlacedEntries {
@@ -40,6 +42,7 @@ impl PlacedEntries {
     pub(crate) fn new(alloc: Global, entries: Vec<Entry>, slots: Vec<Slot>) -> PlacedEntries
         requires ahead { AreAhead 0 slots.items }
         requires each { length slots.items ≡ length entries.items }
+        requires few { length entries.items ≤ journal_limit }
         ensures entries { result.entries ≡ entries.items }
         ensures standing { result.standing ≡ standing entries.items slots.items }
     {
@@ -47,7 +50,7 @@ impl PlacedEntries {
         entries.reverse();
         slots.reverse();
         PlacedEntries {
-            made: Vec::new(alloc),
+            made: Made::new(alloc),
             entries,
             slots,
         }
@@ -61,15 +64,14 @@ impl PlacedEntries {
         ensures takes { IfOk result (λ first. Takes self.old first self.new) }
         ensures unchanged { OnErr result (self.new ≡ self.old) }
     {
-        self.made.reserve(1)?;
-        let Some(slot) = self.slots.pop() else {
+        let (Some(entry), Some(slot)) = (self.entries.last(), self.slots.last()) else {
             return Ok(None);
         };
-        let item = item_at(self.made.as_slice(), self.entries.as_slice(), slot);
-        let Some(entry) = self.entries.pop() else {
-            return Ok(None);
+        let item = item_at(&self.made, self.entries.as_slice(), *slot);
+        self.made.push(made_by(entry))?;
+        let (Some(entry), Some(_)) = (self.entries.pop(), self.slots.pop()) else {
+            unreachable!()
         };
-        self.made.push_reserved(made_by(&entry));
         give_back(&mut self.entries);
         give_back(&mut self.slots);
         Ok(Some((entry, item)))
@@ -86,7 +88,7 @@ fn give_back<T>(left: &mut Vec<T>)
 }
 
 // What stands in the slot of the first entry that is left, if anything does.
-fn item_at(made: &[Option<(u16, Op)>], entries: &[Entry], slot: Slot) -> Option<Item>
+fn item_at(made: &Made, entries: &[Entry], slot: Slot) -> Option<Item>
     requires { IsAhead (length made.now) slot }
     ensures { result ≡ stands_from made.now (reversed entries.now) slot }
 {
@@ -111,11 +113,11 @@ fn item_at(made: &[Option<(u16, Op)>], entries: &[Entry], slot: Slot) -> Option<
 }
 
 // What the entry with that index calls.
-fn called_at(made: &[Option<(u16, Op)>], entries: &[Entry], index: usize) -> Option<(u16, Op)>
+fn called_at(made: &Made, entries: &[Entry], index: usize) -> Option<(u16, Op)>
     ensures { result ≡ called_at made.now (reversed entries.now) index }
 {
     if index < made.len() {
-        return made[index];
+        return made.get(index);
     }
     made_by(left_at(entries, index - made.len())?)
 }

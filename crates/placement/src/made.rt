@@ -1,0 +1,87 @@
+//! What entries that are gone call.
+ghost use Rattle.std.specs.Prelude.{◌≡◌, ◌<◌, ◌++◌, ◌∷◌, [], length, slice_index_or, None, OnOk, OnErr};
+ghost use Rattle.std.specs.List.Sorted.{IsNonDecreasingBy};
+ghost use Rattle.cluster_core.specs.World.{journal_limit};
+ghost use Rattle.placement.specs.CallsMade.{called_by_entry};
+
+use crate::made_call::MadeCall;
+use model::op::Op;
+use std::alloc::{AllocError, Global};
+use std::marker::Model;
+
+/// What the first entries of a run call, if they make a call. Only those that make one take memory.
+#[derive(Drop)]
+pub(crate) struct Made {
+    // The calls, in the order of the entries that make them.
+    calls: Vec<MadeCall>,
+    // How many entries these are.
+    entries: u32,
+}
+
+impl Model for Made {
+    ghost use Rattle.std.specs.Prelude.{ℕ, List, Option};
+    ghost use Rattle.model.specs.declared.op.Op.{Op};
+    ghost use Rattle.placement.specs.CallsMade.{called_from, AreMade};
+
+    ghost Value = { List (Option (ℕ × Op)) };
+
+    ghost view = { λ m. called_from m.calls.items m.entries };
+
+    ghost invariant = { λ m. AreMade m.calls.items m.entries };
+}
+
+impl Made {
+    // No entries.
+    pub(crate) fn new(alloc: Global) -> Made
+        ensures { result ≡ [] }
+    {
+        Made {
+            calls: Vec::new(alloc),
+            entries: 0,
+        }
+    }
+
+    // How many entries these are.
+    pub(crate) fn len(&self) -> usize
+        ensures { result ≡ length self.now }
+    {
+        self.entries as usize
+    }
+
+    // What the entry with that index calls.
+    pub(crate) fn get(&self, index: usize) -> Option<(u16, Op)>
+        ensures { result ≡ slice_index_or self.now index None }
+    {
+        called_by_entry(self.calls.as_slice(), index)
+    }
+
+    // One entry more, and what it calls.
+    pub(crate) fn push(&mut self, called: Option<(u16, Op)>) -> Result<(), AllocError>
+        requires { length self.old < journal_limit }
+        ensures more { OnOk result (self.new ≡ self.old ++ called ∷ []) }
+        ensures unchanged { OnErr result (self.new ≡ self.old) }
+    {
+        if let Some((pid, op)) = called {
+            self.calls.push(MadeCall {
+                entry: self.entries,
+                pid,
+                op,
+            })?;
+        }
+        self.entries += 1;
+        Ok(())
+    }
+}
+
+// What the entry with that index calls. It halves what is left at each step.
+fn called_by_entry(calls: &[MadeCall], index: usize) -> Option<(u16, Op)>
+    requires { IsNonDecreasingBy (λ call. call.entry) calls.now }
+    ensures { result ≡ called_by_entry calls.now index }
+{
+    let place = calls.partition_point(|call| (call.entry as usize) < index);
+    let call = calls.get(place)?;
+    if call.entry as usize != index {
+        return None;
+    }
+    Some((call.pid, call.op))
+}
