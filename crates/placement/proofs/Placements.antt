@@ -1,16 +1,15 @@
 -- The history of a run as a value.
-use Rattle.std.proofs.Common.{◌≡◌, refl, sym, ◌∙◌, ap, subst, List}
+use Rattle.std.proofs.Common.{◌≡◌, refl, sym, ◌∙◌, ap, subst, List, Option}
 use Rattle.messages.specs.Shapes.{ShapeFields, IsShape}
 use Rattle.messages.specs.declared.entry.Entry.{Entry}
 use Rattle.cluster_core.specs.declared.item.Item.{Item}
 use Rattle.cluster_core.specs.Runs.{IsRun}
 use Rattle.cluster_core.specs.Histories.{HasHistory, EachAtItsPlace}
-use Rattle.cluster_core.specs.Placement.{slots_of, items_in, history_of}
+use Rattle.cluster_core.specs.Placement.{items_in, history_of}
 use Rattle.cluster_core.proofs.runs.Runs.{has_history}
 use Rattle.placement.specs.declared.slot.Slot.{Slot}
 use Rattle.placement.specs.Standing.{standing}
-use Rattle.placement.specs.Rests.{AreAhead, ArePlaces}
-use Rattle.placement.proofs.Placing.{length-placed}
+use Rattle.placement.specs.Rests.{ArePlaces}
 
 -- where a run's items were placed
 pub record IsPlaced (shape : ShapeFields) (es : List Entry) (h : List Item) : Type 0 where
@@ -23,10 +22,7 @@ is_placed shape es given h is run same made =
     let both = has_history shape es run.0 is run.1 in
     subst P (sym (made ∙ ap history_of same)) (record { history = both.0; at_places = both.1 })
 
--- the slots that were found for the entries of a run
-pub are_places : (shape : ShapeFields) (es given : List Entry) (slots : List Slot) → IsShape shape → IsRun shape es → given ≡ es → standing given slots ≡ slots_of given → AreAhead 0 slots → ArePlaces shape es slots
-are_places shape es given slots is run same found ahead =
-    let P : List Entry → Type 0 = λ xs. standing xs slots ≡ slots_of xs in
-    let placed = subst P same found in
-    let all = is_placed shape es es (items_in (standing es slots)) is run refl (ap items_in placed) in
-    record { each = length-placed es es slots placed; placed = placed; ahead = ahead; history = all.history; at_places = all.at_places }
+-- where the items stand in the slots of a run
+pub in_places : (shape : ShapeFields) (es given : List Entry) (slots : List Slot) (stood : List (Option Item)) → IsShape shape → IsRun shape es → ArePlaces es slots → given ≡ es → stood ≡ standing given slots → IsPlaced shape es (items_in stood)
+in_places shape es given slots stood is run places same stands =
+    is_placed shape es es (items_in stood) is run refl (ap items_in (stands ∙ (ap (λ (xs : List Entry). standing xs slots) same ∙ places.placed)))

@@ -2,11 +2,9 @@
 use Rattle.std.specs.Prelude.{◌≡◌, ◌≤◌, ◌+◌, ◌-◌, ℕ, zero, suc, ⊤, List, [], ◌∷◌, length, reverse, slice_get, Option, Some, None}
 use Rattle.model.specs.declared.op.Op.{Op}
 use Rattle.messages.specs.declared.entry.Entry.{Entry}
-use Rattle.messages.specs.Shapes.{ShapeFields}
 use Rattle.cluster_core.specs.World.{journal_limit}
 use Rattle.cluster_core.specs.declared.item.Item.{Item}
-use Rattle.cluster_core.specs.Histories.{HasHistory, EachAtItsPlace}
-use Rattle.cluster_core.specs.Placement.{slots_of, items_in}
+use Rattle.cluster_core.specs.Placement.{slots_of}
 use Rattle.placement.specs.declared.slot.Slot.{Slot}
 use Rattle.placement.specs.declared.slot.Slot.TheVariants.{Empty, Declared, Answered}
 use Rattle.placement.specs.Standing.{made_by, declared_by, answered_by, standing}
@@ -50,10 +48,7 @@ pub record AreLeft (n : ℕ) (es : List Entry) (slots : List Slot) : Type 0 wher
   pub each : length slots ≡ length es
   pub few : n + length es ≤ journal_limit
 
--- the slots of a run, one for each of its entries, in which its history stands
-pub record ArePlaces (shape : ShapeFields) (es : List Entry) (slots : List Slot) : Type 0 where
-  pub each : length slots ≡ length es
+-- the slots of these entries
+pub record ArePlaces (es : List Entry) (slots : List Slot) : Type 0 where
   pub placed : standing es slots ≡ slots_of es
   pub ahead : AreAhead 0 slots
-  pub history : HasHistory shape es (items_in (standing es slots))
-  pub at_places : EachAtItsPlace es (items_in (standing es slots))

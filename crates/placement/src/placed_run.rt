@@ -26,7 +26,7 @@ impl Model for PlacedRun {
 
     ghost view = { λ r. r.journal };
 
-    ghost invariant = { λ r. ArePlaces r.journal.shape r.journal.entries r.slots.items };
+    ghost invariant = { λ r. ArePlaces r.journal.entries r.slots.items };
 }
 
 impl PlacedRun {
@@ -55,6 +55,7 @@ impl PlacedRun {
         ensures history { HasHistory self.shape self.entries (items_in result.standing) }
         ensures at_places { EachAtItsPlace self.entries (items_in result.standing) }
     {
+        let _ = self.journal.entries(); // tells the proof that they are a run
         PlacedEntries::new(alloc, self.journal.into_entries(), self.slots)
     }
 }
