@@ -15,7 +15,8 @@ use Rattle.token_set.specs.Tokens.{Token}
 use Rattle.token_set.proofs.SearchLaws.{some_passes-none, none_passes-from}
 use Rattle.token_queue.specs.declared.token_request.TokenRequest.{TokenRequest}
 use Rattle.token_queue.specs.Requests.{is_of_call, is_up_to}
-use Rattle.token_server.specs.State.{Row, ServerState, empty_row, begin, is_awaited, awaits, row_above, forgotten}
+use Rattle.known_nodes.specs.Rows.{Row, empty_row, is_awaited, row_above}
+use Rattle.token_server.specs.State.{ServerState, begin, awaits, forgotten}
 use Rattle.token_queue.specs.Requests.{meets}
 use Rattle.token_server.specs.Serve.{meets_some, admitted, conflicting_node, commanded, granted_to, revoked_from, served, with_more, and_then, each_served, ready, serve}
 use Rattle.token_server.specs.Resends.{sending_first}

@@ -11,13 +11,14 @@ use Rattle.messages.specs.declared.message.Message.{Message}
 use Rattle.messages.specs.Epochs.{before_epoch}
 use Rattle.messages.specs.Messages.{greatest_number}
 use Rattle.token_queue.specs.declared.token_request.TokenRequest.{TokenRequest}
-use Rattle.token_server.specs.declared.node_change.NodeChange.{NodeChange}
-use Rattle.token_server.specs.declared.node_change.NodeChange.TheVariants.{Forgotten, Asked, Answered, Relieved, Reported}
-use Rattle.token_server.specs.declared.sketch.Changed.{Changed}
-use Rattle.token_server.specs.State.{Row, ServerState, is_hello, is_awaited, awaits, begin, row_above, with_row}
+use Rattle.known_nodes.specs.declared.node_change.NodeChange.{NodeChange}
+use Rattle.known_nodes.specs.declared.node_change.NodeChange.TheVariants.{Forgotten, Asked, Answered, Relieved, Reported}
+use Rattle.known_nodes.specs.declared.node_change.Changed.{Changed}
+use Rattle.known_nodes.specs.Rows.{Row, is_hello, is_awaited, row_above}
+use Rattle.token_server.specs.State.{ServerState, awaits, begin, with_row}
 use Rattle.token_server.specs.Serve.{conflicting_node, commanded, granted_to, revoked_from, served, with_more, and_then, each_served}
 use Rattle.token_server.specs.Ready.{AreOfEpoch}
-use Rattle.token_server.specs.Sketches.{row_or_empty, row_after, rows_after}
+use Rattle.known_nodes.specs.Changes.{row_or_empty, row_after, rows_after}
 use Rattle.token_server.proofs.AdmissionLaws.{above-told}
 
 empty-told : (begin incarnation : ℕ) (row : Option Row) → is_awaited row ≡ false → is_awaited (row_or_empty begin incarnation row) ≡ false

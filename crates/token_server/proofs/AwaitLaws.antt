@@ -10,16 +10,19 @@ use Rattle.token_queue.specs.declared.token_request.TokenRequest.{TokenRequest}
 use Rattle.token_queue.specs.declared.held.Held.{Held}
 use Rattle.token_queue.specs.Requests.{meets}
 use Rattle.token_queue.specs.Actives.{requests_of, waiting_for}
-use Rattle.token_server.specs.declared.row_edit.RowEdit.{RowEdit}
-use Rattle.token_server.specs.declared.sketch.Changed.{Changed}
-use Rattle.token_server.specs.State.{Row, ServerState}
-use Rattle.token_server.specs.Serve.{row_conflicts, conflicting_node}
-use Rattle.token_server.specs.Obstacles.{obstacle, are_apart, frees, may_bar, may_turn}
-use Rattle.token_server.specs.Parts.{ServerParts, server_state, rows_of}
-use Rattle.token_server.specs.Sketches.{rows_after}
-use Rattle.token_server.specs.Edits.{overlaid, reached}
+use Rattle.known_nodes.specs.declared.row_edit.RowEdit.{RowEdit}
+use Rattle.known_nodes.specs.declared.node_change.Changed.{Changed}
+use Rattle.known_nodes.specs.Rows.{Row, row_conflicts}
+use Rattle.token_server.specs.State.{ServerState}
+use Rattle.token_server.specs.Serve.{conflicting_node}
+use Rattle.known_nodes.specs.Changes.{may_bar, rows_after}
+use Rattle.token_server.specs.Obstacles.{obstacle, are_apart, frees, may_turn}
+use Rattle.known_nodes.specs.Parts.{rows_of}
+use Rattle.token_server.specs.Parts.{ServerParts, server_state}
+use Rattle.known_nodes.specs.Edits.{overlaid}
+use Rattle.token_server.specs.Edits.{reached}
 use Rattle.token_server.proofs.FreeLaws.{obstacle-changed}
-use Rattle.token_server.proofs.MarkLaws.{unopposed-none}
+use Rattle.token_server.proofs.GrantLaws.{unopposed-none}
 use Rattle.token_server.proofs.AdmittingLaws.{meets-flip}
 use Rattle.token_server.proofs.FreedLaws.{meets-within}
 use Rattle.token_server.proofs.KeepLaws.{apart-behind}

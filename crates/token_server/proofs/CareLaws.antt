@@ -8,7 +8,8 @@ use Rattle.messages.specs.declared.message.Blocking.TheVariants.{Yes}
 use Rattle.messages.specs.Messages.{same_blocking}
 use Rattle.token_queue.specs.declared.token_request.TokenRequest.{TokenRequest}
 use Rattle.token_queue.specs.Requests.{is_of_call, is_up_to}
-use Rattle.token_server.specs.State.{Row, ServerState, forgotten, requests, requeued}
+use Rattle.known_nodes.specs.Rows.{Row}
+use Rattle.token_server.specs.State.{ServerState, forgotten, requests, requeued}
 use Rattle.token_server.specs.Serve.{meets_some, admitted, ready}
 use Rattle.token_server.specs.Server.{with_a_row, request_of, enqueued_with, enqueued, asked, ended, put_off, postponed, freed}
 

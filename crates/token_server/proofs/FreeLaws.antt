@@ -12,17 +12,17 @@ use Rattle.model.specs.declared.level.Level.TheVariants.{Shared, Exclusive}
 use Rattle.token_set.specs.Tokens.{Token, no_token, conflicts, level_conflicts}
 use Rattle.token_set.specs.Releases.{lowered_level, lowered}
 use Rattle.token_set.proofs.SearchLaws.{first-same, some_passes-first, some_passes-from}
-use Rattle.token_server.specs.declared.node_change.NodeChange.{NodeChange}
-use Rattle.token_server.specs.declared.node_change.NodeChange.TheVariants.{Forgotten, Asked, Answered, Relieved, Reported}
-use Rattle.token_server.specs.declared.sketch.Changed.{Changed}
+use Rattle.known_nodes.specs.declared.node_change.NodeChange.{NodeChange}
+use Rattle.known_nodes.specs.declared.node_change.NodeChange.TheVariants.{Forgotten, Asked, Answered, Relieved, Reported}
+use Rattle.known_nodes.specs.declared.node_change.Changed.{Changed}
 use Rattle.token_queue.specs.declared.held.Held.{Held}
 use Rattle.token_queue.specs.declared.token_request.TokenRequest.{TokenRequest}
-use Rattle.token_server.specs.State.{Row, ServerState, row_above}
+use Rattle.known_nodes.specs.Rows.{Row, row_above, row_conflicts}
+use Rattle.token_server.specs.State.{ServerState}
 use Rattle.token_queue.specs.Requests.{meets}
-use Rattle.token_server.specs.Serve.{row_conflicts, conflicting_node}
-use Rattle.token_server.specs.Parts.{with_change}
-use Rattle.token_server.specs.Sketches.{row_or_empty, row_after}
-use Rattle.token_server.specs.Obstacles.{obstacle, is_dropped, frees, may_bar, may_turn}
+use Rattle.token_server.specs.Serve.{conflicting_node}
+use Rattle.known_nodes.specs.Changes.{with_change, row_or_empty, row_after, may_bar}
+use Rattle.token_server.specs.Obstacles.{obstacle, is_dropped, frees, may_turn}
 use Rattle.token_server.proofs.GrantLaws.{conflicts_at}
 use Rattle.token_server.proofs.ObstacleLaws.{meets-from, obstacle-kept}
 

@@ -1,6 +1,6 @@
 -- What the span that a request is granted is.
-use Rattle.std.specs.Prelude.{◌≡◌, ℕ, ◌+◌, ◌<◌, ◌≤◌, Bool, true, false, not, ◌&&◌, ◌==◌, nat_le, List, Option, Some, None}
-use Rattle.std.proofs.Common.{sym, ap, ◌∙◌, arith}
+use Rattle.std.specs.Prelude.{◌≡◌, ℕ, ◌+◌, ◌<◌, ◌≤◌, Bool, true, false, not, ◌&&◌, ◌==◌, nat_le, List, Option, None}
+use Rattle.std.proofs.Common.{sym, ap, ◌∙◌, arith, refl}
 use Rattle.std.specs.List.{list_any}
 use Rattle.std.proofs.lemmas.Bool.{both_ways, not-true, and_parts, and_from, le-leb}
 use Rattle.intervals.specs.Search.{first, some_passes}
@@ -8,12 +8,13 @@ use Rattle.intervals.specs.Bytes.{Range, is_in, NoneIn, IsLargest, largest_aroun
 use Rattle.intervals.proofs.SearchLaws.{first_is_first}
 use Rattle.intervals.proofs.SpanSearch.{largest_is_largest}
 use Rattle.token_set.proofs.SearchLaws.{first-is, some_passes-first}
-use Rattle.token_set.proofs.TokenLaws.{none-conflicts}
 use Rattle.token_set.proofs.AroundLaws.{largest_around-free, largest_around-zero, largest_around-more, largest_around-skip, largest_around-same}
 use Rattle.model.specs.declared.mode.Mode.{Mode}
 use Rattle.token_queue.specs.declared.token_request.TokenRequest.{TokenRequest}
-use Rattle.token_server.specs.State.{Row, ServerState}
-use Rattle.token_server.specs.Serve.{row_conflicts, row_conflicts_at, is_needed, narrowed, granted_span, conflicting_node}
+use Rattle.known_nodes.specs.Rows.{Row, row_conflicts, row_conflicts_at}
+use Rattle.token_server.specs.State.{ServerState}
+use Rattle.token_server.specs.Serve.{is_needed, narrowed, granted_span, conflicting_node}
+use Rattle.known_nodes.proofs.MarkLaws.{row_free}
 
 -- another node's row conflicts with what the request needs
 abbrev pub conflicts_at : ServerState → TokenRequest → ℕ → Bool
@@ -60,15 +61,18 @@ first-none passes nodes place end before =
     }) in
     omega arith
 
--- a row conflicts at no byte of a span with which it does not conflict
-pub row_free : (row : Option Row) (span : Range) (mode : Mode) → row_conflicts row span mode ≡ false → NoneIn (λ b. row_conflicts_at row b mode ≡ true) span
-row_free None span mode free b above below here = both_ways _ free here
-row_free (Some row) span mode free b above below here = none-conflicts row.token span mode free b above below here
-
 -- without a row the span is as large as it may be
 pub free_around-none : (row : Option Row) (required within : Range) (mode : Mode) → required.lo ≤ required.hi → within.lo ≤ required.lo → required.hi ≤ within.hi → row ≡ None → within ≡ largest_around (λ b. row_conflicts_at row b mode) required within
 free_around-none row required within mode order starts ends none =
     sym (largest_around-free (λ b. row_conflicts_at row b mode) required within order starts ends (λ b above below here. both_ways _ (ap (λ row. row_conflicts_at row b mode) none) here))
+
+-- where no row conflicts with what the request needs, no node is found
+pub unopposed-none : (s : ServerState) (r : TokenRequest) → ((node : ℕ) → row_conflicts (s.rows node) r.wanted.required r.mode ≡ false) → s.shape.nodes < conflicting_node s r
+unopposed-none s r free = first-none (conflicts_at s r) s.shape.nodes s.shape.nodes (omega arith) (λ n above below. other (not (n == r.call.node)) (free n))
+  where
+    other : (t : Bool) {conflict : Bool} → conflict ≡ false → (t && conflict) ≡ false
+    other true e = e
+    other false e = refl
 
 -- no row of another node conflicts, where no node is found whose row does
 no_conflict : (s : ServerState) (r : TokenRequest) → s.shape.nodes < conflicting_node s r → (n : ℕ) → 1 ≤ n → n ≤ s.shape.nodes → conflicts_at s r n ≡ false

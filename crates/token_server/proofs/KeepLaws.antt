@@ -13,9 +13,10 @@ use Rattle.messages.specs.declared.message.Message.{Message}
 use Rattle.messages.specs.Messages.{greatest_number}
 use Rattle.token_set.specs.Tokens.{Token}
 use Rattle.token_queue.specs.declared.token_request.TokenRequest.{TokenRequest}
-use Rattle.token_server.specs.State.{Row, ServerState, with_row, begin}
+use Rattle.known_nodes.specs.Rows.{Row, row_conflicts}
+use Rattle.token_server.specs.State.{ServerState, with_row, begin}
 use Rattle.token_queue.specs.Requests.{meets}
-use Rattle.token_server.specs.Serve.{meets_some, row_conflicts, conflicting_node, commanded, granted_to, revoked_from, served}
+use Rattle.token_server.specs.Serve.{meets_some, conflicting_node, commanded, granted_to, revoked_from, served}
 use Rattle.token_server.specs.Obstacles.{are_apart}
 use Rattle.token_server.proofs.GrantLaws.{conflicts_at}
 use Rattle.token_server.proofs.AdmittingLaws.{both-meet, meets-flip, neither}

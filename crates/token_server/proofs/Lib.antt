@@ -1,4 +1,3 @@
-pub mod KnownNodeLaws
 pub mod RequestLaws
 pub mod SketchLaws
 pub mod GrantLaws
@@ -12,19 +11,15 @@ pub mod AdmittingLaws
 pub mod FreedLaws
 pub mod ComesLaws
 pub mod KeepLaws
-pub mod ResendLaws
 pub mod ServeLaws
 pub mod ObstacleLaws
 pub mod FreeLaws
 pub mod RefusalLaws
-pub mod EditLaws
 pub mod CareLaws
-pub mod MarkLaws
 pub mod WaitLaws
 pub mod AdmissionLaws
 pub mod AskedLaws
-pub mod ReportLaws
-pub mod RebuildLaws
+pub mod IdleLaws
 pub mod AwaitLaws
 pub mod OrderlyLaws
 pub mod ReadyLaws

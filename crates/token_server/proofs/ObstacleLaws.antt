@@ -13,11 +13,12 @@ use Rattle.token_set.proofs.SearchLaws.{first-is, first-same}
 use Rattle.messages.specs.declared.refusal.StepError.{StepError}
 use Rattle.messages.specs.declared.message.Message.{Message}
 use Rattle.token_queue.specs.declared.token_request.TokenRequest.{TokenRequest}
-use Rattle.token_server.specs.State.{Row, ServerState, with_row, begin}
+use Rattle.known_nodes.specs.Rows.{Row, row_conflicts}
+use Rattle.token_server.specs.State.{ServerState, with_row, begin}
 use Rattle.messages.specs.declared.refusal.StepError.TheVariants.{Spent}
 use Rattle.messages.specs.Messages.{greatest_number}
 use Rattle.token_queue.specs.Requests.{meets}
-use Rattle.token_server.specs.Serve.{row_conflicts, narrowed, is_taken, granted_span, conflicting_node, commanded, granted_to, revoked_from, served}
+use Rattle.token_server.specs.Serve.{narrowed, is_taken, granted_span, conflicting_node, commanded, granted_to, revoked_from, served}
 use Rattle.token_server.specs.Obstacles.{obstacle, is_idle}
 use Rattle.token_server.proofs.GrantLaws.{conflicts_at, narrowed-largest}
 

@@ -22,8 +22,9 @@ use Rattle.token_set.specs.Releases.{lowered}
 use Rattle.token_queue.specs.declared.token_request.TokenRequest.{TokenRequest}
 use Rattle.token_queue.specs.Requests.{is_of_call, is_up_to}
 use Rattle.token_queue.proofs.CallLaws.{same_call-true}
-use Rattle.token_server.specs.State.{Row, ServerState, empty_row, begin, row_above, forgotten, requests, requeued}
-use Rattle.token_server.specs.Server.{Change, with_a_row, request_of, enqueued_with, enqueued, asked, is_grant, revoked_mode, acknowledged, ended, put_off, postponed, denial, row_of_incarnation, row_of_host, taken, released, in_conflict, asks_token, heard, freed, delivered}
+use Rattle.known_nodes.specs.Rows.{Row, empty_row, row_above, is_grant, revoked_mode, row_of_incarnation, asks_token}
+use Rattle.token_server.specs.State.{ServerState, begin, forgotten, requests, requeued}
+use Rattle.token_server.specs.Server.{Change, with_a_row, request_of, enqueued_with, enqueued, asked, acknowledged, ended, put_off, postponed, denial, row_of_host, taken, released, in_conflict, heard, freed, delivered}
 use Rattle.token_server.specs.Serve.{meets_some, admitted, ready}
 use Rattle.token_server.specs.Ready.{IsOrderly}
 use Rattle.token_server.proofs.AdmitLaws.{Lists}

@@ -14,33 +14,34 @@ use Rattle.messages.specs.Messages.{sending}
 use Rattle.token_queue.specs.declared.token_request.TokenRequest.{TokenRequest}
 use Rattle.token_queue.specs.declared.held.Held.{Held}
 use Rattle.token_queue.specs.Requests.{LineParts, is_of_call, is_up_to, AreOfDistinctCalls}
-use Rattle.token_queue.specs.Actives.{ActiveParts, requests_of, waiting_for}
+use Rattle.token_queue.specs.Actives.{ActiveParts, requests_of}
 use Rattle.token_queue.proofs.CallLaws.{same_call-refl}
-use Rattle.token_server.specs.declared.known_node.KnownNode.{KnownNode}
+use Rattle.known_nodes.specs.declared.known_node.KnownNode.{KnownNode}
 use Rattle.token_server.specs.declared.change.Draft.{Draft}
 use Rattle.token_server.specs.declared.change.Parts.{Parts}
 use Rattle.token_server.specs.declared.change.Edit.{Edit}
-use Rattle.token_server.specs.declared.change.Given.{Given}
-use Rattle.token_server.specs.declared.lists.Lists.{Lists}
 use Rattle.token_server.specs.declared.sketch.Sketch.{Sketch}
 use Rattle.token_server.specs.declared.sketch.Moved.{Moved}
 use Rattle.token_server.specs.declared.sketch.Moved.TheVariants.{Nothing, New, Again, Waiting, PutOff}
 use Rattle.token_server.specs.declared.told.Told.{Told}
-use Rattle.token_server.specs.State.{Row, ServerState, is_awaited, awaits}
+use Rattle.known_nodes.specs.Rows.{Row, is_awaited}
+use Rattle.token_server.specs.State.{ServerState, awaits}
 use Rattle.token_server.specs.Serve.{meets_some, admitted, served, with_more, and_then, each_served, ready, serve}
 use Rattle.token_server.specs.Resends.{sending_first}
 use Rattle.token_server.specs.Told.{with_told}
 use Rattle.token_server.specs.Obstacles.{obstacle, are_apart, is_idle}
 use Rattle.token_server.specs.Admitting.{all_but, all_stay}
-use Rattle.token_server.specs.Parts.{ServerParts, server_state, rows_of, deaths_of}
+use Rattle.known_nodes.specs.Parts.{rows_of, deaths_of}
+use Rattle.token_server.specs.Parts.{ServerParts, server_state}
 use Rattle.token_server.specs.Ready.{AreDistinct, IsOrderly, IsReady, IsServer}
 use Rattle.token_server.specs.Sketches.{dropped, without, still_active, queue_moved, waiting_moved, sketched}
-use Rattle.token_server.specs.Edits.{overlaid, held_still, held_without, held_after, queue_after, waiting_after, IsDrafted, drafted, given_rows, with_given, many_moved, many_put_off, HasRoom, HeldHasRoom, IsNewCall, PartsFit, Fits, made}
+use Rattle.known_nodes.specs.Edits.{overlaid, given_rows}
+use Rattle.token_server.specs.Edits.{held_still, held_without, held_after, queue_after, waiting_after, IsDrafted, drafted, many_moved, HasRoom, IsNewCall, Fits, made}
 use Rattle.token_server.proofs.AdmitLaws.{ready-is}
 use Rattle.token_server.proofs.AskedLaws.{none-after, served-awaits, served-counted}
 use Rattle.token_server.proofs.AdmittingLaws.{all_but-none, calls, calls-append, calls-cons, apart-fewer, admitted-keeps_apart, admitted-leaves}
 use Rattle.token_server.proofs.StayLaws.{Stay}
-use Rattle.token_server.proofs.EditLaws.{overlaid-length}
+use Rattle.known_nodes.proofs.EditLaws.{overlaid-length}
 use Rattle.token_server.proofs.TurnLaws.{held_after-requests}
 use Rattle.token_server.proofs.ObstacleLaws.{served-silent}
 use Rattle.token_server.proofs.OrderlyLaws.{Living, calls-kinds, calls-one, orderly-ready}

@@ -8,7 +8,8 @@ use Rattle.messages.specs.Messages.{greatest_number, addressee, host_of, is_with
 use Rattle.token_set.specs.Tokens.{Token}
 use Rattle.token_queue.specs.declared.token_request.TokenRequest.{TokenRequest}
 use Rattle.token_server.specs.declared.event.ServerEvent.TheVariants.{Deliver}
-use Rattle.token_server.specs.State.{Row, ServerState, forgotten, requeued, begin, awaits}
+use Rattle.known_nodes.specs.Rows.{Row}
+use Rattle.token_server.specs.State.{ServerState, forgotten, requeued, begin, awaits}
 use Rattle.token_server.specs.Serve.{conflicting_node, commanded, granted_to, revoked_from, served, with_more, and_then, each_served, ready, serve}
 use Rattle.token_server.specs.Resends.{sending_first, outstanding, resend_rule}
 use Rattle.token_server.specs.Server.{Change, is_server, delivered, then_serve, learn_rule, server_rule}

@@ -11,8 +11,9 @@ use Rattle.messages.specs.declared.message.Message.TheVariants.{Grant}
 use Rattle.messages.specs.Messages.{greatest_number}
 use Rattle.token_set.specs.Tokens.{Token, raised}
 use Rattle.token_queue.specs.declared.token_request.TokenRequest.{TokenRequest}
-use Rattle.token_server.specs.State.{Row, ServerState, begin, with_row}
-use Rattle.token_server.specs.Serve.{row_conflicts, granted_span, conflicting_node, commanded, granted_to, revoked_from, served, with_more, and_then, each_served, ready, serve}
+use Rattle.known_nodes.specs.Rows.{Row, row_conflicts}
+use Rattle.token_server.specs.State.{ServerState, begin, with_row}
+use Rattle.token_server.specs.Serve.{granted_span, conflicting_node, commanded, granted_to, revoked_from, served, with_more, and_then, each_served, ready, serve}
 use Rattle.token_server.specs.Grants.{IsUnhindered, GrantsWhatIsFree}
 use Rattle.token_server.proofs.GrantLaws.{conflicts_at, first-none, narrowed-largest, narrowed-holds}
 

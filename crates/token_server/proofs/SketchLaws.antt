@@ -9,16 +9,18 @@ use Rattle.model.specs.Limits.{HostFields}
 use Rattle.model.specs.Owners.{host_of_call}
 use Rattle.messages.specs.Messages.{same_call}
 use Rattle.token_queue.specs.declared.token_request.TokenRequest.{TokenRequest}
-use Rattle.token_server.specs.declared.node_change.NodeChange.TheVariants.{Asked}
+use Rattle.known_nodes.specs.declared.node_change.NodeChange.TheVariants.{Asked}
 use Rattle.token_server.specs.declared.sketch.Moved.{Moved}
 use Rattle.token_server.specs.declared.sketch.Moved.TheVariants.{Nothing}
-use Rattle.token_server.specs.declared.sketch.Changed.{Changed}
+use Rattle.known_nodes.specs.declared.node_change.Changed.{Changed}
 use Rattle.token_queue.specs.Requests.{is_of_call, is_up_to}
 use Rattle.token_queue.specs.Actives.{requests_of}
-use Rattle.token_server.specs.State.{Row, ServerState, row_above, forgotten, begin}
-use Rattle.token_server.specs.Parts.{ServerParts, server_state, with_change}
+use Rattle.known_nodes.specs.Rows.{Row, row_above}
+use Rattle.token_server.specs.State.{ServerState, forgotten, begin}
+use Rattle.known_nodes.specs.Changes.{with_change, row_or_empty, rows_after}
+use Rattle.token_server.specs.Parts.{ServerParts, server_state}
 use Rattle.token_server.specs.Server.{with_a_row, request_of, enqueued_with, enqueued, asked}
-use Rattle.token_server.specs.Sketches.{row_or_empty, rows_after, moved_with, moved_for, sketched}
+use Rattle.token_server.specs.Sketches.{moved_with, moved_for, sketched}
 use Rattle.token_server.proofs.RequestLaws.{find-any, find-filter}
 
 -- a row for a node that has none

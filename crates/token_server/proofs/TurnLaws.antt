@@ -1,5 +1,5 @@
 -- What comes of serving each request that is served, in order.
-use Rattle.std.specs.Prelude.{◌≡◌, ℕ, zero, suc, ◌+◌, ◌<◌, ◌≤◌, Bool, true, false, not, cond, ◌&&◌, ◌||◌, ◌==◌, nat_le, nat_lt, List, [], ◌∷◌, ◌++◌, filter, length, slice_get, slice_index_or, All, is_some, Option, Some, None, Result, Ok, Err}
+use Rattle.std.specs.Prelude.{◌≡◌, ℕ, zero, suc, ◌+◌, ◌<◌, ◌≤◌, Bool, true, false, not, cond, ◌&&◌, ◌==◌, nat_le, nat_lt, List, [], ◌∷◌, ◌++◌, filter, length, slice_get, slice_index_or, All, is_some, Option, Some, None, Result, Ok, Err}
 use Rattle.std.specs.Option.{option_map, option_to_list}
 use Rattle.std.proofs.Common.{refl, sym, ap, subst, ◌∙◌, inl, inr, arith, take, drop, get_or, append-nil, append_assoc}
 use Rattle.std.proofs.lemmas.Bool.{both_ways, and_parts, leb-true, le-leb, lt-leb, cases_lt}
@@ -22,13 +22,14 @@ use Rattle.token_queue.specs.Actives.{requests_of, waiting_for}
 use Rattle.token_queue.proofs.ActiveLaws.{waiting_for-at, waiting_for-length}
 use Rattle.token_server.specs.declared.lists.Lists.{Lists}
 use Rattle.token_server.specs.declared.told.Told.{Told}
-use Rattle.token_server.specs.declared.command.Order.{Order}
-use Rattle.token_server.specs.declared.command.Order.TheVariants.{Grant, Revoke}
-use Rattle.token_server.specs.Orders.{message_of}
-use Rattle.token_server.specs.State.{Commands, Row, ServerState, with_row, begin}
-use Rattle.token_server.specs.Parts.{next_number, told_commands}
+use Rattle.known_nodes.specs.declared.command.Order.{Order}
+use Rattle.known_nodes.specs.declared.command.Order.TheVariants.{Grant, Revoke}
+use Rattle.known_nodes.specs.Orders.{message_of}
+use Rattle.known_nodes.specs.Rows.{Commands, Row, row_conflicts}
+use Rattle.token_server.specs.State.{ServerState, with_row, begin}
+use Rattle.known_nodes.specs.Sent.{next_number, told_commands}
 use Rattle.token_server.specs.Sketches.{commands_of, without, still_active}
-use Rattle.token_server.specs.Serve.{row_conflicts, narrowed, granted_span, conflicting_node, commanded, granted_to, revoked_from, served, each_served}
+use Rattle.token_server.specs.Serve.{narrowed, granted_span, conflicting_node, commanded, granted_to, revoked_from, served, each_served}
 use Rattle.token_server.specs.Obstacles.{obstacle, are_apart, is_idle}
 use Rattle.token_server.specs.Told.{told_to, row_told, with_told, commands_told, cut}
 use Rattle.token_server.specs.Edits.{is_up_to_any, is_of_any, keeps, held_still, held_without, held_after}

@@ -21,10 +21,11 @@ use Rattle.token_set.specs.Releases.{lowered}
 use Rattle.token_queue.specs.declared.token_request.TokenRequest.{TokenRequest}
 use Rattle.token_server.specs.declared.event.ServerEvent.TheVariants.{Deliver, Resend, Learn}
 use Rattle.token_queue.specs.Requests.{is_of_call, is_up_to}
-use Rattle.token_server.specs.State.{Row, ServerState, awaits, forgotten, requests, requeued}
+use Rattle.known_nodes.specs.Rows.{Row, is_grant, revoked_mode, asks_token}
+use Rattle.token_server.specs.State.{ServerState, awaits, forgotten, requests, requeued}
 use Rattle.token_server.specs.Serve.{meets_some, admitted, conflicting_node, commanded, granted_to, revoked_from, served, with_more, and_then, each_served, ready, serve}
 use Rattle.token_server.specs.Resends.{outstanding, sending_first}
-use Rattle.token_server.specs.Server.{Change, with_a_row, request_of, enqueued_with, enqueued, asked, is_grant, revoked_mode, acknowledged, ended, put_off, postponed, denial, taken, released, in_conflict, asks_token, heard, row_of_host, freed, delivered, is_server, then_serve}
+use Rattle.token_server.specs.Server.{Change, with_a_row, request_of, enqueued_with, enqueued, asked, acknowledged, ended, put_off, postponed, denial, taken, released, in_conflict, heard, row_of_host, freed, delivered, is_server, then_serve}
 use Rattle.token_server.specs.Waiting.{KeepsWhatWaits}
 
 -- the call has one of the requests

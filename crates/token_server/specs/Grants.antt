@@ -6,8 +6,9 @@ use Rattle.messages.specs.declared.message.Message.{Message}
 use Rattle.messages.specs.declared.message.Message.TheVariants.{Grant}
 use Rattle.messages.specs.Messages.{greatest_number}
 use Rattle.token_queue.specs.declared.token_request.TokenRequest.{TokenRequest}
-use Rattle.token_server.specs.State.{Row, ServerState, begin, awaits}
-use Rattle.token_server.specs.Serve.{row_conflicts, ready, with_more, each_served, serve}
+use Rattle.known_nodes.specs.Rows.{Row, row_conflicts}
+use Rattle.token_server.specs.State.{ServerState, begin, awaits}
+use Rattle.token_server.specs.Serve.{ready, with_more, each_served, serve}
 
 -- each node that was asked for its token has told it, since nothing is served before. The request is one of those that are served, and its turn has come: those before it were, and its node has that row. It needs some bytes, which are among those that it would like to have
 pub record IsServed (s : ServerState) (r : TokenRequest) (row : Row) : Type 0 where

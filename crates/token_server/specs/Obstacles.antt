@@ -3,12 +3,14 @@ use Rattle.std.specs.Prelude.{ℕ, ◌-◌, Bool, true, false, not, ◌&&◌, �
 use Rattle.intervals.specs.Bytes.{Range}
 use Rattle.token_queue.specs.declared.held.Held.{Held}
 use Rattle.token_queue.specs.declared.token_request.TokenRequest.{TokenRequest}
-use Rattle.token_server.specs.declared.node_change.NodeChange.{NodeChange}
-use Rattle.token_server.specs.declared.node_change.NodeChange.TheVariants.{Forgotten, Asked, Answered, Relieved, Reported}
-use Rattle.token_server.specs.declared.sketch.Changed.{Changed}
-use Rattle.token_server.specs.State.{Row, ServerState}
+use Rattle.known_nodes.specs.declared.node_change.NodeChange.{NodeChange}
+use Rattle.known_nodes.specs.declared.node_change.NodeChange.TheVariants.{Forgotten, Asked, Answered, Relieved, Reported}
+use Rattle.known_nodes.specs.declared.node_change.Changed.{Changed}
+use Rattle.known_nodes.specs.Rows.{Row}
+use Rattle.token_server.specs.State.{ServerState}
 use Rattle.token_queue.specs.Requests.{meets}
 use Rattle.token_server.specs.Serve.{conflicting_node, meets_some}
+use Rattle.known_nodes.specs.Changes.{may_bar}
 
 -- the node whose row stands in its way: the least other node whose row conflicts with what it needs, else its own, to which it is granted
 abbrev pub obstacle : ServerState → TokenRequest → ℕ
@@ -31,11 +33,6 @@ frees (Asked host begin) row s = is_dropped (host.incarnation - 1) row
 frees Answered row s = false
 frees (Relieved span mode) row s = meets span s
 frees (Reported runs) row s = true
-
--- the row may come to stand in the way of a request for which it did not
-abbrev pub may_bar : NodeChange → Bool
-may_bar (Reported runs) = true
-may_bar _ = false
 
 -- once the row of a node changes so, the request may wait for another row than before
 abbrev pub may_turn : Changed → Option Row → Held → Bool

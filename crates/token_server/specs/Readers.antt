@@ -3,7 +3,8 @@ use Rattle.std.specs.Prelude.{◌≡◌, ℕ, Bool, List, filter, Some}
 use Rattle.std.specs.List.{range_with_len}
 use Rattle.token_set.specs.Runs.{ListsRuns}
 use Rattle.token_server.specs.declared.shown_row.ShownRow.{ShownRow}
-use Rattle.token_server.specs.State.{Row, ServerState}
+use Rattle.known_nodes.specs.Rows.{Row}
+use Rattle.token_server.specs.State.{ServerState}
 
 -- those of the nodes 1 to n that pass, by rising node
 abbrev pub nodes_where : (ℕ → Bool) → ℕ → List ℕ

@@ -1,21 +1,12 @@
 -- A token server sends its commands again.
-use Rattle.std.specs.Prelude.{ℕ, List, ◌++◌, Option, Some, None, Result, Ok, Err}
-use Rattle.std.specs.List.{filter_map, range_with_len}
+use Rattle.std.specs.Prelude.{List, ◌++◌, Result, Ok, Err}
 use Rattle.messages.specs.declared.refusal.StepError.{StepError}
 use Rattle.messages.specs.declared.message.Message.{Message}
 use Rattle.messages.specs.declared.outcome.Outcome.{Outcome}
 use Rattle.messages.specs.Messages.{sending}
-use Rattle.token_server.specs.State.{Row, ServerState, requeued}
+use Rattle.token_server.specs.State.{ServerState, requeued}
 use Rattle.token_server.specs.Serve.{serve}
-
--- the command to a node that has no answer yet
-abbrev pub outstanding_of : Option Row → Option Message
-outstanding_of None = None
-outstanding_of (Some row) = row.outstanding
-
--- those to nodes 1 to n, by rising node
-abbrev pub outstanding_to : (ℕ → Option Row) → ℕ → List Message
-outstanding_to rows n = filter_map (λ node. outstanding_of (rows node)) (range_with_len 1 n)
+use Rattle.known_nodes.specs.Rows.{outstanding_to}
 
 -- the commands that have no answer yet
 abbrev pub outstanding : ServerState → List Message

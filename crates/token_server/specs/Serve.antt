@@ -1,11 +1,10 @@
 -- The server serves its requests.
-use Rattle.std.specs.Prelude.{ℕ, ◌+◌, Bool, false, not, ◌&&◌, ◌||◌, ◌==◌, nat_le, nat_lt, if◌then◌else◌, List, [], ◌∷◌, ◌++◌, is_some, Option, Some, None, Result, Ok, Err}
+use Rattle.std.specs.Prelude.{ℕ, ◌+◌, Bool, not, ◌&&◌, ◌||◌, ◌==◌, nat_le, nat_lt, if◌then◌else◌, List, [], ◌∷◌, ◌++◌, is_some, Option, Some, None, Result, Ok, Err}
 use Rattle.std.specs.List.{list_any}
 use Rattle.intervals.specs.Search.{first, some_passes}
 use Rattle.intervals.specs.Bytes.{Range, is_in, largest_around}
-use Rattle.model.specs.declared.mode.Mode.{Mode}
 use Rattle.model.specs.declared.host.Host.{Host}
-use Rattle.token_set.specs.Tokens.{Token, raised, conflicts, level_conflicts}
+use Rattle.token_set.specs.Tokens.{Token, raised}
 use Rattle.messages.specs.Wants.{Wants}
 use Rattle.messages.specs.declared.refusal.StepError.{StepError}
 use Rattle.messages.specs.declared.refusal.StepError.TheVariants.{Spent}
@@ -14,7 +13,8 @@ use Rattle.messages.specs.declared.message.Message.TheVariants.{Grant, Revoke}
 use Rattle.messages.specs.Messages.{greatest_number}
 use Rattle.token_queue.specs.declared.token_request.TokenRequest.{TokenRequest}
 use Rattle.token_queue.specs.Requests.{meets}
-use Rattle.token_server.specs.State.{Row, ServerState, with_row, begin, awaits}
+use Rattle.known_nodes.specs.Rows.{Row, row_conflicts, row_conflicts_at}
+use Rattle.token_server.specs.State.{ServerState, with_row, begin, awaits}
 
 -- the request needs a byte that one of these needs
 abbrev pub meets_some : TokenRequest → List TokenRequest → Bool
@@ -27,14 +27,6 @@ admitted active staying (r ∷ rest) =
     if meets_some r active || meets_some r staying
     then admitted active (staying ++ r ∷ []) rest
     else admitted (active ++ r ∷ []) staying rest
-
-abbrev pub row_conflicts : Option Row → Range → Mode → Bool
-row_conflicts None s mode = false
-row_conflicts (Some row) s mode = conflicts row.token s mode
-
-abbrev pub row_conflicts_at : Option Row → ℕ → Mode → Bool
-row_conflicts_at None b mode = false
-row_conflicts_at (Some row) b mode = level_conflicts (row.token b) mode
 
 -- a request that is served needs the byte, and this one doesn't
 abbrev pub is_needed : List TokenRequest → TokenRequest → ℕ → Bool

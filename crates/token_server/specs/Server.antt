@@ -5,7 +5,6 @@ use Rattle.intervals.specs.Bytes.{Range}
 use Rattle.model.specs.declared.call.CallId.{CallId}
 use Rattle.model.specs.declared.host.Host.{Host}
 use Rattle.model.specs.declared.lock_info.LockInfo.{LockInfo}
-use Rattle.model.specs.declared.mode.Mode.{Mode}
 use Rattle.model.specs.Owners.{host_of_call}
 use Rattle.token_set.specs.Tokens.{Token}
 use Rattle.token_set.specs.Releases.{lowered}
@@ -13,7 +12,7 @@ use Rattle.messages.specs.declared.refusal.StepError.{StepError}
 use Rattle.messages.specs.declared.refusal.StepError.TheVariants.{Stranger}
 use Rattle.messages.specs.declared.message.Blocking.TheVariants.{No, Yes}
 use Rattle.messages.specs.declared.message.Message.{Message}
-use Rattle.messages.specs.declared.message.Message.TheVariants.{Request, Grant, Revoke, Taken, Released, Conflict, Deny, Freed, Hello, Report}
+use Rattle.messages.specs.declared.message.Message.TheVariants.{Request, Taken, Released, Conflict, Deny, Freed, Report}
 use Rattle.messages.specs.declared.token_run.TokenRun.{TokenRun}
 use Rattle.messages.specs.Reports.{reported}
 use Rattle.messages.specs.declared.outcome.Outcome.{Outcome}
@@ -24,7 +23,8 @@ use Rattle.token_queue.specs.declared.token_request.TokenRequest.{TokenRequest}
 use Rattle.token_server.specs.declared.event.ServerEvent.{ServerEvent}
 use Rattle.token_server.specs.declared.event.ServerEvent.TheVariants.{Deliver, Resend, Learn}
 use Rattle.token_queue.specs.Requests.{is_of_call}
-use Rattle.token_server.specs.State.{Row, ServerState, empty_row, begin, with_row, forgotten, requeued}
+use Rattle.known_nodes.specs.Rows.{Row, empty_row, is_grant, revoked_mode, asks_token, row_of_incarnation}
+use Rattle.token_server.specs.State.{ServerState, begin, with_row, forgotten, requeued}
 use Rattle.token_server.specs.Serve.{serve}
 use Rattle.token_server.specs.Resends.{sending_first, resend_rule}
 
@@ -55,16 +55,6 @@ asked s r =
     let young = forgotten s r.call.node (r.call.incarnation - 1) in
     enqueued (with_a_row young r.call (young.rows r.call.node)) r
 
--- the command is the Grant with that number
-abbrev pub is_grant : ℕ → Option Message → Bool
-is_grant number (Some (Grant file k call mode span)) = k == number
-is_grant number _ = false
-
--- the mode that the command with that number revokes, if it revokes one
-abbrev pub revoked_mode : ℕ → Option Message → Option Mode
-revoked_mode number (Some (Revoke file k holder call mode wanted)) = if k == number then Some mode else None
-revoked_mode number _ = None
-
 -- the row has this token, and no command is under way to its node
 abbrev pub acknowledged : ServerState → ℕ → Row → Token → ServerState
 acknowledged s node row token = with_row s node (Some (record row { token = token; outstanding = None }))
@@ -87,11 +77,6 @@ abbrev pub denial : Message → Option TokenRequest → List Message
 denial deny None = []
 denial deny (Some r) = if same_blocking r.blocking No then deny ∷ [] else []
 
--- the row is of that incarnation
-abbrev pub row_of_incarnation : ℕ → Option Row → Option Row
-row_of_incarnation incarnation None = None
-row_of_incarnation incarnation (Some row) = if row.incarnation == incarnation then Some row else None
-
 -- the node has what it was granted: the request that it was for is served no longer
 abbrev pub taken : ServerState → ℕ → CallId → Option Row → Option Change
 taken s number call None = None
@@ -108,11 +93,6 @@ abbrev pub in_conflict : ServerState → ℕ → Host → CallId → LockInfo �
 in_conflict s number holder call lock None = None
 in_conflict s number holder call lock (Some row) =
     option_map (λ mode. (postponed call (acknowledged s holder.node row row.token), denial (Deny s.file call holder number lock) (request_of call s.active))) (revoked_mode number row.outstanding)
-
--- the node is asked for its token with that number
-abbrev pub asks_token : ℕ → Option Message → Bool
-asks_token number (Some (Hello file k holder)) = k == number
-asks_token number _ = false
 
 -- a node that is asked for its token tells it: its row has that token from now on
 abbrev pub heard : ServerState → ℕ → Host → List TokenRun → Option Row → Option Change

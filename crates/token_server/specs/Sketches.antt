@@ -1,61 +1,26 @@
 -- What an event changes of a server before it serves.
-use Rattle.std.specs.Prelude.{ℕ, ◌-◌, Bool, true, false, not, ◌==◌, ◌||◌, max, is_some, if◌then◌else◌, List, [], ◌∷◌, ◌++◌, filter, Option, Some, None}
+use Rattle.std.specs.Prelude.{ℕ, Bool, true, false, not, ◌||◌, is_some, if◌then◌else◌, List, [], ◌∷◌, ◌++◌, filter, Option, Some, None}
 use Rattle.std.specs.Option.{option_map}
 use Rattle.model.specs.declared.call.CallId.{CallId}
 use Rattle.messages.specs.declared.message.Message.{Message}
 use Rattle.messages.specs.declared.message.Message.TheVariants.{Taken, Released, Conflict}
 use Rattle.token_queue.specs.declared.token_request.TokenRequest.{TokenRequest}
 use Rattle.token_queue.specs.Actives.{requests_of}
-use Rattle.token_server.specs.declared.node_change.NodeChange.{NodeChange}
-use Rattle.token_server.specs.declared.node_change.NodeChange.TheVariants.{Forgotten, Asked, Answered, Relieved, Reported}
 use Rattle.token_server.specs.declared.sketch.Moved.{Moved}
 use Rattle.token_server.specs.declared.sketch.Moved.TheVariants.{Nothing, New, Again, Waiting, PutOff}
-use Rattle.token_server.specs.declared.sketch.Changed.{Changed}
+use Rattle.known_nodes.specs.declared.node_change.Changed.{Changed}
 use Rattle.token_server.specs.declared.sketch.Sketch.{Sketch}
 use Rattle.token_queue.specs.Requests.{is_of_call, is_up_to}
-use Rattle.token_server.specs.State.{Commands, Row, ServerState, empty_row, row_above}
+use Rattle.known_nodes.specs.Rows.{Commands, Row}
+use Rattle.token_server.specs.State.{ServerState}
 use Rattle.token_server.specs.Server.{request_of}
-use Rattle.token_server.specs.Parts.{ServerParts, answered, relieved, reporting, with_change, rows_of, deaths_of}
+use Rattle.known_nodes.specs.Parts.{rows_of, deaths_of}
+use Rattle.token_server.specs.Parts.{ServerParts}
+use Rattle.known_nodes.specs.Changes.{dropped_to, rows_after, deaths_after}
 
 -- the commands to the node of a row
 abbrev pub commands_of : Row → Commands
 commands_of row = record { incarnation = row.incarnation; number = row.number; outstanding = row.outstanding }
-
-abbrev pub row_or_empty : ℕ → ℕ → Option Row → Option Row
-row_or_empty number incarnation None = Some (empty_row number incarnation)
-row_or_empty number incarnation (Some row) = Some row
-
--- the row of a node after the change
-abbrev pub row_after : NodeChange → Option Row → Option Row
-row_after (Forgotten incarnation) row = row_above incarnation row
-row_after (Asked host begin) row = row_or_empty begin host.incarnation (row_above (host.incarnation - 1) row)
-row_after Answered row = option_map answered row
-row_after (Relieved span mode) row = option_map (relieved span mode) row
-row_after (Reported runs) row = option_map (reporting runs) row
-
--- its greatest incarnation known to be dead
-abbrev pub dead_after : NodeChange → ℕ → ℕ
-dead_after (Forgotten incarnation) dead = max dead incarnation
-dead_after (Asked host begin) dead = max dead (host.incarnation - 1)
-dead_after Answered dead = dead
-dead_after (Relieved span mode) dead = dead
-dead_after (Reported runs) dead = dead
-
--- the incarnation up to which its requests are dropped, if any are
-abbrev pub dropped_to : NodeChange → Option ℕ
-dropped_to (Forgotten incarnation) = Some incarnation
-dropped_to (Asked host begin) = Some (host.incarnation - 1)
-dropped_to Answered = None
-dropped_to (Relieved span mode) = None
-dropped_to (Reported runs) = None
-
-abbrev pub rows_after : Option Changed → (ℕ → Option Row) → ℕ → Option Row
-rows_after None rows = rows
-rows_after (Some c) rows = with_change c.node (row_after c.change) rows
-
-abbrev pub deaths_after : Option Changed → (ℕ → ℕ) → ℕ → ℕ
-deaths_after None deaths = deaths
-deaths_after (Some c) deaths = λ n. if n == c.node then dead_after c.change (deaths n) else deaths n
 
 -- the node, and the incarnation up to which its requests are dropped
 abbrev pub dropped : Option Changed → Option (ℕ × ℕ)

@@ -1,12 +1,11 @@
 //! What a step of a token server changes.
 ghost use Rattle.std.specs.Prelude.{◌≡◌, IfOk};
 
-use crate::commands::Commands;
 use crate::lists::{Lists, Spares};
-use crate::row_edit::RowEdit;
+use known_nodes::given::Given;
+use known_nodes::row_edit::RowEdit;
 use messages::outcome::Outcome;
 use std::alloc::{AllocError, Global};
-use token_set::edit::TokenEdit;
 
 /// What an event changes of a server before it serves: the node that changes, if one does, and the requests that are
 /// served, that are queued and that wait from then on, and whether a node has not told its token yet.
@@ -15,15 +14,6 @@ pub struct Draft {
     pub rows: Option<RowEdit>,
     pub lists: Lists,
     pub awaits: bool,
-}
-
-/// What a node at a place (from 0) is given as the server serves, if it has a row: the commands to it
-/// from then on, and how its token changes.
-#[derive(Drop)]
-pub struct Given {
-    pub place: usize,
-    pub commands: Commands,
-    pub token: TokenEdit,
 }
 
 /// What the event changes, then what nodes are given, and the memory that the requests need for it.

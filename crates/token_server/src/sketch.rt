@@ -3,7 +3,7 @@ ghost use Rattle.std.specs.Prelude.{◌≡◌, Some, None};
 ghost use Rattle.token_server.specs.Edits.{many_moved, many_put_off};
 ghost use Rattle.token_server.specs.Sketches.{dropped};
 
-use crate::node_change::NodeChange;
+use known_nodes::node_change::{Changed, NodeChange};
 use model::call::CallId;
 use token_queue::line::Line;
 use token_queue::token_request::TokenRequest;
@@ -21,13 +21,6 @@ pub enum Moved {
     Waiting,
     /// The request comes last of those that wait.
     PutOff(TokenRequest),
-}
-
-/// A node of which the server knows something else, and how.
-#[derive(Drop)]
-pub struct Changed {
-    pub node: u8,
-    pub change: NodeChange,
 }
 
 /// What an event changes of a token server before it serves, in so few words that only a report takes memory:

@@ -2,9 +2,9 @@
 ghost use Rattle.std.specs.Prelude.{◌≡◌, ◌≤◌};
 ghost use Rattle.token_server.specs.Told.{told_to, cut};
 
-use crate::command::Command;
-use crate::commands::Commands;
 use intervals::span::Span;
+use known_nodes::command::Command;
+use known_nodes::commands::Commands;
 
 /// A node that is sent a command, and the commands to it from then on.
 #[derive(Clone, Copy)]

@@ -38,8 +38,9 @@ use Rattle.node_core.specs.Interrupts.{interrupted, interrupt_rule}
 use Rattle.node_core.specs.Retries.{retry_rule}
 use Rattle.node_core.specs.Node.{node_rule}
 use Rattle.token_server.specs.declared.event.ServerEvent.TheVariants as server
-use Rattle.token_server.specs.State.{ServerState, begin, awaited_row}
-use Rattle.token_server.specs.Resends.{outstanding_of, outstanding}
+use Rattle.known_nodes.specs.Rows.{awaited_row, outstanding_of}
+use Rattle.token_server.specs.State.{ServerState, begin}
+use Rattle.token_server.specs.Resends.{outstanding}
 use Rattle.token_server.specs.Server.{server_rule}
 use Rattle.cluster_core.specs.World.{WorldState, first_world, most_incarnations, has_node}
 use Rattle.cluster_core.specs.Next.{has_actor, is_known, entry, recorded, with_node, after_node, after_server, declared, restarted, silent, failed, started, next_server, with_server, taken, next}

@@ -28,10 +28,11 @@ use Rattle.messages.specs.Messages.{addressee, host_of, is_within, greatest_numb
 use Rattle.token_queue.specs.declared.token_request.TokenRequest.{TokenRequest}
 use Rattle.token_server.specs.declared.event.ServerEvent.TheVariants.{Deliver, Resend, Learn}
 use Rattle.token_queue.specs.Requests.{is_of_call}
-use Rattle.token_server.specs.State.{Row, ServerState, empty_row, begin, awaits, with_row, row_above, forgotten, requests, requeued}
-use Rattle.token_server.specs.Serve.{row_conflicts, is_needed, narrowed, is_taken, conflicting_node, granted_span, commanded, granted_to, revoked_from, served, with_more, and_then, each_served, ready, serve}
-use Rattle.token_server.specs.Resends.{outstanding_of, outstanding, sending_first}
-use Rattle.token_server.specs.Server.{Change, with_a_row, request_of, enqueued, asked, is_grant, revoked_mode, acknowledged, ended, put_off, postponed, denial, taken, released, in_conflict, asks_token, heard, row_of_host, freed, delivered, is_server, change, then_serve, server_rule}
+use Rattle.known_nodes.specs.Rows.{Row, empty_row, row_above, row_conflicts, outstanding_of, is_grant, revoked_mode, asks_token}
+use Rattle.token_server.specs.State.{ServerState, begin, awaits, with_row, forgotten, requests, requeued}
+use Rattle.token_server.specs.Serve.{is_needed, narrowed, is_taken, conflicting_node, granted_span, commanded, granted_to, revoked_from, served, with_more, and_then, each_served, ready, serve}
+use Rattle.token_server.specs.Resends.{outstanding, sending_first}
+use Rattle.token_server.specs.Server.{Change, with_a_row, request_of, enqueued, asked, acknowledged, ended, put_off, postponed, denial, taken, released, in_conflict, heard, row_of_host, freed, delivered, is_server, change, then_serve, server_rule}
 use Rattle.token_server.proofs.CareLaws.{find-each, find-passes, requests-parts, active-each, ready-each, requeued-each, freed-each, ended-each, postponed-each, forgotten-each, enqueued-each}
 use Rattle.cluster_core.proofs.common.Choices.{if_either}
 use Rattle.cluster_core.proofs.common.Refusals.{ok_is, if_ours}

@@ -31,12 +31,14 @@ use Rattle.node_core.specs.State.{NodeState}
 use Rattle.token_queue.specs.declared.token_request.TokenRequest.{TokenRequest}
 use Rattle.token_server.specs.declared.event.ServerEvent.TheVariants.{Deliver}
 use Rattle.token_queue.specs.Requests.{is_of_call, is_up_to}
-use Rattle.token_server.specs.State.{Row, ServerState, empty_row, begin, is_hello, is_awaited, awaits, with_row, row_above, forgotten, requests, requeued}
-use Rattle.token_server.specs.Serve.{row_conflicts, row_conflicts_at, is_taken, narrowed, granted_span, conflicting_node, commanded, granted_to, revoked_from, served, each_served, ready, serve}
+use Rattle.known_nodes.specs.Rows.{Row, empty_row, is_hello, is_awaited, row_above, row_conflicts, row_conflicts_at, is_grant, revoked_mode, row_of_incarnation, asks_token}
+use Rattle.token_server.specs.State.{ServerState, begin, awaits, with_row, forgotten, requests, requeued}
+use Rattle.token_server.specs.Serve.{is_taken, narrowed, granted_span, conflicting_node, commanded, granted_to, revoked_from, served, each_served, ready, serve}
 use Rattle.token_server.specs.Resends.{sending_first}
-use Rattle.token_server.specs.Server.{Change, with_a_row, request_of, enqueued, is_grant, revoked_mode, asked, acknowledged, ended, put_off, postponed, denial, row_of_incarnation, row_of_host, taken, released, in_conflict, asks_token, heard, freed, delivered, change, then_serve, server_rule}
+use Rattle.token_server.specs.Server.{Change, with_a_row, request_of, enqueued, asked, acknowledged, ended, put_off, postponed, denial, row_of_host, taken, released, in_conflict, heard, freed, delivered, change, then_serve, server_rule}
 use Rattle.token_server.proofs.CareLaws.{find-each, find-passes, active-each, ready-each, requeued-each, freed-each, ended-each, postponed-each, forgotten-each, forgotten-young, enqueued-each}
-use Rattle.token_server.proofs.GrantLaws.{conflicts_at, conflicts_at_byte, row_free}
+use Rattle.known_nodes.proofs.MarkLaws.{row_free}
+use Rattle.token_server.proofs.GrantLaws.{conflicts_at, conflicts_at_byte}
 use Rattle.cluster_core.proofs.common.Choices.{if_either, at_number}
 use Rattle.cluster_core.proofs.common.Refusals.{ok_is}
 use Rattle.cluster_core.proofs.common.Lists.{All-both}

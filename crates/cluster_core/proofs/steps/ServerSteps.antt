@@ -18,10 +18,11 @@ use Rattle.messages.specs.declared.outcome.Outcome.{Outcome}
 use Rattle.token_queue.specs.declared.token_request.TokenRequest.{TokenRequest}
 use Rattle.token_server.specs.declared.event.ServerEvent.{ServerEvent}
 use Rattle.token_server.specs.declared.event.ServerEvent.TheVariants.{Deliver, Resend, Learn}
-use Rattle.token_server.specs.State.{Row, ServerState, begin, awaits, with_row, forgotten, requeued}
+use Rattle.known_nodes.specs.Rows.{Row, is_grant, revoked_mode, asks_token}
+use Rattle.token_server.specs.State.{ServerState, begin, awaits, with_row, forgotten, requeued}
 use Rattle.token_server.specs.Serve.{conflicting_node, commanded, granted_to, revoked_from, served, with_more, and_then, each_served, ready, serve}
 use Rattle.token_server.specs.Resends.{outstanding, sending_first}
-use Rattle.token_server.specs.Server.{Change, with_a_row, asked, is_grant, revoked_mode, taken, released, in_conflict, asks_token, heard, row_of_host, freed, delivered, is_server, change, then_serve, server_rule}
+use Rattle.token_server.specs.Server.{Change, with_a_row, asked, taken, released, in_conflict, heard, row_of_host, freed, delivered, is_server, change, then_serve, server_rule}
 use Rattle.cluster_core.proofs.common.Choices.{if_either}
 use Rattle.cluster_core.proofs.common.Refusals.{ok_is, unless_refused}
 use Rattle.cluster_core.proofs.steps.ServerMoves.{enqueued-stays}

@@ -36,7 +36,8 @@ use Rattle.token_queue.specs.declared.token_request.TokenRequest.{TokenRequest}
 use Rattle.token_server.specs.State.{ServerState, begin, forgotten, requeued}
 use Rattle.token_server.proofs.CareLaws.{active-each}
 use Rattle.token_server.specs.Serve.{served, with_more, and_then, each_served, serve}
-use Rattle.token_server.specs.Resends.{outstanding_of, outstanding, sending_first}
+use Rattle.known_nodes.specs.Rows.{outstanding_of}
+use Rattle.token_server.specs.Resends.{outstanding, sending_first}
 use Rattle.token_server.specs.Server.{server_rule}
 use Rattle.cluster_core.specs.World.{WorldState, first_world, is_alive, has_node, has_file, was_declared}
 use Rattle.cluster_core.specs.Next.{is_known, is_fenced, is_stopped, has_actor, recorded, with_node, with_server, declared, restarted, failed, delivered as routed, taken, next}

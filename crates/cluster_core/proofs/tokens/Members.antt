@@ -8,7 +8,8 @@ use Rattle.messages.specs.Messages.{host_of}
 use Rattle.messages.specs.declared.message.Message.{Message}
 use Rattle.messages.specs.declared.event.Event.{Event}
 use Rattle.node_core.specs.State.{FileState, NodeState, first_file, first_node}
-use Rattle.token_server.specs.State.{Row, begin}
+use Rattle.known_nodes.specs.Rows.{Row}
+use Rattle.token_server.specs.State.{begin}
 use Rattle.cluster_core.specs.World.{WorldState, has_node}
 use Rattle.cluster_core.specs.Next.{declared, restarted, silent}
 use Rattle.cluster_core.proofs.common.Choices.{at_number}

@@ -13,8 +13,8 @@ use Rattle.messages.specs.Messages.{host_of, is_among, is_within}
 use Rattle.messages.specs.declared.message.Message.{Message}
 use Rattle.messages.specs.declared.message.Message.TheVariants.{Grant}
 use Rattle.node_core.specs.State.{FileState, NodeState}
-use Rattle.token_server.specs.State.{Row, ServerState, begin, with_row, requests}
-use Rattle.token_server.specs.Serve.{row_conflicts_at}
+use Rattle.known_nodes.specs.Rows.{Row, row_conflicts_at}
+use Rattle.token_server.specs.State.{ServerState, begin, with_row, requests}
 use Rattle.cluster_core.specs.World.{WorldState, is_alive}
 use Rattle.cluster_core.specs.Safe.{Excludes}
 use Rattle.cluster_core.proofs.common.Choices.{at_number}

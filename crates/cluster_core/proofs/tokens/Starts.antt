@@ -11,8 +11,9 @@ use Rattle.messages.specs.Messages.{host_of, same_message, is_among, is_within, 
 use Rattle.messages.specs.declared.message.Message.{Message}
 use Rattle.messages.specs.declared.message.Message.TheVariants.{Hello}
 use Rattle.messages.specs.declared.event.Event.{Event}
-use Rattle.token_server.specs.State.{ServerState, begin, awaited_row}
-use Rattle.token_server.specs.Resends.{outstanding_of, outstanding}
+use Rattle.known_nodes.specs.Rows.{awaited_row, outstanding_of}
+use Rattle.token_server.specs.State.{ServerState, begin}
+use Rattle.token_server.specs.Resends.{outstanding}
 use Rattle.cluster_core.specs.World.{WorldState, has_node, is_alive}
 use Rattle.cluster_core.specs.Next.{recorded, failed, started, next_server}
 use Rattle.cluster_core.proofs.common.Choices.{at_number}

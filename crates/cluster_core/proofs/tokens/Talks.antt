@@ -13,8 +13,7 @@ use Rattle.messages.specs.declared.message.Message.{Message}
 use Rattle.messages.specs.declared.message.Message.TheVariants.{Grant, Revoke, Taken, Released, Conflict, Hello, Report}
 use Rattle.messages.specs.Reports.{reported}
 use Rattle.node_core.specs.State.{FileState}
-use Rattle.token_server.specs.State.{Row, is_hello, is_awaited}
-use Rattle.token_server.specs.Serve.{row_conflicts_at}
+use Rattle.known_nodes.specs.Rows.{Row, is_hello, is_awaited, row_conflicts_at}
 use Rattle.cluster_core.specs.Numbers.{is_command}
 use Rattle.cluster_core.proofs.tokens.Lowering.{IsWithin, within_itself, within_same, within_raised, within_conflicts}
 

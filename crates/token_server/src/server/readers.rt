@@ -2,14 +2,15 @@
 ghost use Rattle.std.specs.Prelude.{◌≡◌, false, All, IfOk, MatchOption, map, is_some, None};
 ghost use Rattle.token_queue.specs.Requests.{requests_in};
 ghost use Rattle.token_queue.specs.Actives.{requests_of};
-ghost use Rattle.token_server.specs.State.{is_awaited};
+ghost use Rattle.known_nodes.specs.Rows.{is_awaited};
 ghost use Rattle.token_server.specs.Obstacles.{obstacle, is_idle};
-ghost use Rattle.token_server.specs.Parts.{row_state, server_state};
+ghost use Rattle.known_nodes.specs.Parts.{row_state};
+ghost use Rattle.token_server.specs.Parts.{server_state};
 ghost use Rattle.token_server.specs.Readers.{nodes_where, Shows, IsRow};
 
 use super::Server;
 use crate::shown_row::ShownRow;
-use crate::token_holder::TokenHolder;
+use known_nodes::token_holder::TokenHolder;
 use std::alloc::{AllocError, Global};
 use token_queue::held::Held;
 use token_queue::token_request::TokenRequest;

@@ -1,9 +1,11 @@
 use Rattle.std.specs.Prelude.{◌++◌, List, length}
 use Rattle.std.proofs.Common.{sym, ap, subst, ◌∙◌}
 use Rattle.token_queue.specs.Actives.{requests_of}
-use Rattle.token_server.specs.declared.known_node.KnownNode.{KnownNode}
-use Rattle.token_server.specs.Parts.{ServerParts, deaths_of}
-use Rattle.token_server.specs.Edits.{given_rows, Fits}
+use Rattle.known_nodes.specs.declared.known_node.KnownNode.{KnownNode}
+use Rattle.known_nodes.specs.Parts.{deaths_of}
+use Rattle.token_server.specs.Parts.{ServerParts}
+use Rattle.known_nodes.specs.Edits.{given_rows}
+use Rattle.token_server.specs.Edits.{Fits}
 use Rattle.token_server.proofs.ComesLaws.{distinct-first}
 use Rattle.token_server.proofs.ReadyLaws.{applied}
 use Rattle.token_server.proofs.server.Server.apply.Goals as goal

@@ -4,13 +4,15 @@ use Rattle.std.proofs.lemmas.List.Elements.{All-drop}
 use Rattle.token_queue.specs.declared.held.Held.{Held}
 use Rattle.token_queue.specs.declared.token_request.TokenRequest.{TokenRequest}
 use Rattle.token_queue.specs.Actives.{waiting_for}
-use Rattle.token_server.specs.State.{Row}
-use Rattle.token_server.specs.declared.sketch.Changed.{Changed}
+use Rattle.known_nodes.specs.Rows.{Row}
+use Rattle.known_nodes.specs.declared.node_change.Changed.{Changed}
 use Rattle.token_server.specs.Obstacles.{obstacle}
-use Rattle.token_server.specs.Parts.{ServerParts, server_state, rows_of}
-use Rattle.token_server.specs.Marks.{NoneExclusive}
-use Rattle.token_server.specs.Sketches.{rows_after}
-use Rattle.token_server.specs.Edits.{overlaid, reached}
+use Rattle.known_nodes.specs.Parts.{rows_of}
+use Rattle.token_server.specs.Parts.{ServerParts, server_state}
+use Rattle.known_nodes.specs.Marks.{NoneExclusive}
+use Rattle.known_nodes.specs.Changes.{rows_after}
+use Rattle.known_nodes.specs.Edits.{overlaid}
+use Rattle.token_server.specs.Edits.{reached}
 use Rattle.token_server.proofs.AwaitLaws.{Await, await-more, await-first, unfreed-all}
 use Rattle.token_server.proofs.TurnLaws.{read-place, take-next}
 use Rattle.token_server.proofs.server.Server.awaited.Goals as goal

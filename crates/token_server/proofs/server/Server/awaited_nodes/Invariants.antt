@@ -1,5 +1,5 @@
 use Rattle.std.specs.Prelude.{◌≡◌}
-use Rattle.token_server.specs.State.{is_awaited}
+use Rattle.known_nodes.specs.Rows.{is_awaited}
 use Rattle.token_server.specs.Parts.{server_state}
 use Rattle.token_server.specs.Readers.{nodes_where}
 use Rattle.token_server.proofs.server.Server.awaited_nodes.Given as goal

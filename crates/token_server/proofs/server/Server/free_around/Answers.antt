@@ -1,13 +1,14 @@
 use Rattle.std.specs.Prelude.{◌≡◌, ◌≤◌, List, Option, Some, None}
 use Rattle.std.proofs.Common.{sym, ap, ◌∙◌, arith}
 use Rattle.intervals.specs.Bytes.{Range}
-use Rattle.token_server.specs.declared.known_node.KnownNode.{KnownNode}
-use Rattle.token_server.specs.State.{Row}
-use Rattle.token_server.specs.Parts.{ServerParts, row_state, rows_of}
-use Rattle.token_server.specs.Serve.{row_conflicts}
+use Rattle.known_nodes.specs.declared.known_node.KnownNode.{KnownNode}
+use Rattle.known_nodes.specs.Rows.{Row, row_conflicts}
+use Rattle.known_nodes.specs.Parts.{row_state, rows_of}
+use Rattle.token_server.specs.Parts.{ServerParts}
 use Rattle.token_server.specs.Told.{told_to, row_told}
-use Rattle.token_server.specs.Edits.{seen, overlaid}
-use Rattle.token_server.proofs.GrantLaws.{row_free, free_around-none}
+use Rattle.known_nodes.specs.Edits.{seen, overlaid}
+use Rattle.known_nodes.proofs.MarkLaws.{row_free}
+use Rattle.token_server.proofs.GrantLaws.{free_around-none}
 use Rattle.token_server.proofs.BarLaws.{told-nothing}
 use Rattle.token_server.proofs.server.Server.free_around.Goals as goal
 

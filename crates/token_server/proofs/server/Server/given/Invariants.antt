@@ -1,5 +1,5 @@
 use Rattle.std.proofs.Common.{take}
-use Rattle.token_server.specs.Edits.{overlaid}
+use Rattle.known_nodes.specs.Edits.{overlaid}
 use Rattle.token_server.proofs.ToldLaws.{GiveTold}
 use Rattle.token_server.proofs.server.Server.given.Given as goal
 

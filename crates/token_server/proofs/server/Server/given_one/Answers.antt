@@ -1,8 +1,9 @@
 use Rattle.std.specs.Prelude.{◌≡◌, ◌-◌, List, Option, Some}
 use Rattle.std.proofs.Common.{sym, ap, refl, ◌∙◌}
-use Rattle.token_server.specs.declared.known_node.KnownNode.{KnownNode}
-use Rattle.token_server.specs.Parts.{ServerParts, known_node_at, rows_of}
-use Rattle.token_server.specs.Edits.{seen, overlaid}
+use Rattle.known_nodes.specs.declared.known_node.KnownNode.{KnownNode}
+use Rattle.known_nodes.specs.Parts.{known_node_at, rows_of}
+use Rattle.token_server.specs.Parts.{ServerParts}
+use Rattle.known_nodes.specs.Edits.{seen, overlaid}
 use Rattle.token_set.specs.Edits.{edited as edited_token}
 use Rattle.token_server.proofs.ToldLaws.{gives-told, gives-nothing}
 use Rattle.token_server.proofs.server.Server.given_one.Goals.{in-Some+in_ok-token-in-Some, in-None}

@@ -1,6 +1,6 @@
 use Rattle.std.proofs.Common.{subst}
 use Rattle.token_server.specs.Parts.{ServerParts}
-use Rattle.token_server.specs.Marks.{NoneExclusive}
+use Rattle.known_nodes.specs.Marks.{NoneExclusive}
 use Rattle.token_server.specs.Edits.{reached}
 use Rattle.token_server.proofs.server.Server.hold.Goals as goal
 

@@ -5,7 +5,8 @@ use Rattle.token_queue.specs.declared.token_request.TokenRequest.{TokenRequest}
 use Rattle.token_queue.specs.declared.held.Held.{Held}
 use Rattle.token_queue.specs.Actives.{requests_of, waiting_for}
 use Rattle.intervals.specs.Search.{some_passes}
-use Rattle.token_server.specs.State.{Row, is_awaited, awaits}
+use Rattle.known_nodes.specs.Rows.{Row, is_awaited}
+use Rattle.token_server.specs.State.{awaits}
 use Rattle.token_server.specs.Admitting.{IsAdmitted}
 use Rattle.token_server.specs.Obstacles.{obstacle}
 use Rattle.token_server.specs.Ready.{AreDistinct}

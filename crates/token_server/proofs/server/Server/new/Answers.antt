@@ -4,9 +4,9 @@ use Rattle.intervals.specs.Search.{some_passes}
 use Rattle.token_set.proofs.SearchLaws.{none_passes-from}
 use Rattle.model.specs.Limits.{IsNumber}
 use Rattle.messages.specs.Epochs.{before_epoch}
-use Rattle.token_server.specs.State.{Row, is_awaited}
-use Rattle.token_server.specs.Parts.{rows_of}
-use Rattle.token_server.proofs.RebuildLaws.{idle-server}
+use Rattle.known_nodes.specs.Rows.{Row, is_awaited}
+use Rattle.known_nodes.specs.Parts.{rows_of}
+use Rattle.token_server.proofs.IdleLaws.{idle-server}
 use Rattle.token_server.proofs.server.Server.new.Goals as goal
 
 pub invariant_of-result : goal.invariant_of-result

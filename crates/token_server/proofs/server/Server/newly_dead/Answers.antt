@@ -1,6 +1,7 @@
 use Rattle.std.specs.Prelude.{◌≡◌, All}
 use Rattle.std.proofs.Common.{sym, ap, subst, ◌∙◌, arith}
-use Rattle.token_server.specs.Parts.{ServerParts, server_state, deaths_of}
+use Rattle.known_nodes.specs.Parts.{deaths_of}
+use Rattle.token_server.specs.Parts.{ServerParts, server_state}
 use Rattle.token_server.specs.State.{requests}
 use Rattle.token_server.specs.Sketches.{dropped}
 use Rattle.token_server.proofs.CareLaws.{requests-parts}

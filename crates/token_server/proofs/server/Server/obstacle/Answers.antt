@@ -6,10 +6,10 @@ use Rattle.model.specs.declared.mode.Mode.{Mode}
 use Rattle.model.specs.declared.mode.Mode.TheVariants.{Read, Write}
 use Rattle.model.specs.contracts.mode.ModePartialEq.TheImpl as derived
 use Rattle.token_queue.specs.declared.token_request.TokenRequest.{TokenRequest}
-use Rattle.token_server.specs.Serve.{row_conflicts}
-use Rattle.token_server.specs.Marks.{NoneExclusive}
+use Rattle.known_nodes.specs.Rows.{row_conflicts}
+use Rattle.known_nodes.specs.Marks.{NoneExclusive}
 use Rattle.token_server.specs.Edits.{reached}
-use Rattle.token_server.proofs.MarkLaws.{exclusive-readable}
+use Rattle.known_nodes.proofs.MarkLaws.{exclusive-readable}
 use Rattle.token_server.proofs.AwaitLaws.{unopposed-own}
 use Rattle.token_server.proofs.server.Server.obstacle.Goals as goal
 

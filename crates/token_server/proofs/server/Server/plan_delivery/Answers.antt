@@ -5,7 +5,8 @@ use Rattle.model.specs.Limits.{HostFields}
 use Rattle.messages.specs.declared.message.Message.{Message}
 use Rattle.messages.specs.Messages.{host_of}
 use Rattle.token_server.specs.declared.sketch.Sketch.{Sketch}
-use Rattle.token_server.specs.Parts.{ServerParts, server_state, deaths_of}
+use Rattle.known_nodes.specs.Parts.{deaths_of}
+use Rattle.token_server.specs.Parts.{ServerParts, server_state}
 use Rattle.token_server.specs.Ready.{IsOrderly}
 use Rattle.token_server.specs.Sketches.{sketched}
 use Rattle.token_server.proofs.OrderlyLaws.{orderly-delivered}

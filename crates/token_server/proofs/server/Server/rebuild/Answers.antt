@@ -2,9 +2,10 @@ use Rattle.std.specs.Prelude.{ℕ}
 use Rattle.std.proofs.Common.{ap, sym, subst, ◌∙◌, arith}
 use Rattle.intervals.specs.Search.{some_passes}
 use Rattle.model.specs.Limits.{IsNumber}
-use Rattle.token_server.specs.State.{is_awaited}
-use Rattle.token_server.specs.Parts.{rows_of}
-use Rattle.token_server.proofs.RebuildLaws.{rebuilt-counted, idle-server}
+use Rattle.known_nodes.specs.Rows.{is_awaited}
+use Rattle.known_nodes.specs.Parts.{rows_of}
+use Rattle.known_nodes.proofs.RebuildLaws.{rebuilt-counted}
+use Rattle.token_server.proofs.IdleLaws.{idle-server}
 use Rattle.token_server.proofs.server.Server.rebuild.Goals as goal
 
 pub invariant_of-server : goal.invariant_of-server

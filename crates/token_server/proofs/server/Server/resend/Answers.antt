@@ -1,14 +1,15 @@
-use Rattle.std.specs.Prelude.{◌≡◌, ◌≢◌, ℕ, List, length, Result, Ok, Err}
-use Rattle.std.proofs.Common.{refl, sym, ap, subst, ◌∙◌}
+use Rattle.std.specs.Prelude.{◌≡◌, ◌≢◌, Result, Ok, Err}
+use Rattle.std.proofs.Common.{sym, ap, subst, ◌∙◌}
 use Rattle.std.proofs.lemmas.Result.{IfOk-weaker, IfErr-weaker}
-use Rattle.messages.specs.declared.message.Message.{Message}
 use Rattle.messages.specs.declared.outcome.Outcome.{Outcome}
 use Rattle.messages.specs.declared.refusal.StepError.{StepError}
 use Rattle.messages.specs.declared.refusal.StepError.TheVariants.{NoMemory}
 use Rattle.token_server.specs.State.{ServerState}
 use Rattle.token_server.specs.Serve.{serve}
-use Rattle.token_server.specs.Resends.{outstanding, outstanding_to, sending_first, resend_rule}
-use Rattle.token_server.specs.Parts.{ServerParts, server_state, rows_of}
+use Rattle.known_nodes.specs.Rows.{outstanding_to}
+use Rattle.token_server.specs.Resends.{outstanding, sending_first, resend_rule}
+use Rattle.known_nodes.specs.Parts.{rows_of}
+use Rattle.token_server.specs.Parts.{ServerParts, server_state}
 use Rattle.token_server.specs.Ready.{IsOrderly}
 use Rattle.token_server.specs.Sketches.{sketched}
 use Rattle.token_server.specs.Edits.{planned}

@@ -7,7 +7,7 @@ use Rattle.token_server.specs.Ready.{AreDistinct}
 use Rattle.token_server.specs.Sketches.{without, sketched}
 use Rattle.token_server.specs.Edits.{made, PartsFit}
 use Rattle.token_server.proofs.ReadyLaws.{moved-new, distinct-queue, distinct-waiting}
-use Rattle.token_server.proofs.EditLaws.{overlaid-length}
+use Rattle.known_nodes.proofs.EditLaws.{overlaid-length}
 use Rattle.token_server.proofs.server.Server.serve.Goals as goal
 
 abbrev Answer : Type 0

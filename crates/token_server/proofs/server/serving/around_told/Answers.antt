@@ -1,11 +1,11 @@
 use Rattle.std.specs.Prelude.{◌≡◌, ◌≤◌, Some}
 use Rattle.std.proofs.Common.{sym, ap, ◌∙◌, arith}
 use Rattle.intervals.specs.Bytes.{Range}
-use Rattle.token_server.specs.State.{Row}
-use Rattle.token_server.specs.Parts.{row_state}
-use Rattle.token_server.specs.Told.{bars}
-use Rattle.token_server.specs.Edits.{seen}
-use Rattle.token_server.proofs.GrantLaws.{row_free}
+use Rattle.known_nodes.specs.Rows.{Row}
+use Rattle.known_nodes.specs.Parts.{row_state}
+use Rattle.known_nodes.specs.Sent.{bars}
+use Rattle.known_nodes.specs.Edits.{seen}
+use Rattle.known_nodes.proofs.MarkLaws.{row_free}
 use Rattle.token_server.proofs.BarLaws.{told-free, around-told, around-other}
 use Rattle.token_server.proofs.server.serving.around_told.Goals as goal
 

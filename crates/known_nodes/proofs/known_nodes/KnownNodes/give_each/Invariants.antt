@@ -1,0 +1,14 @@
+use Rattle.std.specs.Prelude.{◌≡◌, ℕ, length}
+use Rattle.known_nodes.specs.Parts.{deaths_of}
+use Rattle.known_nodes.specs.Edits.{given_rows}
+use Rattle.known_nodes.proofs.known_nodes.KnownNodes.give_each.Given as goal
+
+-- what is left leads to what all lead to
+abbrev pub invariant-loop-last : goal.invariant-loop-last
+invariant-loop-last l =
+    ((n : ℕ) → given_rows l.given.items l.self n ≡ given_rows l.fn.given.items l.fn.self n)
+    × (deaths_of l.self ≡ deaths_of l.fn.self)
+    × (length l.self ≡ length l.fn.self)
+
+abbrev pub decreases-loop-last : goal.decreases-loop-last
+decreases-loop-last l = length l.given.items

@@ -1,0 +1,7 @@
+use Rattle.std.specs.Prelude.{◌≡◌}
+use Rattle.known_nodes.specs.Parts.{rows_of}
+use Rattle.known_nodes.specs.Rows.{outstanding_to}
+use Rattle.known_nodes.proofs.known_nodes.KnownNodes.outstanding.Given as goal
+
+abbrev pub invariant-loop-known_node : goal.invariant-loop-known_node
+invariant-loop-known_node l = l.commands ≡ outstanding_to (rows_of l.self) l.known_node-index

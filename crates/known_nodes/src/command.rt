@@ -1,0 +1,191 @@
+//! Commands of a token server, as they are kept while they have no answer.
+ghost use Rattle.std.specs.Prelude.{◌≡◌, ◌≤◌, IfOk, IfSome, Some};
+ghost use Rattle.token_set.specs.Sets.{token_of};
+ghost use Rattle.token_set.specs.Edits.{edited as edited_token};
+ghost use Rattle.known_nodes.specs.Rows.{is_hello, is_grant, revoked_mode, asks_token};
+ghost use Rattle.known_nodes.specs.Orders.{message_of};
+ghost use Rattle.known_nodes.specs.Sent.{promised, bars};
+
+use intervals::span::Span;
+use messages::command_number::CommandNumber;
+use messages::epoch_number::EpochNumber;
+use messages::file_number::FileNumber;
+use messages::message::Message;
+use messages::wanted::Wanted;
+use model::call::CallId;
+use model::host::Host;
+use model::mode::Mode;
+use std::alloc::AllocError;
+use std::marker::Model;
+use token_set::edit::TokenEdit;
+use token_set::set::TokenSet;
+
+/// What a command tells a node.
+#[derive(Clone, Copy)]
+pub enum Order {
+    /// The token is raised on the span for the mode.
+    Grant {
+        number: CommandNumber,
+        call: CallId,
+        mode: Mode,
+        span: Span,
+    },
+    /// The node is to give up what the call needs.
+    Revoke {
+        number: CommandNumber,
+        holder: Host,
+        call: CallId,
+        mode: Mode,
+        wanted: Wanted,
+    },
+    /// The node is to tell its token to a server that was rebuilt.
+    Hello {
+        number: EpochNumber,
+        holder: Host,
+    },
+}
+
+/// A command of the server of a file, which contracts see as the message that it is. Unlike any message it is
+/// copied without memory.
+#[derive(Clone, Copy)]
+pub struct Command {
+    file: FileNumber,
+    order: Order,
+}
+
+impl Model for Command {
+    ghost use Rattle.messages.specs.declared.message.Message.{Message};
+
+    ghost Value = { Message };
+
+    ghost use Rattle.messages.specs.Messages.{file_of};
+    ghost use Rattle.known_nodes.specs.Orders.{message_of, order_of};
+    ghost use Rattle.std.proofs.Common.{rules};
+
+    ghost view = { λ c. message_of c.file c.order };
+
+    ghost inverse = { λ m. record { file = file_of m; order = order_of m } };
+
+    ghost inverse_ok = { Prim.search rules };
+}
+
+impl Command {
+    /// The command of the server of the file that tells a node that.
+    pub fn of(file: FileNumber, order: Order) -> Command
+        ensures { result ≡ message_of file order }
+    {
+        Command { file, order }
+    }
+
+    /// The message that it is. Takes no memory.
+    pub fn message(self) -> Message
+        ensures { result ≡ self }
+    {
+        message_of(self.file, self.order)
+    }
+
+    /// Whether it is the Grant with that number.
+    pub fn is_grant(&self, number: u64) -> bool
+        ensures { result ≡ is_grant number (Some self.now) }
+    {
+        matches!(&self.order, Order::Grant { number: own, .. } if own.get() == number)
+    }
+
+    /// The mode that it revokes, if it is the Revoke with that number.
+    pub fn revoked_mode(&self, number: u64) -> Option<Mode>
+        ensures { result ≡ revoked_mode number (Some self.now) }
+    {
+        match &self.order {
+            Order::Revoke {
+                number: own,
+                mode,
+                ..
+            } if own.get() == number => Some(*mode),
+            _ => None,
+        }
+    }
+
+    /// Whether it asks a node for its token, with that number.
+    pub fn asks_token(&self, number: u64) -> bool
+        ensures { result ≡ asks_token number (Some self.now) }
+    {
+        matches!(&self.order, Order::Hello { number: own, .. } if own.get() == number)
+    }
+
+    /// Whether it asks a node for its token.
+    pub fn is_hello(&self) -> bool
+        ensures { result ≡ is_hello (Some self.now) }
+    {
+        matches!(&self.order, Order::Hello { .. })
+    }
+
+    /// What it grants, if that conflicts with the mode.
+    pub fn granted(&self, mode: Mode) -> Option<Span>
+        ensures value { result ≡ bars self.now mode }
+        ensures ordered { IfSome result (λ s. s.lo ≤ s.hi) }
+    {
+        match &self.order {
+            Order::Grant {
+                mode: own,
+                span,
+                ..
+            } if own.excludes(mode) => {
+                let _ = &span.lo; // tells the proof that the span has a byte
+                Some(*span)
+            }
+            _ => None,
+        }
+    }
+
+    /// How it changes the token that its node has.
+    ///
+    /// # Errors
+    /// `AllocError` where a request for memory was refused.
+    pub fn promised(&self, token: &TokenSet) -> Result<TokenEdit, AllocError>
+        ensures { IfOk result (λ edit. edited_token edit token.now ≡ promised self.now (token_of token.now)) }
+    {
+        match &self.order {
+            Order::Grant { mode, span, .. } => token.plan_grant(*span, *mode),
+            _ => Ok(TokenEdit::Same),
+        }
+    }
+}
+
+// The message of the command of the server of the file that tells a node that.
+fn message_of(file: FileNumber, order: Order) -> Message
+    ensures { result ≡ message_of file order }
+{
+    match order {
+        Order::Grant {
+            number,
+            call,
+            mode,
+            span,
+        } => Message::Grant {
+            file,
+            number,
+            call,
+            mode,
+            span,
+        },
+        Order::Revoke {
+            number,
+            holder,
+            call,
+            mode,
+            wanted,
+        } => Message::Revoke {
+            file,
+            number,
+            holder,
+            call,
+            mode,
+            wanted,
+        },
+        Order::Hello { number, holder } => Message::Hello {
+            file,
+            number,
+            holder,
+        },
+    }
+}

@@ -1,0 +1,251 @@
+//! Nodes, as a token server knows them.
+ghost use Rattle.std.specs.Prelude.{◌≡◌, ◌-◌, ◌≤◌, ◌↔◌, ◌||◌, true, IsTrue, IfOk, Some, None};
+ghost use Rattle.std.specs.Option.{option_map};
+ghost use Rattle.intervals.specs.Bytes.{whole};
+ghost use Rattle.model.specs.Limits.{IsNumber, most_nodes};
+ghost use Rattle.members.specs.Parts.{members_state};
+ghost use Rattle.known_nodes.specs.Rows.{row_above, row_conflicts, outstanding_of};
+ghost use Rattle.known_nodes.specs.Parts.{row_seen, SameKnown};
+ghost use Rattle.known_nodes.specs.Changes.{answering, relieved, row_or_empty, row_after, dead_after};
+ghost use Rattle.known_nodes.specs.Rebuilds.{rebuilt_row, rebuilt_dead};
+ghost use Rattle.known_nodes.specs.Edits.{seen_row, known_node_after, row_with, row_kept, given_to_row};
+
+use crate::commands::Commands;
+use crate::node_change::NodeChange;
+use crate::reports::token_told;
+use crate::row_edit::{RowAfter, RowEdit};
+use crate::token_holder::{RowView, TokenHolder, excludes};
+use intervals::span::Span;
+use members::members::Members;
+use messages::epoch_number::EpochNumber;
+use messages::file_number::FileNumber;
+use messages::message::Message;
+use model::host::Host;
+use model::mode::Mode;
+use std::alloc::{AllocError, Global};
+use token_set::edit::TokenEdit;
+use token_set::set::TokenSet;
+
+/// A node, as the server of a file knows it: the greatest incarnation known to be dead (0 at first),
+/// and the row of a later one, if that asked.
+#[derive(Drop)]
+pub struct KnownNode {
+    pub dead: u16,
+    pub row: Option<TokenHolder>,
+}
+
+impl KnownNode {
+    /// A node of the cluster, as a server of the file knows it that was rebuilt: if it is alive, it is asked for its
+    /// token.
+    pub fn rebuilt(
+        alloc: Global,
+        file: FileNumber,
+        number: EpochNumber,
+        node: u8,
+        members: &Members,
+    ) -> KnownNode
+        requires { IsNumber (members_state members.now.nodes).nodes node × IsNumber most_nodes node }
+        ensures row { row_seen result.row ≡ rebuilt_row file number members.now node }
+        ensures dead { result.dead ≡ rebuilt_dead members.now node }
+    {
+        let row = match members.alive(node) {
+            Some(incarnation) => Some(TokenHolder {
+                commands: Commands::asking(file, number, Host { node, incarnation }),
+                token: TokenSet::new(alloc),
+            }),
+            None => None,
+        };
+        KnownNode {
+            dead: members.dead(node),
+            row,
+        }
+    }
+
+    /// Its row, if it has one.
+    pub fn row_view(&self) -> Option<RowView<'_>>
+        ensures { seen_row result ≡ self.now.row }
+    {
+        let row = self.row.as_ref()?;
+        Some(RowView {
+            commands: &row.commands,
+            token: &row.token,
+        })
+    }
+
+    /// Whether it is known at once that a change leaves it as it is.
+    pub fn stays(&self, change: &NodeChange) -> bool
+        ensures row { result ≡ true → row_after change.now (row_seen self.now.row) ≡ row_seen self.now.row }
+        ensures dead { result ≡ true → dead_after change.now self.now.dead ≡ self.now.dead }
+    {
+        match (change.dropped_to(), &self.row) {
+            (Some(dropped), Some(row)) => {
+                dropped <= self.dead && dropped < row.commands.incarnation()
+            }
+            _ => false,
+        }
+    }
+
+    /// Its row once it changes so.
+    ///
+    /// # Errors
+    /// `AllocError` where a request for memory was refused.
+    pub fn row_after(
+        &self,
+        alloc: Global,
+        change: &NodeChange,
+    ) -> Result<Option<RowAfter>, AllocError>
+        ensures { IfOk result (λ row. row_seen (row_kept row self.now.row) ≡ row_after change.now (row_seen self.now.row)) }
+    {
+        match change {
+            NodeChange::Forgotten { incarnation } => Ok(self.row_above(*incarnation)),
+            NodeChange::Asked { host, begin } => {
+                Ok(Some(self.asking_row(alloc, host.incarnation, *begin)))
+            }
+            NodeChange::Answered => Ok(self.answered_row(None)),
+            NodeChange::Relieved { span, mode } => self.relieved_row(*span, *mode),
+            NodeChange::Reported { runs } => {
+                Ok(self.answered_row(Some(token_told(alloc, runs)?)))
+            }
+        }
+    }
+
+    // Its row, if that is of a later incarnation.
+    fn row_above(&self, incarnation: u16) -> Option<RowAfter>
+        ensures { row_seen (row_kept result self.now.row) ≡ row_above incarnation (row_seen self.now.row) }
+    {
+        match &self.row {
+            Some(row) if row.commands.incarnation() > incarnation => Some(RowAfter {
+                commands: row.commands,
+                token: None,
+            }),
+            _ => None,
+        }
+    }
+
+    // Its row of that incarnation or a later one, or else an empty one of that, of which the commands begin
+    // after the number.
+    fn asking_row(&self, alloc: Global, incarnation: u16, begin: u64) -> RowAfter
+        requires { 1 ≤ incarnation }
+        ensures { row_seen (row_kept (Some result) self.now.row) ≡ row_or_empty begin incarnation (row_above (incarnation - 1) (row_seen self.now.row)) }
+    {
+        match &self.row {
+            Some(row) if row.commands.incarnation() >= incarnation => RowAfter {
+                commands: row.commands,
+                token: None,
+            },
+            _ => RowAfter {
+                commands: Commands::new(incarnation, begin),
+                token: Some(TokenSet::new(alloc)),
+            },
+        }
+    }
+
+    // Its row once the command to it is answered, with that token, if there is one.
+    fn answered_row(&self, token: Option<TokenSet>) -> Option<RowAfter>
+        ensures { row_seen (row_kept result self.now.row) ≡ option_map (answering token) (row_seen self.now.row) }
+    {
+        Some(RowAfter {
+            commands: self.row.as_ref()?.commands.answered(),
+            token,
+        })
+    }
+
+    // Its row once the command to it is answered and it gave up the span for the mode.
+    fn relieved_row(&self, span: Span, mode: Mode) -> Result<Option<RowAfter>, AllocError>
+        ensures { IfOk result (λ after. row_seen (row_kept after self.now.row) ≡ option_map (relieved span mode) (row_seen self.now.row)) }
+    {
+        let Some(row) = &self.row else {
+            return Ok(None);
+        };
+        let mut token = row.token.copy()?;
+        token.lower(span, mode)?;
+        Ok(Some(RowAfter {
+            commands: row.commands.answered(),
+            token: Some(token),
+        }))
+    }
+
+    /// Makes a planned change. Takes no memory.
+    pub fn change(&mut self, edit: RowEdit)
+        ensures { self.new ≡ known_node_after edit self.old }
+    {
+        let RowEdit { dead, row, .. } = edit;
+        self.dead = dead;
+        match row {
+            Some(after) => self.change_row(after),
+            None => self.row = None,
+        }
+    }
+
+    // Makes a planned change of the row.
+    fn change_row(&mut self, after: RowAfter)
+        ensures row { self.new.row ≡ row_with after.commands after.token self.old.row }
+        ensures dead { self.new.dead ≡ self.old.dead }
+    {
+        let RowAfter { commands, token } = after;
+        match token {
+            Some(token) => self.row = Some(TokenHolder { commands, token }),
+            None => {
+                if let Some(row) = &mut self.row {
+                    row.commands = commands;
+                }
+            }
+        }
+    }
+
+    /// The row has had these commands, and its token changes so. Takes no memory.
+    pub fn put(&mut self, commands: Commands, token: TokenEdit)
+        ensures row { row_seen self.new.row ≡ given_to_row commands token self.old.row }
+        ensures dead { self.new.dead ≡ self.old.dead }
+    {
+        if let Some(row) = &mut self.row {
+            row.commands = commands;
+            row.token.apply(token);
+        }
+    }
+
+    /// The command to it that has no answer yet.
+    pub fn outstanding(&self) -> Option<Message>
+        ensures { result ≡ outstanding_of (row_seen self.now.row) }
+    {
+        Some(self.row.as_ref()?.commands.outstanding?.message())
+    }
+
+    /// Whether a byte of its row's token is exclusive, or that is noted of another.
+    pub fn notes_exclusive(&self, noted: bool) -> bool
+        ensures { result ≡ (noted || row_conflicts (row_seen self.now.row) whole Mode.Read) }
+    {
+        noted || self.row.as_ref().is_some_and(|row| excludes(&row.token))
+    }
+
+    /// An equal known node.
+    ///
+    /// # Errors
+    /// `AllocError` where a request for memory was refused.
+    pub fn copy(&self) -> Result<KnownNode, AllocError>
+        ensures { IfOk result (λ copy. copy ≡ self.now) }
+    {
+        let row = match &self.row {
+            Some(row) => Some(row.copy()?),
+            None => None,
+        };
+        Ok(KnownNode {
+            dead: self.dead,
+            row,
+        })
+    }
+
+    /// Whether the same is known of both.
+    pub fn same(&self, other: &KnownNode) -> bool
+        ensures { IsTrue result ↔ SameKnown (Some self.now) (Some other.now) }
+    {
+        if self.dead != other.dead {
+            return false;
+        }
+        match (&self.row, &other.row) {
+            (Some(row), Some(next)) => row.same(next),
+            (None, None) => true,
+            _ => false,
+        }
+    }
+}

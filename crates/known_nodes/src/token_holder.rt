@@ -1,0 +1,59 @@
+//! Rows of a token server.
+ghost use Rattle.std.specs.Prelude.{◌≡◌, ◌↔◌, IsTrue, IfOk};
+ghost use Rattle.intervals.specs.Bytes.{whole};
+ghost use Rattle.token_set.specs.Tokens.{conflicts};
+ghost use Rattle.token_set.specs.Sets.{token_of};
+ghost use Rattle.known_nodes.specs.Parts.{SameRow};
+
+use crate::commands::Commands;
+use intervals::span::{GREATEST, Span};
+use model::mode::Mode;
+use std::alloc::AllocError;
+use token_set::set::TokenSet;
+
+/// What a server keeps of a node that asked: the commands to it, and its token.
+#[derive(Drop)]
+pub struct TokenHolder {
+    pub commands: Commands,
+    pub token: TokenSet,
+}
+
+/// A row that is read.
+#[derive(Clone, Copy)]
+pub struct RowView<'a> {
+    pub commands: &'a Commands,
+    pub token: &'a TokenSet,
+}
+
+/// Whether a byte of the token is exclusive.
+pub fn excludes(token: &TokenSet) -> bool
+    ensures { result ≡ conflicts (token_of token.now) whole Mode.Read }
+{
+    let every_byte = Span {
+        lo: 0,
+        hi: GREATEST,
+    };
+    token.conflicts(every_byte, Mode::Read)
+}
+
+impl TokenHolder {
+    /// An equal row.
+    ///
+    /// # Errors
+    /// `AllocError` where a request for memory was refused.
+    pub fn copy(&self) -> Result<TokenHolder, AllocError>
+        ensures { IfOk result (λ copy. copy ≡ self.now) }
+    {
+        Ok(TokenHolder {
+            commands: self.commands,
+            token: self.token.copy()?,
+        })
+    }
+
+    /// Whether both are the same row.
+    pub fn same(&self, other: &TokenHolder) -> bool
+        ensures { IsTrue result ↔ SameRow self.now other.now }
+    {
+        self.commands.same(&other.commands) && self.token.same(&other.token)
+    }
+}
