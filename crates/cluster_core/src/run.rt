@@ -1,12 +1,15 @@
 //! A run that goes on, event by event.
-ghost use Rattle.std.specs.Prelude.{◌≡◌, ◌≢◌, Ok, Err, ◌++◌, ◌∷◌, [], IfOk, IfErr, OnOk, OnErr};
+ghost use Rattle.std.specs.Prelude.{◌≡◌, ◌≢◌, Ok, Err, Some, None, ◌++◌, ◌∷◌, [], slice_get, MatchOption, IfOk, IfErr, OnOk, OnErr};
 ghost use Rattle.messages.specs.declared.entry.Entry.{Entry};
+ghost use Rattle.messages.specs.declared.event.Event.TheVariants.{Deliver};
+ghost use Rattle.messages.specs.declared.message.Message.{Message};
 ghost use Rattle.messages.specs.declared.refusal.Refused.{Refused};
 ghost use Rattle.messages.specs.declared.refusal.Refused.TheVariants.{NoMemory};
 ghost use Rattle.messages.specs.Shapes.{IsShape};
 ghost use Rattle.cluster_core.specs.World.{first_world};
-ghost use Rattle.cluster_core.specs.Next.{kept_next};
+ghost use Rattle.cluster_core.specs.Next.{delivery, kept_next};
 ghost use Rattle.cluster_core.specs.Parts.{world_state};
+ghost use Rattle.cluster_core.specs.Changes.{Plans};
 ghost use Rattle.cluster_core.specs.Runs.{Leads};
 ghost use Rattle.cluster_core.specs.Journals.{journal_of, GoesOn};
 ghost use Rattle.cluster_core.specs.Histories.{HasOneHistory};
@@ -16,11 +19,13 @@ ghost use Rattle.cluster_core.specs.Numbers.{LeadsToNumbers};
 ghost use Rattle.cluster_core.specs.Evidence.{DenialsHaveEvidence};
 
 use crate::journal::Journal;
-use crate::world::World;
+use crate::world::change::Change;
+use crate::world::{JOURNAL_LIMIT, World};
 use messages::entry::Entry;
 use messages::event::Event;
 use messages::refusal::Refused;
 use messages::shape::Shape;
+use messages::shared_message::SharedMessage;
 use std::alloc::{AllocError, Global};
 use std::marker::Model;
 
@@ -86,10 +91,61 @@ impl Run {
         ensures unchanged { OnErr result (self.new ≡ self.old) }
     {
         let change = self.world.plan(alloc, &event)?;
+        self.world.keep_index(alloc, &event)?;
+        Ok(self.go_on(alloc, event, change)?)
+    }
+
+    // The event happens as it was planned, and its entry comes last.
+    fn go_on(&mut self, alloc: Global, event: Event, change: Change) -> Result<(), AllocError>
+        requires { Plans self.old.world event change }
+        ensures ok { OnOk result (GoesOn self.old event self.new) }
+        ensures unchanged { OnErr result (self.new ≡ self.old) }
+    {
         self.entries.reserve(1)?;
         let entry = self.world.apply(alloc, event, change)?;
         self.entries.push_reserved(entry);
         Ok(())
+    }
+
+    /// The message at that place in the order of sending, from 0, comes, as `take` has it. It need not be
+    /// looked for.
+    ///
+    /// # Errors
+    /// Those of `World::step`; where no message was sent so far that stands there, `Stranger`, but `JournalFull`
+    /// where the run has 1,048,576 entries. The run is then as it was.
+    #[tactic(auto, using(crate::proofs::steps::KnownMessages::among_there))]
+    pub fn deliver(&mut self, alloc: Global, place: usize) -> Result<(), Refused>
+        ensures ok { OnOk result ((m : Message) × (slice_get self.old.world.sent place ≡ Some m) × GoesOn self.old (Deliver m) self.new) }
+        ensures err { IfErr result (λ e. e ≢ NoMemory → delivery self.old.entries (world_state self.old.world) (slice_get self.old.world.sent place) ≡ Err e) }
+
+        // Want of memory never stands in the place of a refusal, but of `Spent`.
+        ensures refused { (e : Refused) → e ≢ Refused.Spent → delivery self.old.entries (world_state self.old.world) (slice_get self.old.world.sent place) ≡ Err e → result ≡ Err e }
+        ensures unchanged { OnErr result (self.new ≡ self.old) }
+    {
+        let Some(message) = self.sent_at(place) else {
+            return Err(self.unsent());
+        };
+        let change = self.world.plan_sent(alloc, message.get())?;
+        let event = Event::Deliver(message.share()?);
+        Ok(self.go_on(alloc, event, change)?)
+    }
+
+    // The message at that place in the order of sending.
+    fn sent_at(&self, place: usize) -> Option<&SharedMessage>
+        ensures { MatchOption result (slice_get self.now.world.sent place ≡ None) (λ message. slice_get self.now.world.sent place ≡ Some message.now) }
+    {
+        self.world.sent().get(place)
+    }
+
+    // Why a message that was not sent can't be delivered.
+    fn unsent(&self) -> Refused
+        ensures { delivery self.now.entries (world_state self.now.world) None ≡ Err result }
+    {
+        if self.entries.len() >= JOURNAL_LIMIT as usize {
+            Refused::JournalFull
+        } else {
+            Refused::Stranger
+        }
     }
 
     /// The world to which the entries lead: tokens of two nodes don't conflict, and locks are covered

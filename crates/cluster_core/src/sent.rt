@@ -1,23 +1,25 @@
 //! Messages that were sent.
-ghost use Rattle.std.specs.Prelude.{◌≡◌, [], ◌∷◌, ◌++◌, IfOk, OnOk, OnErr};
+ghost use Rattle.std.specs.Prelude.{◌≡◌, [], ◌∷◌, ◌++◌, IfOk, IfSome, OnOk, OnErr};
 ghost use Rattle.messages.specs.Messages.{is_among};
+ghost use Rattle.cluster_core.specs.SentIndexes.{Knows};
 
-use crate::sent_index::SentIndex;
+use crate::sent_index::{SentIndex, is_this};
 use messages::message::Message;
 use messages::sends::Sends;
 use messages::shared_message::SharedMessage;
 use std::alloc::{AllocError, Global};
 use std::marker::Model;
 
-/// Every message that was sent so far, in order of sending; equal messages stand there each.
+/// Every message that was sent so far, in order of sending; equal messages stand there each. An index finds
+/// them from the time on that somebody asks for one; who names them by their places needs none.
 #[derive(Drop)]
 pub struct Sent {
     messages: Vec<SharedMessage>,
-    index: SentIndex,
+    index: Option<SentIndex>,
 }
 
 impl Model for Sent {
-    ghost use Rattle.std.specs.Prelude.{List};
+    ghost use Rattle.std.specs.Prelude.{List, IfSome};
     ghost use Rattle.messages.specs.declared.message.Message.{Message};
     ghost use Rattle.cluster_core.specs.SentIndexes.{Knows};
 
@@ -25,7 +27,7 @@ impl Model for Sent {
 
     ghost view = { λ s. s.messages.items };
 
-    ghost invariant = { λ s. Knows s.index.places s.index.others.items s.messages.items };
+    ghost invariant = { λ s. IfSome s.index (λ index. Knows index.places index.others.items s.messages.items) };
 }
 
 impl Sent {
@@ -35,15 +37,31 @@ impl Sent {
     {
         Sent {
             messages: Vec::new(alloc),
-            index: SentIndex::new(alloc),
+            index: None,
         }
     }
 
-    /// Whether the message was sent.
+    /// Whether the message was sent. Without an index it is looked for among all.
     pub fn contains(&self, message: &Message) -> bool
         ensures { result ≡ is_among self.now message.now }
     {
-        self.index.has(self.messages.as_slice(), message)
+        match &self.index {
+            Some(index) => index.has(self.messages.as_slice(), message),
+            None => is_among(self.messages.as_slice(), message),
+        }
+    }
+
+    /// An index finds each message from now on, also those that are sent later.
+    ///
+    /// # Errors
+    /// `AllocError` where a request for memory was refused.
+    pub fn keep_index(&mut self, alloc: Global) -> Result<(), AllocError>
+        ensures { self.new ≡ self.old }
+    {
+        if self.index.is_none() {
+            self.index = Some(index_of(alloc, self.messages.as_slice())?);
+        }
+        Ok(())
     }
 
     /// The messages in order of sending.
@@ -60,10 +78,17 @@ impl Sent {
     pub fn as_sent(&self, message: &SharedMessage) -> Result<SharedMessage, AllocError>
         ensures { IfOk result (λ shared. shared ≡ message.now) }
     {
-        match self.index.find(self.messages.as_slice(), message.get()) {
+        match self.find(message.get()) {
             Some(found) => found.share(),
             None => message.share(),
         }
+    }
+
+    // The message as it was sent, where the index finds it at once.
+    fn find(&self, message: &Message) -> Option<&SharedMessage>
+        ensures { IfSome result (λ found. found.now ≡ message.now) }
+    {
+        self.index.as_ref()?.find(self.messages.as_slice(), message)
     }
 
     /// Copies of these messages are sent too, in their order, and shared with whoever sends them.
@@ -76,12 +101,46 @@ impl Sent {
         ensures err { OnErr result (self.new ≡ self.old) }
     {
         let sends = Sends::copies(alloc, messages)?;
-        self.index.reserve(messages.len())?;
-        let start = self.messages.len();
-        add_shares(&mut self.messages, sends.as_slice())?;
-        self.index.note_from(self.messages.as_slice(), start);
+        match &mut self.index {
+            Some(index) => add_noted(&mut self.messages, index, sends.as_slice())?,
+            None => add_shares(&mut self.messages, sends.as_slice())?,
+        }
         Ok(sends)
     }
+}
+
+// Whether the message is one of those that were sent.
+fn is_among(sent: &[SharedMessage], message: &Message) -> bool
+    ensures { result ≡ is_among sent.now message.now }
+{
+    sent.iter().any(|other| is_this(message, other))
+}
+
+// The index of the messages that were sent.
+fn index_of(alloc: Global, sent: &[SharedMessage]) -> Result<SentIndex, AllocError>
+    ensures { IfOk result (λ index. Knows index.places index.others.items sent.now) }
+{
+    let mut index = SentIndex::new(alloc);
+    index.reserve(sent.len())?;
+    index.note_from(sent, 0);
+    Ok(index)
+}
+
+// The messages come last, shared, and in the index too, or none of them.
+fn add_noted(
+    sent: &mut Vec<SharedMessage>,
+    index: &mut SentIndex,
+    messages: &[SharedMessage],
+) -> Result<(), AllocError>
+    ensures ok { OnOk result (sent.new.items ≡ sent.old.items ++ messages.now) }
+    ensures err { OnErr result (sent.new.items ≡ sent.old.items) }
+    ensures knows { Knows index.old.places index.old.others.items sent.old.items → Knows index.new.places index.new.others.items sent.new.items }
+{
+    index.reserve(messages.len())?;
+    let start = sent.len();
+    add_shares(sent, messages)?;
+    index.note_from(sent.as_slice(), start);
+    Ok(())
 }
 
 // The messages come last, shared, or none of them.

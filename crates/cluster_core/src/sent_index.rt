@@ -2,6 +2,7 @@
 ghost use Rattle.std.specs.Prelude.{◌≡◌, ◌+◌, ◌<◌, ◌≤◌, [], nat_eq, length, Some, IfSome, OnOk};
 ghost use Rattle.std.specs.HashMap.{get, spare as spare_places};
 ghost use Rattle.std.specs.Vec.{vec_capacity};
+ghost use Rattle.messages.specs.Messages.{same_message};
 ghost use Rattle.cluster_core.specs.SentIndexes.{fingerprint, has, stands_at, stands_among, KnowsFirst, SaysTheSame};
 
 use messages::message::Message;
@@ -27,12 +28,19 @@ fn fingerprint(message: &Message) -> u32
     (hasher.finish() % 4_294_967_296) as u32
 }
 
+// Whether the other message is this one.
+pub(crate) fn is_this(message: &Message, other: &SharedMessage) -> bool
+    ensures { result ≡ same_message message.now other.now }
+{
+    other.same(message)
+}
+
 // Whether the message stands at that place of those that were sent.
 fn stands_at(sent: &[SharedMessage], message: &Message, place: usize) -> bool
     ensures { result ≡ stands_at sent.now message.now (Some place) }
 {
     match sent.get(place) {
-        Some(other) => other.same(message),
+        Some(other) => is_this(message, other),
         None => false,
     }
 }

@@ -2,7 +2,7 @@
 ghost use Rattle.std.specs.Prelude.{◌≡◌, ◌≢◌, ◌<◌, true, false, Ok, Err, ◌++◌, ◌∷◌, [], IfOk, IfErr, OnOk, OnErr, length, ◌-◌, slice_index_or};
 ghost use Rattle.messages.specs.declared.refusal.Refused.TheVariants.{NoMemory};
 ghost use Rattle.messages.specs.declared.refusal.StepError.TheVariants.{NoMemory as OutOfMemory};
-ghost use Rattle.messages.specs.Messages.{is_within};
+ghost use Rattle.messages.specs.Messages.{addressee, is_among, is_within};
 ghost use Rattle.messages.specs.Entries.{NamesItsIncarnation};
 ghost use Rattle.messages.specs.Shapes.{IsShape, most_files};
 ghost use Rattle.model.specs.Limits.{IsNumber, most_nodes};
@@ -14,7 +14,7 @@ ghost use Rattle.token_server.specs.Server.{server_rule};
 ghost use Rattle.token_server.specs.Parts.{ServerParts, server_state};
 ghost use Rattle.token_server.specs.Edits.{planned, Fits as ServerFits};
 ghost use Rattle.cluster_core.specs.World.{WorldState, journal_limit, was_declared, first_world};
-ghost use Rattle.cluster_core.specs.Next.{is_known, is_fenced, has_actor, declare_rule, restart_rule, named_incarnation, after_node, after_server, taken, next, kept_next};
+ghost use Rattle.cluster_core.specs.Next.{is_known, is_fenced, is_stopped, has_actor, declare_rule, restart_rule, named_incarnation, after_node, after_server, taken, next, kept_next};
 ghost use Rattle.cluster_core.specs.Parts.{world_state, IsStepOf, IsServerStepOf, IsTakenByNode, IsRest};
 ghost use Rattle.cluster_core.specs.Changes.{IsNodeChange, IsServerChange, IsRestart, Makes, Plans};
 ghost use Rattle.messages.specs.declared.event.Event.TheVariants as event;
@@ -234,6 +234,17 @@ impl World {
         self.members.declared(node, incarnation)
     }
 
+    // Whether the actor is a node or a server that was declared failed and is not started again.
+    fn is_stopped(&self, actor: &Actor) -> bool
+        requires { has_actor (world_state self.now) actor.now ≡ true }
+        ensures { result ≡ is_stopped (world_state self.now) actor.now }
+    {
+        match actor {
+            Actor::Node(node) => !self.is_alive(*node),
+            Actor::Server(file) => !self.works(*file),
+        }
+    }
+
     // Whether the event would be a step of a node or a server that was declared failed.
     fn is_fenced(&self, event: &Event) -> bool
         requires { is_known (world_state self.now) event.now ≡ true }
@@ -243,10 +254,7 @@ impl World {
             Event::Call { node, .. } => !self.is_alive(*node),
             Event::Interrupt { node, .. } => !self.is_alive(*node),
             Event::Retry { node, .. } => !self.is_alive(*node),
-            Event::Deliver(message) => match message.get().addressee() {
-                Actor::Node(node) => !self.is_alive(node),
-                Actor::Server(file) => !self.works(file),
-            },
+            Event::Deliver(message) => self.is_stopped(&message.get().addressee()),
             Event::Resend { file } => !self.works(*file),
             Event::Learn { file, .. } => !self.works(*file),
             Event::Declare { .. } => false,
@@ -423,6 +431,20 @@ impl World {
         Ok(Change::OfServer { file, change })
     }
 
+    // What the actor to which the message goes will do where it comes.
+    fn plan_delivery(&self, alloc: Global, message: &Message) -> Result<Change, Refused>
+        requires known { has_actor (world_state self.now) (addressee message.now) ≡ true }
+        requires free { is_stopped (world_state self.now) (addressee message.now) ≡ false }
+        ensures ok { IfOk result (λ change. Makes self.now (Deliver message.now) change (taken (world_state self.now) (Deliver message.now))) }
+        ensures err { IfErr result (λ e. e ≢ NoMemory → taken (world_state self.now) (Deliver message.now) ≡ Err e) }
+        ensures refused { (e : Refused) → e ≢ Refused.Spent → taken (world_state self.now) (Deliver message.now) ≡ Err e → result ≡ Err e }
+    {
+        match message.addressee() {
+            Actor::Node(node) => self.plan_node_delivery(alloc, node, message),
+            Actor::Server(file) => self.plan_server_delivery(alloc, file, message),
+        }
+    }
+
     // What comes of a declaration of the node.
     fn plan_declare(&self, node: u8) -> Result<Change, Refused>
         requires { is_within self.now.shape.nodes node ≡ true }
@@ -462,10 +484,7 @@ impl World {
                 let step = NodeEvent::Call { pid: *pid, op: *op };
                 self.plan_node(alloc, event, *node, &step)
             }
-            Event::Deliver(message) => match message.get().addressee() {
-                Actor::Node(node) => self.plan_node_delivery(alloc, node, message.get()),
-                Actor::Server(file) => self.plan_server_delivery(alloc, file, message.get()),
-            },
+            Event::Deliver(message) => self.plan_delivery(alloc, message.get()),
             Event::Interrupt { node, pid } => {
                 self.plan_node(alloc, event, *node, &NodeEvent::Interrupt { pid: *pid })
             }
@@ -510,6 +529,41 @@ impl World {
             return Err(Refused::Fenced);
         }
         self.plan_taken(alloc, event)
+    }
+
+    /// What the event will do where this message comes, which was sent: as `plan` has it.
+    ///
+    /// # Errors
+    /// Those of `step`.
+    pub(crate) fn plan_sent(&self, alloc: Global, message: &Message) -> Result<Change, Refused>
+        requires { is_among self.now.sent message.now ≡ true }
+        ensures ok { IfOk result (λ change. Plans self.now (Deliver message.now) change) }
+        ensures err { IfErr result (λ e. e ≢ NoMemory → kept_next (world_state self.now) (Deliver message.now) ≡ Err e) }
+        ensures refused { (e : Refused) → e ≢ Refused.Spent → kept_next (world_state self.now) (Deliver message.now) ≡ Err e → result ≡ Err e }
+    {
+        if self.length >= JOURNAL_LIMIT {
+            return Err(Refused::JournalFull);
+        }
+        if !self.has_actor(&message.addressee()) {
+            return Err(Refused::Stranger);
+        }
+        if self.is_stopped(&message.addressee()) {
+            return Err(Refused::Fenced);
+        }
+        self.plan_delivery(alloc, message)
+    }
+
+    /// Messages that come by themselves are found by an index from now on, if the event is of such a one.
+    ///
+    /// # Errors
+    /// `AllocError` where a request for memory was refused.
+    pub(crate) fn keep_index(&mut self, alloc: Global, event: &Event) -> Result<(), AllocError>
+        ensures { self.new ≡ self.old }
+    {
+        match event {
+            Event::Deliver(_) => self.sent.keep_index(alloc),
+            _ => Ok(()),
+        }
     }
 
     // The node does the step that was planned.
@@ -638,6 +692,7 @@ impl World {
         ensures unchanged { OnErr result (self.new ≡ self.old) }
     {
         let change = self.plan(alloc, &event)?;
+        self.keep_index(alloc, &event)?;
         Ok(self.apply(alloc, event, change)?)
     }
 

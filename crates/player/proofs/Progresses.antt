@@ -18,7 +18,7 @@ use Rattle.cluster_core.proofs.steps.Steps.{kept_taken}
 use Rattle.lockscript.specs.declared.script_line.Command.{Command}
 use Rattle.lockscript.specs.declared.script_line.Command.TheVariants.{Call, Deliver, Lose, Settle, Interrupt, Retry, Resend, Declare, Restart, Learn, FailServer, StartServer}
 use Rattle.lockscript.specs.Scripts.{LineFields}
-use Rattle.player.specs.Progress.{Progress, End, after_entry, after_refusal, delivery, index_of, lost, settling, Comes, Ends, Happens, InTurn, Passes, Delivers, Does, RunsTo}
+use Rattle.player.specs.Progress.{Progress, End, after_entry, after_refusal, index_of, lost, settling, Comes, Ends, Happens, InTurn, Passes, Delivers, Does, RunsTo}
 
 -- the entries so far lead from a world to the world so far
 abbrev pub LeadsFrom : WorldState → Progress → Type 0
@@ -65,7 +65,7 @@ unsent_leads : (w : WorldState) (line : ℕ) (p : Progress) (end : End) (full : 
 unsent_leads w line p end true leads ends = end_leads w None end ends tt
 unsent_leads w line p end false leads ends = end_leads w (Some (after_refusal p line Stranger)) end ends leads
 
-comes_leads : (w : WorldState) (line index : ℕ) (p : Progress) (end : End) (o : Option Message) → LeadsFrom w p → Comes line index p (delivery p o) end → EndLeads w end
+comes_leads : (w : WorldState) (line index : ℕ) (p : Progress) (end : End) (o : Option Message) → LeadsFrom w p → Comes line index p (delivery p.entries p.world o) end → EndLeads w end
 comes_leads w line index p end (Some m) leads comes = deliver_leads w line index m p end (kept_next p.world (event.Deliver m)) refl leads comes
 comes_leads w line index p end None leads comes = unsent_leads w line p end (nat_le journal_limit (length p.entries)) leads comes
 

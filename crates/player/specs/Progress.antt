@@ -9,7 +9,7 @@ use Rattle.messages.specs.declared.entry.Entry.{Entry}
 use Rattle.messages.specs.Refusals.{number_of}
 use Rattle.messages.specs.Shapes.{ShapeFields}
 use Rattle.cluster_core.specs.World.{WorldState, first_world, journal_limit}
-use Rattle.cluster_core.specs.Next.{kept_next}
+use Rattle.cluster_core.specs.Next.{delivery, kept_next}
 use Rattle.lockscript.specs.declared.refused_line.RefusedLine.{RefusedLine}
 use Rattle.lockscript.specs.declared.script_line.Command.{Command}
 use Rattle.lockscript.specs.declared.script_line.Command.TheVariants.{Call, Deliver, Lose, Settle, Interrupt, Retry, Resend, Declare, Restart, Learn, FailServer, StartServer}
@@ -96,11 +96,6 @@ Settles line p end = (ms : List Message) × InTurn (Delivers line) (Some p) ms e
 abbrev pub index_of : ℕ → ℕ
 index_of number = number - 1
 
--- the delivery of a message that a line names, if it was sent; of one that was not, it is refused
-abbrev pub delivery : Progress → Option Message → Result (WorldState × Entry) Refused
-delivery p (Some m) = kept_next p.world (event.Deliver m)
-delivery p None = Err (if nat_le journal_limit (length p.entries) then JournalFull else Stranger)
-
 -- a delivery that a line names settles the message, unless it is refused
 abbrev pub after_delivery : ℕ → Progress → Result (WorldState × Entry) Refused → Progress
 after_delivery index p (Ok made) = settling index p
@@ -116,7 +111,7 @@ lost line index p = if nat_lt index (length p.world.sent) then settling index p 
 -- what the command of a line does
 abbrev pub Does : ℕ → Command → Progress → End → Type 0
 Does line (Call node pid op) p end = Happens line (event.Call node pid op) p end
-Does line (Deliver number) p end = Comes line (index_of number) p (delivery p (slice_get p.world.sent (index_of number))) end
+Does line (Deliver number) p end = Comes line (index_of number) p (delivery p.entries p.world (slice_get p.world.sent (index_of number))) end
 Does line (Lose number) p end = end ≡ Some (lost line (index_of number) p)
 Does line Settle p end = Settles line p end
 Does line (Interrupt node pid) p end = Happens line (event.Interrupt node pid) p end

@@ -1,27 +1,26 @@
 //! The run of a script, line by line.
-ghost use Rattle.std.specs.Prelude.{◌≡◌, ◌+◌, ◌<◌, ◌≤◌, Err, Some, None, IfErr, IfOk, IfSome, MatchOption, OnOk};
+ghost use Rattle.std.specs.Prelude.{◌≡◌, ◌+◌, ◌<◌, ◌≤◌, true, false, Err, Some, None, IfErr, IfOk, OnOk};
 ghost use Rattle.cluster_core.specs.Histories.{HasOneHistory};
 ghost use Rattle.cluster_core.specs.Parts.{world_state};
 ghost use Rattle.cluster_core.specs.Runs.{Leads};
 ghost use Rattle.cluster_core.specs.Safe.{IsSafe};
 ghost use Rattle.cluster_core.specs.World.{first_world};
+ghost use Rattle.messages.specs.declared.message.Message.{Message};
 ghost use Rattle.lockscript.specs.declared.play_error.PlayError.TheVariants.{NoMemory, JournalFull};
 ghost use Rattle.player.specs.Parts.{progress, state_of};
 ghost use Rattle.player.specs.Played.{played_of};
-ghost use Rattle.player.specs.Progress.{delivery, first_progress, progress_after, Comes, Delivers, Does, Ends, Happens, IsNextMessage, IsSettled, Settles};
+ghost use Rattle.player.specs.Progress.{first_progress, progress_after, Comes, Delivers, Does, Ends, Happens, IsNextMessage, IsSettled, Settles};
 
 use crate::played::Played;
 use crate::settled::Settled;
 use cluster_core::journal::Journal;
 use cluster_core::run::Run;
-use cluster_core::world::JOURNAL_LIMIT;
 use lockscript::play_error::PlayError;
 use lockscript::refused_line::RefusedLine;
 use lockscript::script_line::{Command, ScriptLine};
 use messages::event::Event;
 use messages::refusal::Refused;
 use messages::shape::Shape;
-use messages::shared_message::SharedMessage;
 use std::alloc::Global;
 use std::marker::Model;
 
@@ -172,44 +171,13 @@ impl Player {
         }
     }
 
-    // Why a message that was not sent can't be delivered.
-    fn unsent(&self) -> Refused
-        ensures { delivery (progress self.now) None ≡ Err result }
-    {
-        if self.run.entries().len() >= JOURNAL_LIMIT as usize {
-            Refused::JournalFull
-        } else {
-            Refused::Stranger
-        }
-    }
-
     // Delivers the message of this number, which settles it unless its delivery is refused.
     fn deliver(&mut self, alloc: Global, line: u32, number: u32) -> Result<(), PlayError>
         ensures ok { OnOk result (Does line (Command.Deliver number) (progress self.old) (Some (progress self.new))) }
         ensures full { IfErr result (λ error. error ≡ JournalFull → Does line (Command.Deliver number) (progress self.old) None) }
     {
         let index = (number as usize).saturating_sub(1);
-        match self.run.world().sent().get(index) {
-            Some(message) => {
-                let message = message.share()?;
-                self.deliver_sent(alloc, line, index, message)
-            }
-            None => self.refuse(line, self.unsent()),
-        }
-    }
-
-    // Delivers the message of this index.
-    fn deliver_sent(
-        &mut self,
-        alloc: Global,
-        line: u32,
-        index: usize,
-        message: SharedMessage,
-    ) -> Result<(), PlayError>
-        ensures ok { OnOk result (Comes line index (progress self.old) (delivery (progress self.old) (Some message)) (Some (progress self.new))) }
-        ensures full { IfErr result (λ error. error ≡ JournalFull → Comes line index (progress self.old) (delivery (progress self.old) (Some message)) None) }
-    {
-        match self.run.take(alloc, Event::Deliver(message)) {
+        match self.run.deliver(alloc, index) {
             Ok(()) => self.settled.settle(index)?,
             Err(refusal) => self.refuse(line, refusal)?,
         }
@@ -230,37 +198,30 @@ impl Player {
         Ok(())
     }
 
-    // The earliest message that is not settled, at which the cursor stands from now on.
-    fn next_message(&mut self) -> Result<Option<SharedMessage>, PlayError>
-        ensures same { OnOk result (progress self.new ≡ progress self.old) }
-        ensures message { IfOk result (λ next. MatchOption next (IsSettled (progress self.new)) (λ message. IsNextMessage (progress self.new) self.new.settled.cursor message)) }
-        ensures room { IfOk result (λ next. IfSome next (λ _. self.new.settled.cursor < usize.MAX)) }
-        ensures rises { OnOk result (self.old.settled.cursor ≤ self.new.settled.cursor) }
-        ensures err { IfErr result (λ error. error ≡ NoMemory) }
+    // Moves the cursor to the earliest message that is not settled: whether there is one.
+    fn has_next(&mut self) -> bool
+        ensures same { progress self.new ≡ progress self.old }
+        ensures next { result ≡ true → (m : Message) × IsNextMessage (progress self.new) self.new.settled.cursor m }
+        ensures settled { result ≡ false → IsSettled (progress self.new) }
+        ensures room { result ≡ true → self.new.settled.cursor < usize.MAX }
+        ensures rises { self.old.settled.cursor ≤ self.new.settled.cursor }
     {
         self.settled.advance();
-        match self.run.world().sent().get(self.settled.cursor()) {
-            Some(message) => Ok(Some(message.share()?)),
-            None => Ok(None),
-        }
+        self.settled.cursor() < self.run.world().sent().len()
     }
 
     // Delivers the message at the cursor, or passes over it where its delivery is refused: silently
     // where its node or its server was declared failed.
-    fn deliver_next(
-        &mut self,
-        alloc: Global,
-        line: u32,
-        message: SharedMessage,
-    ) -> Result<(), PlayError>
-        requires next_one { IsNextMessage (progress self.old) self.old.settled.cursor message }
+    fn deliver_next(&mut self, alloc: Global, line: u32) -> Result<(), PlayError>
+        requires next_one { (m : Message) × IsNextMessage (progress self.old) self.old.settled.cursor m }
         requires room { self.old.settled.cursor < usize.MAX }
-        ensures ok { OnOk result (Delivers line message (progress self.old) (Some (progress self.new))) }
-        ensures full { IfErr result (λ error. error ≡ JournalFull → Delivers line message (progress self.old) None) }
+        ensures ok { OnOk result ((m : Message) × Delivers line m (progress self.old) (Some (progress self.new))) }
+        ensures full { IfErr result (λ error. error ≡ JournalFull → (m : Message) × Delivers line m (progress self.old) None) }
         ensures rises { OnOk result (self.new.settled.cursor ≡ self.old.settled.cursor + 1) }
     {
+        let index = self.settled.cursor();
         self.settled.pass();
-        match self.run.take(alloc, Event::Deliver(message)) {
+        match self.run.deliver(alloc, index) {
             Ok(()) => {}
             Err(Refused::Fenced) => {}
             Err(refusal) => self.refuse(line, refusal)?,
@@ -274,8 +235,8 @@ impl Player {
         ensures ok { OnOk result (Settles line (progress self.old) (Some (progress self.new))) }
         ensures full { IfErr result (λ error. error ≡ JournalFull → Settles line (progress self.old) None) }
     {
-        while let Some(message) = self.next_message()? {
-            self.deliver_next(alloc, line, message)?;
+        while self.has_next() {
+            self.deliver_next(alloc, line)?;
         }
         Ok(())
     }

@@ -26,6 +26,14 @@ sent_now xs ys m h = is_among-append xs ys m ∙ or_right (is_among xs m) (is_am
 pub sent_either : (xs ys : List Message) (m : Message) → is_among (xs ++ ys) m ≡ true → (is_among xs m ≡ true) ⊎ (is_among ys m ≡ true)
 sent_either xs ys m h = or_cases (is_among xs m) (is_among ys m) (sym (is_among-append xs ys m) ∙ h)
 
+-- a message that stands somewhere
+pub among_there : (sent : List Message) (k : ℕ) (m : Message) → slice_get sent k ≡ Some m → is_among sent m ≡ true
+among_there [] k m there = let lt = slice_get_within [] k m there in absurd (omega arith)
+among_there (x ∷ xs) zero m there =
+    let same : x ≡ m = cc in
+    or_left (same_message m x) (is_among xs m) ((same_message-is-equality m x).1 (sym same))
+among_there (x ∷ xs) (suc k) m there = or_right (same_message m x) (is_among xs m) (among_there xs k m there)
+
 -- no message
 pub knows_none : (places : Places) → ((f : ℕ) → get nat_eq places f ≡ None) → KnowsFirst places [] [] 0
 knows_none places none = record {
@@ -40,10 +48,12 @@ same_truth true s f g = sym (f refl)
 same_truth false true f g = g refl
 same_truth false false f g = refl
 
-pub stands_there : (sent : List Message) (m other : Message) (k : ℕ) (o : Option ℕ) (r : Bool) → o ≡ Some k → slice_get sent k ≡ Some other → IsTrue r ↔ (m ≡ other) → r ≡ stands_at sent m o
-stands_there sent m other k o r found there same =
-    same_truth r (same_message m other) (λ yes. (same_message-is-equality m other).1 (same.0 yes)) (λ yes. same.1 ((same_message-is-equality m other).0 yes))
-    ∙ (ap (is_this m) (sym there) ∙ ap (stands_at sent m) (sym found))
+pub told_same : (m other : Message) (r : Bool) → IsTrue r ↔ (other ≡ m) → r ≡ same_message m other
+told_same m other r same =
+    same_truth r (same_message m other) (λ yes. (same_message-is-equality m other).1 (sym (same.0 yes))) (λ yes. same.1 (sym ((same_message-is-equality m other).0 yes)))
+
+pub stands_there : (sent : List Message) (m other : Message) (k : ℕ) (o : Option ℕ) (r : Bool) → o ≡ Some k → slice_get sent k ≡ Some other → r ≡ same_message m other → r ≡ stands_at sent m o
+stands_there sent m other k o r found there same = same ∙ (ap (is_this m) (sym there) ∙ ap (stands_at sent m) (sym found))
 
 pub stands_nowhere : (sent : List Message) (m : Message) (k : ℕ) (o : Option ℕ) → o ≡ Some k → length sent ≤ k → false ≡ stands_at sent m o
 stands_nowhere sent m k o found past = ap (is_this m) (sym (slice_get_past sent k past)) ∙ ap (stands_at sent m) (sym found)

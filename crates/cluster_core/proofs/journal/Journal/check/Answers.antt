@@ -1,8 +1,9 @@
 use Rattle.std.specs.Prelude.{slice_index_or}
-use Rattle.std.proofs.Common.{◌≡◌, ◌∙◌, ℕ, ◌+◌, ◌<◌, sym, subst, arith, List, length, take}
+use Rattle.std.proofs.Common.{◌≡◌, ◌∙◌, ℕ, ◌+◌, ◌<◌, ◌≤◌, sym, subst, arith, List, length, take}
 use Rattle.std.proofs.lemmas.List.{take_all}
 use Rattle.messages.specs.declared.entry.Entry.{Entry}
-use Rattle.cluster_core.specs.World.{first_world, journal_limit}
+use Rattle.messages.specs.Shapes.{ShapeFields}
+use Rattle.cluster_core.specs.World.{WorldState, first_world, journal_limit}
 use Rattle.cluster_core.specs.Parts.{world_state}
 use Rattle.cluster_core.specs.Runs.{Leads}
 use Rattle.cluster_core.specs.Journals.{IsFirstWrong}
@@ -53,16 +54,16 @@ returns-then-not-branch-clause-wrong c = λ position told.
     subst P same wrong
 
 -- the entries are all taken
-all_led : (c : goal.After-drop-world-inside-8) → Leads (first_world c.args.shape) c.args.entries.items (world_state c.loop-index.world)
-all_led c =
-    let led = subst (λ (es : List Entry). Leads (first_world c.args.shape) (take c.loop-index.index es) (world_state c.loop-index.world)) c.loop-index.invariant.kept c.loop-index.invariant.leads in
-    subst (λ (es : List Entry). Leads (first_world c.args.shape) es (world_state c.loop-index.world)) (take_all c.loop-index.index c.args.entries.items (omega (arith, c.loop-index-test.false))) led
+all_led : (shape : ShapeFields) (all es : List Entry) (index : ℕ) (w : WorldState) → es ≡ all → Leads (first_world shape) (take index es) w → length all ≤ index → Leads (first_world shape) all w
+all_led shape all es index w kept leads past =
+    let led = subst (λ (xs : List Entry). Leads (first_world shape) (take index xs) w) kept leads in
+    subst (λ (xs : List Entry). Leads (first_world shape) xs w) (take_all index all past) led
 
 pub returns-clause-one_table : goal.returns-clause-one_table
-returns-clause-one_table c = every_run c.args.shape c.args.entries.items (world_state c.loop-index.world) c.in_ok-world.ensures.within (all_led c)
+returns-clause-one_table c = every_run c.args.shape c.args.entries.items (world_state c.loop-index.world) c.in_ok-world.ensures.within (all_led c.args.shape c.args.entries.items c.loop-index.entries.items c.loop-index.index (world_state c.loop-index.world) c.loop-index.invariant.kept c.loop-index.invariant.leads (omega (arith, c.loop-index-test.false)))
 
 pub returns-clause-plain : goal.returns-clause-plain
-returns-clause-plain c = every_plain c.args.shape c.args.entries.items (world_state c.loop-index.world) c.in_ok-world.ensures.within (all_led c)
+returns-clause-plain c = every_plain c.args.shape c.args.entries.items (world_state c.loop-index.world) c.in_ok-world.ensures.within (all_led c.args.shape c.args.entries.items c.loop-index.entries.items c.loop-index.index (world_state c.loop-index.world) c.loop-index.invariant.kept c.loop-index.invariant.leads (omega (arith, c.loop-index-test.false)))
 
 pub returns-clause-safe : goal.returns-clause-safe
 returns-clause-safe c = λ w leads. safe_run c.args.shape c.args.entries.items w c.in_ok-world.ensures.within leads
