@@ -1,5 +1,5 @@
 -- Runs of scripts lead from world to world.
-use Rattle.std.proofs.Common.{◌≡◌, ℕ, Bool, true, false, if◌then◌else◌, Option, Some, None, refl, sym, subst, List, [], ◌∷◌, ◌++◌, length, reverse}
+use Rattle.std.proofs.Common.{◌≡◌, ℕ, zero, suc, ◌<◌, arith, Bool, true, false, if◌then◌else◌, Option, Some, None, refl, sym, subst, List, [], ◌∷◌, ◌++◌, length, reverse}
 use Rattle.std.specs.Prelude.{nat_le, nat_lt, slice_get, IfSome}
 use Rattle.std.specs.declared.result.Result.{Result}
 use Rattle.std.specs.declared.result.Result.TheVariants.{Ok, Err}
@@ -11,14 +11,14 @@ use Rattle.messages.specs.declared.event.Event.TheVariants as event
 use Rattle.messages.specs.declared.message.Message.{Message}
 use Rattle.messages.specs.declared.entry.Entry.{Entry}
 use Rattle.cluster_core.specs.World.{WorldState, journal_limit}
-use Rattle.cluster_core.specs.Next.{next, kept_next}
+use Rattle.cluster_core.specs.Next.{delivery, next, kept_next}
 use Rattle.cluster_core.specs.Runs.{Leads}
 use Rattle.cluster_core.proofs.runs.JournalRuns.{leads_push, entry_event}
 use Rattle.cluster_core.proofs.steps.Steps.{kept_taken}
 use Rattle.lockscript.specs.declared.script_line.Command.{Command}
 use Rattle.lockscript.specs.declared.script_line.Command.TheVariants.{Call, Deliver, Lose, Settle, Interrupt, Retry, Resend, Declare, Restart, Learn, FailServer, StartServer}
 use Rattle.lockscript.specs.Scripts.{LineFields}
-use Rattle.player.specs.Progress.{Progress, End, after_entry, after_refusal, index_of, lost, settling, Comes, Ends, Happens, InTurn, Passes, Delivers, Does, RunsTo}
+use Rattle.player.specs.Progress.{Progress, End, after_entry, after_refusal, index_of, lost, settling, Comes, Ends, Happens, InTurn, Passes, IsLeastUnsettled, IsNextMessage, Delivers, Does, RunsTo}
 
 -- the entries so far lead from a world to the world so far
 abbrev pub LeadsFrom : WorldState → Progress → Type 0
@@ -111,6 +111,17 @@ pub settles_push : (line : ℕ) (p q s : Progress) (end : End) (ms : List Messag
 settles_push line p q s end ms m turns same delivers =
     let P : Progress → Type 0 = λ x. Delivers line m x end in
     turns_push (Delivers line) (Some p) q end ms m turns (subst P same delivers)
+
+-- the least message that is not settled, of those that were sent
+sent_there : (ms : List Message) (index : ℕ) → index < length ms → (m : Message) × (slice_get ms index ≡ Some m)
+sent_there [] index lt = absurd (omega arith)
+sent_there (m ∷ ms) zero lt = (m, refl)
+sent_there (m ∷ ms) (suc index) lt = sent_there ms index (omega arith)
+
+pub next_there : (p : Progress) (index : ℕ) → IsLeastUnsettled p.settled index → index < length p.world.sent → (m : Message) × IsNextMessage p index m
+next_there p index least lt =
+    let there = sent_there p.world.sent index lt in
+    (there.0, record { least = least; sent = there.1 })
 
 -- a line that is done, before those that are left, of which the last comes first
 pub runs_first : (p q : Progress) (left ls : List LineFields) (l : LineFields) (end : End) → ls ≡ left ++ l ∷ [] → Does l.number l.command p (Some q) → RunsTo q (reverse left) end → RunsTo p (reverse ls) end

@@ -199,6 +199,7 @@ impl Player {
     }
 
     // Moves the cursor to the earliest message that is not settled: whether there is one.
+    #[tactic(auto, using(crate::proofs::Progresses::next_there))]
     fn has_next(&mut self) -> bool
         ensures same { progress self.new ≡ progress self.old }
         ensures next { result ≡ true → (m : Message) × IsNextMessage (progress self.new) self.new.settled.cursor m }

@@ -4,8 +4,8 @@ use Rattle.player.specs.Parts.{progress}
 use Rattle.player.specs.Progress.{Delivers, InTurn}
 use Rattle.player.proofs.player.Player.settle.Given as goal
 
-abbrev pub invariant-loop-message : goal.invariant-loop-message
-invariant-loop-message l = (ms : List Message) × InTurn (Delivers l.line) (Some (progress l.initial.self)) ms (Some (progress l.self))
+abbrev pub invariant-loop-alloc : goal.invariant-loop-alloc
+invariant-loop-alloc l = (ms : List Message) × InTurn (Delivers l.line) (Some (progress l.initial.self)) ms (Some (progress l.self))
 
-abbrev pub decreases-loop-message : goal.decreases-loop-message
-decreases-loop-message l = 2 ^ 64 - l.self.settled.cursor
+abbrev pub decreases-loop-alloc : goal.decreases-loop-alloc
+decreases-loop-alloc l = 2 ^ 64 - l.self.settled.cursor
