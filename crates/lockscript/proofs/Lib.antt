@@ -11,4 +11,3 @@ pub mod OperationKinds
 pub mod CommandKinds
 pub mod Clusters
 pub mod SameLines
-pub mod Padding

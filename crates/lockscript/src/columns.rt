@@ -1,16 +1,20 @@
 //! Columns of listings.
-ghost use Rattle.std.specs.Prelude.{◌≡◌, ◌≤◌, ◌-◌, ◌++◌, codes, replicate, string_bytes, string_len, OnOk};
-ghost use Rattle.lockscript.specs.Layout.{left_in};
+ghost use Rattle.std.specs.Prelude.{◌≡◌, ◌≤◌, ◌-◌, ◌++◌, codes, decimal, replicate, string_bytes, string_len, OnOk};
+ghost use Rattle.lockscript.specs.Layout.{left_in, right_in};
 ghost use Rattle.texts.specs.Layout.{space};
 ghost use Rattle.lockscript.specs.Listing.{placed, span_columns};
 ghost use Rattle.message_text.specs.Names.{call_text, host_text};
 
 use intervals::span::Span;
+use itoa::Buffer;
 use message_text::names::{CallName, push_host};
 use model::call::CallId;
 use std::alloc::AllocError;
 use std::fmt::Write;
 use texts::text::Text;
+
+/// The width of a column of positions.
+const POSITION_WIDTH: usize = 7;
 
 /// The width of a column of calls, or of owners.
 const NAME_WIDTH: usize = 16;
@@ -18,16 +22,43 @@ const NAME_WIDTH: usize = 16;
 /// The width of a column of nodes with their incarnations.
 const HOST_WIDTH: usize = 8;
 
+/// The width of a column of files.
+const FILE_WIDTH: usize = 3;
+
+/// The width of a column of bytes of files, the widest of all.
+const BYTE_WIDTH: usize = 19;
+
+/// As many spaces as the widest column has.
+const SPACES: &str = "                   ";
+
+// Writes this many spaces.
+fn push_spaces(out: &mut String, count: usize) -> Result<(), AllocError>
+    requires { count ≤ 19 }
+    ensures { OnOk result (string_bytes out.new ≡ string_bytes out.old ++ replicate count space) }
+{
+    out.push_str(&SPACES[..count])
+}
+
 // Fills up the column of this width that begins at byte `start` of the text.
 fn fill_column(out: &mut String, start: usize, width: usize) -> Result<(), AllocError>
-    requires { start ≤ string_len out.old }
+    requires begun { start ≤ string_len out.old }
+    requires width { width ≤ 19 }
     ensures { OnOk result (string_bytes out.new ≡ string_bytes out.old ++ replicate (width - (string_len out.old - start)) space) }
 {
     let written = out.len() - start;
-    for _ in 0..width.saturating_sub(written) {
-        out.push_str(" ")?;
-    }
-    Ok(())
+    push_spaces(out, width.saturating_sub(written))
+}
+
+// Writes a number at the right end of a column of this width.
+#[tactic(auto, unfolding(crate::specs::Layout::right_in))]
+fn push_right(out: &mut String, number: u64, width: usize) -> Result<(), AllocError>
+    requires { width ≤ 19 }
+    ensures { OnOk result (string_bytes out.new ≡ string_bytes out.old ++ right_in width (decimal number)) }
+{
+    let mut buffer = Buffer::new();
+    let digits = buffer.format(number);
+    push_spaces(out, width.saturating_sub(digits.len()))?;
+    out.push_str(digits)
 }
 
 /// Writes the name of a call or of an owner at the left end of its column.
@@ -54,11 +85,19 @@ pub(crate) fn push_host_column(
     fill_column(out, start, HOST_WIDTH)
 }
 
+/// Writes a position at the right end of its column, with a space behind it.
+pub(crate) fn push_position(out: &mut String, position: u64) -> Result<(), AllocError>
+    ensures { OnOk result (string_bytes out.new ≡ string_bytes out.old ++ right_in 7 (decimal position) ++ codes " ") }
+{
+    push_right(out, position, POSITION_WIDTH)?;
+    out.push_str(" ")
+}
+
 /// Writes a position and a call at their places in their columns, with a space behind each.
 pub(crate) fn push_placed(out: &mut String, position: u64, call: &CallId) -> Result<(), AllocError>
     ensures { OnOk result (string_bytes out.new ≡ string_bytes out.old ++ placed position (call_text call.now)) }
 {
-    write!(out, "{position:>7} ")?;
+    push_position(out, position)?;
     push_name_column::<CallName>(out, call)?;
     out.push_str(" ")
 }
@@ -73,7 +112,11 @@ pub(crate) fn push_span_line(
 ) -> Result<(), AllocError>
     ensures { OnOk result (string_bytes out.new ≡ string_bytes out.old ++ codes " " ++ span_columns file span ++ word.now ++ codes "\n") }
 {
-    let lo = span.lo;
-    let hi = span.hi;
-    writeln!(out, " {file:>3} {lo:>19} {hi:>19} {word}")
+    out.push_str(" ")?;
+    push_right(out, u64::from(file), FILE_WIDTH)?;
+    out.push_str(" ")?;
+    push_right(out, span.lo, BYTE_WIDTH)?;
+    out.push_str(" ")?;
+    push_right(out, span.hi, BYTE_WIDTH)?;
+    writeln!(out, " {word}")
 }

@@ -2,14 +2,16 @@
 ghost use Rattle.std.specs.Prelude.{◌≡◌, ◌++◌, codes, flat_map, string_bytes, IfOk, OnOk};
 ghost use Rattle.lockscript.specs.Listing.{listing_text, listing_start, history_text, lock_line, refused_line, replied, reply_lines, token_line, history_line};
 
-use crate::columns::{push_host_column, push_name_column, push_placed, push_span_line};
+use crate::columns::{
+    push_host_column, push_name_column, push_placed, push_position, push_span_line,
+};
 use crate::operations::Operation;
 use crate::refused_line::RefusedLine;
 use crate::replies::push_reply;
 use cluster_core::held_lock::HeldLock;
 use cluster_core::item::Item;
 use cluster_core::token_run::TokenRun;
-use message_text::names::OwnerName;
+use message_text::names::{OwnerName, push_host};
 use messages::entry::Entry;
 use model::call::CallId;
 use model::level::Level;
@@ -17,6 +19,7 @@ use model::mode::Mode;
 use model::reply::Reply;
 use std::alloc::{AllocError, Global};
 use std::fmt::Write;
+use texts::number::push_number;
 use texts::text::Text;
 use texts::words::Named;
 
@@ -149,6 +152,7 @@ fn push_history(out: &mut String, history: &[Item]) -> Result<(), AllocError>
 ///
 /// # Errors
 /// `AllocError` where a request for memory was refused.
+#[tactic(auto, unfolding(crate::specs::Layout::left_in))]
 pub fn push_item(out: &mut String, item: &Item) -> Result<(), AllocError>
     ensures { OnOk result (string_bytes out.new ≡ string_bytes out.old ++ history_line item.now) }
 {
@@ -161,7 +165,8 @@ pub fn push_item(out: &mut String, item: &Item) -> Result<(), AllocError>
             reply,
         } => {
             push_placed(out, u64::from(*position), id)?;
-            write!(out, "{pid} ")?;
+            push_number(out, *pid)?;
+            out.push_str(" ")?;
             Operation::write(op, out)?;
             out.push_str(" -> ")?;
             push_reply(out, reply)?;
@@ -171,6 +176,11 @@ pub fn push_item(out: &mut String, item: &Item) -> Result<(), AllocError>
             position,
             node,
             incarnation,
-        } => writeln!(out, "{position:>7} gone             {node}.{incarnation}"),
+        } => {
+            push_position(out, u64::from(*position))?;
+            out.push_str("gone             ")?;
+            push_host(out, *node, *incarnation)?;
+            out.push_str("\n")
+        }
     }
 }

@@ -17,6 +17,7 @@ use model::mode::Mode;
 use model::owner::{Kind, Owner};
 use std::alloc::AllocError;
 use std::fmt::Write;
+use texts::number::push_number;
 use texts::text::{Text, Word, after};
 use texts::words::Named;
 
@@ -34,7 +35,9 @@ fn letter_of(kind: Kind) -> &'static str
 pub fn push_host(out: &mut String, node: u8, incarnation: u16) -> Result<(), AllocError>
     ensures { OnOk result (string_bytes out.new ≡ string_bytes out.old ++ host_text node incarnation) }
 {
-    write!(out, "{node}.{incarnation}")
+    push_number(out, node)?;
+    out.push_str(".")?;
+    push_number(out, incarnation)
 }
 
 /// Writes `N.I.C`.
@@ -42,8 +45,8 @@ pub fn push_call(out: &mut String, call: &CallId) -> Result<(), AllocError>
     ensures { OnOk result (string_bytes out.new ≡ string_bytes out.old ++ call_text call.now) }
 {
     push_host(out, call.node, call.incarnation)?;
-    let number = call.number;
-    write!(out, ".{number}")
+    out.push_str(".")?;
+    push_number(out, call.number)
 }
 
 /// Writes `pPID@N.I` or `dNUMBER@N.I`.

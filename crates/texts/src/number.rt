@@ -1,13 +1,13 @@
 //! Numbers in texts.
-ghost use Rattle.std.specs.Prelude.{◌<◌, ◌^◌, min, decimal, FitsSigned, MatchBool};
+ghost use Rattle.std.specs.Prelude.{◌≡◌, ◌<◌, ◌++◌, ◌^◌, min, decimal, string_bytes, FitsSigned, MatchBool, OnOk};
 ghost use Rattle.std.specs.Fmt.{signed_decimal};
 ghost use Rattle.std.specs.Int.{w64};
 ghost use Rattle.texts.specs.Reads.{IsPlain, IsPlainSigned, IsWithin, Reads};
 
 use crate::text::{Text, Word};
 use crate::unsigned::Unsigned;
+use itoa::{Buffer, Integer};
 use std::alloc::AllocError;
-use std::fmt::Write;
 use std::marker::PhantomData;
 
 // Whether the word has no `+` in front, and no zero in front of other digits.
@@ -77,6 +77,16 @@ pub fn offset_of(word: &str) -> Option<i64>
     }
 }
 
+/// Writes a number in decimal, as `{}` does.
+///
+/// # Errors
+/// `AllocError` where a request for memory was refused.
+pub fn push_number<N: Integer>(out: &mut String, number: N) -> Result<(), AllocError>
+    ensures { OnOk result (string_bytes out.new ≡ string_bytes out.old ++ N.text number) }
+{
+    out.push_str(Buffer::new().format(number))
+}
+
 /// A number from `LEAST` to `MOST`, of those that the type has.
 pub struct Within<T, const LEAST: u64, const MOST: u64> {
     of: PhantomData<T>,
@@ -97,8 +107,7 @@ impl<T: Unsigned, const LEAST: u64, const MOST: u64> Text for Within<T, LEAST, M
     }
 
     fn write(value: &T, out: &mut String) -> Result<(), AllocError> {
-        let number = value.number();
-        write!(out, "{number}")
+        push_number(out, value.number())
     }
 }
 
@@ -119,7 +128,7 @@ impl Text for i64 {
     }
 
     fn write(value: &i64, out: &mut String) -> Result<(), AllocError> {
-        write!(out, "{value}")
+        push_number(out, *value)
     }
 }
 
