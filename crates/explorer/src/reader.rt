@@ -2,6 +2,8 @@
 ghost use Rattle.std.specs.Prelude.{◌≡◌, None, Some, MatchOption};
 ghost use Rattle.explorer.specs.Expectations.{behind, split_feed};
 
+use lockscript::lines::split_line;
+
 /// A text, and what stands behind as many of its lines as were passed last.
 #[derive(Drop)]
 pub(crate) struct Reader<'a> {
@@ -66,5 +68,5 @@ fn behind(text: &str, count: u32) -> Option<&str>
 pub(crate) fn split_feed(text: &str) -> Option<(&str, &str)>
     ensures { MatchOption result (split_feed text.now ≡ None) (λ parts. split_feed text.now ≡ Some (parts.0.now, parts.1.now)) }
 {
-    text.split_once('\n')
+    split_line(text)
 }

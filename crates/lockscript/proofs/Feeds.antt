@@ -1,8 +1,8 @@
 -- Line feeds of a text that is split at its first one.
-use Rattle.std.proofs.Common.{◌≡◌, ◌≢◌, ℕ, suc, ◌+◌, ◌<◌, List, [], ◌∷◌, length, get_or, Option, Some, None, MatchOption, Bor, refl, arith, eqb, cond}
-use Rattle.std.proofs.lemmas.Str.Pattern.{IsSplitOnceResult, split_parts}
+use Rattle.std.proofs.Common.{◌≡◌, ◌≢◌, ℕ, suc, ◌+◌, ◌<◌, ◌++◌, List, [], ◌∷◌, length, get_or, Option, Some, None, MatchOption, Bor, refl, arith, eqb, cond}
 use Rattle.std.proofs.lemmas.List.Sums.{sum_by-append, sum_by-cons}
 use Rattle.texts.specs.LineFeeds.{line_feed, line_feeds, BeginsWithLine}
+use Rattle.texts.specs.Reads.{Lacks}
 
 -- a text has no line feed where no byte of it is one
 pub none_is-line_feeds : (bs : List ℕ) → ((i : ℕ) → i < length bs → get_or bs i 0 ≢ line_feed) → line_feeds bs ≡ 0
@@ -10,11 +10,11 @@ none_is-line_feeds [] none = refl
 none_is-line_feeds (b ∷ bs) none = grind (arith, none 0, none_is-line_feeds bs (λ i lt. none (suc i) (omega (arith, lt))))
 
 -- what a split at the first line feed gives
-pub split-line : (bs : List ℕ) (r : Option (Bor (List ℕ) × Bor (List ℕ))) → IsSplitOnceResult line_feed bs r → MatchOption r (line_feeds bs ≡ 0) (λ x. BeginsWithLine bs x.0.now x.1.now)
-split-line bs None split = none_is-line_feeds bs (split_parts line_feed bs None split (omega arith))
-split-line bs (Some x) split =
-    let parts = split_parts line_feed bs (Some x) split (omega arith) in
-    record { parts = parts.0; one_line = none_is-line_feeds x.0.now parts.1 }
+pub split-line : (bs : List ℕ) (r : Option (Bor (List ℕ) × Bor (List ℕ)))
+    → MatchOption r (Lacks line_feed bs) (λ x. Lacks line_feed x.0.now × (bs ≡ x.0.now ++ line_feed ∷ x.1.now))
+    → MatchOption r (line_feeds bs ≡ 0) (λ x. BeginsWithLine bs x.0.now x.1.now)
+split-line bs None lacks = none_is-line_feeds bs lacks
+split-line bs (Some x) parts = record { parts = parts.1; one_line = none_is-line_feeds x.0.now parts.0 }
 
 -- a line has one line feed after it
 pub line_feeds-line : (text line rest : List ℕ) → BeginsWithLine text line rest → line_feeds text ≡ line_feeds rest + 1

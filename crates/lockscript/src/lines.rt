@@ -4,6 +4,7 @@ ghost use Rattle.lockscript.specs.declared.error.ParseError.TheVariants.{BadLine
 ghost use Rattle.texts.specs.LineFeeds.{line_feeds, is_skipped, BeginsWithLine, FindsLine, PassesLines};
 
 use crate::error::ParseError;
+use texts::text::split_at_first;
 
 /// A line without its line feed, by its number, from 1.
 #[derive(Clone, Copy)]
@@ -93,5 +94,5 @@ pub fn is_skipped(line: &str) -> bool
 pub fn split_line(text: &str) -> Option<(&str, &str)>
     ensures { MatchOption result (line_feeds text.now ≡ 0) (λ parts. BeginsWithLine text.now parts.0.now parts.1.now) }
 {
-    text.split_once('\n')
+    split_at_first(text, b'\n')
 }

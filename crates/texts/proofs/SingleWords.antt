@@ -1,8 +1,10 @@
 -- Texts that are one field.
-use Rattle.std.proofs.Common.{◌≡◌, ◌≢◌, ℕ, zero, suc, ◌<◌, ◌≤◌, ◌^◌, ◌++◌, Option, Some, None, MatchOption, Bor, ℤ, pos, negsuc, true, not, List, [], ◌∷◌, refl, sym, arith, eqb, decimal, codes, FitsSigned, w64}
+use Rattle.std.proofs.Common.{◌≡◌, ◌≢◌, ◌∙◌, ap, get_or, length, ℕ, zero, suc, ◌<◌, ◌≤◌, ◌^◌, ◌++◌, Option, Some, None, MatchOption, Bor, ℤ, pos, negsuc, true, not, List, [], ◌∷◌, refl, sym, arith, eqb, decimal, codes, FitsSigned, w64}
 use Rattle.std.specs.List.{list_all}
 use Rattle.std.specs.Fmt.{signed_decimal}
+use Rattle.std.proofs.Math.Seq.{get_or-append_seam}
 use Rattle.std.proofs.lemmas.Fmt.{decimal_is_IsNumeral}
+use Rattle.std.proofs.lemmas.List.{length-append}
 use Rattle.std.proofs.lemmas.Str.Parse.{digit_at}
 use Rattle.std.proofs.lemmas.Str.Pattern.{IsSplitOnceResult, split_parts, split_after}
 use Rattle.model.specs.Limits.{IsNumber}
@@ -58,10 +60,18 @@ split-first c ascii bs (Some x) split =
     let parts = split_parts c bs (Some x) split (omega (arith, ascii)) in
     (parts.1, parts.0)
 
+-- a text that lacks a byte is not parted by it
+pub not-parted : (c : ℕ) (bs word rest : List ℕ) → Lacks c bs → bs ≢ word ++ c ∷ rest
+not-parted c bs word rest lacks e =
+    let at : length word < length bs = omega (arith, ap length e, length-append word (c ∷ rest)) in
+    lacks (length word) at (ap (λ (b : List ℕ). get_or b (length word) 0) e ∙ get_or-append_seam word c rest 0)
+
 -- what a split at the first space gives
-pub split-first_field : (bs : List ℕ) (r : Option (Bor (List ℕ) × Bor (List ℕ))) → IsSplitOnceResult space bs r
+pub split-first_field : (bs : List ℕ) (r : Option (Bor (List ℕ) × Bor (List ℕ)))
+    → MatchOption r (Lacks space bs) (λ x. Lacks space x.0.now × (bs ≡ x.0.now ++ space ∷ x.1.now))
     → MatchOption r ((word rest : List ℕ) → Lacks space word → bs ≢ word ++ space ∷ rest) (λ x. Lacks space x.0.now × (bs ≡ x.0.now ++ space ∷ x.1.now))
-split-first_field bs r split = split-first space (omega arith) bs r split
+split-first_field bs None lacks = λ word rest _. not-parted space bs word rest lacks
+split-first_field bs (Some x) parts = parts
 
 pub number_words : (most : ℕ) → most < 2 ^ 64 → AreWords decimal (IsNumber most)
 number_words most small n fits = Lacks-decimal n (omega (arith, small, fits.1))

@@ -1,8 +1,9 @@
 //! Ways to write values.
-ghost use Rattle.std.specs.Prelude.{◌≡◌, ◌≢◌, ◌++◌, ◌∷◌, ℕ, List, MatchOption, OnOk, string_bytes, true};
+ghost use Rattle.std.specs.Prelude.{◌≡◌, ◌≢◌, ◌<◌, ◌++◌, ◌∷◌, ℕ, List, MatchOption, OnOk, string_bytes, true};
 ghost use Rattle.texts.specs.Layout.{space};
 ghost use Rattle.texts.specs.Reads.{Both, Lacks, Reads, has_no_space, pair_text};
 
+use memchr::memchr;
 use std::alloc::AllocError;
 
 /// A way to write values: a field of a line, or several.
@@ -32,13 +33,23 @@ pub trait Word: Text {
         ensures { (value : Self.Value) → Self.is_served value → has_no_space (Self.text_of value) ≡ true };
 }
 
+/// What stands before the first of this ASCII character in a text, and behind it.
+pub fn split_at_first(text: &str, mark: u8) -> Option<(&str, &str)>
+    requires { mark < 128 }
+    ensures { MatchOption result (Lacks mark text.now)
+        (λ parts. Lacks mark parts.0.now × (text.now ≡ parts.0.now ++ mark ∷ parts.1.now)) }
+{
+    let at = memchr(mark, text.as_bytes())?;
+    Some((&text[..at], &text[at + 1..]))
+}
+
 /// The first field of a text, and what stands after the space behind it.
 pub fn split_field(text: &str) -> Option<(&str, &str)>
     ensures { MatchOption result
         ((word rest : List ℕ) → Lacks space word → text.now ≢ word ++ space ∷ rest)
         (λ parts. Lacks space parts.0.now × (text.now ≡ parts.0.now ++ space ∷ parts.1.now)) }
 {
-    text.split_once(' ')
+    split_at_first(text, b' ')
 }
 
 /// What stands behind the front of a text.

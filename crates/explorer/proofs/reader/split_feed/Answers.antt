@@ -1,6 +1,5 @@
-use Rattle.lockscript.proofs.Feeds.{split-line}
 use Rattle.explorer.proofs.Words.{split-told}
 use Rattle.explorer.proofs.reader.split_feed.Goals as goal
 
 pub returns : goal.returns
-returns c = split-told c.args.text.now c.split_once.result (split-line c.args.text.now c.split_once.result c.split_once.ensures.cases)
+returns c = split-told c.args.text.now c.split_line.result c.split_line.ensures

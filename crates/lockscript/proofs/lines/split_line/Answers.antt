@@ -2,4 +2,4 @@ use Rattle.lockscript.proofs.Feeds.{split-line}
 use Rattle.lockscript.proofs.lines.split_line.Goals as goal
 
 pub returns : goal.returns
-returns c = split-line c.args.text.now c.split_once.result c.split_once.ensures.cases
+returns c = split-line c.args.text.now c.split_at_first.result c.split_at_first.ensures

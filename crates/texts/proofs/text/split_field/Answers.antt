@@ -2,4 +2,4 @@ use Rattle.texts.proofs.SingleWords.{split-first_field}
 use Rattle.texts.proofs.text.split_field.Goals as goal
 
 pub returns : goal.returns
-returns c = split-first_field c.args.text.now c.split_once.result c.split_once.ensures.cases
+returns c = split-first_field c.args.text.now c.split_at_first.result c.split_at_first.ensures
