@@ -33,7 +33,8 @@ pub trait Word: Text {
         ensures { (value : Self.Value) → Self.is_served value → has_no_space (Self.text_of value) ≡ true };
 }
 
-/// What stands before the first of this ASCII character in a text, and behind it.
+/// What stands before the first of this ASCII character in a text, and behind it. Of short fields `memchr` finds
+/// the end faster than `split_once`.
 pub fn split_at_first(text: &str, mark: u8) -> Option<(&str, &str)>
     requires { mark < 128 }
     ensures { MatchOption result (Lacks mark text.now)
