@@ -4,3 +4,4 @@ pub mod TokenLaws
 pub mod RunLaws
 pub mod ReleaseLaws
 pub mod LevelLaws
+pub mod ViewLaws

@@ -3,3 +3,4 @@ pub mod Sets
 pub mod Runs
 pub mod Releases
 pub mod Edits
+pub mod Views

@@ -1,7 +1,18 @@
 //! Planned changes of tokens.
-use crate::set::TokenSet;
+ghost use Rattle.std.specs.Prelude.{◌≡◌, false};
+ghost use Rattle.intervals.specs.Bytes.{whole};
+ghost use Rattle.intervals.specs.declared.tree_map.TreeMap.{TreeMap};
+ghost use Rattle.model.specs.declared.level.Level.{Level};
+ghost use Rattle.model.specs.declared.mode.Mode.TheVariants.{Read};
+ghost use Rattle.token_set.specs.Tokens.{conflicts};
+ghost use Rattle.token_set.specs.Sets.{token_of};
+ghost use Rattle.token_set.specs.Edits.{edited};
+
+use crate::set::{TokenSet, is_exclusive};
+use intervals::span::{GREATEST, Span};
 use intervals::span_edit::SpanEdit;
 use model::level::Level;
+use model::mode::Mode;
 
 /// A change of a token that is planned. It brings the memory that it takes, for a token of no more
 /// runs than the one that it was planned for.
@@ -13,4 +24,21 @@ pub enum TokenEdit {
     Write(SpanEdit<Level>),
     /// This token stands in its place.
     Whole(TokenSet),
+}
+
+impl TokenEdit {
+    /// Whether the token may have an exclusive byte after the edit where it had none before.
+    pub fn may_exclude(&self) -> bool
+        ensures { result ≡ false → (levels : TreeMap Level) → conflicts (token_of levels) whole Read ≡ false → conflicts (edited self.now levels) whole Read ≡ false }
+    {
+        let every_byte = Span {
+            lo: 0,
+            hi: GREATEST,
+        };
+        match self {
+            TokenEdit::Same => false,
+            TokenEdit::Write(write) => is_exclusive(write.value),
+            TokenEdit::Whole(token) => token.conflicts(every_byte, Mode::Read),
+        }
+    }
 }

@@ -6,6 +6,7 @@ pub mod edit;
 pub mod gave_up;
 pub mod laws;
 pub mod set;
+pub mod view;
 
 pub use model::level::Level;
 pub use model::mode::Mode;

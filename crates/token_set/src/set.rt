@@ -8,10 +8,12 @@ ghost use Rattle.token_set.specs.Tokens.{Token, no_token, serves, covers, raised
 ghost use Rattle.token_set.specs.Sets.{token_of, bar_of, HasLevels, IsFirstExclusive, at_exclusive};
 ghost use Rattle.token_set.specs.Releases.{lowered, IsGivenUp, after_giving_up};
 ghost use Rattle.token_set.specs.Edits.{edited};
+ghost use Rattle.token_set.specs.Views.{viewed};
 ghost use Rattle.token_set.specs.Runs.{NothingFrom, IsNextRun, ListsRuns};
 
 use crate::edit::TokenEdit;
 use crate::gave_up::GaveUp;
+use crate::view::TokenView;
 use intervals::span::{GREATEST, Span};
 use intervals::span_edit::SpanEdit;
 use intervals::span_map::SpanMap;
@@ -60,7 +62,7 @@ fn bar_of(mode: Mode) -> Option<Level>
 }
 
 // Whether the level is exclusive.
-fn is_exclusive(level: Option<Level>) -> bool
+pub(crate) fn is_exclusive(level: Option<Level>) -> bool
     ensures { result ≡ false → level_conflicts level Mode.Read ≡ false }
 {
     match level {
@@ -269,6 +271,59 @@ impl TokenSet {
         match *gives {
             GaveUp::Released(span) => self.plan_lower(span, mode),
             GaveUp::Conflict(_) => Ok(TokenEdit::Same),
+        }
+    }
+
+    /// The edit that makes of the token what that one makes of it. Where that one writes a span, no level is copied.
+    ///
+    /// # Errors
+    /// `AllocError` where a request for memory was refused.
+    pub fn plan_again(&self, edit: &TokenEdit) -> Result<TokenEdit, AllocError>
+        ensures { IfOk result (λ again. edited again self.now ≡ edited edit.now self.now) }
+    {
+        match edit {
+            TokenEdit::Same => Ok(TokenEdit::Same),
+            TokenEdit::Write(write) if self.levels.fits(write) => {
+                Ok(TokenEdit::Write(self.levels.plan(write.span, write.value)?))
+            }
+            TokenEdit::Write(_) => Ok(TokenEdit::Same),
+            TokenEdit::Whole(token) => Ok(TokenEdit::Whole(token.copy()?)),
+        }
+    }
+
+    /// The edit that makes that one, and then `grant`. Where that one changes the token, it is made anew.
+    ///
+    /// # Errors
+    /// `AllocError` where a request for memory was refused.
+    pub fn plan_grant_after(
+        &self,
+        edit: &TokenEdit,
+        span: Span,
+        mode: Mode,
+    ) -> Result<TokenEdit, AllocError>
+        ensures { IfOk result (λ both. edited both self.now ≡ raised (edited edit.now self.now) span mode) }
+    {
+        if let TokenEdit::Same = edit {
+            return self.plan_grant(span, mode);
+        }
+        let mut token = self.after(edit)?;
+        token.grant(span, mode)?;
+        Ok(TokenEdit::Whole(token))
+    }
+
+    /// The token once the edit is made, to be read. Takes no memory.
+    pub fn view<'a>(&'a self, edit: &'a TokenEdit) -> TokenView<'a>
+        ensures { viewed result ≡ edited edit.now self.now }
+    {
+        match edit {
+            TokenEdit::Same => TokenView::Now(self),
+            TokenEdit::Write(write) if self.levels.fits(write) => TokenView::With {
+                token: self,
+                span: write.span,
+                level: write.value,
+            },
+            TokenEdit::Write(_) => TokenView::Now(self),
+            TokenEdit::Whole(token) => TokenView::Now(token),
         }
     }
 
