@@ -79,6 +79,11 @@ pub deaths_of-set_same : (known_nodes : List KnownNode) (node place : ℕ) (know
 deaths_of-set_same known_nodes node place known_node new within e read made =
     deaths_of-set known_nodes node place known_node new (λ dead. dead) within e read made ∙ (λ i n. same_either (n == node) (deaths_of known_nodes n) i)
 
+pub rows_of-set_same : (known_nodes : List KnownNode) (node place : ℕ) (known_node new : KnownNode) → IsNumber (length known_nodes) node → place ≡ node - 1 → known_node ≡ slice_index_or known_nodes place known_node → row_of (Some new) ≡ row_of (Some known_node) → rows_of (slice_set known_nodes place new) ≡ rows_of known_nodes
+unfolding rows_of
+rows_of-set_same known_nodes node place known_node new within e read made =
+    λ i n. (changed row_of (λ row. row) known_nodes node place known_node new within e read made n ∙ same_either (n == node) (row_of (known_node_at known_nodes n))) i
+
 known_at : {A : Type 0} (f : Option KnownNode → A) (known_nodes : List KnownNode) → All (λ known_node. known_node ≡ record { dead = 0; row = None }) known_nodes → f (Some (record { dead = 0; row = None })) ≡ f None → (k : ℕ) → f (slice_get known_nodes k) ≡ f None
 known_at f known_nodes all same k = elim (cases_lt k (length known_nodes)) [
   | inl below ↦

@@ -1,8 +1,9 @@
 -- What is known of rows of which none has an exclusive byte.
-use Rattle.std.specs.Prelude.{◌≡◌, ℕ, zero, suc, ◌+◌, ◌<◌, ◌≤◌, Bool, true, false, ◌||◌, List, [], ◌∷◌, length, slice_get, slice_set, slice_index_or, Option, Some, None}
-use Rattle.std.proofs.Common.{refl, sym, ap, ◌∙◌, arith}
+use Rattle.std.specs.Prelude.{◌≡◌, ℕ, zero, suc, ◌+◌, ◌<◌, ◌≤◌, Bool, cond, true, false, ◌||◌, List, [], ◌∷◌, length, slice_get, slice_set, slice_index_or, Option, Some, None}
+use Rattle.std.proofs.Common.{refl, sym, ap, ◌∙◌, inl, inr, arith}
 use Rattle.std.proofs.lemmas.List.{length-set}
 use Rattle.std.proofs.lemmas.Bool.{both_ways, false_from_ne_true, or_parts}
+use Rattle.std.proofs.lemmas.Bool.Decides.{eqb_tells}
 use Rattle.intervals.specs.Bytes.{Range, greatest, whole, NoneIn}
 use Rattle.model.specs.declared.mode.Mode.TheVariants.{Read}
 use Rattle.token_set.proofs.TokenLaws.{conflicts-none, none-conflicts}
@@ -12,7 +13,7 @@ use Rattle.known_nodes.specs.declared.token_holder.TokenHolder.{TokenHolder}
 use Rattle.known_nodes.specs.Rows.{Row, row_conflicts, row_conflicts_at}
 use Rattle.known_nodes.specs.Parts.{row_seen, row_of, known_node_at, rows_of}
 use Rattle.known_nodes.specs.Marks.{NoneExclusive}
-use Rattle.known_nodes.specs.Edits.{row_kept, known_node_after, with_known_node, overlaid}
+use Rattle.known_nodes.specs.Edits.{row_kept, given_to_known_node, rows_overlaid}
 use Rattle.known_nodes.proofs.KnownNodeLaws.{known_node_at-read, known_node_at-set_same}
 use Rattle.model.specs.declared.mode.Mode.{Mode}
 
@@ -47,13 +48,19 @@ pub exclusive-readable : (rows : ℕ → Option Row) (s : Range) → NoneExclusi
 exclusive-readable rows s none within node = readable (rows node) s within (none node)
 
 -- nor has one after an edit that gives none an exclusive byte
-pub exclusive-edited : (known_nodes : List KnownNode) (e : RowEdit) → ((row : Option TokenHolder) → row_conflicts (row_seen row) whole Read ≡ false → row_conflicts (row_seen (row_kept e.row row)) whole Read ≡ false) → NoneExclusive (rows_of known_nodes) → NoneExclusive (rows_of (overlaid known_nodes (Some e)))
+pub exclusive-edited : (known_nodes : List KnownNode) (e : RowEdit) → ((row : Option TokenHolder) → row_conflicts (row_seen row) whole Read ≡ false → row_conflicts (row_kept e.given.row row) whole Read ≡ false) → NoneExclusive (rows_of known_nodes) → NoneExclusive (rows_overlaid known_nodes (Some e))
 unfolding rows_of
-exclusive-edited known_nodes e gives none = at (slice_get known_nodes e.place) refl
+exclusive-edited known_nodes e gives none node b within = elim (eqb_tells node (e.given.place + 1)) [
+  | inl here ↦ ap (λ (t : Bool). row_conflicts_at (cond t (given_to_known_node e.given (known_node_at known_nodes node)) (row_of (known_node_at known_nodes node))) b Read) here.0 ∙ own (known_node_at known_nodes node) refl
+  | inr apart ↦ ap (λ (t : Bool). row_conflicts_at (cond t (given_to_known_node e.given (known_node_at known_nodes node)) (row_of (known_node_at known_nodes node))) b Read) apart.0 ∙ none node b within
+]
   where
-    at : (o : Option KnownNode) → slice_get known_nodes e.place ≡ o → NoneExclusive (rows_of (with_known_node known_nodes e o))
-    at None is = none
-    at (Some known_node) is = exclusive-set known_nodes e.place (known_node_after e known_node) none (gives known_node.row (readable (row_seen known_node.row) whole (omega arith) (λ b within. ap (λ (o : Option KnownNode). row_conflicts_at (row_of o) b Read) (sym is) ∙ none (suc e.place) b within)))
+    own : (o : Option KnownNode) → known_node_at known_nodes node ≡ o → row_conflicts_at (given_to_known_node e.given o) b Read ≡ false
+    own None is = refl
+    own (Some known_node) is =
+        false_from_ne_true _ (row_free (row_kept e.given.row known_node.row) whole Read
+        (gives known_node.row (readable (row_seen known_node.row) whole (omega arith) (λ k below. ap (λ (o : Option KnownNode). row_conflicts_at (row_of o) k Read) (sym is) ∙ none node k below)))
+        b (omega arith) within)
 
 -- the mark, once a row is another: it is set where it was, and where the row has an exclusive byte
 pub exclusive-noted : (known_nodes : List KnownNode) (place : ℕ) (new read : KnownNode) (noted mark : Bool) → place < length known_nodes → (noted ≡ false → NoneExclusive (rows_of known_nodes)) → read ≡ slice_index_or (slice_set known_nodes place new) place read → mark ≡ (noted || row_conflicts (row_seen read.row) whole Read) → mark ≡ false → NoneExclusive (rows_of (slice_set known_nodes place new))

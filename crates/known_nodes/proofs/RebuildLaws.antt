@@ -1,5 +1,5 @@
 -- What is known of each node once a server was rebuilt.
-use Rattle.std.specs.Prelude.{◌≡◌, ℕ, zero, suc, ◌+◌, ◌-◌, ◌<◌, ◌≤◌, Bool, true, false, cond, ◌&&◌, nat_le, List, [], ◌∷◌, ◌++◌, length, slice_get, Option, Some, None, IfSome}
+use Rattle.std.specs.Prelude.{◌≡◌, ℕ, zero, suc, ◌+◌, ◌-◌, ◌<◌, ◌≤◌, Bool, true, false, cond, ◌&&◌, nat_le, if◌then◌else◌, List, [], ◌∷◌, ◌++◌, length, slice_get, Option, Some, None, IfSome}
 use Rattle.std.proofs.Common.{refl, sym, ap, subst, ◌∙◌, inl, inr, arith}
 use Rattle.std.proofs.lemmas.Bool.{cases_lt, and_from, le-leb, lt-leb}
 use Rattle.std.proofs.lemmas.Option.{slice_get_past}
@@ -31,17 +31,14 @@ module _ (shape : ShapeFields) (file epoch : ℕ) (members : MembersParts) (know
   unfolding rows_of
   rebuilt-rows = λ i node. at node i
     where
-      row : ℕ → Option Row
-      row node = Some (awaited_row file (before_epoch epoch) node ((members_state members.nodes).incarnation node))
+      own : ℕ → Option Row
+      own = rebuilt_row file (before_epoch epoch) members
 
-      alive : ℕ → Bool
-      alive node = (members_state members.nodes).alive node
-
-      at : (node : ℕ) → row_of (known_node_at known_nodes node) ≡ cond (is_within shape.nodes node && alive node) (row node) None
+      at : (node : ℕ) → row_of (known_node_at known_nodes node) ≡ cond (is_within shape.nodes node) (own node) None
       at zero = refl
       at (suc k) = elim (cases_lt k shape.nodes) [
-        | inl below ↦ (each k below).0 ∙ ap (rebuilt_row file (before_epoch epoch) members) next ∙ sym (ap (λ (b : Bool). cond (b && alive (suc k)) (row (suc k)) None) (within-cluster shape.nodes k below))
-        | inr past ↦ ap row_of (slice_get_past known_nodes k (omega arith)) ∙ sym (ap (λ (b : Bool). cond (b && alive (suc k)) (row (suc k)) None) (past-cluster shape.nodes k past))
+        | inl below ↦ (each k below).0 ∙ ap own next ∙ sym (ap (λ (b : Bool). cond b (own (suc k)) None) (within-cluster shape.nodes k below))
+        | inr past ↦ ap row_of (slice_get_past known_nodes k (omega arith)) ∙ sym (ap (λ (b : Bool). cond b (own (suc k)) None) (past-cluster shape.nodes k past))
       ]
         where
           next : k + 1 ≡ suc k
@@ -67,20 +64,30 @@ module _ (shape : ShapeFields) (file epoch : ℕ) (members : MembersParts) (know
 
   -- no row has an exclusive byte
   pub rebuilt-free : NoneExclusive (rows_of known_nodes)
-  rebuilt-free node b within = ap (λ (rows : ℕ → Option Row). row_conflicts_at (rows node) b Read) rebuilt-rows ∙ free (is_within shape.nodes node && (members_state members.nodes).alive node)
+  rebuilt-free node b within = ap (λ (rows : ℕ → Option Row). row_conflicts_at (rows node) b Read) rebuilt-rows ∙ free (is_within shape.nodes node) ((members_state members.nodes).alive node)
     where
-      free : (t : Bool) → row_conflicts_at (cond t (Some (awaited_row file (before_epoch epoch) node ((members_state members.nodes).incarnation node))) None) b Read ≡ false
-      free true = refl
-      free false = refl
+      free : (t u : Bool) → row_conflicts_at (cond t (cond u (Some (awaited_row file (before_epoch epoch) node ((members_state members.nodes).incarnation node))) None) None) b Read ≡ false
+      free true true = refl
+      free true false = refl
+      free false u = refl
 
 -- and no number of an earlier epoch
 pub rebuilt-counted : (shape : ShapeFields) (file epoch : ℕ) (members : MembersParts) (known_nodes : List KnownNode) → rows_of known_nodes ≡ rebuilt_rows shape.nodes file (before_epoch epoch) members → (n : ℕ) → IfSome (rows_of known_nodes n) (λ row. before_epoch epoch ≤ row.number)
 rebuilt-counted shape file epoch members known_nodes rows n =
-    subst (λ (f : ℕ → Option Row). IfSome (f n) (λ row. before_epoch epoch ≤ row.number)) (sym rows) (by (is_within shape.nodes n && (members_state members.nodes).alive n))
+    subst (λ (f : ℕ → Option Row). IfSome (f n) (λ row. before_epoch epoch ≤ row.number)) (sym rows) (by (is_within shape.nodes n) ((members_state members.nodes).alive n))
   where
-    by : (b : Bool) → IfSome (cond b (Some (awaited_row file (before_epoch epoch) n ((members_state members.nodes).incarnation n))) None) (λ row. before_epoch epoch ≤ row.number)
-    by true = omega arith
-    by false = tt
+    by : (b t : Bool) → IfSome (cond b (cond t (Some (awaited_row file (before_epoch epoch) n ((members_state members.nodes).incarnation n))) None) None) (λ row. before_epoch epoch ≤ row.number)
+    by true true = omega arith
+    by true false = tt
+    by false t = tt
+
+-- the nodes of the cluster that are alive have a row
+pub rebuilt_rows-alive : (n file number : ℕ) (members : MembersParts) → rebuilt_rows n file number members ≡ (λ (node : ℕ). if is_within n node && (members_state members.nodes).alive node then Some (awaited_row file number node ((members_state members.nodes).incarnation node)) else None)
+rebuilt_rows-alive n file number members = λ i node. at (is_within n node) ((members_state members.nodes).alive node) (Some (awaited_row file number node ((members_state members.nodes).incarnation node))) i
+  where
+    at : (t u : Bool) (row : Option Row) → cond t (cond u row None) None ≡ cond (t && u) row None
+    at true u row = refl
+    at false u row = refl
 
 -- one more node that was rebuilt
 pub rebuilt-push : (file number : ℕ) (members : MembersParts) (n : ℕ) (known_nodes : List KnownNode) (known_node : KnownNode) → length known_nodes ≡ n → row_of (Some known_node) ≡ rebuilt_row file number members (n + 1) → dead_of (Some known_node) ≡ rebuilt_dead members (n + 1) → AreRebuilt file number members n known_nodes → AreRebuilt file number members (n + 1) (known_nodes ++ known_node ∷ [])

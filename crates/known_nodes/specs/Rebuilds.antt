@@ -1,5 +1,5 @@
 -- What a token server knows that was rebuilt, of each node.
-use Rattle.std.specs.Prelude.{◌≡◌, ℕ, ◌+◌, ◌-◌, ◌<◌, ◌&&◌, if◌then◌else◌, List, slice_get, Option, Some, None}
+use Rattle.std.specs.Prelude.{◌≡◌, ℕ, ◌+◌, ◌-◌, ◌<◌, if◌then◌else◌, List, slice_get, Option, Some, None}
 use Rattle.model.specs.declared.level.Level.{Level}
 use Rattle.model.specs.declared.level.Level.TheVariants.{Shared, Exclusive}
 use Rattle.model.specs.declared.mode.Mode.{Mode}
@@ -23,9 +23,7 @@ rebuilt_row file number members node =
 
 -- the rows of the nodes of a cluster of so many
 abbrev pub rebuilt_rows : ℕ → ℕ → ℕ → MembersParts → ℕ → Option Row
-rebuilt_rows n file number members node =
-    let nodes = members_state members.nodes in
-    if is_within n node && nodes.alive node then Some (awaited_row file number node (nodes.incarnation node)) else None
+rebuilt_rows n file number members node = if is_within n node then rebuilt_row file number members node else None
 
 -- its greatest incarnation known to be dead
 abbrev pub rebuilt_dead : MembersParts → ℕ → ℕ

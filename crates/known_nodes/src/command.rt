@@ -149,6 +149,23 @@ impl Command {
             _ => Ok(TokenEdit::Same),
         }
     }
+
+    /// The same of a token that changes so before: both changes in one.
+    ///
+    /// # Errors
+    /// `AllocError` where a request for memory was refused.
+    pub fn promised_after(
+        &self,
+        token: &TokenSet,
+        edit: &TokenEdit,
+    ) -> Result<TokenEdit, AllocError>
+        ensures { IfOk result (λ both. edited_token both token.now ≡ promised self.now (edited_token edit.now token.now)) }
+    {
+        match &self.order {
+            Order::Grant { mode, span, .. } => token.plan_grant_after(edit, *span, *mode),
+            _ => token.plan_again(edit),
+        }
+    }
 }
 
 // The message of the command of the server of the file that tells a node that.

@@ -8,12 +8,13 @@ ghost use Rattle.known_nodes.specs.Rows.{row_above, row_conflicts, outstanding_o
 ghost use Rattle.known_nodes.specs.Parts.{row_seen, SameKnown};
 ghost use Rattle.known_nodes.specs.Changes.{answering, relieved, row_or_empty, row_after, dead_after};
 ghost use Rattle.known_nodes.specs.Rebuilds.{rebuilt_row, rebuilt_dead};
-ghost use Rattle.known_nodes.specs.Edits.{seen_row, known_node_after, row_with, row_kept, given_to_row};
+ghost use Rattle.known_nodes.specs.Edits.{seen_row, row_with, row_kept, row_promised};
 
+use crate::command::Command;
 use crate::commands::Commands;
 use crate::node_change::NodeChange;
 use crate::reports::token_told;
-use crate::row_edit::{RowAfter, RowEdit};
+use crate::row_edit::RowAfter;
 use crate::token_holder::{RowView, TokenHolder, excludes};
 use intervals::span::Span;
 use members::members::Members;
@@ -63,13 +64,9 @@ impl KnownNode {
 
     /// Its row, if it has one.
     pub fn row_view(&self) -> Option<RowView<'_>>
-        ensures { seen_row result ≡ self.now.row }
+        ensures { seen_row result ≡ row_seen self.now.row }
     {
-        let row = self.row.as_ref()?;
-        Some(RowView {
-            commands: &row.commands,
-            token: &row.token,
-        })
+        Some(self.row.as_ref()?.view())
     }
 
     /// Whether it is known at once that a change leaves it as it is.
@@ -94,7 +91,7 @@ impl KnownNode {
         alloc: Global,
         change: &NodeChange,
     ) -> Result<Option<RowAfter>, AllocError>
-        ensures { IfOk result (λ row. row_seen (row_kept row self.now.row) ≡ row_after change.now (row_seen self.now.row)) }
+        ensures { IfOk result (λ row. row_kept row self.now.row ≡ row_after change.now (row_seen self.now.row)) }
     {
         match change {
             NodeChange::Forgotten { incarnation } => Ok(self.row_above(*incarnation)),
@@ -111,12 +108,12 @@ impl KnownNode {
 
     // Its row, if that is of a later incarnation.
     fn row_above(&self, incarnation: u16) -> Option<RowAfter>
-        ensures { row_seen (row_kept result self.now.row) ≡ row_above incarnation (row_seen self.now.row) }
+        ensures { row_kept result self.now.row ≡ row_above incarnation (row_seen self.now.row) }
     {
         match &self.row {
-            Some(row) if row.commands.incarnation() > incarnation => Some(RowAfter {
+            Some(row) if row.commands.incarnation() > incarnation => Some(RowAfter::Kept {
                 commands: row.commands,
-                token: None,
+                token: TokenEdit::Same,
             }),
             _ => None,
         }
@@ -126,76 +123,106 @@ impl KnownNode {
     // after the number.
     fn asking_row(&self, alloc: Global, incarnation: u16, begin: u64) -> RowAfter
         requires { 1 ≤ incarnation }
-        ensures { row_seen (row_kept (Some result) self.now.row) ≡ row_or_empty begin incarnation (row_above (incarnation - 1) (row_seen self.now.row)) }
+        ensures { row_kept (Some result) self.now.row ≡ row_or_empty begin incarnation (row_above (incarnation - 1) (row_seen self.now.row)) }
     {
         match &self.row {
-            Some(row) if row.commands.incarnation() >= incarnation => RowAfter {
+            Some(row) if row.commands.incarnation() >= incarnation => RowAfter::Kept {
                 commands: row.commands,
-                token: None,
+                token: TokenEdit::Same,
             },
-            _ => RowAfter {
+            _ => RowAfter::New(TokenHolder {
                 commands: Commands::new(incarnation, begin),
-                token: Some(TokenSet::new(alloc)),
-            },
+                token: TokenSet::new(alloc),
+            }),
         }
     }
 
     // Its row once the command to it is answered, with that token, if there is one.
     fn answered_row(&self, token: Option<TokenSet>) -> Option<RowAfter>
-        ensures { row_seen (row_kept result self.now.row) ≡ option_map (answering token) (row_seen self.now.row) }
+        ensures { row_kept result self.now.row ≡ option_map (answering token) (row_seen self.now.row) }
     {
-        Some(RowAfter {
-            commands: self.row.as_ref()?.commands.answered(),
-            token,
-        })
+        let commands = self.row.as_ref()?.commands.answered();
+        let token = match token {
+            Some(token) => TokenEdit::Whole(token),
+            None => TokenEdit::Same,
+        };
+        Some(RowAfter::Kept { commands, token })
     }
 
     // Its row once the command to it is answered and it gave up the span for the mode.
     fn relieved_row(&self, span: Span, mode: Mode) -> Result<Option<RowAfter>, AllocError>
-        ensures { IfOk result (λ after. row_seen (row_kept after self.now.row) ≡ option_map (relieved span mode) (row_seen self.now.row)) }
+        ensures { IfOk result (λ after. row_kept after self.now.row ≡ option_map (relieved span mode) (row_seen self.now.row)) }
     {
         let Some(row) = &self.row else {
             return Ok(None);
         };
-        let mut token = row.token.copy()?;
-        token.lower(span, mode)?;
-        Ok(Some(RowAfter {
+        Ok(Some(RowAfter::Kept {
             commands: row.commands.answered(),
-            token: Some(token),
+            token: row.token.plan_lower(span, mode)?,
         }))
     }
 
-    /// Makes a planned change. Takes no memory.
-    pub fn change(&mut self, edit: RowEdit)
-        ensures { self.new ≡ known_node_after edit self.old }
+    /// Its row once it is sent a command, where nothing else changes.
+    ///
+    /// # Errors
+    /// `AllocError` where a request for memory was refused.
+    pub fn promised(
+        &self,
+        commands: Commands,
+        command: &Command,
+    ) -> Result<Option<RowAfter>, AllocError>
+        ensures { IfOk result (λ after. row_kept after self.now.row ≡ row_promised commands command.now (row_seen self.now.row)) }
     {
-        let RowEdit { dead, row, .. } = edit;
-        self.dead = dead;
-        match row {
-            Some(after) => self.change_row(after),
+        let Some(row) = &self.row else {
+            return Ok(None);
+        };
+        let token = command.promised(&row.token)?;
+        Ok(Some(RowAfter::Kept { commands, token }))
+    }
+
+    /// Its row once it is that, and is sent a command.
+    ///
+    /// # Errors
+    /// `AllocError` where a request for memory was refused.
+    pub fn promised_after(
+        &self,
+        after: &Option<RowAfter>,
+        commands: Commands,
+        command: &Command,
+    ) -> Result<Option<RowAfter>, AllocError>
+        ensures { IfOk result (λ both. row_kept both self.now.row ≡ row_promised commands command.now (row_kept after.now self.now.row)) }
+    {
+        let Some(after) = after else {
+            return Ok(None);
+        };
+        Ok(Some(after.promised(&self.row, commands, command)?))
+    }
+
+    /// Its row is that from now on. Takes no memory.
+    pub fn put(&mut self, after: Option<RowAfter>)
+        ensures row { row_seen self.new.row ≡ row_kept after self.old.row }
+        ensures dead { self.new.dead ≡ self.old.dead }
+    {
+        match after {
+            Some(after) => self.replace(after),
             None => self.row = None,
         }
     }
 
-    // Makes a planned change of the row.
-    fn change_row(&mut self, after: RowAfter)
-        ensures row { self.new.row ≡ row_with after.commands after.token self.old.row }
+    // Its row is that from now on.
+    fn replace(&mut self, after: RowAfter)
+        ensures row { row_seen self.new.row ≡ row_with after self.old.row }
         ensures dead { self.new.dead ≡ self.old.dead }
     {
-        let RowAfter { commands, token } = after;
-        match token {
-            Some(token) => self.row = Some(TokenHolder { commands, token }),
-            None => {
-                if let Some(row) = &mut self.row {
-                    row.commands = commands;
-                }
-            }
+        match after {
+            RowAfter::Kept { commands, token } => self.change(commands, token),
+            RowAfter::New(row) => self.row = Some(row),
         }
     }
 
-    /// The row has had these commands, and its token changes so. Takes no memory.
-    pub fn put(&mut self, commands: Commands, token: TokenEdit)
-        ensures row { row_seen self.new.row ≡ given_to_row commands token self.old.row }
+    // The row, if there is one, has had these commands, and its token changes so.
+    fn change(&mut self, commands: Commands, token: TokenEdit)
+        ensures row { row_seen self.new.row ≡ row_with (RowAfter.Kept commands token) self.old.row }
         ensures dead { self.new.dead ≡ self.old.dead }
     {
         if let Some(row) = &mut self.row {

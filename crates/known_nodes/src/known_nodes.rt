@@ -10,9 +10,11 @@ ghost use Rattle.known_nodes.specs.Rows.{is_awaited, outstanding_to, row_of_inca
 ghost use Rattle.known_nodes.specs.Rebuilds.{rebuilt_rows, rebuilt_dead, AreRebuilt};
 ghost use Rattle.known_nodes.specs.Parts.{row_seen, row_state, known_node_at, rows_of, deaths_of, SameKnownNodes};
 ghost use Rattle.known_nodes.specs.Changes.{rows_after, deaths_after};
-ghost use Rattle.known_nodes.specs.Edits.{seen, overlaid, with_given_row, given_rows};
+ghost use Rattle.known_nodes.specs.Edits.{seen, row_promised, given_to_known_node, with_given_row, given_rows, given_of, rows_overlaid, deaths_overlaid, deaths_with};
 ghost use Rattle.known_nodes.specs.Marks.{NoneExclusive};
 
+use crate::command::Command;
+use crate::commands::Commands;
 use crate::given::Given;
 use crate::known_node::KnownNode;
 use crate::node_change::Changed;
@@ -183,8 +185,8 @@ impl KnownNodes {
         changed: &Option<Changed>,
     ) -> Result<Option<RowEdit>, AllocError>
         requires { IfSome changed.now (λ c. IsNumber (length self.now) c.node) }
-        ensures rows { IfOk result (λ edit. rows_of (overlaid self.now edit) ≡ rows_after changed.now (rows_of self.now)) }
-        ensures deaths { IfOk result (λ edit. deaths_of (overlaid self.now edit) ≡ deaths_after changed.now (deaths_of self.now)) }
+        ensures rows { IfOk result (λ edit. rows_overlaid self.now edit ≡ rows_after changed.now (rows_of self.now)) }
+        ensures deaths { IfOk result (λ edit. deaths_overlaid self.now edit ≡ deaths_after changed.now (deaths_of self.now)) }
     {
         let Some(changed) = changed else {
             return Ok(None);
@@ -193,50 +195,56 @@ impl KnownNodes {
         if known_node.stays(&changed.change) {
             return Ok(None);
         }
-        Ok(Some(RowEdit {
+        let given = Given {
             place: usize::from(changed.node) - 1,
-            dead: changed.change.dead_after(known_node.dead),
             row: known_node.row_after(alloc, &changed.change)?,
+        };
+        Ok(Some(RowEdit {
+            given,
+            dead: changed.change.dead_after(known_node.dead),
         }))
     }
 
     /// The row of a node once the edit is made, if there is one.
     pub fn row_after<'a>(&'a self, edit: &'a Option<RowEdit>, node: u8) -> Option<RowView<'a>>
-        ensures row { MatchOption result (rows_of (overlaid self.now edit.now) node ≡ None) (λ row. rows_of (overlaid self.now edit.now) node ≡ Some (row_state (seen row))) }
-        ensures known_node { MatchOption result (rows_of (overlaid self.now edit.now) node ≡ None) (λ row. (dead : ℕ) × (known_node_at (overlaid self.now edit.now) node ≡ Some (record { dead = dead; row = Some (seen row) }))) }
+        ensures row { MatchOption result (rows_overlaid self.now edit.now node ≡ None) (λ row. rows_overlaid self.now edit.now node ≡ Some (seen row)) }
         ensures within { OnSome result (IsNumber (length self.now) node) }
     {
         let known_node = self.get(node)?;
         match edit {
-            Some(edit) if edit.place == usize::from(node) - 1 => edit.row_over(known_node),
+            Some(edit) if edit.given.place == usize::from(node) - 1 => {
+                edit.given.row_over(known_node)
+            }
             _ => known_node.row_view(),
         }
     }
 
     /// Whether it is known at once that no row has an exclusive byte once the edit is made.
     pub fn excludes_none(&self, edit: &Option<RowEdit>) -> bool
-        ensures { result ≡ true → NoneExclusive (rows_of (overlaid self.now edit.now)) }
+        ensures { result ≡ true → NoneExclusive (rows_overlaid self.now edit.now) }
     {
         if self.may_exclude {
             return false;
         }
         match edit {
-            Some(edit) => !edit.may_exclude(),
+            Some(edit) => !edit.given.may_exclude(),
             None => true,
         }
     }
 
     /// Whether the node is asked for its token, once the edit is made.
-    pub fn is_awaited(&self, edit: &Option<RowEdit>, node: u8) -> bool
-        ensures { result ≡ is_awaited (rows_of (overlaid self.now edit.now) node) }
+    pub fn is_awaited<'a>(&'a self, edit: &'a Option<RowEdit>, node: u8) -> bool
+        ensures { result ≡ is_awaited (rows_overlaid self.now edit.now node) }
     {
-        self.row_after(edit, node)
-            .is_some_and(|row| row.commands.is_asked())
+        match self.row_after(edit, node) {
+            Some(row) => row.commands.is_asked(),
+            None => false,
+        }
     }
 
     /// Whether one of the first so many nodes is asked for its token, once the edit is made.
     pub fn awaits(&self, edit: &Option<RowEdit>, nodes: u8) -> bool
-        ensures { result ≡ some_passes (λ node. is_awaited (rows_of (overlaid self.now edit.now) node)) 1 nodes }
+        ensures { result ≡ some_passes (λ node. is_awaited (rows_overlaid self.now edit.now node)) 1 nodes }
     {
         for place in 0..nodes {
             if self.is_awaited(edit, place + 1) {
@@ -246,17 +254,60 @@ impl KnownNodes {
         false
     }
 
-    /// The edit is made, if there is one, and if a node stands at its place. Takes no memory.
-    pub fn apply(&mut self, edit: Option<RowEdit>)
-        ensures { self.new ≡ overlaid self.old edit }
+    /// What a node is given by a command that it is sent, once the edit is made: these commands to it, and what the
+    /// command promises, if it has a row then.
+    ///
+    /// # Errors
+    /// `AllocError` where a request for memory was refused.
+    pub fn given(
+        &self,
+        edit: &Option<RowEdit>,
+        node: u8,
+        commands: Commands,
+        command: &Command,
+    ) -> Result<Given, AllocError>
+        requires { 1 ≤ node }
+        ensures place { IfOk result (λ given. given.place + 1 ≡ node) }
+        ensures row { IfOk result (λ given. given_to_known_node given (known_node_at self.now node) ≡ row_promised commands command.now (rows_overlaid self.now edit.now node)) }
     {
-        let Some(edit) = edit else {
+        let place = usize::from(node) - 1;
+        let Some(known_node) = self.get(node) else {
+            return Ok(Given { place, row: None });
+        };
+        let row = match edit {
+            Some(edit) if edit.given.place == place => {
+                known_node.promised_after(&edit.given.row, commands, command)?
+            }
+            _ => known_node.promised(commands, command)?,
+        };
+        Ok(Given { place, row })
+    }
+
+    /// The edit is made, if there is one, and if a node stands at its place; a node that is given something has that as
+    /// its row, and of a node the first counts. Takes no memory.
+    pub fn apply(&mut self, edit: Option<RowEdit>, given: Vec<Given>)
+        ensures rows { (n : ℕ) → rows_of self.new n ≡ given_rows (given.items ++ given_of edit) self.old n }
+        ensures deaths { deaths_of self.new ≡ deaths_overlaid self.old edit }
+        ensures len { length self.new ≡ length self.old }
+    {
+        let Some(RowEdit { given: last, dead }) = edit else {
+            self.give_each(given);
             return;
         };
-        let place = edit.place;
+        let place = last.place;
+        self.give_last(last, given.as_slice());
+        self.give_each(given);
+        self.bury(place, dead);
+    }
+
+    // The node at the place, if one stands there, is known to be dead up to that incarnation.
+    fn bury(&mut self, place: usize, dead: u16)
+        ensures rows { rows_of self.new ≡ rows_of self.old }
+        ensures deaths { deaths_of self.new ≡ deaths_with place dead self.old }
+        ensures len { length self.new ≡ length self.old }
+    {
         if place < self.nodes.len() {
-            self.nodes[place].change(edit);
-            self.may_exclude = self.nodes[place].notes_exclusive(self.may_exclude);
+            self.nodes[place].dead = dead;
         }
     }
 
@@ -276,20 +327,16 @@ impl KnownNodes {
         Ok(commands)
     }
 
-    /// What a node is given, from now on. Takes no memory.
-    pub fn give(&mut self, given: Given)
+    // What a node is given, from now on.
+    fn give(&mut self, given: Given)
         ensures rows { rows_of self.new ≡ with_given_row given self.old }
         ensures others { (m : ℕ) → m ≢ given.place + 1 → known_node_at self.new m ≡ known_node_at self.old m }
         ensures deaths { deaths_of self.new ≡ deaths_of self.old }
         ensures len { length self.new ≡ length self.old }
     {
-        let Given {
-            place,
-            commands,
-            token,
-        } = given;
+        let Given { place, row } = given;
         if place < self.nodes.len() {
-            self.nodes[place].put(commands, token);
+            self.nodes[place].put(row);
             self.may_exclude = self.nodes[place].notes_exclusive(self.may_exclude);
         }
     }
@@ -305,8 +352,8 @@ impl KnownNodes {
         }
     }
 
-    /// What nodes are given, from now on; of a node the first counts. Takes no memory.
-    pub fn give_each(&mut self, given: Vec<Given>)
+    // What nodes are given, from now on; of a node the first counts.
+    fn give_each(&mut self, given: Vec<Given>)
         ensures rows { (n : ℕ) → rows_of self.new n ≡ given_rows given.items self.old n }
         ensures deaths { deaths_of self.new ≡ deaths_of self.old }
         ensures len { length self.new ≡ length self.old }

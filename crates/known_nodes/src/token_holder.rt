@@ -3,13 +3,15 @@ ghost use Rattle.std.specs.Prelude.{◌≡◌, ◌↔◌, IsTrue, IfOk};
 ghost use Rattle.intervals.specs.Bytes.{whole};
 ghost use Rattle.token_set.specs.Tokens.{conflicts};
 ghost use Rattle.token_set.specs.Sets.{token_of};
-ghost use Rattle.known_nodes.specs.Parts.{SameRow};
+ghost use Rattle.known_nodes.specs.Parts.{SameRow, row_state};
+ghost use Rattle.known_nodes.specs.Edits.{seen};
 
 use crate::commands::Commands;
 use intervals::span::{GREATEST, Span};
 use model::mode::Mode;
 use std::alloc::AllocError;
 use token_set::set::TokenSet;
+use token_set::view::TokenView;
 
 /// What a server keeps of a node that asked: the commands to it, and its token.
 #[derive(Drop)]
@@ -18,11 +20,11 @@ pub struct TokenHolder {
     pub token: TokenSet,
 }
 
-/// A row that is read.
+/// A row that is read, as it is or as it will be once a planned step is made.
 #[derive(Clone, Copy)]
 pub struct RowView<'a> {
     pub commands: &'a Commands,
-    pub token: &'a TokenSet,
+    pub token: TokenView<'a>,
 }
 
 /// Whether a byte of the token is exclusive.
@@ -37,6 +39,16 @@ pub fn excludes(token: &TokenSet) -> bool
 }
 
 impl TokenHolder {
+    /// The row as it is.
+    pub fn view(&self) -> RowView<'_>
+        ensures { seen result ≡ row_state self.now }
+    {
+        RowView {
+            commands: &self.commands,
+            token: TokenView::Now(&self.token),
+        }
+    }
+
     /// An equal row.
     ///
     /// # Errors

@@ -2,16 +2,15 @@ use Rattle.std.specs.Prelude.{ℕ, ◌+◌, Bool}
 use Rattle.std.proofs.Common.{sym, ◌∙◌, arith}
 use Rattle.token_set.proofs.SearchLaws.{some_passes-from, none_passes-from}
 use Rattle.known_nodes.specs.Rows.{is_awaited}
-use Rattle.known_nodes.specs.Parts.{rows_of}
-use Rattle.known_nodes.specs.Edits.{overlaid}
+use Rattle.known_nodes.specs.Edits.{rows_overlaid}
 use Rattle.known_nodes.proofs.known_nodes.KnownNodes.awaits.Goals as goal
 
 pub returns-then-is_awaited : goal.returns-then-is_awaited
 returns-then-is_awaited c =
-    let passes : ℕ → Bool = λ n. is_awaited (rows_of (overlaid c.args.self.now c.args.edit.now) n) in
+    let passes : ℕ → Bool = λ n. is_awaited (rows_overlaid c.args.self.now c.args.edit.now n) in
     sym (some_passes-from passes 1 c.args.nodes (c.loop-place.place + 1) (omega arith) (omega arith) (sym c.is_awaited.ensures ∙ c.if-is_awaited.true))
 
 pub returns : goal.returns
 returns c =
-    let passes : ℕ → Bool = λ n. is_awaited (rows_of (overlaid c.args.self.now c.args.edit.now) n) in
+    let passes : ℕ → Bool = λ n. is_awaited (rows_overlaid c.args.self.now c.args.edit.now n) in
     sym (none_passes-from passes 1 c.args.nodes (λ n above below. c.loop-place.invariant n above (omega arith)))

@@ -1,8 +1,7 @@
 use Rattle.std.specs.Prelude.{◌≡◌, ℕ, ◌≤◌, false}
 use Rattle.known_nodes.specs.Rows.{is_awaited}
-use Rattle.known_nodes.specs.Parts.{rows_of}
-use Rattle.known_nodes.specs.Edits.{overlaid}
+use Rattle.known_nodes.specs.Edits.{rows_overlaid}
 use Rattle.known_nodes.proofs.known_nodes.KnownNodes.awaits.Given as goal
 
 abbrev pub invariant-loop-place : goal.invariant-loop-place
-invariant-loop-place l = (n : ℕ) → 1 ≤ n → n ≤ l.place → is_awaited (rows_of (overlaid l.self l.edit) n) ≡ false
+invariant-loop-place l = (n : ℕ) → 1 ≤ n → n ≤ l.place → is_awaited (rows_overlaid l.self l.edit n) ≡ false

@@ -27,7 +27,7 @@ returns-then-stays-clause-deaths c =
 pub returns-clause-rows : goal.returns-clause-rows
 returns-clause-rows c =
     let within = subst (λ (o : Option Changed). IfSome o (λ k. IsNumber (length c.args.self.now) k.node)) c.in-Some.is c.requires in
-    let e : RowEdit = record { place = c.from.result - 1; dead = c.dead_after.result; row = c.in_ok-row_after.field-0 } in
+    let e : RowEdit = record { given = record { place = c.from.result - 1; row = c.in_ok-row_after.field-0 }; dead = c.dead_after.result } in
     let x : Changes c.at-known_node.result.now c.in-Some.changed e = record { place_is = ap (λ (n : ℕ). n - 1) c.from.ensures; row_is = c.in_ok-row_after.ensures; dead_is = c.dead_after.ensures } in
     rows_of-edit c.args.self.now c.in-Some.changed c.at-known_node.result.now e within c.at-known_node.ensures x
     ∙ ap (λ (o : Option Changed). rows_after o (rows_of c.args.self.now)) (sym c.in-Some.is)
@@ -35,7 +35,7 @@ returns-clause-rows c =
 pub returns-clause-deaths : goal.returns-clause-deaths
 returns-clause-deaths c =
     let within = subst (λ (o : Option Changed). IfSome o (λ k. IsNumber (length c.args.self.now) k.node)) c.in-Some.is c.requires in
-    let e : RowEdit = record { place = c.from.result - 1; dead = c.dead_after.result; row = c.in_ok-row_after.field-0 } in
+    let e : RowEdit = record { given = record { place = c.from.result - 1; row = c.in_ok-row_after.field-0 }; dead = c.dead_after.result } in
     let x : Changes c.at-known_node.result.now c.in-Some.changed e = record { place_is = ap (λ (n : ℕ). n - 1) c.from.ensures; row_is = c.in_ok-row_after.ensures; dead_is = c.dead_after.ensures } in
     deaths_of-edit c.args.self.now c.in-Some.changed c.at-known_node.result.now e within c.at-known_node.ensures x
     ∙ ap (λ (o : Option Changed). deaths_after o (deaths_of c.args.self.now)) (sym c.in-Some.is)

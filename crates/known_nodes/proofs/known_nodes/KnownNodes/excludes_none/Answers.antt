@@ -4,7 +4,7 @@ use Rattle.std.proofs.lemmas.Bool.{not-true}
 use Rattle.known_nodes.specs.declared.known_node.KnownNode.{KnownNode}
 use Rattle.known_nodes.specs.declared.row_edit.RowEdit.{RowEdit}
 use Rattle.known_nodes.specs.Parts.{rows_of}
-use Rattle.known_nodes.specs.Edits.{overlaid}
+use Rattle.known_nodes.specs.Edits.{rows_overlaid}
 use Rattle.known_nodes.specs.Marks.{NoneExclusive}
 use Rattle.known_nodes.proofs.MarkLaws.{exclusive-edited}
 use Rattle.known_nodes.proofs.known_nodes.KnownNodes.excludes_none.Goals as goal
@@ -12,4 +12,4 @@ use Rattle.known_nodes.proofs.known_nodes.KnownNodes.excludes_none.Goals as goal
 pub returns-in-Some : goal.returns-in-Some
 returns-in-Some c = λ given.
     let none : NoneExclusive (rows_of c.args.self.now) = subst (λ (cs : List KnownNode). NoneExclusive (rows_of cs)) c.self.view_is (c.self.invariant c.if-self.false) in
-    subst (λ (o : Option RowEdit). NoneExclusive (rows_of (overlaid c.args.self.now o))) (sym c.in-Some.is) (exclusive-edited c.args.self.now c.in-Some.edit (c.may_exclude.ensures (not-true c.may_exclude.result given)) none)
+    subst (λ (o : Option RowEdit). NoneExclusive (rows_overlaid c.args.self.now o)) (sym c.in-Some.is) (exclusive-edited c.args.self.now c.in-Some.edit (c.may_exclude.ensures (not-true c.may_exclude.result given)) none)
