@@ -1,5 +1,5 @@
 -- What is known of each node once a server was rebuilt.
-use Rattle.std.specs.Prelude.{◌≡◌, ℕ, zero, suc, ◌+◌, ◌-◌, ◌<◌, ◌≤◌, Bool, true, false, cond, ◌&&◌, nat_le, if◌then◌else◌, List, [], ◌∷◌, ◌++◌, length, slice_get, Option, Some, None, IfSome}
+use Rattle.std.specs.Prelude.{◌≡◌, ℕ, zero, suc, ◌+◌, ◌-◌, ◌<◌, ◌≤◌, Bool, true, false, cond, ◌&&◌, nat_le, List, [], ◌∷◌, ◌++◌, length, slice_get, Option, Some, None, IfSome}
 use Rattle.std.proofs.Common.{refl, sym, ap, subst, ◌∙◌, inl, inr, arith}
 use Rattle.std.proofs.lemmas.Bool.{cases_lt, and_from, le-leb, lt-leb}
 use Rattle.std.proofs.lemmas.Option.{slice_get_past}
@@ -80,14 +80,6 @@ rebuilt-counted shape file epoch members known_nodes rows n =
     by true true = omega arith
     by true false = tt
     by false t = tt
-
--- the nodes of the cluster that are alive have a row
-pub rebuilt_rows-alive : (n file number : ℕ) (members : MembersParts) → rebuilt_rows n file number members ≡ (λ (node : ℕ). if is_within n node && (members_state members.nodes).alive node then Some (awaited_row file number node ((members_state members.nodes).incarnation node)) else None)
-rebuilt_rows-alive n file number members = λ i node. at (is_within n node) ((members_state members.nodes).alive node) (Some (awaited_row file number node ((members_state members.nodes).incarnation node))) i
-  where
-    at : (t u : Bool) (row : Option Row) → cond t (cond u row None) None ≡ cond (t && u) row None
-    at true u row = refl
-    at false u row = refl
 
 -- one more node that was rebuilt
 pub rebuilt-push : (file number : ℕ) (members : MembersParts) (n : ℕ) (known_nodes : List KnownNode) (known_node : KnownNode) → length known_nodes ≡ n → row_of (Some known_node) ≡ rebuilt_row file number members (n + 1) → dead_of (Some known_node) ≡ rebuilt_dead members (n + 1) → AreRebuilt file number members n known_nodes → AreRebuilt file number members (n + 1) (known_nodes ++ known_node ∷ [])

@@ -19,7 +19,7 @@ use Rattle.known_nodes.specs.Changes.{may_bar, rows_after}
 use Rattle.token_server.specs.Obstacles.{obstacle, are_apart, frees, may_turn}
 use Rattle.known_nodes.specs.Parts.{rows_of}
 use Rattle.token_server.specs.Parts.{ServerParts, server_state}
-use Rattle.known_nodes.specs.Edits.{overlaid}
+use Rattle.known_nodes.specs.Edits.{rows_overlaid}
 use Rattle.token_server.specs.Edits.{reached}
 use Rattle.token_server.proofs.FreeLaws.{obstacle-changed}
 use Rattle.token_server.proofs.GrantLaws.{unopposed-none}
@@ -102,10 +102,10 @@ rest-apart c row held i h there apart kept =
         (each ks (All-tail Clear k.request (requests_of ks) all))
 
 -- one that can't turn to another row waits as before
-pub unfreed-waits : (p : ServerParts) (edit : Option RowEdit) (c : Changed) (h : Held) → rows_of (overlaid p.known_nodes edit) ≡ rows_after (Some c) (rows_of p.known_nodes) → obstacle (server_state p) h.request ≡ h.at → may_turn c (rows_of p.known_nodes c.node) h ≡ false → obstacle (reached p edit) h.request ≡ h.at
+pub unfreed-waits : (p : ServerParts) (edit : Option RowEdit) (c : Changed) (h : Held) → rows_overlaid p.known_nodes edit ≡ rows_after (Some c) (rows_of p.known_nodes) → obstacle (server_state p) h.request ≡ h.at → may_turn c (rows_of p.known_nodes c.node) h ≡ false → obstacle (reached p edit) h.request ≡ h.at
 unfreed-waits p edit c h rows waits kept = obstacle-changed (server_state p) (reached p edit) h c refl rows waits kept
 
-pub unfreed-all : (p : ServerParts) (edit : Option RowEdit) (c : Changed) (held : List Held) → rows_of (overlaid p.known_nodes edit) ≡ rows_after (Some c) (rows_of p.known_nodes) → All (λ h. obstacle (server_state p) h.request ≡ h.at) held → All (λ h. may_turn c (rows_of p.known_nodes c.node) h ≡ false) held → All (λ h. obstacle (reached p edit) h.request ≡ h.at) held
+pub unfreed-all : (p : ServerParts) (edit : Option RowEdit) (c : Changed) (held : List Held) → rows_overlaid p.known_nodes edit ≡ rows_after (Some c) (rows_of p.known_nodes) → All (λ h. obstacle (server_state p) h.request ≡ h.at) held → All (λ h. may_turn c (rows_of p.known_nodes c.node) h ≡ false) held → All (λ h. obstacle (reached p edit) h.request ≡ h.at) held
 unfreed-all p edit c [] rows waits kept = All-nil (λ h. obstacle (reached p edit) h.request ≡ h.at)
 unfreed-all p edit c (h ∷ held) rows waits kept =
     All-cons (λ h. obstacle (reached p edit) h.request ≡ h.at) h held

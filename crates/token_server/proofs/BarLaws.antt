@@ -1,5 +1,5 @@
 -- Rows of nodes that are told something, and what stands in the way then.
-use Rattle.std.specs.Prelude.{◌≡◌, ℕ, ◌≤◌, Bool, true, false, cond, ◌||◌, Option, Some, None}
+use Rattle.std.specs.Prelude.{◌≡◌, ℕ, ◌≤◌, Bool, true, false, cond, ◌||◌, Option, Some, None, MatchOption}
 use Rattle.std.proofs.Common.{refl, sym, ap, ◌∙◌, arith}
 use Rattle.std.proofs.lemmas.Bool.{both_ways, false_from_ne_true}
 use Rattle.intervals.specs.Bytes.{Range, is_in, NoneIn, largest_around}
@@ -103,3 +103,16 @@ told-free t row span mode clear = false_from_ne_true (conflicts row.token span m
 pub told-nothing : (o : Option Told) (row : Option Row) → row ≡ None → row_told o row ≡ None
 told-nothing None row is = is
 told-nothing (Some t) row is = ap (row_told (Some t)) is
+
+-- nor before it is told something or nothing
+pub told-clear : (o : Option Told) (row : Row) (span : Range) (mode : Mode) → row_conflicts (row_told o (Some row)) span mode ≡ false → row_conflicts (Some row) span mode ≡ false
+told-clear None row span mode clear = clear
+told-clear (Some t) row span mode clear = told-free t row span mode clear
+
+-- what is left of the largest span beside a row once its node is told
+pub around-cut : (t : Told) (row : Row) (required within free result : Range) (mode : Mode) → required.lo ≤ required.hi → within.lo ≤ required.lo → required.hi ≤ within.hi → free.lo ≤ required.lo → required.hi ≤ free.hi → row_conflicts (row_told (Some t) (Some row)) required mode ≡ false → free ≡ largest_around (λ b. row_conflicts_at (Some row) b mode) required within → MatchOption (bars t.command mode) (result ≡ free) (λ granted. (result ≡ cut required free granted) × (granted.lo ≤ granted.hi)) → result ≡ largest_around (λ b. row_conflicts_at (row_told (Some t) (Some row)) b mode) required within
+around-cut t row required within free result mode order starts ends free_lo free_hi clear is made = by (bars t.command mode) refl made
+  where
+    by : (o : Option Range) → bars t.command mode ≡ o → MatchOption o (result ≡ free) (λ granted. (result ≡ cut required free granted) × (granted.lo ≤ granted.hi)) → result ≡ largest_around (λ b. row_conflicts_at (row_told (Some t) (Some row)) b mode) required within
+    by None bar same = same ∙ around-other t row required within free mode is bar
+    by (Some granted) bar same = same.0 ∙ around-told t row required within free granted mode order starts ends free_lo free_hi same.1 clear is bar

@@ -35,13 +35,12 @@ use Rattle.known_nodes.specs.Parts.{rows_of, deaths_of}
 use Rattle.token_server.specs.Parts.{ServerParts, server_state}
 use Rattle.token_server.specs.Ready.{AreDistinct, IsOrderly, IsReady, IsServer}
 use Rattle.token_server.specs.Sketches.{dropped, without, still_active, queue_moved, waiting_moved, sketched}
-use Rattle.known_nodes.specs.Edits.{overlaid, given_rows}
+use Rattle.known_nodes.specs.Edits.{deaths_overlaid, given_of, given_rows}
 use Rattle.token_server.specs.Edits.{held_still, held_without, held_after, queue_after, waiting_after, IsDrafted, drafted, many_moved, HasRoom, IsNewCall, Fits, made}
 use Rattle.token_server.proofs.AdmitLaws.{ready-is}
 use Rattle.token_server.proofs.AskedLaws.{none-after, served-awaits, served-counted}
 use Rattle.token_server.proofs.AdmittingLaws.{all_but-none, calls, calls-append, calls-cons, apart-fewer, admitted-keeps_apart, admitted-leaves}
 use Rattle.token_server.proofs.StayLaws.{Stay}
-use Rattle.known_nodes.proofs.EditLaws.{overlaid-length}
 use Rattle.token_server.proofs.TurnLaws.{held_after-requests}
 use Rattle.token_server.proofs.ObstacleLaws.{served-silent}
 use Rattle.token_server.proofs.OrderlyLaws.{Living, calls-kinds, calls-one, orderly-ready}
@@ -262,9 +261,9 @@ pub distinct-waiting : (s : ServerState) → IsOrderly s → AreDistinct s.waiti
 distinct-waiting s o c = let a = calls-kinds c s in let few = o.distinct c in omega arith
 
 -- what a planned step makes of a server holds all that a server has to
-pub applied : (p : ServerParts) (awaiting : Bool) (e : Edit) (v : Parts) (known_nodes : List KnownNode) (active : ActiveParts) (queue waiting : LineParts) → v ≡ e.parts.value → IsServer p awaiting → Fits p e → ((n : ℕ) → rows_of known_nodes n ≡ given_rows v.given.items (overlaid p.known_nodes v.draft.rows) n) → deaths_of known_nodes ≡ deaths_of (overlaid p.known_nodes v.draft.rows) → length known_nodes ≡ length (overlaid p.known_nodes v.draft.rows) → active.held ≡ held_after v.draft.lists p.active.held → queue.requests ≡ queue_after v.draft.lists p.queue.requests p.waiting.requests → waiting.requests ≡ waiting_after v.draft.lists p.waiting.requests → IsServer (record { shape = p.shape; file = p.file; epoch = p.epoch; known_nodes = known_nodes; active = active; queue = queue; waiting = waiting }) v.draft.awaits
+pub applied : (p : ServerParts) (awaiting : Bool) (e : Edit) (v : Parts) (known_nodes : List KnownNode) (active : ActiveParts) (queue waiting : LineParts) → v ≡ e.parts.value → IsServer p awaiting → Fits p e → ((n : ℕ) → rows_of known_nodes n ≡ given_rows (v.given.items ++ given_of v.draft.rows) p.known_nodes n) → deaths_of known_nodes ≡ deaths_overlaid p.known_nodes v.draft.rows → length known_nodes ≡ length p.known_nodes → active.held ≡ held_after v.draft.lists p.active.held → queue.requests ≡ queue_after v.draft.lists p.queue.requests p.waiting.requests → waiting.requests ≡ waiting_after v.draft.lists p.waiting.requests → IsServer (record { shape = p.shape; file = p.file; epoch = p.epoch; known_nodes = known_nodes; active = active; queue = queue; waiting = waiting }) v.draft.awaits
 applied p awaiting e v known_nodes active queue waiting is server fits rows deaths many held queued put_off = record {
-  each_node = many ∙ overlaid-length p.known_nodes v.draft.rows ∙ server.each_node;
+  each_node = many ∙ server.each_node;
   file_in = server.file_in;
   epoch_in = server.epoch_in;
   awaited = subst (λ (w : Parts). w.draft.awaits ≡ awaits (made p w)) (sym is) fits.awaited ∙ ap (λ (x : ServerState × List Held). awaits x.0) whole;

@@ -14,18 +14,16 @@ use Rattle.messages.specs.declared.message.Message.TheVariants.{Grant, Revoke}
 use Rattle.messages.specs.Messages.{greatest_number}
 use Rattle.model.specs.declared.host.Host.{Host}
 use Rattle.token_set.specs.Tokens.{Token}
-use Rattle.token_set.specs.Sets.{token_of}
-use Rattle.token_set.specs.Edits.{edited as edited_token}
-use Rattle.known_nodes.specs.declared.token_holder.TokenHolder.{TokenHolder}
 use Rattle.token_queue.specs.declared.token_request.TokenRequest.{TokenRequest}
 use Rattle.token_server.specs.declared.told.Told.{Told}
 use Rattle.known_nodes.specs.Rows.{Commands, Row}
 use Rattle.token_server.specs.State.{ServerState, with_row, begin}
 use Rattle.known_nodes.specs.declared.known_node.KnownNode.{KnownNode}
 use Rattle.known_nodes.specs.declared.given.Given.{Given}
-use Rattle.known_nodes.specs.Sent.{next_number, told_commands, promised, awaiting}
-use Rattle.known_nodes.specs.Parts.{known_node_at, row_in, row_of, row_seen, row_state, rows_of}
-use Rattle.known_nodes.specs.Edits.{given_to_row, given_to_known_node, given_rows}
+use Rattle.known_nodes.specs.Sent.{next_number, told_commands, promised}
+use Rattle.known_nodes.specs.Parts.{known_node_at}
+use Rattle.known_nodes.specs.declared.row_edit.RowEdit.{RowEdit}
+use Rattle.known_nodes.specs.Edits.{given_to_known_node, given_rows, given_of, rows_overlaid}
 use Rattle.token_server.specs.Edits.{with_given}
 use Rattle.token_server.proofs.ServeLaws.{each_served-append}
 use Rattle.token_server.specs.Serve.{narrowed, granted_span, commanded, granted_to, revoked_from, served, with_more, and_then, each_served}
@@ -225,37 +223,37 @@ module _ (s : ServerState) (xs : List TokenRequest) (ts : List Told) (r : TokenR
       ∙ ap (λ (x : Answer). with_more (commands_told ts) (and_then x (each_served rest))) is
 
 -- what a node is given is what it is told
-pub record GivesTold (known_nodes : List KnownNode) (t : Told) (g : Given) : Type 0 where
+pub record GivesTold (known_nodes : List KnownNode) (edit : Option RowEdit) (t : Told) (g : Given) : Type 0 where
   pub place : g.place + 1 ≡ t.node
-  pub row : given_to_known_node g (known_node_at known_nodes t.node) ≡ row_told (Some t) (rows_of known_nodes t.node)
+  pub row : given_to_known_node g (known_node_at known_nodes t.node) ≡ row_told (Some t) (rows_overlaid known_nodes edit t.node)
 
-abbrev pub GiveTold : List KnownNode → List Told → List Given → Type 0
-GiveTold known_nodes [] [] = Unit {0}
-GiveTold known_nodes (t ∷ ts) (g ∷ gs) = GivesTold known_nodes t g × GiveTold known_nodes ts gs
-GiveTold known_nodes _ _ = ⊥
+abbrev pub GiveTold : List KnownNode → Option RowEdit → List Told → List Given → Type 0
+GiveTold known_nodes edit [] [] = Unit {0}
+GiveTold known_nodes edit (t ∷ ts) (g ∷ gs) = GivesTold known_nodes edit t g × GiveTold known_nodes edit ts gs
+GiveTold known_nodes edit _ _ = ⊥
 
-pub give_told-more : (known_nodes : List KnownNode) (ts : List Told) (gs : List Given) (t : Told) (g : Given) → GiveTold known_nodes ts gs → GivesTold known_nodes t g → GiveTold known_nodes (ts ++ t ∷ []) (gs ++ g ∷ [])
-give_told-more known_nodes [] [] t g all one = (one, tt)
-give_told-more known_nodes (x ∷ ts) (y ∷ gs) t g all one = (all.0, give_told-more known_nodes ts gs t g all.1 one)
-give_told-more known_nodes [] (y ∷ gs) t g all one = absurd all
-give_told-more known_nodes (x ∷ ts) [] t g all one = absurd all
+pub give_told-more : (known_nodes : List KnownNode) (edit : Option RowEdit) (ts : List Told) (gs : List Given) (t : Told) (g : Given) → GiveTold known_nodes edit ts gs → GivesTold known_nodes edit t g → GiveTold known_nodes edit (ts ++ t ∷ []) (gs ++ g ∷ [])
+give_told-more known_nodes edit [] [] t g all one = (one, tt)
+give_told-more known_nodes edit (x ∷ ts) (y ∷ gs) t g all one = (all.0, give_told-more known_nodes edit ts gs t g all.1 one)
+give_told-more known_nodes edit [] (y ∷ gs) t g all one = absurd all
+give_told-more known_nodes edit (x ∷ ts) [] t g all one = absurd all
 
-given_rows-told : (known_nodes : List KnownNode) (ts : List Told) (gs : List Given) (n : ℕ) → GiveTold known_nodes ts gs → given_rows gs known_nodes n ≡ row_told (told_to ts n) (rows_of known_nodes n)
-given_rows-told known_nodes [] [] n all = refl
-given_rows-told known_nodes (t ∷ ts) (g ∷ gs) n all = elim (eqb_tells n (g.place + 1)) [
+given_rows-told : (known_nodes : List KnownNode) (edit : Option RowEdit) (ts : List Told) (gs : List Given) (n : ℕ) → GiveTold known_nodes edit ts gs → given_rows (gs ++ given_of edit) known_nodes n ≡ row_told (told_to ts n) (rows_overlaid known_nodes edit n)
+given_rows-told known_nodes edit [] [] n all = refl
+given_rows-told known_nodes edit (t ∷ ts) (g ∷ gs) n all = elim (eqb_tells n (g.place + 1)) [
   | inl same ↦
       let at : n ≡ t.node = same.1 ∙ all.0.place in
       let own : t.node == n ≡ true = ap (λ (k : ℕ). t.node == k) at ∙ here t.node in
-      ap (λ (b : Bool). cond b (given_to_known_node g (known_node_at known_nodes n)) (given_rows gs known_nodes n)) same.0
+      ap (λ (b : Bool). cond b (given_to_known_node g (known_node_at known_nodes n)) (given_rows (gs ++ given_of edit) known_nodes n)) same.0
       ∙ ap (λ (k : ℕ). given_to_known_node g (known_node_at known_nodes k)) at
       ∙ all.0.row
-      ∙ ap (λ (k : ℕ). row_told (Some t) (rows_of known_nodes k)) (sym at)
-      ∙ sym (ap (λ (b : Bool). let o : Option Told = cond b (Some t) (told_to ts n) in row_told o (rows_of known_nodes n)) own)
+      ∙ ap (λ (k : ℕ). row_told (Some t) (rows_overlaid known_nodes edit k)) (sym at)
+      ∙ sym (ap (λ (b : Bool). let o : Option Told = cond b (Some t) (told_to ts n) in row_told o (rows_overlaid known_nodes edit n)) own)
   | inr other ↦
       let apart : t.node == n ≡ false = elsewhere other.1 in
-      ap (λ (b : Bool). cond b (given_to_known_node g (known_node_at known_nodes n)) (given_rows gs known_nodes n)) other.0
-      ∙ given_rows-told known_nodes ts gs n all.1
-      ∙ sym (ap (λ (b : Bool). let o : Option Told = cond b (Some t) (told_to ts n) in row_told o (rows_of known_nodes n)) apart)
+      ap (λ (b : Bool). cond b (given_to_known_node g (known_node_at known_nodes n)) (given_rows (gs ++ given_of edit) known_nodes n)) other.0
+      ∙ given_rows-told known_nodes edit ts gs n all.1
+      ∙ sym (ap (λ (b : Bool). let o : Option Told = cond b (Some t) (told_to ts n) in row_told o (rows_overlaid known_nodes edit n)) apart)
 ]
   where
     here : (k : ℕ) → k == k ≡ true
@@ -263,32 +261,15 @@ given_rows-told known_nodes (t ∷ ts) (g ∷ gs) n all = elim (eqb_tells n (g.p
 
     elsewhere : (n ≡ g.place + 1 → ⊥) → t.node == n ≡ false
     elsewhere other = elim (eqb_tells t.node n) [ inl same ↦ absurd (other (sym same.1 ∙ sym all.0.place)) | inr apart ↦ apart.0 ]
-given_rows-told known_nodes [] (g ∷ gs) n all = absurd all
-given_rows-told known_nodes (t ∷ ts) [] n all = absurd all
+given_rows-told known_nodes edit [] (g ∷ gs) n all = absurd all
+given_rows-told known_nodes edit (t ∷ ts) [] n all = absurd all
 
-pub with_given-told : (s : ServerState) (known_nodes : List KnownNode) (ts : List Told) (gs : List Given) → rows_of known_nodes ≡ s.rows → GiveTold known_nodes ts gs → with_given gs known_nodes s ≡ with_told ts s
-with_given-told s known_nodes ts gs same all = λ i. record s { rows = λ n. (given_rows-told known_nodes ts gs n all ∙ ap (λ (f : ℕ → Option Row). row_told (told_to ts n) (f n)) same) i }
+pub with_given-told : (s : ServerState) (known_nodes : List KnownNode) (edit : Option RowEdit) (ts : List Told) (gs : List Given) → rows_overlaid known_nodes edit ≡ s.rows → GiveTold known_nodes edit ts gs → with_given (gs ++ given_of edit) known_nodes s ≡ with_told ts s
+with_given-told s known_nodes edit ts gs same all = λ i. record s { rows = λ n. (given_rows-told known_nodes edit ts gs n all ∙ ap (λ (f : ℕ → Option Row). row_told (told_to ts n) (f n)) same) i }
 
 -- a place in a list
 pub list-at : {X : Type 0} (xs : List X) (i : ℕ) (x : X) → take (i + 1) xs ≡ take i xs ++ x ∷ [] → xs ≡ take i xs ++ x ∷ drop (i + 1) xs
 list-at xs i x next = sym (take-append-drop (i + 1) xs) ∙ ap (λ ys. ys ++ drop (i + 1) xs) next ∙ append_assoc (take i xs) (x ∷ []) (drop (i + 1) xs)
-
--- what one is given where its node has a row, and where it has none
-pub gives-told : (g : Given) (t : Told) (known_node : Option KnownNode) (x : KnownNode) (holder : TokenHolder) → known_node ≡ Some x → x.row ≡ Some holder → g.commands ≡ awaiting t.command t.commands → edited_token g.token holder.token ≡ promised t.command (token_of holder.token) → given_to_known_node g known_node ≡ row_told (Some t) (row_of known_node)
-gives-told g t known_node x holder there row commands token =
-    ap (given_to_known_node g) there
-    ∙ ap (given_to_row g.commands g.token) row
-    ∙ (λ i. Some (row_in (commands i) (token i)))
-    ∙ sym (ap (λ (o : Option TokenHolder). row_told (Some t) (row_seen o)) row)
-    ∙ sym (ap (λ (o : Option KnownNode). row_told (Some t) (row_of o)) there)
-
-pub gives-nothing : (g : Given) (t : Told) (known_node : Option KnownNode) → row_of known_node ≡ None → given_to_known_node g known_node ≡ row_told (Some t) (row_of known_node)
-gives-nothing g t None none = refl
-gives-nothing g t (Some x) none = by x.row none
-  where
-    by : (o : Option TokenHolder) → row_seen o ≡ None → given_to_row g.commands g.token o ≡ row_told (Some t) (row_seen o)
-    by None none = refl
-    by (Some holder) none = absurd (none-some (row_state holder) (sym none))
 
 -- once a request is served that comes to that
 pub told-next : (s : ServerState) (xs next : List TokenRequest) (ts ms : List Told) (r : TokenRequest) (o : Option Told) → each_served xs s ≡ Ok (with_told ts s, commands_told ts) → next ≡ xs ++ r ∷ [] → served (with_told ts s) r ≡ Ok (with_told (ts ++ option_to_list o) s, commands_told (option_to_list o)) → ms ≡ ts ++ option_to_list o → each_served next s ≡ Ok (with_told ms s, commands_told ms)

@@ -27,7 +27,7 @@ use Rattle.token_server.specs.Sketches.{without, still_active, queue_moved, wait
 use Rattle.known_nodes.specs.Parts.{rows_of, deaths_of}
 use Rattle.token_server.specs.Parts.{ServerParts, server_state}
 use Rattle.token_server.specs.Ready.{IsOrderly, IsReady}
-use Rattle.known_nodes.specs.Edits.{overlaid, given_rows}
+use Rattle.known_nodes.specs.Edits.{rows_overlaid, deaths_overlaid, given_of, given_rows}
 
 -- those that are served, once the call's request is served no longer
 abbrev pub held_still : Option CallId → List Held → List Held
@@ -65,7 +65,7 @@ waiting_after l waiting = waiting_moved l.moved (without l.gone.dropped waiting)
 
 -- the state once a row is edited, where no request moves
 abbrev pub reached : ServerParts → Option RowEdit → ServerState
-reached p rows = record { shape = p.shape; file = p.file; epoch = p.epoch; rows = rows_of (overlaid p.known_nodes rows); dead = deaths_of (overlaid p.known_nodes rows); queue = p.queue.requests; active = requests_of p.active.held; waiting = p.waiting.requests }
+reached p rows = record { shape = p.shape; file = p.file; epoch = p.epoch; rows = rows_overlaid p.known_nodes rows; dead = deaths_overlaid p.known_nodes rows; queue = p.queue.requests; active = requests_of p.active.held; waiting = p.waiting.requests }
 
 -- the requests change as the sketch has it; then, unless a node has not told its token, these come from the queue, and each that is served is known with the node whose row it waits for
 pub record AreListed (p : ServerParts) (k : Sketch) (rows : Option RowEdit) (l : Lists) : Type 0 where
@@ -82,8 +82,8 @@ drafted p d = record {
   shape = p.shape;
   file = p.file;
   epoch = p.epoch;
-  rows = rows_of (overlaid p.known_nodes d.rows);
-  dead = deaths_of (overlaid p.known_nodes d.rows);
+  rows = rows_overlaid p.known_nodes d.rows;
+  dead = deaths_overlaid p.known_nodes d.rows;
   queue = queue_after d.lists p.queue.requests p.waiting.requests;
   active = requests_of (held_after d.lists p.active.held);
   waiting = waiting_after d.lists p.waiting.requests;
@@ -93,8 +93,8 @@ drafted p d = record {
 pub record IsDrafted (p : ServerParts) (k : Sketch) (d : Draft) : Type 0 where
   pub before : IsReady (server_state p) p.active.held
   pub orderly : IsOrderly (sketched p k)
-  pub rows : rows_of (overlaid p.known_nodes d.rows) ≡ rows_after k.changed (rows_of p.known_nodes)
-  pub deaths : deaths_of (overlaid p.known_nodes d.rows) ≡ deaths_after k.changed (deaths_of p.known_nodes)
+  pub rows : rows_overlaid p.known_nodes d.rows ≡ rows_after k.changed (rows_of p.known_nodes)
+  pub deaths : deaths_overlaid p.known_nodes d.rows ≡ deaths_after k.changed (deaths_of p.known_nodes)
   pub listed : AreListed p k d.rows d.lists
   pub awaited : d.awaits ≡ awaits (drafted p d)
 
@@ -103,7 +103,7 @@ with_given gs known_nodes s = record s { rows = given_rows gs known_nodes }
 
 -- the state of a server once the draft is made and nodes are given that
 abbrev pub made_of : ServerParts → Draft → List Given → ServerState
-made_of p d gs = with_given gs (overlaid p.known_nodes d.rows) (drafted p d)
+made_of p d gs = with_given (gs ++ given_of d.rows) p.known_nodes (drafted p d)
 
 -- serving the draft comes to that, and to those messages
 pub record IsServed (p : ServerParts) (k : Sketch) (d : Draft) (gs : List Given) (out : List Message) : Type 0 where
@@ -151,7 +151,6 @@ pub record PartsFit (p : ServerParts) (v : Parts) : Type 0 where
   pub served : HeldHasRoom p.active v.spares.active (length v.draft.lists.fresh.items)
   pub queued : HasRoom p.queue v.spares.queue (many_moved v.draft.lists.moved (without v.draft.lists.gone.dropped p.waiting.requests))
   pub put_off : HasRoom p.waiting v.spares.waiting (many_put_off v.draft.lists.moved)
-  pub nodes : length (overlaid p.known_nodes v.draft.rows) ≡ length p.known_nodes
   pub awaited : v.draft.awaits ≡ awaits (made p v)
   pub ready : IsReady (made p v) (held_after v.draft.lists p.active.held)
 

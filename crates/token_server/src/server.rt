@@ -17,7 +17,7 @@ ghost use Rattle.token_server.specs.Parts.{server_state};
 ghost use Rattle.token_server.specs.Ready.{IsOrderly};
 ghost use Rattle.known_nodes.specs.Changes.{rows_after};
 ghost use Rattle.token_server.specs.Sketches.{is_answer, dropped, without, moved_for, sketched};
-ghost use Rattle.known_nodes.specs.Edits.{overlaid};
+ghost use Rattle.known_nodes.specs.Edits.{rows_overlaid};
 ghost use Rattle.token_server.specs.Edits.{reached, planned, AreListed, IsDrafted, Fits, HasRoom, HeldHasRoom, many_moved, many_put_off};
 
 use crate::change::{Change, Draft, Edit, Parts};
@@ -356,7 +356,7 @@ impl Server {
         awaiting: bool,
         sketch: &Sketch,
     ) -> Result<Lists, AllocError>
-        requires rows { rows_of (overlaid self.now.known_nodes rows.now) ≡ rows_after sketch.now.changed (rows_of self.now.known_nodes) }
+        requires rows { rows_overlaid self.now.known_nodes rows.now ≡ rows_after sketch.now.changed (rows_of self.now.known_nodes) }
         requires awaited { awaiting ≡ awaits (reached self.now rows.now) }
         requires in_cluster { IfSome sketch.now.changed (λ c. IsNumber self.now.shape.nodes c.node) }
         requires orderly { IsOrderly (sketched self.now sketch.now) }
@@ -391,8 +391,8 @@ impl Server {
 
     // The node whose row is edited, if one is.
     fn touched(&self, rows: &Option<RowEdit>, sketch: &Sketch) -> Option<u8>
-        requires { rows_of (overlaid self.now.known_nodes rows.now) ≡ rows_after sketch.now.changed (rows_of self.now.known_nodes) }
-        ensures { (n : ℕ) → result ≢ Some n → rows_of (overlaid self.now.known_nodes rows.now) n ≡ rows_of self.now.known_nodes n }
+        requires { rows_overlaid self.now.known_nodes rows.now ≡ rows_after sketch.now.changed (rows_of self.now.known_nodes) }
+        ensures { (n : ℕ) → result ≢ Some n → rows_overlaid self.now.known_nodes rows.now n ≡ rows_of self.now.known_nodes n }
     {
         rows.as_ref()?;
         Some(sketch.changed.as_ref()?.node)
@@ -623,8 +623,7 @@ impl Server {
             awaits,
         } = draft;
         self.awaits = awaits;
-        self.known_nodes.apply(rows);
-        self.known_nodes.give_each(given);
+        self.known_nodes.apply(rows, given);
         moves::change(
             &mut self.active,
             &mut self.queue,

@@ -11,7 +11,7 @@ ghost use Rattle.token_server.specs.Parts.{server_state};
 ghost use Rattle.known_nodes.specs.Changes.{may_bar, rows_after};
 ghost use Rattle.token_server.specs.Obstacles.{obstacle, is_dropped, frees, may_turn};
 ghost use Rattle.known_nodes.specs.Marks.{NoneExclusive};
-ghost use Rattle.known_nodes.specs.Edits.{overlaid};
+ghost use Rattle.known_nodes.specs.Edits.{rows_overlaid};
 ghost use Rattle.token_server.specs.Edits.{reached};
 
 use super::Server;
@@ -25,16 +25,22 @@ use token_queue::token_request::TokenRequest;
 
 impl Server {
     // Whether the row of another node conflicts with what the request needs.
-    fn stands_in_way(&self, rows: &Option<RowEdit>, node: u8, request: &TokenRequest) -> bool
+    fn stands_in_way<'a>(
+        &'a self,
+        rows: &'a Option<RowEdit>,
+        node: u8,
+        request: &TokenRequest,
+    ) -> bool
         requires { IsNumber self.now.shape.nodes node }
         ensures { result ≡ (not (node == request.now.call.node) && row_conflicts ((reached self.now rows.now).rows node) request.now.wanted.required request.now.mode) }
     {
         if request.is_of_node(node) {
             return false;
         }
-        self.known_nodes.row_after(rows, node).is_some_and(|row| row
-            .token
-            .conflicts(request.required(), request.mode))
+        match self.known_nodes.row_after(rows, node) {
+            Some(row) => row.token.conflicts(request.required(), request.mode),
+            None => false,
+        }
     }
 
     // The least other node whose row conflicts with what the request needs.
@@ -119,7 +125,7 @@ impl Server {
         rows: &Option<RowEdit>,
         changed: &Option<Changed>,
     ) -> Result<Vec<u8>, AllocError>
-        requires rows { rows_of (overlaid self.now.known_nodes rows.now) ≡ rows_after changed.now (rows_of self.now.known_nodes) }
+        requires rows { rows_overlaid self.now.known_nodes rows.now ≡ rows_after changed.now (rows_of self.now.known_nodes) }
         requires in_cluster { IfSome changed.now (λ c. IsNumber self.now.shape.nodes c.node) }
         ensures { IfOk result (λ ats. All (λ h. obstacle (reached self.now rows.now) h.request ≡ h.at) (waiting_for ats.items self.now.active.held)) }
     {
@@ -140,7 +146,7 @@ impl Server {
     // The node whose row a request that is served waits for once rows changed.
     fn at_after(&self, rows: &Option<RowEdit>, readable: bool, changed: &Changed, held: &Held) -> u8
         requires readable { readable ≡ true → NoneExclusive (reached self.now rows.now).rows }
-        requires rows { rows_of (overlaid self.now.known_nodes rows.now) ≡ rows_after (Some changed.now) (rows_of self.now.known_nodes) }
+        requires rows { rows_overlaid self.now.known_nodes rows.now ≡ rows_after (Some changed.now) (rows_of self.now.known_nodes) }
         requires in_cluster { IsNumber self.now.shape.nodes changed.now.node }
         requires waits { obstacle (server_state self.now) held.now.request ≡ held.now.at }
         ensures { obstacle (reached self.now rows.now) held.now.request ≡ result }

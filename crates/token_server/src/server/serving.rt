@@ -1,5 +1,5 @@
 //! How a token server serves its requests.
-ghost use Rattle.std.specs.Prelude.{◌≡◌, ◌==◌, ◌≢◌, ℕ, ◌+◌, ◌<◌, ◌≤◌, ◌++◌, true, false, length, IfSome, All, IfOk, IfErr, OnOk, OnSome, slice_index_or, Some, None, Ok, Err};
+ghost use Rattle.std.specs.Prelude.{◌≡◌, ◌==◌, ◌≢◌, ℕ, ◌+◌, ◌<◌, ◌≤◌, ◌++◌, true, false, length, IfSome, All, IfOk, IfErr, OnOk, OnSome, MatchOption, slice_index_or, Some, None, Ok, Err};
 ghost use Rattle.std.specs.Option.{option_map, option_to_list};
 ghost use Rattle.model.specs.Limits.{IsNumber};
 ghost use Rattle.intervals.specs.Bytes.{largest_around};
@@ -7,14 +7,14 @@ ghost use Rattle.messages.specs.Epochs.{before_epoch};
 ghost use Rattle.token_queue.specs.Actives.{requests_of};
 ghost use Rattle.known_nodes.specs.Rows.{row_conflicts, row_conflicts_at};
 ghost use Rattle.token_server.specs.Serve.{narrowed, granted_span, conflicting_node, served, each_served, serve};
-ghost use Rattle.known_nodes.specs.Sent.{promised};
+ghost use Rattle.known_nodes.specs.Sent.{bars};
 ghost use Rattle.token_server.specs.Told.{row_told, with_told, commands_told, cut, cut_all};
 ghost use Rattle.token_server.specs.Obstacles.{obstacle, are_apart, is_idle};
-ghost use Rattle.known_nodes.specs.Parts.{row_state, known_node_at, rows_of};
+ghost use Rattle.known_nodes.specs.Parts.{known_node_at};
 ghost use Rattle.token_server.specs.Parts.{server_state};
 ghost use Rattle.token_server.specs.Ready.{AreOfEpoch};
 ghost use Rattle.token_server.specs.Sketches.{commands_of, without, still_active, sketched};
-ghost use Rattle.known_nodes.specs.Edits.{overlaid, seen, given_to_known_node};
+ghost use Rattle.known_nodes.specs.Edits.{rows_overlaid, seen, given_to_known_node, given_of};
 ghost use Rattle.token_server.specs.Edits.{keeps, held_after, drafted, with_given, IsDrafted, IsServed};
 ghost use Rattle.token_server.specs.Turns.{kept_of, IsTurn, AreServed};
 
@@ -27,7 +27,6 @@ use intervals::span::Span;
 use known_nodes::command::{Command, Order};
 use known_nodes::commands::Commands;
 use known_nodes::given::Given;
-use known_nodes::token_holder::RowView;
 use messages::command_number::CommandNumber;
 use messages::items::Items;
 use messages::message::Message;
@@ -38,7 +37,6 @@ use model::mode::Mode;
 use std::alloc::{AllocError, Global};
 use token_queue::held::Held;
 use token_queue::token_request::TokenRequest;
-use token_set::edit::TokenEdit;
 
 impl Server {
     // What the request would like to have, without the bytes that another one that is served needs.
@@ -76,9 +74,9 @@ impl Server {
 
     // The largest span that contains `required`, lies in `within`, and has no byte at which the row of a node
     // conflicts with the mode, once those are told.
-    fn free_around(
-        &self,
-        draft: &Draft,
+    fn free_around<'a>(
+        &'a self,
+        draft: &'a Draft,
         told: &[Told],
         node: u8,
         required: Span,
@@ -95,20 +93,23 @@ impl Server {
         let Some(row) = self.known_nodes.row_after(&draft.rows, node) else {
             return within;
         };
+        let free = row.token.free_around(required, within, mode);
         match told_to(told, node) {
-            Some(told) => around_told(row, &told, required, within, mode),
-            None => row.token.free_around(required, within, mode),
+            Some(told) => cut_granted(&told, required, free, mode),
+            None => free,
         }
     }
 
     // The commands to a node once those are told, if it has a row.
-    fn commands_to(&self, draft: &Draft, told: &[Told], node: u8) -> Option<Commands>
+    fn commands_to<'a>(&'a self, draft: &'a Draft, told: &[Told], node: u8) -> Option<Commands>
         requires { AreOfEpoch (drafted self.now draft.now) }
         ensures value { result ≡ option_map commands_of ((with_told told.now (drafted self.now draft.now)).rows node) }
         ensures counted { IfSome result (λ c. c.outstanding ≡ None → before_epoch self.now.epoch ≤ c.number) }
         ensures node_in { OnSome result (1 ≤ node) }
     {
-        let row = self.known_nodes.row_after(&draft.rows, node)?;
+        let Some(row) = self.known_nodes.row_after(&draft.rows, node) else {
+            return None;
+        };
         match told_to(told, node) {
             Some(told) => Some(told.commands.awaiting(told.command)),
             None => Some(*row.commands),
@@ -283,7 +284,7 @@ impl Server {
     // What nodes are given by their commands.
     fn given(&self, draft: &Draft, alloc: Global, told: &[Told]) -> Result<Vec<Given>, AllocError>
         requires { All (λ t. 1 ≤ t.node) told.now }
-        ensures { IfOk result (λ given. with_given given.items (overlaid self.now.known_nodes draft.now.rows) (drafted self.now draft.now) ≡ with_told told.now (drafted self.now draft.now)) }
+        ensures { IfOk result (λ given. with_given (given.items ++ given_of draft.now.rows) self.now.known_nodes (drafted self.now draft.now) ≡ with_told told.now (drafted self.now draft.now)) }
     {
         let mut given = Vec::new(alloc);
         for next in told {
@@ -297,17 +298,11 @@ impl Server {
     fn given_one(&self, draft: &Draft, told: &Told) -> Result<Given, AllocError>
         requires { 1 ≤ told.now.node }
         ensures place { IfOk result (λ given. given.place + 1 ≡ told.now.node) }
-        ensures row { IfOk result (λ given. given_to_known_node given (known_node_at (overlaid self.now.known_nodes draft.now.rows) told.now.node) ≡ row_told (Some told.now) (rows_of (overlaid self.now.known_nodes draft.now.rows) told.now.node)) }
+        ensures row { IfOk result (λ given. given_to_known_node given (known_node_at self.now.known_nodes told.now.node) ≡ row_told (Some told.now) (rows_overlaid self.now.known_nodes draft.now.rows told.now.node)) }
     {
-        let token = match self.known_nodes.row_after(&draft.rows, told.node) {
-            Some(row) => told.command.promised(row.token)?,
-            None => TokenEdit::Same,
-        };
-        Ok(Given {
-            place: usize::from(told.node) - 1,
-            commands: told.commands.awaiting(told.command),
-            token,
-        })
+        let commands = told.commands.awaiting(told.command);
+        self.known_nodes
+            .given(&draft.rows, told.node, commands, &told.command)
     }
 }
 
@@ -395,16 +390,14 @@ fn cut_by_all(required: Span, within: Span, held: &[Held]) -> Span
     span
 }
 
-// The largest span around `required` within the other without a byte at which a row conflicts with the mode,
-// once its node is told that.
-fn around_told(row: RowView<'_>, told: &Told, required: Span, within: Span, mode: Mode) -> Span
-    requires starts_within { within.lo ≤ required.lo }
-    requires ends_within { required.hi ≤ within.hi }
-    requires free { row_conflicts (row_told (Some told.now) (Some (row_state (seen row)))) required mode ≡ false }
-    ensures { result ≡ largest_around (λ b. row_conflicts_at (row_told (Some told.now) (Some (row_state (seen row.entry)))) b mode) required within }
+// The largest span that contains `required` and lies in `free` without the bytes that a node is told it has, where those
+// stand in the way of the mode.
+fn cut_granted(told: &Told, required: Span, free: Span, mode: Mode) -> Span
+    requires starts_within { free.lo ≤ required.lo }
+    requires ends_within { required.hi ≤ free.hi }
+    ensures { MatchOption (bars told.now.command mode) (result ≡ free) (λ granted. (result ≡ cut required free granted) × (granted.lo ≤ granted.hi)) }
 {
     let _ = &required.lo; // tells the proof that the span has a byte
-    let free = row.token.free_around(required, within, mode);
     match told.command.granted(mode) {
         Some(granted) => cut(required, free, granted),
         None => free,

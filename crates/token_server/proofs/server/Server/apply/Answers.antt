@@ -1,10 +1,7 @@
-use Rattle.std.specs.Prelude.{◌++◌, List, length}
-use Rattle.std.proofs.Common.{sym, ap, subst, ◌∙◌}
+use Rattle.std.specs.Prelude.{◌++◌}
+use Rattle.std.proofs.Common.{sym, subst}
 use Rattle.token_queue.specs.Actives.{requests_of}
-use Rattle.known_nodes.specs.declared.known_node.KnownNode.{KnownNode}
-use Rattle.known_nodes.specs.Parts.{deaths_of}
 use Rattle.token_server.specs.Parts.{ServerParts}
-use Rattle.known_nodes.specs.Edits.{given_rows}
 use Rattle.token_server.specs.Edits.{Fits}
 use Rattle.token_server.proofs.ComesLaws.{distinct-first}
 use Rattle.token_server.proofs.ReadyLaws.{applied}
@@ -15,10 +12,8 @@ invariant_of-self c =
     let p : ServerParts = record { shape = c.self.inside.shape; file = c.self.inside.file; epoch = c.self.inside.epoch; known_nodes = c.self.inside.known_nodes; active = c.self.inside.active; queue = c.self.inside.queue; waiting = c.self.inside.waiting } in
     let v = c.into_inner-draft.result in
     let fits : Fits p c.args.change.edit = subst (λ (x : ServerParts). Fits x c.args.change.edit) (sym c.self.view_is) c.requires in
-    applied p c.self.inside.awaits c.args.change.edit v c.give_each.new.self c.change.new.active c.change.new.queue c.change.new.waiting c.into_inner-draft.ensures c.self.invariant fits
-    (λ n. c.give_each.ensures.rows n ∙ ap (λ (cs : List KnownNode). given_rows v.given.items cs n) c.apply.ensures)
-    (c.give_each.ensures.deaths ∙ ap deaths_of c.apply.ensures)
-    (c.give_each.ensures.len ∙ ap (λ (cs : List KnownNode). length cs) c.apply.ensures)
+    applied p c.self.inside.awaits c.args.change.edit v c.apply.new.self c.change.new.active c.change.new.queue c.change.new.waiting c.into_inner-draft.ensures c.self.invariant fits
+    c.apply.ensures.rows c.apply.ensures.deaths c.apply.ensures.len
     c.change.ensures.active c.change.ensures.queue c.change.ensures.waiting
 
 pub change-requires-clause-distinct : goal.change-requires-clause-distinct

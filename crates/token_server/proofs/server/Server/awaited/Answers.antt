@@ -11,7 +11,7 @@ use Rattle.known_nodes.specs.Parts.{rows_of}
 use Rattle.token_server.specs.Parts.{ServerParts, server_state}
 use Rattle.known_nodes.specs.Marks.{NoneExclusive}
 use Rattle.known_nodes.specs.Changes.{rows_after}
-use Rattle.known_nodes.specs.Edits.{overlaid}
+use Rattle.known_nodes.specs.Edits.{rows_overlaid}
 use Rattle.token_server.specs.Edits.{reached}
 use Rattle.token_server.proofs.AwaitLaws.{Await, await-more, await-first, unfreed-all}
 use Rattle.token_server.proofs.TurnLaws.{read-place, take-next}
@@ -20,7 +20,7 @@ use Rattle.token_server.proofs.server.Server.awaited.Goals as goal
 pub at_after-requires-clause-rows : goal.at_after-requires-clause-rows
 at_after-requires-clause-rows c =
     let p = c.args.self.now in
-    subst (λ (o : Option Changed). rows_of (overlaid p.known_nodes c.args.rows.now) ≡ rows_after o (rows_of p.known_nodes)) c.in-Some.is c.requires.rows
+    subst (λ (o : Option Changed). rows_overlaid p.known_nodes c.args.rows.now ≡ rows_after o (rows_of p.known_nodes)) c.in-Some.is c.requires.rows
 
 pub loop-place-preserved : goal.loop-place-preserved
 loop-place-preserved c =
@@ -46,7 +46,7 @@ returns c =
     let n = c.freed_up_to-many.result in
     let P : TokenRequest → ℕ → Type 0 = λ r a. obstacle (reached p edit) r ≡ a in
     let end : c.loop-place.place ≡ n = omega (arith, c.loop-place-test.false, c.loop-place.invariant.0) in
-    let rows = subst (λ (o : Option Changed). rows_of (overlaid p.known_nodes edit) ≡ rows_after o (rows_of p.known_nodes)) c.in-Some.is c.requires.rows in
+    let rows = subst (λ (o : Option Changed). rows_overlaid p.known_nodes edit ≡ rows_after o (rows_of p.known_nodes)) c.in-Some.is c.requires.rows in
     let waits = subst (λ (q : ServerParts). All (λ h. obstacle (server_state q) h.request ≡ h.at) q.active.held) c.self.view_is c.self.invariant.ready.waits in
     await-first P n held c.loop-place.ats.items
     (subst (λ (k : ℕ). Await P (take k held) c.loop-place.ats.items) end c.loop-place.invariant.1)
@@ -55,7 +55,7 @@ returns c =
 pub returns-in_default : goal.returns-in_default
 returns-in_default c =
     let p = c.args.self.now in
-    let rows : rows_of (overlaid p.known_nodes c.args.rows.now) ≡ rows_of p.known_nodes = c.requires.rows ∙ ap (λ (o : Option Changed). rows_after o (rows_of p.known_nodes)) c.in_default.is in
+    let rows : rows_overlaid p.known_nodes c.args.rows.now ≡ rows_of p.known_nodes = c.requires.rows ∙ ap (λ (o : Option Changed). rows_after o (rows_of p.known_nodes)) c.in_default.is in
     let waits = subst (λ (q : ServerParts). All (λ h. obstacle (server_state q) h.request ≡ h.at) q.active.held) c.self.view_is c.self.invariant.ready.waits in
     subst (λ (ats : List ℕ). All (λ h. obstacle (reached p c.args.rows.now) h.request ≡ h.at) (waiting_for ats p.active.held)) (sym c.new.ensures.items)
     (subst (λ (f : ℕ → Option Row). All (λ h. obstacle (record (server_state p) { rows = f }) h.request ≡ h.at) p.active.held) (sym rows) waits)

@@ -7,7 +7,6 @@ use Rattle.token_server.specs.Ready.{AreDistinct}
 use Rattle.token_server.specs.Sketches.{without, sketched}
 use Rattle.token_server.specs.Edits.{made, PartsFit}
 use Rattle.token_server.proofs.ReadyLaws.{moved-new, distinct-queue, distinct-waiting}
-use Rattle.known_nodes.proofs.EditLaws.{overlaid-length}
 use Rattle.token_server.proofs.server.Server.serve.Goals as goal
 
 abbrev Answer : Type 0
@@ -30,7 +29,6 @@ returns-clause-fits c =
       served = c.in_ok-spares.ensures.active;
       queued = c.in_ok-spares.ensures.queue;
       put_off = c.in_ok-spares.ensures.waiting;
-      nodes = overlaid-length p.known_nodes d.rows;
       awaited = c.in_ok-given.ensures.ok.awaited;
       ready = c.in_ok-given.ensures.ok.ready;
     })
