@@ -150,7 +150,7 @@ impl Command {
         }
     }
 
-    /// The same of a token that changes so before: both changes in one.
+    /// How it changes the token that its node has once that edit is made: both changes in one.
     ///
     /// # Errors
     /// `AllocError` where a request for memory was refused.

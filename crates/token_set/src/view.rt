@@ -211,6 +211,7 @@ fn lowest_free_with(
     lowest_free(token, low, end.min(over.lo).max(low), mode)
 }
 
+// The same upwards: first below the span, then in it, then above.
 fn highest_free_with(
     token: &TokenSet,
     over: Span,
