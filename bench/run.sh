@@ -2,7 +2,7 @@
 # Times lockreplay on scripts of each kind that make some 10,000, 100,000 and 1,000,000 entries of the journal (it holds
 # 1,048,576). Prints for each the processor seconds of its fastest run (of nine times ten that are counted together, five and
 # five), entries per second and peak memory, and beside the last size the ratio of the time an entry takes there to what it
-# takes in the first. Of queue and rivals, which are about many calls at a server, of regions, opens and wide, which are about a node that
+# takes in the first. Of queue and rivals, which are about many calls at a server, of regions, opens, wide and revokes, which are about a node that
 # holds much, the sizes are 100,000 and 1,000,000 entries with little of it, and 1,000,000 with much: so their ratios tell what more
 # entries cost, and what more entries and more of it do.
 # usage: bench/run.sh [DIR [KIND]..]   (the scripts and listings stay in DIR; without one they go)
@@ -13,7 +13,7 @@ if [ -z "$folder" ]; then
     folder=$(mktemp -d) || exit 1
     trap 'rm -rf "$folder"' EXIT
 fi
-[ $# -gt 0 ] || set -- covered readers lossy fight storm crowd walk scattered regions churn failures turns queue rivals opens wide rebuilt
+[ $# -gt 0 ] || set -- covered readers lossy fight storm crowd walk scattered regions churn failures turns queue rivals opens wide rebuilt revokes
 mkdir -p "$folder" || exit 1
 "$here/../lockreplay" --help >/dev/null || exit 1
 program=$here/../crates/lockreplay/out/lockreplay
@@ -44,6 +44,7 @@ for kind in "$@"; do
         opens) sizes="100000:5:2 1000000:5:2 1000000:5:255" ;;
         wide) sizes="100000:5:2 1000000:5:2 1000000:5:250" ;;
         rebuilt) sizes="10000:5:10 100000:5:300 1000000:5:3900" ;;
+        revokes) sizes="100000:5:100 1000000:5:100 1000000:5:10000" ;;
     esac
     first=
     for size in $sizes; do
@@ -59,6 +60,9 @@ for kind in "$@"; do
         elif [ "$kind" = rebuilt ]; then
             # A run of each node makes 256 entries of 128 lines, a rebuild 130 of three.
             lines=$((129 + 128 * calls + (entries - 256 * calls) / 130 * 3))
+        elif [ "$kind" = revokes ]; then
+            # A run of the token makes five entries of three lines, a turn 14 of six.
+            lines=$((5 + 3 * calls + (entries - 5 * calls - 4) / 14 * 6))
         fi
         name=$kind${calls:+-$calls}
         script=$folder/$name-$lines.lock

@@ -36,6 +36,8 @@
 #          read all of these bytes
 # rebuilt  64 nodes have tokens of CALLS runs each (4,000, up to 4,000); then the server fails and is rebuilt from what they report, again
 #          and again
+# revokes  two nodes of which the first has a token of CALLS runs of a byte (10,000): the second locks one of these bytes, anywhere, and
+#          gives it back, again and again
 # usage: script.sh KIND LINES [CALLS]
 kind=${1:?usage: script.sh KIND LINES [CALLS]}
 lines=${2:?usage: script.sh KIND LINES [CALLS]}
@@ -355,6 +357,28 @@ function wide() {
 }
 
 # Each node reads one byte in two: two lines for each run of each node come before the first failure.
+# Sets and unlocks a byte.
+function touch(node, byte) {
+    put("call " node " 1 set 0 proc write " byte " 1")
+    put("settle")
+    put("call " node " 1 unlock 0 proc " byte " 1")
+}
+
+function revokes() {
+    seed = 1
+    put("cluster nodes 2 files 1 policy exact")
+    begin(1, 1)
+    begin(2, 1)
+    many = calls == "" ? 10000 : calls
+    for (place = 0; place < many; place++)
+        touch(1, 2 * place)
+    while (written < lines) {
+        byte = 2 * draw(many)
+        touch(2, byte)
+        touch(1, byte)
+    }
+}
+
 function rebuilt() {
     many = calls == "" ? 4000 : calls
     put("cluster nodes 64 files 1 policy exact")
@@ -410,6 +434,8 @@ BEGIN {
         wide()
     else if (kind == "rebuilt")
         rebuilt()
+    else if (kind == "revokes")
+        revokes()
     else
         exit 2
 }'
