@@ -590,6 +590,68 @@ try 'a journal that is full' 4 none no-room run full.lock --journal kept.journal
 judge 'little memory for a journal' 4 $? none came.out no-memory came.err
 judge 'the file that was there before' 0 0 kept kept.journal none none
 
+# So is it where memory is short later on: neither the file nor its folder changes, by whatever command.
+{ cat empty.lock; for _ in $(seq 20000); do printf 'call 1 1 spawn\n'; done; } >long.lock
+"$program" run long.lock --journal long.journal --quiet
+cp long.journal long.kept
+ln -s kept.journal kept.link
+: >left.files
+ls >came.files
+# Runs the program on these words with little memory, and then more, until it has enough, and looks at the file each time.
+try_short() {
+    local name=$1 limit status short=0 changed=0
+    shift
+    for limit in $(seq 6000 250 100000); do
+        (
+            ulimit -v "$limit"
+            exec timeout 120 "$program" "$@" >came.out 2>came.err
+        )
+        status=$?
+        ls >left.files
+        cmp -s came.files left.files || changed=$((changed + 1))
+        [ $status = 4 ] || break
+        short=$((short + 1))
+        cmp -s kept kept.journal || changed=$((changed + 1))
+    done
+    [ $short -gt 3 ] && [ $changed = 0 ] && ! cmp -s kept kept.journal
+    judge "little memory for $name" "0, 0" "$?, $status" none none none none
+    cat kept >kept.journal
+}
+try_short 'a long journal' run long.lock --journal kept.journal
+try_short 'a long journal without its listing' run long.lock --journal kept.journal --quiet
+try_short 'a long journal by a link' run long.lock --journal kept.link
+try_short 'a long journal behind another' run empty.lock --after long.journal --journal kept.journal
+cmp -s long.journal long.kept
+judge 'the journal behind which they went on' 0 $? none none none none
+rm long.lock long.journal long.kept kept.link
+
+# What is no file is written in place, once all of the journal is there.
+mkfifo pipe
+timeout 120 cat pipe >came.journal &
+try 'a journal into a pipe' 0 first.listing none run first.lock --journal pipe
+wait $!
+cmp -s first.journal came.journal && [ -p pipe ]
+judge 'what came out of the pipe' 0 $? none none none none
+cat first.journal first.listing >both
+timeout 120 "$program" run first.lock --journal /dev/stdout 2>came.err | cat >came.out
+judge 'a journal on standard output' 0 "${PIPESTATUS[0]}" both came.out none came.err
+mkdir shut
+echo 'cannot write shut/first.journal' >no-entry
+chmod 555 shut
+if [ ! -w shut ]; then
+    try 'a journal in a folder that takes none' 3 none no-entry run first.lock --journal shut/first.journal
+fi
+chmod 755 shut
+cp kept shut/first.journal
+chmod 555 shut
+try 'a journal in the place of a file of that folder' 0 first.listing none run first.lock --journal shut/first.journal
+chmod 755 shut
+cmp -s first.journal shut/first.journal
+judge 'that journal' 0 $? none none none none
+[ "$(ls shut)" = first.journal ]
+judge 'the files of that folder' 0 $? none none none none
+rm -r shut pipe both
+
 # The scripts are as they were.
 cmp -s first.lock "$data/data/first.lock"
 judge 'the script afterwards' 0 $? none none none none

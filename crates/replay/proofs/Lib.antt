@@ -1,6 +1,7 @@
 pub mod Counting
 pub mod Sections
 pub mod Stores
+pub mod Drafts
 pub mod ThreadLines
 pub mod Faults
 pub mod Audits

@@ -1,15 +1,13 @@
 -- The sections of a listing, one after the other.
-use Rattle.std.proofs.Common.{◌≡◌, ℕ, Bool, false, ◌+◌, refl, sym, ◌∙◌, ap, subst, List, [], ◌∷◌, ◌++◌, append_assoc, append-nil, Option, Some, None}
+use Rattle.std.proofs.Common.{◌≡◌, ℕ, Bool, false, refl, sym, ◌∙◌, ap, subst, List, [], ◌∷◌, ◌++◌, append_assoc, append-nil, Option, Some, None}
 use Rattle.std.specs.Prelude.{flat_map}
 use Rattle.std.specs.List.{cons_option}
 use Rattle.messages.specs.declared.entry.Entry.{Entry}
-use Rattle.messages.specs.declared.version.Version.{Version}
 use Rattle.cluster_core.specs.declared.held_lock.HeldLock.{HeldLock}
 use Rattle.cluster_core.specs.declared.item.Item.{Item}
 use Rattle.cluster_core.specs.declared.token_run.TokenRun.{TokenRun}
 use Rattle.cluster_core.specs.Journals.{JournalFields}
 use Rattle.cluster_core.specs.Placement.{items_in}
-use Rattle.journal_text.specs.Journals.{entries_text, entry_text}
 use Rattle.lockscript.specs.declared.refused_line.RefusedLine.{RefusedLine}
 use Rattle.lockscript.specs.Listing.{listing_text, listing_start, history_line, history_text}
 use Rattle.player.specs.Played.{PlayedState}
@@ -51,10 +49,3 @@ item_told start out more whole rest first so_far is told =
     ∙ (append_assoc out (flat_map history_line (cons_option first [])) behind
     ∙ (ap (λ (bytes : List ℕ). out ++ bytes) (sym (items_go_on first rest))
     ∙ (ap (λ (items : List (Option Item)). out ++ flat_map history_line (items_in items)) (sym is) ∙ so_far)))
-
-pub entry_told : (version : Version) (position : ℕ) (start out more : List ℕ) (whole rest : List Entry) (first : Entry) → out ++ entries_text version position whole ≡ start → whole ≡ first ∷ rest → more ≡ out ++ entry_text version position first → more ++ entries_text version (position + 1) rest ≡ start
-entry_told version position start out more whole rest first so_far is told =
-    let behind = entries_text version (position + 1) rest in
-    ap (λ (bytes : List ℕ). bytes ++ behind) told
-    ∙ (append_assoc out (entry_text version position first) behind
-    ∙ (ap (λ (es : List Entry). out ++ entries_text version position es) (sym is) ∙ so_far))

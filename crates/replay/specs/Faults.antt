@@ -20,7 +20,7 @@ use Rattle.replay.specs.Audits.{HasEntries, HasJournal, HasNewJournal, WritesFew
 use Rattle.player.specs.Played.{FillsBehind, FillsJournal}
 use Rattle.replay.specs.Scripts.{HasScript, HasScriptFor}
 use Rattle.replay.specs.Threads.{FillsOnThreads, IsTaken}
-use Rattle.replay.specs.Stores.{HasNoText, HasText}
+use Rattle.replay.specs.Stores.{Files, HasNoText, HasText, SameFiles, SameOthers}
 
 abbrev pub fault_of_parse : ParseError → Fault
 fault_of_parse parse.NoMemory = NoMemory
@@ -47,6 +47,12 @@ abbrev pub IsFileFault : (Option (List ℕ) → Type 0) → Type 0 → List ℕ 
 IsFileFault Holds RanShort path Told (CannotRead named) = (named.now ≡ path) × HasNoText Holds
 IsFileFault Holds RanShort path Told NoMemory = RanShort ⊎ Told NoMemory
 IsFileFault Holds RanShort path Told fault = Told fault
+
+-- why the file of this path was not made beside something else: it can't be written, or memory is short, and then no file changed
+abbrev pub IsUnwritten : Files → (List ℕ → Type 0) → List ℕ → Files → Fault → Type 0
+IsUnwritten old Refuses path new (CannotWrite named) = (named.now ≡ path) × Refuses path × SameOthers old new path
+IsUnwritten old Refuses path new NoMemory = SameFiles old new
+IsUnwritten old Refuses path new fault = ⊥
 
 -- why the script of the file is not run to its end: a bad line, a full journal, or short memory for the run of a script
 abbrev pub ScriptFault : (Option (List ℕ) → Type 0) → Fault → Type 0

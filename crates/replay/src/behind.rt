@@ -13,6 +13,7 @@ ghost use Rattle.replay.specs.Scripts.{HasRunBehind, HasScriptFor};
 ghost use Rattle.replay.specs.Stores.{SameFiles};
 
 use crate::audit::{Audited, checked_new};
+use crate::drafted::committed;
 use crate::fault::Fault;
 use crate::input::text_of;
 use crate::run::{run_text, text_and_journal};
@@ -55,7 +56,7 @@ pub(crate) fn run_behind<'a, S: Store, V: Watcher>(
     }
 }
 
-// The same, with the journal of the whole run written to a file. All that needs memory is done before.
+// The same, with the journal of the whole run written to a file.
 pub(crate) fn run_behind_with_journal<'a, S: Store, V: Watcher>(
     alloc: Global,
     store: &mut S,
@@ -73,11 +74,9 @@ pub(crate) fn run_behind_with_journal<'a, S: Store, V: Watcher>(
         Behind::Run(played) => played,
         Behind::Wrong(position) => return Ok(Shown::No(position)),
     };
-    let (text, journal) = text_and_journal(alloc, played, wanted)?;
-    match store.write(file, journal.as_bytes()) {
-        Ok(()) => Ok(Shown::Text(text)),
-        Err(_) => Err(Fault::CannotWrite(file)),
-    }
+    let mut draft = store.begin(file);
+    let made = text_and_journal(&mut draft, alloc, played, wanted);
+    Ok(Shown::Text(committed(store, file, draft, made)?))
 }
 
 // What the script of a file comes to behind the journal of another, which is audited first.

@@ -11,13 +11,15 @@ ghost use Rattle.player.specs.Parts.{state_of};
 ghost use Rattle.player.specs.Played.{EndsIn};
 ghost use Rattle.replay.specs.Audits.{IsHistoryText};
 ghost use Rattle.replay.specs.Scripts.{IsListing, IsListingBegun};
+ghost use Rattle.replay.specs.Stores.{Adds};
 
+use crate::draft::Draft;
+use crate::journal_draft::{add_end, add_entry, add_head};
 use cluster_core::held_lock::HeldLock;
 use cluster_core::item::Item;
 use cluster_core::journal::Journal;
 use cluster_core::token_run::TokenRun;
 use cluster_core::world::World;
-use journal_text::journal::{push_entry, push_head};
 use lockscript::listing::{listing, listing_start, push_item};
 use lockscript::refused_line::RefusedLine;
 use messages::version::Version;
@@ -25,7 +27,6 @@ use placement::placed::placed;
 use placement::placed_entries::PlacedEntries;
 use placement::placed_run::PlacedRun;
 use std::alloc::{AllocError, Global};
-use std::fmt::Write;
 
 /// The listing of the run of a journal that ends in this world, in which these lines were refused.
 ///
@@ -114,44 +115,45 @@ fn push_items(out: &mut String, entries: PlacedEntries) -> Result<(), AllocError
     Ok(())
 }
 
-/// The same, with the journal of the run as text.
+/// The same, with the journal of the run written to a draft.
 ///
 /// # Errors
 /// `AllocError` where a request for memory was refused.
-pub(crate) fn push_history_and_journal(
+pub(crate) fn push_history_and_journal<D: Draft>(
     out: &mut String,
+    draft: &mut D,
     alloc: Global,
     run: PlacedRun,
-) -> Result<String, AllocError>
+) -> Result<(), AllocError>
     ensures history { OnOk result ((told : List ℕ) × IsHistoryText run told × (string_bytes out.new ≡ string_bytes out.old ++ told)) }
-    ensures journal { IfOk result (λ text. string_bytes text ≡ journal_text run.shape run.entries) }
+    ensures journal { OnOk result (Adds (D.has draft.old) (D.has draft.new) (journal_text run.shape run.entries)) }
 {
     let shape = run.journal().shape();
     let count = run.journal().entries().len();
-    let mut journal = String::new(alloc);
-    push_head(&mut journal, &shape)?;
+    add_head(draft, alloc, &shape)?;
     out.push_str("history\n")?;
-    push_items_and_entries(out, &mut journal, shape.version(), run.into_entries(alloc))?;
-    writeln!(journal, "end {count}")?;
-    Ok(journal)
+    push_items_and_entries(out, draft, alloc, shape.version(), run.into_entries(alloc))?;
+    add_end(draft, alloc, count)
 }
 
-// Writes the lines of what stands at these entries, and those of the entries, the first of which has position 1.
-fn push_items_and_entries(
+// Writes the lines of what stands at these entries, and to a draft those of the entries, the first of which has position 1.
+fn push_items_and_entries<D: Draft>(
     out: &mut String,
-    journal: &mut String,
+    draft: &mut D,
+    alloc: Global,
     version: Version,
     entries: PlacedEntries,
 ) -> Result<(), AllocError>
     requires { length entries.entries ≤ journal_limit }
     ensures items { OnOk result (string_bytes out.new ≡ string_bytes out.old ++ flat_map history_line (items_in entries.standing)) }
-    ensures entries { OnOk result (string_bytes journal.new ≡ string_bytes journal.old ++ entries_text version 1 entries.entries) }
+    ensures entries { OnOk result (Adds (D.has draft.old) (D.has draft.new) (entries_text version 1 entries.entries)) }
 {
     let mut entries = entries;
+    let mut lines = String::new(alloc);
     let mut position = 0u64;
     while let Some((entry, item)) = entries.next()? {
         position += 1;
-        push_entry(journal, version, position, &entry)?;
+        add_entry(draft, &mut lines, version, position, &entry)?;
         drop(entry);
         push_standing(out, &item)?;
     }

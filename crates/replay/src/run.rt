@@ -1,5 +1,5 @@
 //! Running the script of a file.
-ghost use Rattle.std.specs.Prelude.{◌≡◌, ◌≢◌, List, None, Some, true, false, string_bytes, IfErr, IfOk};
+ghost use Rattle.std.specs.Prelude.{◌≡◌, ◌≢◌, List, None, Some, true, false, string_bytes, IfErr, IfOk, OnOk};
 ghost use Rattle.command_line.specs.Tasks.{run};
 ghost use Rattle.journal_text.specs.Journals.{journal_text};
 ghost use Rattle.journal_text.specs.Readings.{WritesJournal};
@@ -9,17 +9,19 @@ ghost use Rattle.replay.specs.Commands.{Does, IsFault, IsRunText};
 ghost use Rattle.replay.specs.Faults.{IsScriptFault};
 ghost use Rattle.player.specs.Parts.{state_of};
 ghost use Rattle.replay.specs.Scripts.{HasRun, HasScript, IsListingBegun};
-ghost use Rattle.replay.specs.Stores.{SameFiles};
+ghost use Rattle.replay.specs.Stores.{Adds, SameFiles};
 ghost use Rattle.replay.specs.Tellings.{open_section};
 
+use crate::draft::Draft;
+use crate::drafted::committed;
 use crate::explain::open_in;
 use crate::fault::Fault;
 use crate::input::text_of;
+use crate::journal_draft::add_journal;
 use crate::listing::{listing_begun, push_history_and_journal, push_history_of};
 use crate::store::Store;
 use crate::wanted::Wanted;
 use cluster_core::journal::Journal;
-use journal_text::journal::into_text;
 use journal_text::laws::each_journal_is_read;
 use lockscript::script::Script;
 use placement::placed_run::PlacedRun;
@@ -44,7 +46,8 @@ pub(crate) fn run_script<'a, S: Store, V: Watcher>(
     Ok(run_text(alloc, played, wanted)?)
 }
 
-// The same, with the journal of the run written to a file. All that needs memory is done before.
+// The same, with the journal of the run written to a file. It is made beside the listing, and takes its place once all
+// that needs memory is done.
 pub(crate) fn run_with_journal<'a, S: Store, V: Watcher>(
     alloc: Global,
     store: &mut S,
@@ -58,11 +61,9 @@ pub(crate) fn run_with_journal<'a, S: Store, V: Watcher>(
         × IsFault (S.holds store.old) (S.ran_short store.new) (S.refuses store.new) (run path.now None (Some file.now) wanted.open wanted.quiet) (S.holds store.new) fault) }
 {
     let played = played_of(alloc, store, path, watcher)?;
-    let (text, journal) = text_and_journal(alloc, played, wanted)?;
-    match store.write(file, journal.as_bytes()) {
-        Ok(()) => Ok(text),
-        Err(_) => Err(Fault::CannotWrite(file)),
-    }
+    let mut draft = store.begin(file);
+    let made = text_and_journal(&mut draft, alloc, played, wanted);
+    committed(store, file, draft, made)
 }
 
 // What the script of a file comes to.
@@ -101,20 +102,21 @@ pub(crate) fn run_text(alloc: Global, played: Played, wanted: Wanted) -> Result<
     }
 }
 
-// What is shown of a run, and its journal as text.
-pub(crate) fn text_and_journal(
+// What is shown of a run, whose journal is written to a draft.
+pub(crate) fn text_and_journal<D: Draft>(
+    draft: &mut D,
     alloc: Global,
     played: Played,
     wanted: Wanted,
-) -> Result<(String, String), AllocError>
-    ensures shown { IfOk result (λ texts. IsRunText (state_of played) wanted.open wanted.quiet (string_bytes texts.0)) }
-    ensures journal { IfOk result (λ texts. string_bytes texts.1 ≡ journal_text played.journal.shape played.journal.entries) }
-    ensures read { IfOk result (λ texts. WritesJournal (journal_text played.journal.shape played.journal.entries) played.journal.shape played.journal.entries) }
+) -> Result<String, AllocError>
+    ensures shown { IfOk result (λ text. IsRunText (state_of played) wanted.open wanted.quiet (string_bytes text)) }
+    ensures journal { OnOk result (Adds (D.has draft.old) (D.has draft.new) (journal_text played.journal.shape played.journal.entries)) }
+    ensures read { OnOk result (WritesJournal (journal_text played.journal.shape played.journal.entries) played.journal.shape played.journal.entries) }
 {
     if wanted.quiet {
-        open_and_journal(alloc, played, wanted.open)
+        open_and_journal(draft, alloc, played, wanted.open)
     } else {
-        listing_and_journal(alloc, played, wanted.open)
+        listing_and_journal(draft, alloc, played, wanted.open)
     }
 }
 
@@ -130,22 +132,23 @@ fn listing_of(alloc: Global, played: Played, with_open: bool) -> Result<String, 
     Ok(text)
 }
 
-// The same, and the journal of the run as text.
-fn listing_and_journal(
+// The same, with the journal of the run written to a draft.
+fn listing_and_journal<D: Draft>(
+    draft: &mut D,
     alloc: Global,
     played: Played,
     with_open: bool,
-) -> Result<(String, String), AllocError>
-    ensures listing { IfOk result (λ texts. IsRunText (state_of played) with_open false (string_bytes texts.0)) }
-    ensures journal { IfOk result (λ texts. string_bytes texts.1 ≡ journal_text played.journal.shape played.journal.entries) }
-    ensures read { IfOk result (λ texts. WritesJournal (journal_text played.journal.shape played.journal.entries) played.journal.shape played.journal.entries) }
+) -> Result<String, AllocError>
+    ensures listing { IfOk result (λ text. IsRunText (state_of played) with_open false (string_bytes text)) }
+    ensures journal { OnOk result (Adds (D.has draft.old) (D.has draft.new) (journal_text played.journal.shape played.journal.entries)) }
+    ensures read { OnOk result (WritesJournal (journal_text played.journal.shape played.journal.entries) played.journal.shape played.journal.entries) }
 {
     let (mut text, run) = listing_of_played(alloc, played)?;
     let open = open_section(alloc, run.journal(), with_open)?;
     each_journal_is_read(run.journal());
-    let printed = push_history_and_journal(&mut text, alloc, run)?;
+    push_history_and_journal(&mut text, draft, alloc, run)?;
     text.push_str(&open)?;
-    Ok((text, printed))
+    Ok(text)
 }
 
 // What is shown of a run without its listing: the calls without a reply, if that is asked for.
@@ -156,21 +159,22 @@ fn open_of(alloc: Global, played: Played, with_open: bool) -> Result<String, All
     open_section(alloc, &journal, with_open)
 }
 
-// The same, and the journal of the run as text.
-fn open_and_journal(
+// The same, with the journal of the run written to a draft.
+fn open_and_journal<D: Draft>(
+    draft: &mut D,
     alloc: Global,
     played: Played,
     with_open: bool,
-) -> Result<(String, String), AllocError>
-    ensures open { IfOk result (λ texts. IsRunText (state_of played) with_open true (string_bytes texts.0)) }
-    ensures journal { IfOk result (λ texts. string_bytes texts.1 ≡ journal_text played.journal.shape played.journal.entries) }
-    ensures read { IfOk result (λ texts. WritesJournal (journal_text played.journal.shape played.journal.entries) played.journal.shape played.journal.entries) }
+) -> Result<String, AllocError>
+    ensures open { IfOk result (λ text. IsRunText (state_of played) with_open true (string_bytes text)) }
+    ensures journal { OnOk result (Adds (D.has draft.old) (D.has draft.new) (journal_text played.journal.shape played.journal.entries)) }
+    ensures read { OnOk result (WritesJournal (journal_text played.journal.shape played.journal.entries) played.journal.shape played.journal.entries) }
 {
     let journal = journal_of(played);
     let text = open_section(alloc, &journal, with_open)?;
     each_journal_is_read(&journal);
-    let printed = into_text(alloc, journal)?;
-    Ok((text, printed))
+    add_journal(draft, alloc, journal)?;
+    Ok(text)
 }
 
 // The journal of a run. The world goes.

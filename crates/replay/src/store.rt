@@ -1,8 +1,9 @@
 //! Files.
-ghost use Rattle.std.specs.Prelude.{◌≡◌, ℕ, List, ⊤, IfOk, OnErr, OnOk, Option, Result, Err, None, Some};
+ghost use Rattle.std.specs.Prelude.{◌≡◌, ℕ, List, [], ⊤, IfOk, OnErr, OnOk, Option, Result, Err, None, Some};
 ghost use Rattle.replay.specs.Stores.{SameFiles, SameOthers};
 ghost use Rattle.replay.specs.declared.store.StoreError.TheVariants.{Failed, NoMemory};
 
+use crate::draft::Draft;
 use std::alloc::Global;
 
 /// Why a file was not read, or not written.
@@ -16,6 +17,9 @@ pub enum StoreError {
 
 /// Files by their paths.
 pub trait Store {
+    /// A file that is made piece by piece.
+    type Draft: Draft + Drop;
+
     // The file of a path has these bytes, or can't be read, where that is known.
     ghost holds: { Self → List ℕ → Option (List ℕ) → Type 0 } = { λ _ _ _. ⊤ };
 
@@ -37,15 +41,26 @@ pub trait Store {
         // No file changes.
         ensures files { SameFiles (holds self.old) (holds self.new) };
 
-    /// Makes a file of these bytes, in the place of one that is there.
+    /// A file that is to take the place of that of a path, with no bytes yet.
+    fn begin(&mut self, path: &str) -> Self::Draft
+        ensures empty { Self.Draft.has result path.now [] }
+
+        // No file changes.
+        ensures files { SameFiles (holds self.old) (holds self.new) };
+
+    /// Puts a file that was made for this path there, in the place of one that is there.
     ///
     /// # Errors
     /// `Failed` where the file can't be written; `NoMemory` where a request for memory was refused.
     /// What the file then has is not said.
-    fn write(&mut self, path: &str, bytes: &[u8]) -> Result<(), StoreError>
-        ensures bytes { OnOk result (holds self.new path.now (Some bytes.now)) }
+    fn commit(&mut self, path: &str, draft: Self::Draft) -> Result<(), StoreError>
+        ensures bytes { OnOk result ((text : List ℕ) → Self.Draft.has draft path.now text → holds self.new path.now (Some text)) }
         ensures refused { OnErr result (refuses self.new path.now) }
 
         // No other file changes.
         ensures others { SameOthers (holds self.old) (holds self.new) path.now };
+
+    /// Gives up a file that was begun.
+    fn abandon(&mut self, draft: Self::Draft)
+        ensures files { SameFiles (holds self.old) (holds self.new) };
 }

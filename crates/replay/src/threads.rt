@@ -8,15 +8,16 @@ ghost use Rattle.replay.specs.Stores.{SameFiles};
 ghost use Rattle.replay.specs.Threads.{HasThreadScript, IsTaken, IsTold};
 ghost use Rattle.lockscript.specs.ThreadLines.{bad_line};
 
+use crate::drafted::committed;
 use crate::fault::Fault;
 use crate::input::text_of;
+use crate::journal_draft::add_journal;
 use crate::on_threads::run_on_threads;
 use crate::shown::Shown;
 use crate::store::Store;
 use crate::threaded::Threaded;
 use actors::manner::Manner;
 use actors::run_watcher::RunWatcher;
-use journal_text::journal::into_text;
 use lockscript::script::Script;
 use std::alloc::Global;
 use std::sync::Wait;
@@ -63,7 +64,7 @@ fn run_threads<'a, R: Threads + Wait + Clock + Sync, S: Store, V: RunWatcher>(
     Ok(shown)
 }
 
-// The same, with the journal of the run written to a file. All that needs memory is done before.
+// The same, with the journal of the run written to a file.
 fn run_threads_with_journal<'a, R: Threads + Wait + Clock + Sync, S: Store, V: RunWatcher>(
     rt: &R,
     alloc: Global,
@@ -80,11 +81,10 @@ fn run_threads_with_journal<'a, R: Threads + Wait + Clock + Sync, S: Store, V: R
 {
     let threaded = threaded_of(rt, alloc, store, path, seed, manner, watcher)?;
     let (shown, journal) = threaded.into_shown()?;
-    let text = into_text(alloc, journal)?;
-    match store.write(file, text.as_bytes()) {
-        Ok(()) => Ok(shown),
-        Err(_) => Err(Fault::CannotWrite(file)),
-    }
+    let mut draft = store.begin(file);
+    let made = add_journal(&mut draft, alloc, journal);
+    committed(store, file, draft, made)?;
+    Ok(shown)
 }
 
 // A run of the script of a file.

@@ -1,16 +1,20 @@
-use Rattle.std.proofs.Common.{ap, subst, arith, length, ◌+◌, Option}
+use Rattle.std.proofs.Common.{ap, subst, arith, length, ◌+◌, List, Option}
 use Rattle.messages.specs.declared.entry.Entry.{Entry}
 use Rattle.cluster_core.specs.declared.item.Item.{Item}
+use Rattle.journal_text.specs.Journals.{entries_text, entry_text}
 use Rattle.placement.specs.Rests.{Takes}
-use Rattle.replay.proofs.Sections.{item_told, entry_told}
+use Rattle.replay.proofs.Drafts.{lacks_less}
+use Rattle.replay.proofs.Sections.{item_told}
 use Rattle.replay.proofs.listing.push_items_and_entries.Goals as goal
 
-pub loop-entries-preserved : goal.loop-entries-preserved
-loop-entries-preserved c =
-    let taken = subst (λ (first : Option (Entry × Option Item)). Takes c.loop-entries.entries first c.next.new.self) c.in-Some.is c.in_ok-entry.ensures.takes in
+pub loop-lines-preserved : goal.loop-lines-preserved
+loop-lines-preserved g c =
+    let has = g.D.Draft.has in
+    let taken = subst (λ (first : Option (Entry × Option Item)). Takes c.loop-lines.entries first c.next.new.self) c.in-Some.is c.in_ok-entry.ensures.takes in
     let one = ap length taken.0 in
+    let written = ap (λ (es : List Entry). entries_text c.args.version (c.loop-lines.position + 1) es) taken.0 in
     record {
-      counted = omega (arith, c.loop-entries.invariant.counted);
-      items = item_told _ _ _ _ _ c.in-Some.item c.loop-entries.invariant.items taken.1 c.in_ok-push_standing.ensures;
-      text = entry_told c.args.version (c.loop-entries.position + 1) _ _ _ _ _ c.in-Some.entry c.loop-entries.invariant.text taken.0 c.in_ok-push_entry.ensures;
+      counted = omega (arith, c.loop-lines.invariant.counted);
+      items = item_told _ _ _ _ _ c.in-Some.item c.loop-lines.invariant.items taken.1 c.in_ok-push_standing.ensures;
+      text = lacks_less (has c.args.draft.now) (has c.loop-lines.draft) (has c.add_entry.new.draft) _ (entry_text c.args.version (c.loop-lines.position + 1) c.in-Some.entry) _ _ c.loop-lines.invariant.text written c.in_ok-add_entry.ensures;
     }

@@ -8,11 +8,11 @@ use Rattle.replay.proofs.Sections.{run_shown}
 use Rattle.replay.proofs.run.listing_and_journal.Goals as goal
 
 pub returns-clause-listing : goal.returns-clause-listing
-returns-clause-listing c =
-    let told = c.in_ok-printed.ensures.history in
+returns-clause-listing g c =
+    let told = c.in_ok-push_history_and_journal.ensures.history in
     let behind = c.deref.ensures ∙ (c.in_ok-open.ensures ∙ ap (open_section c.args.with_open) c.journal.ensures) in
     run_shown (state_of c.args.played) c.args.with_open c.in_ok-text.run' (string_bytes c.in_ok-text.text) told.0 (string_bytes c.push_history_and_journal.new.out) c.deref.result.now (string_bytes c.push_str.new.self) c.in_ok-text.ensures.text c.in_ok-text.ensures.run told.1 told.2 behind c.in_ok-push_str.ensures.bytes
 
 pub returns-clause-read : goal.returns-clause-read
-returns-clause-read c =
+returns-clause-read g c =
     subst (λ (j : JournalFields). WritesJournal (journal_text j.shape j.entries) j.shape j.entries) (c.journal-2.ensures ∙ c.in_ok-text.ensures.run) c.each_journal_is_read.ensures

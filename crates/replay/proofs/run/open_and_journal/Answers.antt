@@ -5,5 +5,5 @@ use Rattle.journal_text.specs.Readings.{WritesJournal}
 use Rattle.replay.proofs.run.open_and_journal.Goals as goal
 
 pub returns-clause-read : goal.returns-clause-read
-returns-clause-read c =
+returns-clause-read g c =
     subst (λ (j : JournalFields). WritesJournal (journal_text j.shape j.entries) j.shape j.entries) c.journal_of-journal.ensures c.each_journal_is_read.ensures

@@ -1,0 +1,72 @@
+-- Drafts that get more bytes.
+use Rattle.std.proofs.Common.{◌≡◌, ℕ, ◌+◌, List, [], ◌∷◌, ◌++◌, codes, length, reverse, refl, sym, ◌∙◌, ap, subst, append_assoc, append-nil, Result, Ok, Err}
+use Rattle.std.specs.Prelude.{◌≢◌, IfOk, OnOk}
+use Rattle.std.proofs.lemmas.List.{reverse-append}
+use Rattle.journal_text.specs.Journals.{end_text, entries_text, entry_text, head_text, journal_text}
+use Rattle.messages.specs.declared.entry.Entry.{Entry}
+use Rattle.messages.specs.declared.version.Version.{Version}
+use Rattle.messages.specs.Shapes.{ShapeFields}
+use Rattle.command_line.specs.Tasks.{Task}
+use Rattle.replay.specs.declared.fault.Fault.{Fault}
+use Rattle.replay.specs.declared.fault.Fault.TheVariants as fault
+use Rattle.replay.specs.Commands.{HasJournalFor, IsFault, IsInputFault}
+use Rattle.replay.specs.Faults.{IsUnwritten}
+use Rattle.replay.specs.Stores.{Adds, Drafted, Files, SameFiles, SameOthers}
+use Rattle.replay.proofs.Stores.{others-after, same-after}
+
+-- no bytes came
+pub adds_none : (draft : Drafted) → Adds draft draft []
+adds_none draft = λ path text has. subst (λ (whole : List ℕ). draft path whole) (sym (append-nil text)) has
+
+-- bytes came, and then more
+pub adds_more : (old mid new : Drafted) (bytes more : List ℕ) → Adds old mid bytes → Adds mid new more → Adds old new (bytes ++ more)
+adds_more old mid new bytes more first second = λ path text has.
+    subst (λ (whole : List ℕ). new path whole) (append_assoc text bytes more) (second path (text ++ bytes) (first path text has))
+
+-- of these bytes the rest is still to come
+abbrev pub Lacks : Drafted → Drafted → List ℕ → List ℕ → Type 0
+Lacks old new whole rest = (added : List ℕ) × Adds old new added × (added ++ rest ≡ whole)
+
+pub lacks_all : (draft : Drafted) (whole : List ℕ) → Lacks draft draft whole whole
+lacks_all draft whole = ([], adds_none draft, refl)
+
+pub lacks_less : (old mid new : Drafted) (whole part rest left : List ℕ) → Lacks old mid whole left → left ≡ part ++ rest → Adds mid new part → Lacks old new whole rest
+lacks_less old mid new whole part rest left lacks is more =
+    (lacks.0 ++ part, adds_more old mid new lacks.0 part lacks.1 more, append_assoc lacks.0 part rest ∙ (ap (λ (bytes : List ℕ). lacks.0 ++ bytes) (sym is) ∙ lacks.2))
+
+pub lacks_none : (old new : Drafted) (whole : List ℕ) → Lacks old new whole [] → Adds old new whole
+lacks_none old new whole lacks = subst (λ (bytes : List ℕ). Adds old new bytes) (sym (append-nil lacks.0) ∙ lacks.2) lacks.1
+
+-- the text of entries, the first of which is the last of a list
+pub entries_less : (version : Version) (position : ℕ) (whole rest : List Entry) (first : Entry) → whole ≡ rest ++ (first ∷ []) → entries_text version position (reverse whole) ≡ entry_text version position first ++ entries_text version (position + 1) (reverse rest)
+entries_less version position whole rest first is =
+    ap (λ (es : List Entry). entries_text version position (reverse es)) is ∙ ap (λ (es : List Entry). entries_text version position es) (reverse-append rest (first ∷ []))
+
+-- the first line, the entries and the last line of a journal were written one after the other
+pub journal_added : (old headed filled new : Drafted) (s head : ShapeFields) (version : Version) (entries written : List Entry) (count : ℕ) → head ≡ s → version ≡ s.version → written ≡ entries → count ≡ length entries → Adds old headed (head_text head ++ codes "\n") → Adds headed filled (entries_text version 1 written) → Adds filled new (end_text count ++ codes "\n") → Adds old new (journal_text s entries)
+journal_added old headed filled new s head version entries written count same_shape same_version same_entries same_count begun went ended =
+    let end = codes "\n" in
+    let first = subst (λ (x : ShapeFields). Adds old headed (head_text x ++ end)) same_shape begun in
+    let lines = subst (λ (es : List Entry). Adds headed filled (entries_text s.version 1 es)) same_entries (subst (λ (v : Version). Adds headed filled (entries_text v 1 written)) same_version went) in
+    let last = subst (λ (n : ℕ). Adds filled new (end_text n ++ end)) same_count ended in
+    let front = head_text s ++ end ++ entries_text s.version 1 entries in
+    subst (λ (bytes : List ℕ). Adds old new bytes) (sym (append_assoc front (end_text (length entries)) end))
+    (adds_more old filled new front (end_text (length entries) ++ end) (adds_more old headed filled (head_text s ++ end) (entries_text s.version 1 entries) first lines) last)
+
+-- what is known of a result where it is there, together
+pub ok_both : {T E : Type 0} (result : Result T E) (P : T → Type 0) (Q : Type 0) → IfOk result P → OnOk result Q → IfOk result (λ value. P value × Q)
+ok_both (Ok value) P Q first second = (first, second)
+ok_both (Err error) P Q first second = tt
+
+-- why the journal that is made beside what a run shows took no file's place is a fault of the run
+pub journal_fault : (old begun new : Files) (RanShort : Type 0) (Refuses : List ℕ → Type 0) (task : Task) (path : List ℕ) (f : Fault) → SameFiles old begun → HasJournalFor old task path → IsInputFault old RanShort task fault.NoMemory → IsUnwritten begun Refuses path new f → (f ≢ fault.CannotWriteOutput) × IsFault old RanShort Refuses task new f
+journal_fault old begun new RanShort Refuses task path (fault.CannotWrite named) same has short is =
+    let at = sym is.0 in
+    (λ e. absurd (cc), (subst (HasJournalFor old task) at has, subst Refuses at is.1, subst (SameOthers old new) at (others-after old begun new path same is.2)))
+journal_fault old begun new RanShort Refuses task path fault.NoMemory same has short is = (λ e. absurd (cc), (short, same-after old begun new same is))
+journal_fault old begun new RanShort Refuses task path (fault.BadLine line) same has short is = absurd is
+journal_fault old begun new RanShort Refuses task path (fault.CannotRead named) same has short is = absurd is
+journal_fault old begun new RanShort Refuses task path fault.CannotWriteOutput same has short is = absurd is
+journal_fault old begun new RanShort Refuses task path fault.JournalFull same has short is = absurd is
+journal_fault old begun new RanShort Refuses task path fault.OldJournal same has short is = absurd is
+journal_fault old begun new RanShort Refuses task path (fault.Faulty report) same has short is = absurd is
