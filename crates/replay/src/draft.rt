@@ -9,10 +9,10 @@ pub trait Draft {
     // It is for the file of this path, and has these bytes, where that is known.
     ghost has: { Self → List ℕ → List ℕ → Type 0 } = { λ _ _ _. ⊤ };
 
-    /// Takes bytes behind those that it has. That they can't be written is told when the file is to take its place.
+    /// Takes bytes behind those that it has. That they can't be written is told by `Store::commit`, and not here.
     ///
     /// # Errors
-    /// Where a request for memory was refused.
+    /// `AllocError` where a request for memory was refused.
     fn add(&mut self, bytes: &[u8]) -> Result<(), AllocError>
         ensures { OnOk result (Adds (has self.old) (has self.new) bytes.now) };
 }

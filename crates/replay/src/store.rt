@@ -41,7 +41,7 @@ pub trait Store {
         // No file changes.
         ensures files { SameFiles (holds self.old) (holds self.new) };
 
-    /// A file that is to take the place of that of a path, with no bytes yet.
+    /// Begins a file that is to take the place of that of a path. It has no bytes yet.
     fn begin(&mut self, path: &str) -> Self::Draft
         ensures empty { Self.Draft.has result path.now [] }
 
@@ -51,8 +51,8 @@ pub trait Store {
     /// Puts a file that was made for this path there, in the place of one that is there.
     ///
     /// # Errors
-    /// `Failed` where the file can't be written; `NoMemory` where a request for memory was refused.
-    /// What the file then has is not said.
+    /// `Failed` where it can't be written, or couldn't be while it was made; `NoMemory` where a request for memory was
+    /// refused. What the file of the path then has is not said.
     fn commit(&mut self, path: &str, draft: Self::Draft) -> Result<(), StoreError>
         ensures bytes { OnOk result ((text : List ℕ) → Self.Draft.has draft path.now text → holds self.new path.now (Some text)) }
         ensures refused { OnErr result (refuses self.new path.now) }
@@ -60,7 +60,7 @@ pub trait Store {
         // No other file changes.
         ensures others { SameOthers (holds self.old) (holds self.new) path.now };
 
-    /// Gives up a file that was begun.
+    /// Gives up a file that was begun, of which nothing is left.
     fn abandon(&mut self, draft: Self::Draft)
         ensures files { SameFiles (holds self.old) (holds self.new) };
 }
