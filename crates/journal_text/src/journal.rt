@@ -1,10 +1,9 @@
 //! Journals.
-ghost use Rattle.std.specs.Prelude.{◌≡◌, ◌++◌, codes, flat_map, reverse as reversed, string_bytes, IfOk, OnOk};
+ghost use Rattle.std.specs.Prelude.{◌≡◌, ◌++◌, codes, flat_map, string_bytes, IfOk, OnOk};
 ghost use Rattle.journal_text.specs.Journals.{end_text, entries_text, entry_text, head_text, journal_text, reply_line, send_line};
 
 use crate::head::head_front;
 use crate::writing::push_event;
-use cluster_core::journal::Journal;
 use lockscript::replies::push_reply;
 use message_text::names::push_call;
 use message_text::writing::push_message;
@@ -19,9 +18,6 @@ use std::alloc::{AllocError, Global};
 use std::fmt::Write;
 use texts::words::Named;
 
-// After each so many entries that were written, their memory is given back.
-const ENTRIES_AT_ONCE: usize = 16_384;
-
 /// The journal of a cluster of this shape as text, in the version of the shape: a first line with the shape, the lines of each
 /// entry, the first at position 1, and a last line with how many entries there are.
 ///
@@ -34,25 +30,6 @@ pub fn print(alloc: Global, shape: &Shape, entries: &[Entry]) -> Result<String, 
     push_head(&mut out, shape)?;
     push_entries(&mut out, shape.version(), entries)?;
     let count = entries.len();
-    writeln!(out, "end {count}")?;
-    Ok(out)
-}
-
-/// The text that `print` writes of a journal, which goes while it is written: the memory of its entries
-/// is given back part by part, so the journal and its text need no room beside each other.
-///
-/// # Errors
-/// `AllocError` where a request for memory was refused; the journal is gone then too.
-pub fn into_text(alloc: Global, journal: Journal) -> Result<String, AllocError>
-    ensures { IfOk result (λ text. string_bytes text ≡ journal_text journal.shape journal.entries) }
-{
-    let shape = journal.shape();
-    let mut entries = journal.into_entries();
-    let count = entries.len();
-    entries.reverse();
-    let mut out = String::new(alloc);
-    push_head(&mut out, &shape)?;
-    push_from_last(&mut out, shape.version(), entries)?;
     writeln!(out, "end {count}")?;
     Ok(out)
 }
@@ -79,26 +56,6 @@ fn push_entries(out: &mut String, version: Version, entries: &[Entry]) -> Result
     for entry in entries {
         position += 1;
         push_entry(out, version, position, entry)?;
-    }
-    Ok(())
-}
-
-// Writes the lines of entries as this version has them, the last of them first, at position 1. Each goes
-// once it is written.
-fn push_from_last(
-    out: &mut String,
-    version: Version,
-    mut entries: Vec<Entry>,
-) -> Result<(), AllocError>
-    ensures { OnOk result (string_bytes out.new ≡ string_bytes out.old ++ entries_text version 1 (reversed entries.items)) }
-{
-    let mut position = 0u64;
-    while let Some(entry) = entries.pop() {
-        position += 1;
-        push_entry(out, version, position, &entry)?;
-        if entries.len() % ENTRIES_AT_ONCE == 0 {
-            entries.shrink_to_fit();
-        }
     }
     Ok(())
 }
