@@ -1,4 +1,5 @@
 pub mod Rises
+pub mod CallIndexes
 pub mod Index
 pub mod Locating
 pub mod Placing

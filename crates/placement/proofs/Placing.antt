@@ -5,8 +5,6 @@ use Rattle.std.proofs.Math.Seq.{set-append_seam}
 use Rattle.std.proofs.lemmas.List.{take_more, take_all, length-take-le, length-set, length-map, map-append, map-set}
 use Rattle.std.proofs.lemmas.List.Elements.{filter_map-append}
 use Rattle.std.proofs.lemmas.Option.{slice_get-get_or}
-use Rattle.std.specs.HashMap.{get}
-use Rattle.model.specs.contracts.call.CallIdPartialEq.TheImpl as derived
 use Rattle.model.specs.declared.call.CallId.{CallId}
 use Rattle.model.specs.declared.reply.Reply.{Reply}
 use Rattle.messages.specs.declared.message.Message.TheVariants.{Deny}
@@ -18,10 +16,12 @@ use Rattle.cluster_core.specs.Placement.{Slots, find_call, item_of, filled, plac
 use Rattle.cluster_core.proofs.history.Slots.{slots_of-push}
 use Rattle.placement.specs.declared.slot.Slot.{Slot}
 use Rattle.placement.specs.declared.slot.Slot.TheVariants.{Empty, Declared}
-use Rattle.placement.specs.Indexes.{Calls, Conflicts, Indexes, Locates, AreBefore, slot_of, call_at}
+use Rattle.placement.specs.declared.call_index.CallIndex.{CallIndex}
+use Rattle.placement.specs.CallIndexes.{entry_of}
+use Rattle.placement.specs.Indexes.{Conflicts, Indexes, Locates, AreBefore, slot_of, call_at}
 use Rattle.placement.specs.Standing.{declared_by, answered_so, answered_by, stands, standing}
 use Rattle.placement.proofs.Locating.{located_before, located_none}
-use Rattle.placement.proofs.Index.{indexes_start, get-same_call}
+use Rattle.placement.proofs.Index.{indexes_start}
 
 own_slot : (slots : Slots) (n : ℕ) (item : ℕ → Option Item) → n ≡ length slots → slots ++ item (n + 1) ∷ [] ≡ slice_set (slots ++ None ∷ []) (length slots) (item (length slots + 1))
 own_slot slots n item same = ap (λ (k : ℕ). slots ++ item (k + 1) ∷ []) same ∙ sym (set-append_seam slots None [] (item (length slots + 1)))
@@ -60,11 +60,11 @@ length-standing : (all : List Entry) (slots : List Slot) → length (standing al
 length-standing all slots = length-map slots (stands all)
 
 -- a call of the index that an entry answers
-pub slot_answers : (all es : List Entry) (calls : Calls) (at k : ℕ) (e : Entry) (r : CallId × Reply) (found : Option ℕ) → Indexes all calls es → found ≡ get derived.ghosts.eq calls r.0 → slice_get all k ≡ Some e → e.reply ≡ Some r → answered_by at (call_at all found) (slice_get all k) ≡ item_of at r.0 r.1 (find_call es r.0)
+pub slot_answers : (all es : List Entry) (calls : CallIndex) (at k : ℕ) (e : Entry) (r : CallId × Reply) (found : Option ℕ) → Indexes all calls es → found ≡ entry_of calls r.0 → slice_get all k ≡ Some e → e.reply ≡ Some r → answered_by at (call_at all found) (slice_get all k) ≡ item_of at r.0 r.1 (find_call es r.0)
 slot_answers all es calls at k e r found indexed got there replies =
     ap (answered_by at (call_at all found)) there
     ∙ (ap (answered_so at (call_at all found)) replies
-    ∙ ap (item_of at r.0 r.1) (ap (call_at all) (got ∙ get-same_call calls r.0) ∙ indexed.found r.0))
+    ∙ ap (item_of at r.0 r.1) (ap (call_at all) got ∙ indexed.found r.0))
 
 -- an entry that answers a call
 module _ (all es : List Entry) (slots wide : List Slot) (e : Entry) (r : CallId × Reply) (own : ℕ) (event : Event) (found : Option ℕ) (long : length es ≡ length slots) (replies : e.reply ≡ Some r) (own_is : own ≡ length slots) (event_is : event ≡ e.event) (wider : wide ≡ slots ++ Empty ∷ []) (is : found ≡ slot_of es own event) where
@@ -111,7 +111,7 @@ length-slots_from past slots (e ∷ es) =
     omega arith
 
 -- the indexes and the slots so far, of a run with all these entries
-pub record Placing (all past : List Entry) (calls : Calls) (conflicts : Conflicts) (slots : List Slot) : Type 0 where
+pub record Placing (all past : List Entry) (calls : CallIndex) (conflicts : Conflicts) (slots : List Slot) : Type 0 where
   pub indexed : Indexes all calls past
   pub located : Locates conflicts past
   pub placed : standing all slots ≡ slots_of past
@@ -122,14 +122,14 @@ length-placed all past slots placed =
     let long : length slots ≡ length (slots_of past) = sym (length-standing all slots) ∙ ap length placed in
     long ∙ omega arith
 
-length-placing : (all past : List Entry) (calls : Calls) (conflicts : Conflicts) (slots : List Slot) → Placing all past calls conflicts slots → length slots ≡ length past
+length-placing : (all past : List Entry) (calls : CallIndex) (conflicts : Conflicts) (slots : List Slot) → Placing all past calls conflicts slots → length slots ≡ length past
 length-placing all past calls conflicts slots p = length-placed all past slots p.placed
 
-pub placing_empty : (all : List Entry) (calls : Calls) (conflicts : Conflicts) (slots : List Slot) → calls.entries ≡ [] → conflicts.entries ≡ [] → slots ≡ [] → Placing all [] calls conflicts slots
+pub placing_empty : (all : List Entry) (calls : CallIndex) (conflicts : Conflicts) (slots : List Slot) → ((id : CallId) → entry_of calls id ≡ None) → conflicts.entries ≡ [] → slots ≡ [] → Placing all [] calls conflicts slots
 placing_empty all calls conflicts slots none untold empty = record { indexed = indexes_start all calls none; located = located_none conflicts untold; placed = ap (standing all) empty }
 
 -- one more of the entries
-module _ (es : List Entry) (i : ℕ) (e : Entry) (calls : Calls) (conflicts : Conflicts) (slots : List Slot) (lt : i < length es) (p : Placing es (take i es) calls conflicts slots) where
+module _ (es : List Entry) (i : ℕ) (e : Entry) (calls : CallIndex) (conflicts : Conflicts) (slots : List Slot) (lt : i < length es) (p : Placing es (take i es) calls conflicts slots) where
   length-take : length (take i es) ≡ i
   length-take = length-take-le i es (omega arith)
 
@@ -139,7 +139,7 @@ module _ (es : List Entry) (i : ℕ) (e : Entry) (calls : Calls) (conflicts : Co
   pub all_before : AreBefore conflicts (length slots)
   all_before = subst (AreBefore conflicts) (sym (length-placing es (take i es) calls conflicts slots p)) (located_before conflicts (take i es) p.located)
 
-  pub placing_more : (next : Calls) (told : Conflicts) (more : List Slot) → e ≡ get_or es i e → ((all past : List Entry) → slice_get all i ≡ Some e → Indexes all calls past → Indexes all next (past ++ e ∷ [])) → ((all past : List Entry) → slice_get all (length slots) ≡ Some e → length past ≡ length slots → Indexes all next (past ++ e ∷ []) → Locates conflicts past → standing all more ≡ slots_after past (standing all slots) e e.reply) → ((past : List Entry) → length past ≡ i → Locates conflicts past → Locates told (past ++ e ∷ [])) → Placing es (take (i + 1) es) next told more
+  pub placing_more : (next : CallIndex) (told : Conflicts) (more : List Slot) → e ≡ get_or es i e → ((all past : List Entry) → slice_get all i ≡ Some e → Indexes all calls past → Indexes all next (past ++ e ∷ [])) → ((all past : List Entry) → slice_get all (length slots) ≡ Some e → length past ≡ length slots → Indexes all next (past ++ e ∷ []) → Locates conflicts past → standing all more ≡ slots_after past (standing all slots) e e.reply) → ((past : List Entry) → length past ≡ i → Locates conflicts past → Locates told (past ++ e ∷ [])) → Placing es (take (i + 1) es) next told more
   placing_more next told more is indexes answers locates =
       let past = take i es in
       let there : slice_get es i ≡ Some e = slice_get-get_or es i e lt ∙ ap (λ (x : Entry). Some x) (sym is) in
@@ -154,7 +154,7 @@ module _ (es : List Entry) (i : ℕ) (e : Entry) (calls : Calls) (conflicts : Co
       })
 
 -- all of them
-pub placing_whole : (es : List Entry) (i : ℕ) (calls : Calls) (conflicts : Conflicts) (slots : List Slot) → length es ≤ i → Placing es (take i es) calls conflicts slots → standing es slots ≡ slots_of es
+pub placing_whole : (es : List Entry) (i : ℕ) (calls : CallIndex) (conflicts : Conflicts) (slots : List Slot) → length es ≤ i → Placing es (take i es) calls conflicts slots → standing es slots ≡ slots_of es
 placing_whole es i calls conflicts slots all p = p.placed ∙ ap slots_of (take_all i es all)
 
 -- the items in the slots

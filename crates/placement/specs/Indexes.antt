@@ -11,15 +11,13 @@ use Rattle.messages.specs.declared.message.Message.TheVariants.{Deny}
 use Rattle.messages.specs.declared.event.Event.{Event}
 use Rattle.messages.specs.declared.event.Event.TheVariants.{Deliver}
 use Rattle.messages.specs.declared.entry.Entry.{Entry}
-use Rattle.messages.specs.Messages.{same_call, same_host, is_conflict}
+use Rattle.messages.specs.Messages.{same_host, is_conflict}
 use Rattle.cluster_core.specs.Histories.{names_conflict}
 use Rattle.cluster_core.specs.Calls.{find_call}
+use Rattle.placement.specs.declared.call_index.CallIndex.{CallIndex}
 use Rattle.placement.specs.declared.revoke_id.RevokeId.{RevokeId}
+use Rattle.placement.specs.CallIndexes.{entry_of}
 use Rattle.placement.specs.Standing.{made_by}
-
--- by the name of a call: the index of the entry that makes it
-abbrev pub Calls : Type 0
-Calls = HashMap CallId ℕ (BuildHasherDefault FoldHasher)
 
 -- what the entry with that index calls
 abbrev pub call_at : List Entry → Option ℕ → Option (ℕ × Op)
@@ -27,9 +25,9 @@ call_at all None = None
 call_at all (Some k) = made_by (slice_get all k)
 
 -- the index has the calls of the entries, each as the first entry of its name has it, by its index among all entries
-pub record Indexes (all : List Entry) (calls : Calls) (es : List Entry) : Type 0 where
-  pub found : (id : CallId) → call_at all (get same_call calls id) ≡ find_call es id
-  pub known : (id : CallId) → is_some (get same_call calls id) ≡ is_some (find_call es id)
+pub record Indexes (all : List Entry) (calls : CallIndex) (es : List Entry) : Type 0 where
+  pub found : (id : CallId) → call_at all (entry_of calls id) ≡ find_call es id
+  pub known : (id : CallId) → is_some (entry_of calls id) ≡ is_some (find_call es id)
 
 abbrev pub same_revoke : RevokeId → RevokeId → Bool
 same_revoke a b = (a.file == b.file) && ((a.number == b.number) && same_host a.holder b.holder)

@@ -2,6 +2,7 @@
 #![tactic(auto)]
 
 mod answers;
+mod call_index;
 pub mod history;
 pub mod legal;
 mod made;

@@ -11,6 +11,7 @@ ghost use Rattle.placement.specs.Indexes.{Indexes, Locates, Notes, AreBefore, sl
 ghost use Rattle.placement.specs.Standing.{stands, standing};
 ghost use Rattle.placement.specs.Rests.{IsAhead, AreAhead};
 
+use crate::call_index::CallIndex;
 use crate::history::History;
 use crate::revoke_id::RevokeId;
 use crate::slot::Slot;
@@ -22,9 +23,6 @@ use messages::message::Message;
 use model::call::CallId;
 use std::alloc::{AllocError, Global};
 use std::collections::HashMap;
-
-// By the name of a call: the index of the entry that makes it.
-type Calls = HashMap<CallId, u32>;
 
 // By the name of a revoke: the index of the first entry that tells of a lock in its way.
 type Conflicts = HashMap<RevokeId, usize>;
@@ -65,11 +63,11 @@ pub(crate) fn slots_of(alloc: Global, entries: &[Entry]) -> Result<Vec<Slot>, Al
     ensures placed { IfOk result (λ slots. standing entries.now slots.items ≡ slots_of entries.now) }
     ensures ahead { IfOk result (λ slots. AreAhead 0 slots.items) }
 {
-    let mut calls = HashMap::new(alloc);
+    let mut calls = CallIndex::new(alloc);
     let mut conflicts = HashMap::new(alloc);
     let mut slots = Vec::with_capacity(alloc, entries.len())?;
     for (index, entry) in entries.iter().enumerate() {
-        note_call(&mut calls, index, entry)?;
+        note_call(alloc, &mut calls, index, entry)?;
         answer(&mut slots, &calls, &conflicts, entry)?;
         note_conflicts(&mut conflicts, index, entry)?;
     }
@@ -78,7 +76,12 @@ pub(crate) fn slots_of(alloc: Global, entries: &[Entry]) -> Result<Vec<Slot>, Al
 
 // Takes the entry into the index: its call, where it makes one and none of that name came before.
 // `index` entries came before it.
-fn note_call(calls: &mut Calls, index: usize, entry: &Entry) -> Result<(), AllocError>
+fn note_call(
+    alloc: Global,
+    calls: &mut CallIndex,
+    index: usize,
+    entry: &Entry,
+) -> Result<(), AllocError>
     requires room { index < journal_limit }
     ensures { OnOk result ((all es : List Entry) → slice_get all index ≡ Some entry.now → Indexes all calls.old es → Indexes all calls.new (es ++ entry.now ∷ [])) }
 {
@@ -88,10 +91,7 @@ fn note_call(calls: &mut Calls, index: usize, entry: &Entry) -> Result<(), Alloc
     let Event::Call { .. } = entry.event() else {
         return Ok(());
     };
-    if !calls.contains_key(&id) {
-        calls.insert(id, index as u32)?;
-    }
-    Ok(())
+    calls.note(alloc, id, index as u32)
 }
 
 // Takes the entry into the index: each conflict that it tells of, where none of that name came before.
@@ -137,7 +137,7 @@ fn note_conflict(
 // `calls`, that call goes to its place.
 fn answer(
     slots: &mut Vec<Slot>,
-    calls: &Calls,
+    calls: &CallIndex,
     conflicts: &Conflicts,
     entry: &Entry,
 ) -> Result<(), AllocError>
@@ -189,14 +189,14 @@ fn slot_of(conflicts: &Conflicts, own: usize, event: &Event) -> Option<usize>
 }
 
 // The slot at that position of a call of the index, which the entry with the index `reply` answers.
-fn slot_at(calls: &Calls, position: u32, id: CallId, reply: u32) -> Slot
+fn slot_at(calls: &CallIndex, position: u32, id: CallId, reply: u32) -> Slot
     ensures ahead { (k : ℕ) → k ≤ reply → IsAhead k result }
     ensures stands { (all es : List Entry) → Indexes all calls.now es → (e : Entry) (r : CallId × Reply) → slice_get all reply ≡ Some e → e.reply ≡ Some r → r.0 ≡ id → stands all result ≡ item_of position r.0 r.1 (find_call es r.0) }
 {
-    match calls.get(&id) {
+    match calls.get(id) {
         Some(call) => Slot::Answered {
             position,
-            call: *call,
+            call,
             reply,
         },
         None => Slot::Empty,

@@ -5,7 +5,7 @@ use Rattle.placement.proofs.placed.slots_of.Goals as goal
 
 pub loop-index-init : goal.loop-index-init
 loop-index-init c = record {
-  placing = placing_empty _ _ _ _ c.new-calls.ensures.empty c.new-conflicts.ensures.empty c.in_ok-slots.ensures.items;
+  placing = placing_empty _ _ _ _ c.new-calls.ensures c.new-conflicts.ensures.empty c.in_ok-slots.ensures.items;
   ahead = subst (AreAhead 0) (sym c.in_ok-slots.ensures.items) tt;
 }
 

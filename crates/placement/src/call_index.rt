@@ -1,0 +1,83 @@
+//! An index of the calls of a run.
+ghost use Rattle.std.specs.Prelude.{◌≡◌, ◌==◌, ◌&&◌, ◌+◌, ◌∷◌, ◌++◌, [], if◌then◌else◌, length, None, IfOk, OnOk};
+ghost use Rattle.model.specs.declared.call.CallId.{CallId};
+ghost use Rattle.model.specs.declared.host.Host.{Host};
+ghost use Rattle.model.specs.Owners.{host_of_call, same_host};
+ghost use Rattle.placement.specs.CallIndexes.{row_of, entry_of, TakesIn};
+
+use model::call::CallId;
+use model::host::Host;
+use std::alloc::{AllocError, Global};
+use std::collections::HashMap;
+
+// By a host: the indexes of the entries that make its calls 1, 2, 3 and so on.
+type Rows = HashMap<Host, Vec<u32>>;
+
+/// By the name of a call: the index of the entry that makes it. In a run the calls of a host have the numbers
+/// 1, 2, 3 and so on, so that each is found at its place in the host's row. A call that comes in no such order
+/// is found too.
+#[derive(Drop)]
+pub(crate) struct CallIndex {
+    rows: Rows,
+    // The calls that were not the next of their row.
+    others: HashMap<CallId, u32>,
+}
+
+impl CallIndex {
+    /// Of no call.
+    pub(crate) fn new(alloc: Global) -> CallIndex
+        ensures { (id : CallId) → entry_of result id ≡ None }
+    {
+        CallIndex {
+            rows: HashMap::new(alloc),
+            others: HashMap::new(alloc),
+        }
+    }
+
+    /// The index of the entry that makes the call.
+    pub(crate) fn get(&self, id: CallId) -> Option<u32>
+        ensures { result ≡ entry_of self.now id }
+    {
+        if let Some(row) = self.rows.get(&id.host()) {
+            if let Some(index) = row.get(id.number as usize - 1) {
+                return Some(*index);
+            }
+        }
+        self.others.get(&id).copied()
+    }
+
+    /// Takes the call in, with the index of the entry that makes it, unless it is known.
+    pub(crate) fn note(&mut self, alloc: Global, id: CallId, index: u32) -> Result<(), AllocError>
+        ensures { OnOk result (TakesIn self.old id index self.new) }
+    {
+        if self.get(id).is_some() {
+            return Ok(());
+        }
+        if !push_next(&mut self.rows, alloc, id, index)? {
+            self.others.insert(id, index)?;
+        }
+        Ok(())
+    }
+}
+
+// Puts the index at the end of the row of the call's host, if the call is the next of that.
+fn push_next(rows: &mut Rows, alloc: Global, id: CallId, index: u32) -> Result<bool, AllocError>
+    ensures next { IfOk result (λ pushed. pushed ≡ (id.number == length (row_of rows.old (host_of_call id)) + 1)) }
+    ensures row { IfOk result (λ pushed. (host : Host) → row_of rows.new host ≡ row_of rows.old host ++ (if pushed && same_host (host_of_call id) host then index ∷ [] else [])) }
+{
+    let host = id.host();
+    if let Some(row) = rows.get_mut(&host) {
+        if id.number as usize != row.len() + 1 {
+            return Ok(false);
+        }
+        row.push(index)?;
+        return Ok(true);
+    }
+    if id.number != 1 {
+        return Ok(false);
+    }
+    let mut row = Vec::new(alloc);
+    row.push(index)?;
+    rows.insert(host, row)?;
+    Ok(true)
+}
