@@ -2,7 +2,9 @@
 use Rattle.std.proofs.Common.{◌≡◌, rules, ℕ, zero, suc, ◌+◌, ◌==◌, ◌&&◌, Bool, true, false, cond, if◌then◌else◌, refl, sym, ◌∙◌, ap, subst, arith, List, [], ◌∷◌, ◌++◌, length, append-nil, slice_get, Option, Some, None, is_some}
 use Rattle.std.specs.Global.{Vec}
 use Rattle.std.specs.Option.{option_or, option_map_or}
-use Rattle.std.specs.HashMap.{get}
+use Rattle.std.specs.HashMap.{HashMap, get}
+use Rattle.std.specs.declared.hash.FoldHasher.{FoldHasher}
+use Rattle.std.specs.declared.hash.BuildHasherDefault.{BuildHasherDefault}
 use Rattle.std.proofs.lemmas.Grind.{common_steps}
 use Rattle.model.specs.declared.call.CallId.{CallId}
 use Rattle.model.specs.declared.host.Host.{Host}
@@ -11,7 +13,7 @@ use Rattle.model.specs.Owners.{host_of_call, same_host}
 use Rattle.messages.specs.Messages.{same_call}
 use Rattle.messages.proofs.SameMessages.{host_exact, call_exact}
 use Rattle.placement.specs.declared.call_index.CallIndex.{CallIndex}
-use Rattle.placement.specs.CallIndexes.{Rows, Others, row_of, in_row, entry_of, TakesIn}
+use Rattle.placement.specs.CallIndexes.{Rows, row_of, in_row, entry_of, TakesIn}
 use Rattle.placement.proofs.Index.{option_or-none, not_found}
 
 -- the derived `==` of hosts is the test of the definitions
@@ -85,7 +87,7 @@ taken-row old new id index same unknown next puts q = by (same_host (host_of_cal
     found : (more : List ℕ) → row_of new.rows (host_of_call q) ≡ row ++ more → entry_of new q ≡ option_or (in_row (row ++ more) q.number) other
     found more is =
         ap (λ (r : List ℕ). option_or (in_row r q.number) (get same_call new.others q)) is
-        ∙ ap (λ (m : Others). option_or (in_row (row ++ more) q.number) (get same_call m q)) same
+        ∙ ap (λ (m : HashMap CallId ℕ (BuildHasherDefault FoldHasher)). option_or (in_row (row ++ more) q.number) (get same_call m q)) same
 
     by : (s : Bool) → same_host (host_of_call id) (host_of_call q) ≡ s → entry_of new q ≡ option_or (entry_of old q) (if same_call q id then Some index else None)
     by false h =

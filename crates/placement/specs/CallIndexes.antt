@@ -15,10 +15,6 @@ use Rattle.placement.specs.declared.call_index.CallIndex.{CallIndex}
 abbrev pub Rows : Type 0
 Rows = HashMap Host (Vec ℕ) (BuildHasherDefault FoldHasher)
 
--- by the name of a call: the index of the entry that makes it
-abbrev pub Others : Type 0
-Others = HashMap CallId ℕ (BuildHasherDefault FoldHasher)
-
 -- the row of the host
 abbrev pub row_of : Rows → Host → List ℕ
 row_of rows host = option_map_or (λ row. row.items) (get same_host rows host) []
