@@ -29,8 +29,7 @@ pub fn print(alloc: Global, shape: &Shape, entries: &[Entry]) -> Result<String, 
     let mut out = String::new(alloc);
     push_head(&mut out, shape)?;
     push_entries(&mut out, shape.version(), entries)?;
-    let count = entries.len();
-    writeln!(out, "end {count}")?;
+    push_end(&mut out, entries.len())?;
     Ok(out)
 }
 
@@ -46,6 +45,16 @@ pub fn push_head(out: &mut String, shape: &Shape) -> Result<(), AllocError>
     let policy = Policy::word(shape.policy());
     out.push_str(head_front(shape.version()))?;
     writeln!(out, "{nodes} files {files} policy {policy}")
+}
+
+/// Writes the last line of a journal of so many entries.
+///
+/// # Errors
+/// `AllocError` where a request for memory was refused.
+pub fn push_end(out: &mut String, count: usize) -> Result<(), AllocError>
+    ensures { OnOk result (string_bytes out.new ≡ string_bytes out.old ++ end_text count ++ codes "\n") }
+{
+    writeln!(out, "end {count}")
 }
 
 // Writes the lines of entries as this version has them, the first of them at position 1.

@@ -5,12 +5,11 @@ ghost use Rattle.replay.specs.Stores.{Adds};
 
 use crate::draft::Draft;
 use cluster_core::journal::Journal;
-use journal_text::journal::{push_entry, push_head};
+use journal_text::journal::{push_end, push_entry, push_head};
 use messages::entry::Entry;
 use messages::shape::Shape;
 use messages::version::Version;
 use std::alloc::{AllocError, Global};
-use std::fmt::Write;
 
 // After each so many entries that were written, their memory is given back.
 const ENTRIES_AT_ONCE: usize = 16_384;
@@ -104,6 +103,6 @@ pub(crate) fn add_end<D: Draft>(
     ensures { OnOk result (Adds (D.has draft.old) (D.has draft.new) (end_text count ++ codes "\n")) }
 {
     let mut line = String::new(alloc);
-    writeln!(line, "end {count}")?;
+    push_end(&mut line, count)?;
     draft.add(line.as_bytes())
 }
