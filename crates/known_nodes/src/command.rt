@@ -154,7 +154,7 @@ impl Command {
     ///
     /// # Errors
     /// `AllocError` where a request for memory was refused.
-    pub fn promised_after(
+    pub(crate) fn promised_after(
         &self,
         token: &TokenSet,
         edit: &TokenEdit,

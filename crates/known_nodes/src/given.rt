@@ -20,14 +20,14 @@ pub struct Given {
 
 impl Given {
     /// The row of the node, which was known so before.
-    pub fn row_over<'a>(&'a self, known_node: &'a KnownNode) -> Option<RowView<'a>>
+    pub(crate) fn row_over<'a>(&'a self, known_node: &'a KnownNode) -> Option<RowView<'a>>
         ensures { seen_row result ≡ row_kept self.now.row known_node.now.row }
     {
         self.row.as_ref()?.over(&known_node.row)
     }
 
     /// Whether its node may have an exclusive byte from then on where it had none.
-    pub fn may_exclude(&self) -> bool
+    pub(crate) fn may_exclude(&self) -> bool
         ensures { result ≡ false → (row : Option TokenHolder) → row_conflicts (row_seen row) whole Read ≡ false → row_conflicts (row_kept self.now.row row) whole Read ≡ false }
     {
         match &self.row {

@@ -166,7 +166,7 @@ impl KnownNode {
     ///
     /// # Errors
     /// `AllocError` where a request for memory was refused.
-    pub fn promised(
+    pub(crate) fn promised(
         &self,
         commands: Commands,
         command: &Command,
@@ -184,7 +184,7 @@ impl KnownNode {
     ///
     /// # Errors
     /// `AllocError` where a request for memory was refused.
-    pub fn promised_after(
+    pub(crate) fn promised_after(
         &self,
         after: &Option<RowAfter>,
         commands: Commands,
@@ -199,7 +199,7 @@ impl KnownNode {
     }
 
     /// Its row is that from now on. Takes no memory.
-    pub fn put(&mut self, after: Option<RowAfter>)
+    pub(crate) fn put(&mut self, after: Option<RowAfter>)
         ensures row { row_seen self.new.row ≡ row_kept after self.old.row }
         ensures dead { self.new.dead ≡ self.old.dead }
     {

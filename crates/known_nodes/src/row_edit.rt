@@ -35,7 +35,7 @@ pub struct RowEdit {
 
 impl RowAfter {
     /// The row, where the node had that one before.
-    pub fn over<'a>(&'a self, row: &'a Option<TokenHolder>) -> Option<RowView<'a>>
+    pub(crate) fn over<'a>(&'a self, row: &'a Option<TokenHolder>) -> Option<RowView<'a>>
         ensures { seen_row result ≡ row_with self.now row.now }
     {
         match self {
@@ -51,7 +51,7 @@ impl RowAfter {
     }
 
     /// Whether the node may have an exclusive byte from now on where it had none.
-    pub fn may_exclude(&self) -> bool
+    pub(crate) fn may_exclude(&self) -> bool
         ensures { result ≡ false → (row : Option TokenHolder) → row_conflicts (row_seen row) whole Read ≡ false → row_conflicts (row_with self.now row) whole Read ≡ false }
     {
         match self {
@@ -64,7 +64,7 @@ impl RowAfter {
     ///
     /// # Errors
     /// `AllocError` where a request for memory was refused.
-    pub fn promised(
+    pub(crate) fn promised(
         &self,
         row: &Option<TokenHolder>,
         commands: Commands,

@@ -40,7 +40,7 @@ pub fn excludes(token: &TokenSet) -> bool
 
 impl TokenHolder {
     /// The row as it is.
-    pub fn view(&self) -> RowView<'_>
+    pub(crate) fn view(&self) -> RowView<'_>
         ensures { seen result ≡ row_state self.now }
     {
         RowView {

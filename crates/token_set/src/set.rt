@@ -248,7 +248,8 @@ impl TokenSet {
         }
     }
 
-    /// The edit that `lower` makes.
+    /// The edit that lowers each byte of the span: for write to none, for read from exclusive to shared, so that a
+    /// byte that has no level stays so.
     ///
     /// # Errors
     /// `AllocError` where a request for memory was refused.
@@ -404,20 +405,6 @@ impl TokenSet {
         ensures err { OnErr result (self.new ≡ self.old) }
     {
         let edit = self.plan_grant(span, mode)?;
-        self.apply(edit);
-        Ok(())
-    }
-
-    /// Lowers each byte of the span: for write to none, for read from exclusive to shared, so that a
-    /// byte that has no level stays so.
-    ///
-    /// # Errors
-    /// `AllocError` where a request for memory was refused.
-    pub fn lower(&mut self, span: Span, mode: Mode) -> Result<(), AllocError>
-        ensures ok { OnOk result (token_of self.new ≡ lowered (token_of self.old) span mode) }
-        ensures err { OnErr result (self.new ≡ self.old) }
-    {
-        let edit = self.plan_lower(span, mode)?;
         self.apply(edit);
         Ok(())
     }
