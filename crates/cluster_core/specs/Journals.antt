@@ -1,8 +1,11 @@
 -- Journals, what a list of events comes to, and which entry is the first wrong one.
-use Rattle.std.specs.Prelude.{◌≡◌, ◌≢◌, ℕ, ◌+◌, ◌≤◌, List, [], ◌∷◌, ◌++◌, length, map, Ok, Err}
+use Rattle.std.specs.Prelude.{◌≡◌, ◌≢◌, ℕ, ◌+◌, ◌≤◌, nat_le, if◌then◌else◌, List, [], ◌∷◌, ◌++◌, length, map, Option, Some, None, Result, Ok, Err}
 use Rattle.messages.specs.Shapes.{ShapeFields, IsShape}
 use Rattle.messages.specs.declared.refusal.Refused.{Refused}
+use Rattle.messages.specs.declared.refusal.Refused.TheVariants.{Stranger, JournalFull}
+use Rattle.messages.specs.declared.message.Message.{Message}
 use Rattle.messages.specs.declared.event.Event.{Event}
+use Rattle.messages.specs.declared.event.Event.TheVariants.{Deliver}
 use Rattle.messages.specs.declared.entry.Entry.{Entry}
 use Rattle.cluster_core.specs.World.{WorldState, first_world, journal_limit}
 use Rattle.cluster_core.specs.Next.{next, kept_next}
@@ -65,3 +68,8 @@ GoesOn r event s = (e : Entry) × (kept_next (world_state r.world) event ≡ Ok 
 
 abbrev pub journal_of : RunFields → JournalFields
 journal_of r = record { shape = r.world.shape; entries = r.entries }
+
+-- the delivery of the message at a place in the order of sending, if one stands there; else it is refused
+abbrev pub delivery : WorldState → Option Message → Result (WorldState × Entry) Refused
+delivery w (Some m) = kept_next w (Deliver m)
+delivery w None = Err (if nat_le journal_limit w.length then JournalFull else Stranger)

@@ -1,5 +1,5 @@
 -- What an event does to the cluster.
-use Rattle.std.specs.Prelude.{ℕ, ◌+◌, Bool, true, false, not, ◌&&◌, ◌==◌, nat_le, nat_lt, if◌then◌else◌, List, [], ◌++◌, length, Option, Some, None, Result, Ok, Err}
+use Rattle.std.specs.Prelude.{ℕ, ◌+◌, Bool, true, false, not, ◌&&◌, ◌==◌, nat_le, nat_lt, if◌then◌else◌, [], ◌++◌, Result, Ok, Err}
 use Rattle.messages.specs.declared.refusal.StepError.{StepError}
 use Rattle.messages.specs.declared.refusal.Refused.{Refused}
 use Rattle.messages.specs.declared.refusal.Refused.TheVariants.{Stranger, JournalFull, NotAlive, NotDead, TooManyRestarts, Fenced}
@@ -155,8 +155,3 @@ next w event =
 -- the same at what keeps a journal, which refuses each event once it is full
 abbrev pub kept_next : WorldState → Event → Result (WorldState × Entry) Refused
 kept_next w event = if nat_le journal_limit w.length then Err JournalFull else next w event
-
--- the delivery of a message by its place in the order of sending, if one stands there; else it is refused, by a run of so many entries
-abbrev pub delivery : List Entry → WorldState → Option Message → Result (WorldState × Entry) Refused
-delivery es w (Some m) = kept_next w (Deliver m)
-delivery es w None = Err (if nat_le journal_limit (length es) then JournalFull else Stranger)

@@ -7,11 +7,11 @@ ghost use Rattle.messages.specs.declared.refusal.Refused.{Refused};
 ghost use Rattle.messages.specs.declared.refusal.Refused.TheVariants.{NoMemory};
 ghost use Rattle.messages.specs.Shapes.{IsShape};
 ghost use Rattle.cluster_core.specs.World.{first_world};
-ghost use Rattle.cluster_core.specs.Next.{delivery, kept_next};
+ghost use Rattle.cluster_core.specs.Next.{kept_next};
 ghost use Rattle.cluster_core.specs.Parts.{world_state};
 ghost use Rattle.cluster_core.specs.Changes.{Plans};
 ghost use Rattle.cluster_core.specs.Runs.{Leads};
-ghost use Rattle.cluster_core.specs.Journals.{journal_of, GoesOn};
+ghost use Rattle.cluster_core.specs.Journals.{delivery, journal_of, GoesOn};
 ghost use Rattle.cluster_core.specs.Histories.{HasOneHistory};
 ghost use Rattle.cluster_core.specs.Plain.{HasPlainHistory};
 ghost use Rattle.cluster_core.specs.Safe.{IsSafe, LeadsToSafe};
@@ -116,10 +116,10 @@ impl Run {
     #[tactic(auto, using(crate::proofs::steps::KnownMessages::among_there))]
     pub fn deliver(&mut self, alloc: Global, place: usize) -> Result<(), Refused>
         ensures ok { OnOk result ((m : Message) × (slice_get self.old.world.sent place ≡ Some m) × GoesOn self.old (Deliver m) self.new) }
-        ensures err { IfErr result (λ e. e ≢ NoMemory → delivery self.old.entries (world_state self.old.world) (slice_get self.old.world.sent place) ≡ Err e) }
+        ensures err { IfErr result (λ e. e ≢ NoMemory → delivery (world_state self.old.world) (slice_get self.old.world.sent place) ≡ Err e) }
 
         // Want of memory never stands in the place of a refusal, but of `Spent`.
-        ensures refused { (e : Refused) → e ≢ Refused.Spent → delivery self.old.entries (world_state self.old.world) (slice_get self.old.world.sent place) ≡ Err e → result ≡ Err e }
+        ensures refused { (e : Refused) → e ≢ Refused.Spent → delivery (world_state self.old.world) (slice_get self.old.world.sent place) ≡ Err e → result ≡ Err e }
         ensures unchanged { OnErr result (self.new ≡ self.old) }
     {
         let Some(message) = self.sent_at(place) else {
@@ -139,9 +139,9 @@ impl Run {
 
     // Why a message that was not sent can't be delivered.
     fn unsent(&self) -> Refused
-        ensures { delivery self.now.entries (world_state self.now.world) None ≡ Err result }
+        ensures { delivery (world_state self.now.world) None ≡ Err result }
     {
-        if self.entries.len() >= JOURNAL_LIMIT as usize {
+        if self.len() >= JOURNAL_LIMIT {
             Refused::JournalFull
         } else {
             Refused::Stranger

@@ -55,7 +55,7 @@ impl Sent {
     ///
     /// # Errors
     /// `AllocError` where a request for memory was refused.
-    pub fn keep_index(&mut self, alloc: Global) -> Result<(), AllocError>
+    pub(crate) fn keep_index(&mut self, alloc: Global) -> Result<(), AllocError>
         ensures { self.new ≡ self.old }
     {
         if self.index.is_none() {

@@ -11,7 +11,8 @@ use Rattle.messages.specs.declared.event.Event.TheVariants as event
 use Rattle.messages.specs.declared.message.Message.{Message}
 use Rattle.messages.specs.declared.entry.Entry.{Entry}
 use Rattle.cluster_core.specs.World.{WorldState}
-use Rattle.cluster_core.specs.Next.{delivery, kept_next}
+use Rattle.cluster_core.specs.Next.{kept_next}
+use Rattle.cluster_core.specs.Journals.{delivery}
 use Rattle.lockscript.specs.declared.script_line.Command.{Command}
 use Rattle.lockscript.specs.declared.script_line.Command.TheVariants.{Call, Deliver, Lose, Settle, Interrupt, Retry, Resend, Declare, Restart, Learn, FailServer, StartServer}
 use Rattle.lockscript.specs.Scripts.{LineFields}
@@ -76,7 +77,7 @@ settles_one line (Some p) q s (m ∷ ms) (n ∷ ns) a q_settled b s_settled =
 does_one : (line : ℕ) (c : Command) (p : Progress) (q s : End) → Does line c p q → Does line c p s → q ≡ s
 does_one line (Call node pid op) p q s a b = ends_one line p q s (kept_next p.world (event.Call node pid op)) a b
 does_one line (Deliver number) p q s a b =
-    let made = delivery p.entries p.world (slice_get p.world.sent (index_of number)) in
+    let made = delivery p.world (slice_get p.world.sent (index_of number)) in
     ends_one line (after_delivery (index_of number) p made) q s made a b
 does_one line (Lose number) p q s a b = a ∙ sym b
 does_one line (Interrupt node pid) p q s a b = ends_one line p q s (kept_next p.world (event.Interrupt node pid)) a b

@@ -11,7 +11,8 @@ use Rattle.messages.specs.declared.event.Event.TheVariants as event
 use Rattle.messages.specs.declared.message.Message.{Message}
 use Rattle.messages.specs.declared.entry.Entry.{Entry}
 use Rattle.cluster_core.specs.World.{WorldState, journal_limit}
-use Rattle.cluster_core.specs.Next.{delivery, next, kept_next}
+use Rattle.cluster_core.specs.Next.{next, kept_next}
+use Rattle.cluster_core.specs.Journals.{delivery}
 use Rattle.cluster_core.specs.Runs.{Leads}
 use Rattle.cluster_core.proofs.runs.JournalRuns.{leads_push, entry_event}
 use Rattle.cluster_core.proofs.steps.Steps.{kept_taken}
@@ -65,9 +66,9 @@ unsent_leads : (w : WorldState) (line : ℕ) (p : Progress) (end : End) (full : 
 unsent_leads w line p end true leads ends = end_leads w None end ends tt
 unsent_leads w line p end false leads ends = end_leads w (Some (after_refusal p line Stranger)) end ends leads
 
-comes_leads : (w : WorldState) (line index : ℕ) (p : Progress) (end : End) (o : Option Message) → LeadsFrom w p → Comes line index p (delivery p.entries p.world o) end → EndLeads w end
+comes_leads : (w : WorldState) (line index : ℕ) (p : Progress) (end : End) (o : Option Message) → LeadsFrom w p → Comes line index p (delivery p.world o) end → EndLeads w end
 comes_leads w line index p end (Some m) leads comes = deliver_leads w line index m p end (kept_next p.world (event.Deliver m)) refl leads comes
-comes_leads w line index p end None leads comes = unsent_leads w line p end (nat_le journal_limit (length p.entries)) leads comes
+comes_leads w line index p end None leads comes = unsent_leads w line p end (nat_le journal_limit p.world.length) leads comes
 
 lost_leads : (w : WorldState) (line index : ℕ) (p : Progress) (b : Bool) → LeadsFrom w p → LeadsFrom w (if b then settling index p else after_refusal p line Stranger)
 lost_leads w line index p true leads = leads

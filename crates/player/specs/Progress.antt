@@ -9,7 +9,8 @@ use Rattle.messages.specs.declared.entry.Entry.{Entry}
 use Rattle.messages.specs.Refusals.{number_of}
 use Rattle.messages.specs.Shapes.{ShapeFields}
 use Rattle.cluster_core.specs.World.{WorldState, first_world}
-use Rattle.cluster_core.specs.Next.{delivery, kept_next}
+use Rattle.cluster_core.specs.Next.{kept_next}
+use Rattle.cluster_core.specs.Journals.{delivery}
 use Rattle.lockscript.specs.declared.refused_line.RefusedLine.{RefusedLine}
 use Rattle.lockscript.specs.declared.script_line.Command.{Command}
 use Rattle.lockscript.specs.declared.script_line.Command.TheVariants.{Call, Deliver, Lose, Settle, Interrupt, Retry, Resend, Declare, Restart, Learn, FailServer, StartServer}
@@ -111,7 +112,7 @@ lost line index p = if nat_lt index (length p.world.sent) then settling index p 
 -- what the command of a line does
 abbrev pub Does : ℕ → Command → Progress → End → Type 0
 Does line (Call node pid op) p end = Happens line (event.Call node pid op) p end
-Does line (Deliver number) p end = Comes line (index_of number) p (delivery p.entries p.world (slice_get p.world.sent (index_of number))) end
+Does line (Deliver number) p end = Comes line (index_of number) p (delivery p.world (slice_get p.world.sent (index_of number))) end
 Does line (Lose number) p end = end ≡ Some (lost line (index_of number) p)
 Does line Settle p end = Settles line p end
 Does line (Interrupt node pid) p end = Happens line (event.Interrupt node pid) p end

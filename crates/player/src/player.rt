@@ -9,7 +9,7 @@ ghost use Rattle.messages.specs.declared.message.Message.{Message};
 ghost use Rattle.lockscript.specs.declared.play_error.PlayError.TheVariants.{NoMemory, JournalFull};
 ghost use Rattle.player.specs.Parts.{progress, state_of};
 ghost use Rattle.player.specs.Played.{played_of};
-ghost use Rattle.player.specs.Progress.{first_progress, progress_after, Comes, Delivers, Does, Ends, Happens, IsNextMessage, IsSettled, Settles};
+ghost use Rattle.player.specs.Progress.{first_progress, progress_after, Delivers, Does, Ends, Happens, IsNextMessage, IsSettled, Settles};
 
 use crate::played::Played;
 use crate::settled::Settled;
