@@ -356,7 +356,6 @@ function wide() {
         put("call 1 256 query 0 proc read 0 4100")
 }
 
-# Each node reads one byte in two: two lines for each run of each node come before the first failure.
 # Sets and unlocks a byte.
 function touch(node, byte) {
     put("call " node " 1 set 0 proc write " byte " 1")
@@ -379,6 +378,7 @@ function revokes() {
     }
 }
 
+# Each node reads one byte in two: two lines for each run of each node come before the first failure.
 function rebuilt() {
     many = calls == "" ? 4000 : calls
     put("cluster nodes 64 files 1 policy exact")

@@ -25,7 +25,8 @@ use token_server::server::Server;
 
 impl World {
     /// Whether the event names nodes, processes and files of the shape, a message that was sent to one
-    /// of its actors, or an incarnation that was declared failed.
+    /// of its actors, or an incarnation that was declared failed. A message is looked for among all that were sent, until
+    /// one was taken by `World::step` or `Run::take`: then an index is made.
     pub fn knows(&self, event: &Event) -> bool
         ensures { result ≡ is_known (world_state self.now) event.now }
     {
