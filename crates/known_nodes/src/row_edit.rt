@@ -81,8 +81,8 @@ impl RowAfter {
                 Ok(RowAfter::Kept { commands, token })
             }
             RowAfter::New(row) => {
-                let edit = command.promised(&row.token)?;
-                let token = row.token.after(&edit)?;
+                let mut token = row.token.copy()?;
+                token.apply(command.promised(&row.token)?);
                 Ok(RowAfter::New(TokenHolder { commands, token }))
             }
         }
