@@ -1,2 +1,3 @@
 pub mod Searches
 pub mod FirstLines
+pub mod Empties

@@ -1,5 +1,7 @@
 //! Calls as `strace` writes them.
+use crate::answer::Answer;
 use crate::asked::{Asked, Wish};
+use crate::described::bracketed;
 use crate::reason::Reason;
 use crate::recorded::Happening;
 use model::access::Access;
@@ -114,6 +116,57 @@ fn offset(structure: &str, name: &str) -> Option<i64> {
     field(structure, name)?.parse().ok()
 }
 
+/// What a lock call that set a lock or none answered, where it returned this, as far as a reply of a script says it.
+pub(crate) fn answer_of(wish: Wish, gave: &str) -> Option<Answer> {
+    if gave == "0" {
+        return Some(Answer::Done);
+    }
+    match (wish, error_in(gave)?) {
+        (Wish::Set(_), "EAGAIN" | "EACCES") => Some(Answer::Again),
+        (Wish::Wait(_), "EINTR" | "ERESTARTSYS") => Some(Answer::Interrupted),
+        (_, "ENOLCK") => Some(Answer::NoLocks),
+        (_, "EBADF") => Some(Answer::BadFd),
+        (_, "EINVAL") => Some(Answer::Invalid),
+        (_, "EOVERFLOW") => Some(Answer::Overflow),
+        _ => None,
+    }
+}
+
+/// The error that a call returned.
+pub(crate) fn error_in(gave: &str) -> Option<&str> {
+    let error = match gave.strip_prefix("-1 ") {
+        Some(error) => error,
+        None => gave.strip_prefix("? ")?,
+    };
+    Some(error.split_once(' ').map_or(error, |(word, _)| word))
+}
+
+/// What a lock call answered that asked what is in the way, where this is the `struct flock` that it gave back.
+///
+/// # Errors
+/// As `set_of` has it.
+pub(crate) fn found_of(asked: &Asked, structure: &str) -> Result<Answer, Reason> {
+    match mode_of(structure).ok_or(Reason::NotUnderstood)? {
+        None => Ok(Answer::Free),
+        Some(Mode::Read) => Ok(Answer::BlockedByRead),
+        Some(Mode::Write) => {
+            let (first, last) = span_of(asked).ok_or(Reason::NotUnderstood)?;
+            Ok(Answer::BlockedByWrite { first, last })
+        }
+    }
+}
+
+// The first and the last byte of the segment of a lock.
+fn span_of(asked: &Asked) -> Option<(u64, u64)> {
+    let first = u64::try_from(asked.start).ok()?;
+    let last = if asked.len == 0 {
+        i64::MAX
+    } else {
+        asked.start.checked_add(asked.len)?.checked_sub(1)?
+    };
+    Some((first, u64::try_from(last).ok()?))
+}
+
 /// What a `close` with these arguments does.
 pub(crate) fn close_of(arguments: &str) -> Happening {
     match number_in(arguments) {
@@ -141,27 +194,43 @@ fn range_of(arguments: &str) -> Option<(u32, u32)> {
     Some((first, last))
 }
 
-/// The path of an `open`, `openat`, `openat2` or `creat` with these arguments, and how it opens the file.
+/// The path of an `open`, `openat`, `openat2` or `creat` with these arguments, and how it opens the file. A path that is told of
+/// what was opened is that.
 ///
 /// # Errors
-/// `Relative` where the path is relative to a descriptor, or is looked up below one; `NotUnderstood` where the path or the
-/// access can't be read.
-pub(crate) fn open_of<'a>(name: &str, arguments: &'a str) -> Result<(&'a str, Access), Reason> {
+/// `Relative` where none is told, and the path is relative to a descriptor, or is looked up below one; `NotUnderstood` where the
+/// path or the access can't be read.
+pub(crate) fn open_of<'a>(
+    name: &str,
+    arguments: &'a str,
+    told: Option<&'a str>,
+) -> Result<(&'a str, Access), Reason> {
     let (directory, rest) = if name == "openat" || name == "openat2" {
-        arguments.split_once(", ").ok_or(Reason::NotUnderstood)?
+        directory_of(arguments).ok_or(Reason::NotUnderstood)?
     } else {
         ("AT_FDCWD", arguments)
     };
     let (path, flags) = quoted(rest).ok_or(Reason::NotUnderstood)?;
-    if !is_whole(directory, path, flags) {
-        return Err(Reason::Relative);
-    }
+    let path = match told {
+        Some(told) => told,
+        None if is_whole(directory, path, flags) => path,
+        None => return Err(Reason::Relative),
+    };
     let access = if name == "creat" {
         Access::WriteOnly
     } else {
         access_of(flags).ok_or(Reason::NotUnderstood)?
     };
     Ok((path, access))
+}
+
+// The directory of an `openat` or `openat2`, and the arguments behind it.
+fn directory_of(arguments: &str) -> Option<(&str, &str)> {
+    let end = arguments.find(|c: char| c == ',' || c == '<')?;
+    let directory = arguments.get(..end)?;
+    let rest = arguments.get(end..)?;
+    let rest = bracketed(rest).map_or(rest, |(_, rest)| rest);
+    Some((directory, rest.strip_prefix(", ")?))
 }
 
 // Whether the path says the file, as one from the root or from the working directory does.

@@ -14,6 +14,9 @@ pub enum RecordingError {
     /// A cluster has 1 to 64 nodes.
     #[error("no cluster has so many nodes")]
     Nodes,
+    /// A process is placed on a node that the cluster hasn't.
+    #[error("a process is placed on no node of the cluster")]
+    Placed,
     /// The script would have more than 4294967295 lines.
     #[error("the script would have too many lines")]
     TooLong,

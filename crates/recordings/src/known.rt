@@ -2,23 +2,28 @@
 ghost use Rattle.std.specs.Prelude.{◌≡◌, OnOk};
 ghost use Rattle.model.specs.Limits.{IsNumber, most_nodes};
 ghost use Rattle.lockscript.specs.Served.{IsServedOp};
-ghost use Rattle.recordings.specs.Known.{file_of, running_of};
-ghost use Rattle.recordings.specs.Steps.{arrived, asked_by, asks, before_child, bound, closed, closed_in_turn, closes, closes_range, copied, duplicates, ended, executes, forks, given_up, gone, happened, held_of, left_out, node_after, op_of, opens, returned, shut, start, starts_thread, step, why_not, with_call, with_held, with_left, with_line, with_locked, with_note, with_running};
+ghost use Rattle.recordings.specs.Known.{file_of, free_place, running_of};
+ghost use Rattle.recordings.specs.Steps.{arrived, asked_by, asks, begun, bound, closed, closed_in_turn, closes, closes_range, copied, duplicates, ended, executes, finished, followed, follows, forked, forked_by, forks, freed, given_up, gone, happened, held_of, left_out, op_of, opens, opens_file, refers, retried, returned, settled, shut, start, step, turn_after, why_not, with_answer, with_call, with_held, with_left, with_line, with_locked, with_note, with_running, with_shared, with_thread, with_waiting};
 
+use crate::answer::Answer;
 use crate::asked::{Asked, Wish};
 use crate::held::Held;
 use crate::line::Line;
 use crate::lists::{
-    fds_within, file_of, free_place, free_slot, has_room, has_scripted, held_by, inherit, is_left,
-    remove_all_held, remove_held, remove_left, remove_pid, remove_process, running_of,
+    fds_within, file_of, free_place, free_slot, has_room, has_scripted, has_thread, held_by,
+    inherit, is_left, placing_of, process_of, push_retries, remove_all_held, remove_held,
+    remove_left, remove_process, remove_thread, remove_threads_of, remove_waiting, running_of,
 };
 use crate::note::Note;
 use crate::numbered_file::NumberedFile;
 use crate::place::Place;
+use crate::placing::Placing;
 use crate::reason::Reason;
 use crate::recorded::{Happening, Recorded};
 use crate::running::Running;
 use crate::said::Said;
+use crate::thread::Thread;
+use crate::turn::{node_after, node_for};
 use messages::file_number::FileNumber;
 use model::access::Access;
 use model::op::Op;
@@ -27,44 +32,61 @@ use std::marker::Model;
 
 /// What is known of the recorded processes, and what the script has of them so far.
 #[derive(Drop)]
-pub(crate) struct Known {
+pub(crate) struct Known<'a> {
     nodes: u8,
-    // The node of the next process that no other made.
+    // The node of the next process that none of the script made.
     next: u8,
+    placings: &'a [Placing],
+    // Whether who opens any file begins.
+    every: bool,
     files: Vec<NumberedFile>,
     running: Vec<Running>,
+    threads: Vec<Thread>,
     held: Vec<Held>,
     // The PIDs of those that stay out of the script.
     left: Vec<u32>,
+    // Whose waits are open.
+    waiting: Vec<Place>,
     locked: Vec<NumberedFile>,
     lines: Vec<Line>,
     notes: Vec<Note>,
 }
 
-impl Model for Known {
+impl<'a> Model for Known<'a> {
     ghost use Rattle.model.specs.Limits.{IsNumber, most_nodes};
     ghost use Rattle.recordings.specs.Known.{KnownFields};
 
     ghost Value = { KnownFields };
 
-    ghost view = { λ k. record { nodes = k.nodes; next = k.next; files = k.files.items; running = k.running.items; held = k.held.items; left = k.left.items; locked = k.locked.items; lines = k.lines.items; notes = k.notes.items } };
+    ghost view = { λ k. record { nodes = k.nodes; next = k.next; placings = k.placings.now; every = k.every; files = k.files.items; running = k.running.items; threads = k.threads.items; held = k.held.items; left = k.left.items; waiting = k.waiting.items; locked = k.locked.items; lines = k.lines.items; notes = k.notes.items } };
 
     ghost invariant = { λ k. IsNumber most_nodes k.nodes × IsNumber most_nodes k.next };
 }
 
-impl Known {
-    /// What is known before the first event, for a script of these files on so many nodes.
-    pub(crate) fn new(alloc: Global, nodes: u8, files: Vec<NumberedFile>) -> Known
+impl<'a> Known<'a> {
+    /// What is known before the first event, for a script of these files on so many nodes. With `every` who opens
+    /// any file begins.
+    pub(crate) fn new(
+        alloc: Global,
+        nodes: u8,
+        placings: &'a [Placing],
+        every: bool,
+        files: Vec<NumberedFile>,
+    ) -> Known<'a>
         requires { IsNumber most_nodes nodes }
-        ensures { result ≡ start nodes files.items }
+        ensures { result ≡ start nodes placings.now every files.items }
     {
         Known {
             nodes,
             next: 1,
+            placings,
+            every,
             files,
             running: Vec::new(alloc),
+            threads: Vec::new(alloc),
             held: Vec::new(alloc),
             left: Vec::new(alloc),
+            waiting: Vec::new(alloc),
             locked: Vec::new(alloc),
             lines: Vec::new(alloc),
             notes: Vec::new(alloc),
@@ -78,50 +100,57 @@ impl Known {
     pub(crate) fn take(&mut self, event: &Recorded) -> Result<(), AllocError>
         ensures { OnOk result (self.new ≡ step self.old event.now) }
     {
-        self.happen(event.line, event.pid, &event.happening)
+        let process = process_of(&self.threads, event.pid);
+        self.happen(event.line, event.pid, process, &event.happening)
     }
 
-    // Takes an event at this line, of the process or thread of this PID.
+    // Takes an event at this line, of the process or thread of the first PID, which is of the process of the second.
     #[tactic(auto, unfolding(crate::specs::Steps::happened))]
-    fn happen(&mut self, line: u64, pid: u32, happening: &Happening) -> Result<(), AllocError>
-        ensures { OnOk result (self.new ≡ happened line pid happening.now self.old) }
+    fn happen(
+        &mut self,
+        line: u64,
+        by: u32,
+        pid: u32,
+        happening: &Happening,
+    ) -> Result<(), AllocError>
+        ensures { OnOk result (self.new ≡ happened line by pid happening.now self.old) }
     {
         match happening {
             Happening::Nothing => Ok(()),
             Happening::Opens { fd, path, access } => {
-                self.arrive(line, pid)?;
-                self.open(self.running(pid), *fd, *path, *access)
+                self.open_file(line, pid, *fd, *path, *access)
             }
+            Happening::Refers { fd, path } => self.refer(line, pid, *fd, *path),
             Happening::Duplicates { fd, to } => self.duplicate(self.running(pid), *fd, *to),
             Happening::Closes { fd } => self.close(self.running(pid), *fd),
             Happening::ClosesRange { first, last } => {
                 self.close_range(self.running(pid), *first, *last)
             }
             Happening::Executes => self.execute(line, self.running(pid)),
-            Happening::Forks { child } => {
-                self.make_room(line, pid, *child)?;
-                self.fork(line, self.running(pid), *child)
+            Happening::Forks { child, shares } => {
+                self.free(*child)?;
+                self.fork(line, pid, *child, *shares)
             }
             Happening::StartsThread { thread } => {
-                self.make_room(line, pid, *thread)?;
-                self.start_thread(self.running(pid), *thread)
+                self.free(*thread)?;
+                self.push_thread(*thread, pid)
             }
-            Happening::Exits { whole } => self.end_pid(pid, *whole),
-            Happening::Asks { fd, asked } => self.ask(line, pid, *fd, asked),
-            Happening::Returns { fd } => self.settle(self.held(pid, *fd)),
+            Happening::Exits { whole } => self.end_pid(by, *whole),
+            Happening::Asks { fd, asked, answer } => self.ask(line, pid, *fd, asked, *answer),
+            Happening::Returns { fd } => self.answer(self.held(pid, *fd)),
             Happening::GivesUp { fd } => self.give_up(self.held(pid, *fd)),
             Happening::Unserved(reason) => self.push_note(line, *reason),
         }
     }
 
-    // The process or thread of this PID.
+    // The process of this PID.
     fn running(&self, pid: u32) -> Option<Running>
         ensures { result ≡ running_of self.now.running pid }
     {
         running_of(&self.running, pid)
     }
 
-    // The descriptor of the process or thread of this PID.
+    // The descriptor of the process of this PID.
     fn held(&self, pid: u32, fd: u32) -> Option<Held>
         ensures { result ≡ held_of self.now (running_of self.now.running pid) fd }
     {
@@ -155,15 +184,19 @@ impl Known {
         Ok(())
     }
 
-    // The process or thread runs from now on.
-    fn push_running(&mut self, pid: u32, place: Place, is_thread: bool) -> Result<(), AllocError>
-        ensures { OnOk result (self.new ≡ with_running pid place is_thread self.old) }
+    // The process runs from now on.
+    fn push_running(&mut self, pid: u32, place: Place) -> Result<(), AllocError>
+        ensures { OnOk result (self.new ≡ with_running pid place self.old) }
     {
-        self.running.push(Running {
-            pid,
-            place,
-            is_thread,
-        })?;
+        self.running.push(Running { pid, place })?;
+        Ok(())
+    }
+
+    // The thread of the process runs from now on.
+    fn push_thread(&mut self, pid: u32, process: u32) -> Result<(), AllocError>
+        ensures { OnOk result (self.new ≡ with_thread pid process self.old) }
+    {
+        self.threads.push(Thread { pid, process })?;
         Ok(())
     }
 
@@ -186,7 +219,7 @@ impl Known {
         Ok(())
     }
 
-    // The process or thread of that PID stays out of the script from now on.
+    // The process of that PID stays out of the script from now on.
     fn push_left(&mut self, pid: u32) -> Result<(), AllocError>
         ensures { OnOk result (self.new ≡ with_left pid self.old) }
     {
@@ -203,7 +236,7 @@ impl Known {
     }
 
     // The process of that PID runs or stays out; else it begins, or stays out where its node has no room.
-    #[tactic(auto, unfolding(crate::specs::Steps::arrived, crate::specs::Steps::begun))]
+    #[tactic(auto, unfolding(crate::specs::Steps::arrived))]
     fn arrive(&mut self, line: u64, pid: u32) -> Result<(), AllocError>
         ensures { OnOk result (self.new ≡ arrived line pid self.old) }
     {
@@ -211,28 +244,81 @@ impl Known {
             return Ok(());
         }
         let next = self.next;
-        let Some(place) = free_place(&self.running, next) else {
+        let placing = placing_of(self.placings, pid);
+        let in_turn = placing.is_none();
+        self.begin(line, pid, node_for(next, placing), in_turn)
+    }
+
+    // The process begins on the node, or stays out where that has no room.
+    #[tactic(auto, unfolding(crate::specs::Steps::begun))]
+    fn begin(&mut self, line: u64, pid: u32, node: u8, in_turn: bool) -> Result<(), AllocError>
+        requires { IsNumber most_nodes node }
+        ensures { OnOk result (self.new ≡ begun line pid in_turn (free_place self.old.running node) self.old) }
+    {
+        let Some(place) = free_place(&self.running, node) else {
             return self.leave_out(line, pid, Reason::TooManyProcesses);
         };
         self.push_line(Line::Begins { place, pid })?;
         self.push_call(place, Op::Spawn)?;
-        self.push_running(pid, place, false)?;
-        self.go_on();
+        self.push_running(pid, place)?;
+        self.go_on(in_turn);
         Ok(())
     }
 
-    // The next process that no other made is placed on the next node.
-    fn go_on(&mut self)
-        ensures { self.new ≡ record self.old { next = node_after self.old.nodes self.old.next } }
+    // The next process that none of the script made is placed on the next node, if this one was in turn.
+    fn go_on(&mut self, in_turn: bool)
+        ensures { self.new ≡ record self.old { next = turn_after self.old.nodes self.old.next in_turn } }
     {
-        self.next = if self.next < self.nodes {
-            self.next + 1
-        } else {
-            1
-        };
+        if in_turn {
+            self.next = node_after(self.nodes, self.next);
+        }
     }
 
-    // The process or thread opens a file.
+    // Who opens the file begins, if it is one of the script's.
+    fn follow(&mut self, line: u64, pid: u32, path: u32) -> Result<(), AllocError>
+        ensures { OnOk result (self.new ≡ followed line pid path self.old) }
+    {
+        if self.follows(path) {
+            return self.arrive(line, pid);
+        }
+        Ok(())
+    }
+
+    // Whether who opens the file begins.
+    fn follows(&self, path: u32) -> bool
+        ensures { result ≡ follows self.now path }
+    {
+        self.every || file_of(&self.files, path).is_some()
+    }
+
+    // The process opens a file.
+    #[tactic(auto, unfolding(crate::specs::Steps::opens_file))]
+    fn open_file(
+        &mut self,
+        line: u64,
+        pid: u32,
+        fd: u32,
+        path: u32,
+        access: Access,
+    ) -> Result<(), AllocError>
+        ensures { OnOk result (self.new ≡ opens_file line pid fd path access self.old) }
+    {
+        self.follow(line, pid, path)?;
+        self.open(self.running(pid), fd, path, access)
+    }
+
+    // The descriptor refers to the file, and is opened where it isn't known.
+    #[tactic(auto, unfolding(crate::specs::Steps::refers))]
+    fn refer(&mut self, line: u64, pid: u32, fd: u32, path: u32) -> Result<(), AllocError>
+        ensures { OnOk result (self.new ≡ refers line pid fd path self.old) }
+    {
+        if self.held(pid, fd).is_some() {
+            return Ok(());
+        }
+        self.open_file(line, pid, fd, path, Access::ReadWrite)
+    }
+
+    // The process opens a file, if it runs.
     #[tactic(auto, unfolding(crate::specs::Steps::opens, crate::specs::Steps::opened))]
     fn open(
         &mut self,
@@ -274,7 +360,7 @@ impl Known {
         }
     }
 
-    // The process or thread gets a descriptor of what another refers to.
+    // The process gets a descriptor of what another refers to.
     #[tactic(auto, unfolding(crate::specs::Steps::duplicates, crate::specs::Steps::duplicated))]
     fn duplicate(&mut self, by: Option<Running>, fd: u32, to: u32) -> Result<(), AllocError>
         ensures { OnOk result (self.new ≡ duplicates by fd to self.old) }
@@ -314,7 +400,7 @@ impl Known {
         }
     }
 
-    // The descriptor of the process or thread goes.
+    // The descriptor of the process goes, if it runs.
     #[tactic(auto, unfolding(crate::specs::Steps::closes))]
     fn close(&mut self, by: Option<Running>, fd: u32) -> Result<(), AllocError>
         ensures { OnOk result (self.new ≡ closes by fd self.old) }
@@ -349,7 +435,7 @@ impl Known {
         }
     }
 
-    // The descriptors of the process or thread from the first number to the last go.
+    // The descriptors of the process from the first number to the last go.
     #[tactic(auto, unfolding(crate::specs::Steps::closes_range))]
     fn close_range(&mut self, by: Option<Running>, first: u32, last: u32) -> Result<(), AllocError>
         ensures { OnOk result (self.new ≡ closes_range by first last self.old) }
@@ -372,7 +458,7 @@ impl Known {
         Ok(())
     }
 
-    // The process or thread executes a program, where its descriptors stay open.
+    // The process executes a program, where its descriptors stay open.
     #[tactic(auto, unfolding(crate::specs::Steps::executes))]
     fn execute(&mut self, line: u64, by: Option<Running>) -> Result<(), AllocError>
         ensures { OnOk result (self.new ≡ executes line by self.old) }
@@ -386,61 +472,108 @@ impl Known {
         Ok(())
     }
 
-    // The process of that PID runs or begins, and none of the child's PID does.
-    #[tactic(auto, unfolding(crate::specs::Steps::before_child))]
-    fn make_room(&mut self, line: u64, pid: u32, child: u32) -> Result<(), AllocError>
-        ensures { OnOk result (self.new ≡ before_child line pid child self.old) }
+    // The process makes a process, which stays out where that one does.
+    #[tactic(auto, unfolding(crate::specs::Steps::forks))]
+    fn fork(&mut self, line: u64, pid: u32, child: u32, shares: bool) -> Result<(), AllocError>
+        ensures { OnOk result (self.new ≡ forks line pid child shares self.old) }
     {
-        self.arrive(line, pid)?;
-        self.end_pid(child, true)
+        if is_left(&self.left, pid) {
+            return self.leave_out(line, child, Reason::LeftOut);
+        }
+        let placed = placing_of(self.placings, child).is_some();
+        self.fork_by(line, self.running(pid), child, shares, placed)
     }
 
-    // The process or thread makes a process, which stays out where that one does, or where its node has no room.
-    #[tactic(auto, unfolding(crate::specs::Steps::forks, crate::specs::Steps::forked))]
-    fn fork(&mut self, line: u64, by: Option<Running>, pid: u32) -> Result<(), AllocError>
-        ensures { OnOk result (self.new ≡ forks line by pid self.old) }
+    // The process makes a process, which begins by itself where that one does not run or it is placed by hand.
+    fn fork_by(
+        &mut self,
+        line: u64,
+        by: Option<Running>,
+        child: u32,
+        shares: bool,
+        placed: bool,
+    ) -> Result<(), AllocError>
+        ensures { OnOk result (self.new ≡ forked_by line by child shares placed self.old) }
     {
         let Some(parent) = by else {
-            return self.leave_out(line, pid, Reason::LeftOut);
+            return Ok(());
         };
-        let Some(place) = free_place(&self.running, parent.place.node()) else {
+        if placed {
+            return Ok(());
+        }
+        let place = free_place(&self.running, parent.place.node());
+        self.fork_at(line, parent.place, child, shares, place)
+    }
+
+    // The process makes a process there, or one that stays out where its node has no room.
+    #[tactic(auto, unfolding(crate::specs::Steps::forked))]
+    fn fork_at(
+        &mut self,
+        line: u64,
+        parent: Place,
+        pid: u32,
+        shares: bool,
+        place: Option<Place>,
+    ) -> Result<(), AllocError>
+        ensures { OnOk result (self.new ≡ forked line parent pid shares place self.old) }
+    {
+        let Some(place) = place else {
             return self.leave_out(line, pid, Reason::TooManyProcesses);
         };
         let child = place.number();
         self.push_line(Line::Begins { place, pid })?;
-        self.push_call(parent.place, Op::Fork { child })?;
-        self.push_running(pid, place, false)?;
-        inherit(&mut self.held, parent.place, place)
+        self.push_call(parent, Op::Fork { child })?;
+        self.push_running(pid, place)?;
+        inherit(&mut self.held, parent, place)?;
+        self.note_shared(line, shares)
     }
 
-    // The process or thread makes a thread, which stays out where that one does.
-    #[tactic(auto, unfolding(crate::specs::Steps::starts_thread))]
-    fn start_thread(&mut self, by: Option<Running>, thread: u32) -> Result<(), AllocError>
-        ensures { OnOk result (self.new ≡ starts_thread by thread self.old) }
+    // That the child shares the descriptors of its parent is noted.
+    fn note_shared(&mut self, line: u64, shares: bool) -> Result<(), AllocError>
+        ensures { OnOk result (self.new ≡ with_shared line shares self.old) }
     {
-        match by {
-            Some(one) => self.push_running(thread, one.place, true),
-            None => self.push_left(thread),
+        if shares {
+            return self.push_note(line, Reason::SharesDescriptors);
         }
+        Ok(())
     }
 
-    // The process or thread of that PID exits, if it runs, or stays out no more.
-    #[tactic(auto, unfolding(crate::specs::Steps::gone, crate::specs::Steps::exited))]
+    // None has that PID any more.
+    #[tactic(auto, unfolding(crate::specs::Steps::freed))]
+    fn free(&mut self, pid: u32) -> Result<(), AllocError>
+        ensures { OnOk result (self.new ≡ freed pid self.old) }
+    {
+        remove_thread(&mut self.threads, pid);
+        self.finish(pid)
+    }
+
+    // The thread of that PID exits, or the process to which the PID belongs.
+    #[tactic(auto, unfolding(crate::specs::Steps::gone))]
     fn end_pid(&mut self, pid: u32, whole: bool) -> Result<(), AllocError>
         ensures { OnOk result (self.new ≡ gone pid whole self.old) }
     {
-        remove_left(&mut self.left, pid);
-        let Some(one) = self.running(pid) else {
-            return Ok(());
-        };
-        if one.is_thread && !whole {
-            remove_pid(&mut self.running, pid);
+        if has_thread(&self.threads, pid) && !whole {
+            remove_thread(&mut self.threads, pid);
             return Ok(());
         }
-        self.end(one.place)
+        let process = process_of(&self.threads, pid);
+        self.finish(process)
     }
 
-    // The process is gone, with its threads and descriptors.
+    // The process of that PID exits, if it runs, with its threads, or stays out no more.
+    #[tactic(auto, unfolding(crate::specs::Steps::finished))]
+    fn finish(&mut self, pid: u32) -> Result<(), AllocError>
+        ensures { OnOk result (self.new ≡ finished pid self.old) }
+    {
+        remove_left(&mut self.left, pid);
+        remove_threads_of(&mut self.threads, pid);
+        match self.running(pid) {
+            Some(one) => self.end(one.place),
+            None => Ok(()),
+        }
+    }
+
+    // The process is gone, with its descriptors and its waits.
     #[tactic(auto, unfolding(crate::specs::Steps::ended))]
     fn end(&mut self, place: Place) -> Result<(), AllocError>
         ensures { OnOk result (self.new ≡ ended place self.old) }
@@ -448,13 +581,21 @@ impl Known {
         self.push_call(place, Op::Exit)?;
         remove_process(&mut self.running, place);
         remove_all_held(&mut self.held, place);
+        remove_waiting(&mut self.waiting, place);
         Ok(())
     }
 
-    // The process or thread of that PID makes a lock call through the descriptor.
+    // The process of that PID makes a lock call through the descriptor.
     #[tactic(auto, unfolding(crate::specs::Steps::asks, crate::specs::Steps::asked_through))]
-    fn ask(&mut self, line: u64, pid: u32, fd: u32, asked: &Asked) -> Result<(), AllocError>
-        ensures { OnOk result (self.new ≡ asks line pid fd asked.now self.old) }
+    fn ask(
+        &mut self,
+        line: u64,
+        pid: u32,
+        fd: u32,
+        asked: &Asked,
+        answer: Option<Answer>,
+    ) -> Result<(), AllocError>
+        ensures { OnOk result (self.new ≡ asks line pid fd asked.now answer self.old) }
     {
         if is_left(&self.left, pid) {
             return self.push_note(line, Reason::LeftOut);
@@ -463,7 +604,7 @@ impl Known {
             return self.push_note(line, Reason::NotOpen);
         };
         self.lock(held.path)?;
-        self.ask_by(line, &held, asked)
+        self.ask_by(line, &held, asked, answer)
     }
 
     // There is a lock call on the file.
@@ -479,15 +620,48 @@ impl Known {
     }
 
     // The lock call is one of the script, if its descriptor is there.
-    fn ask_by(&mut self, line: u64, held: &Held, asked: &Asked) -> Result<(), AllocError>
-        ensures { OnOk result (self.new ≡ asked_by line held.now asked.now held.now.slot self.old) }
+    fn ask_by(
+        &mut self,
+        line: u64,
+        held: &Held,
+        asked: &Asked,
+        answer: Option<Answer>,
+    ) -> Result<(), AllocError>
+        ensures { OnOk result (self.new ≡ asked_by line held.now asked.now answer held.now.slot self.old) }
     {
         match held.slot {
-            Some(fd) => self.push_call(held.place, op_of(fd, asked)),
+            Some(fd) => {
+                self.push_call(held.place, op_of(fd, asked))?;
+                self.push_answer(answer)?;
+                self.push_waiting(held.place, asked.wish)
+            }
             None => {
                 let reason = self.why_not(held.path);
                 self.push_note(line, reason)
             }
+        }
+    }
+
+    // A line for the answer comes last.
+    fn push_answer(&mut self, answer: Option<Answer>) -> Result<(), AllocError>
+        ensures { OnOk result (self.new ≡ with_answer answer self.old) }
+    {
+        match answer {
+            Some(answer) => self.push_line(Line::Expects(answer)),
+            None => Ok(()),
+        }
+    }
+
+    // The call of the process is open from now on, if it waits.
+    fn push_waiting(&mut self, place: Place, wish: Wish) -> Result<(), AllocError>
+        ensures { OnOk result (self.new ≡ with_waiting place wish self.old) }
+    {
+        match wish {
+            Wish::Wait(_) => {
+                self.waiting.push(place)?;
+                Ok(())
+            }
+            Wish::Set(_) | Wish::Unlock | Wish::Query(_) => Ok(()),
         }
     }
 
@@ -502,14 +676,17 @@ impl Known {
     }
 
     // A lock call through the descriptor returned.
-    fn settle(&mut self, held: Option<Held>) -> Result<(), AllocError>
+    fn answer(&mut self, held: Option<Held>) -> Result<(), AllocError>
         ensures { OnOk result (self.new ≡ returned held self.old) }
     {
         let Some(held) = held else {
             return Ok(());
         };
         match held.slot {
-            Some(_) => self.push_line(Line::Says(Said::settle())),
+            Some(_) => {
+                remove_waiting(&mut self.waiting, held.place);
+                self.settle()
+            }
             None => Ok(()),
         }
     }
@@ -524,15 +701,36 @@ impl Known {
         match held.slot {
             Some(_) => {
                 self.push_line(Line::Says(Said::interrupt(held.place)))?;
-                self.push_line(Line::Says(Said::settle()))
+                remove_waiting(&mut self.waiting, held.place);
+                self.settle()
             }
             None => Ok(()),
         }
     }
 
+    // Messages are delivered, and open waits tried again.
+    #[tactic(auto, unfolding(crate::specs::Steps::settled))]
+    fn settle(&mut self) -> Result<(), AllocError>
+        ensures { OnOk result (self.new ≡ settled self.old) }
+    {
+        self.push_line(Line::Says(Said::settle()))?;
+        if self.waiting.len() > 0 {
+            return self.retry();
+        }
+        Ok(())
+    }
+
+    // Open waits are tried again, and messages delivered.
+    fn retry(&mut self) -> Result<(), AllocError>
+        ensures { OnOk result (self.new ≡ retried self.old) }
+    {
+        push_retries(&mut self.lines, &self.waiting)?;
+        self.push_line(Line::Says(Said::settle()))
+    }
+
     /// The files on which there were lock calls.
     pub(crate) fn into_locked(self) -> Vec<NumberedFile>
-        ensures { result.items ≡ self.locked }
+        ensures { result.items ≡ self.entry.locked }
     {
         self.locked
     }

@@ -1,8 +1,10 @@
 //! Lock scripts from recordings of system calls, as `strace` writes them.
 #![tactic(auto)]
 
+pub mod answer;
 pub mod asked;
 mod calls;
+mod described;
 pub mod error;
 mod held;
 mod known;
@@ -12,6 +14,7 @@ mod note;
 mod numbered_file;
 mod pending;
 mod place;
+pub mod placing;
 mod reader;
 pub mod reason;
 pub mod recorded;
@@ -20,5 +23,7 @@ mod running;
 mod said;
 mod start;
 mod strace_line;
+mod thread;
 mod trace;
+mod turn;
 mod writing;

@@ -1,4 +1,5 @@
 //! Lines of a script that is made.
+use crate::answer::Answer;
 use crate::place::Place;
 use crate::said::Said;
 
@@ -9,4 +10,6 @@ pub(crate) enum Line {
     Begins { place: Place, pid: u32 },
     /// What the line asks for.
     Says(Said),
+    /// A comment: what the call of the line before answered.
+    Expects(Answer),
 }

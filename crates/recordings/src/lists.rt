@@ -1,18 +1,23 @@
 //! What lists of processes, descriptors and files have.
-ghost use Rattle.std.specs.Prelude.{◌≡◌, ◌==◌, filter, not, IfOk, OnOk, map, ◌++◌};
+ghost use Rattle.std.specs.Prelude.{◌≡◌, ◌==◌, filter, find, not, IfOk, OnOk, map, ◌++◌};
 ghost use Rattle.std.specs.List.{list_any};
 ghost use Rattle.std.specs.Option.{option_map};
 ghost use Rattle.model.specs.Limits.{IsNumber, most_nodes};
-ghost use Rattle.recordings.specs.Known.{fds_within, file_of, free_place, free_slot, has_pid, has_slot, held_by, is_file, is_held, is_left, is_of, is_scripted, is_slot, is_within, place_of, running_of, runs_at};
-ghost use Rattle.recordings.specs.Steps.{has_room, in_child};
+ghost use Rattle.recordings.specs.Known.{fds_within, file_of, free_place, free_slot, has_pid, has_slot, held_by, is_file, is_held, is_left, is_of, is_scripted, is_slot, is_thread, is_thread_of, is_within, place_of, process_of, running_of, runs_at};
+ghost use Rattle.recordings.specs.Places.{has_placed, is_at, placing_of};
+ghost use Rattle.recordings.specs.Steps.{has_room, in_child, retry_of};
 
 use crate::held::Held;
+use crate::line::Line;
 use crate::numbered_file::NumberedFile;
 use crate::place::Place;
+use crate::placing::Placing;
 use crate::running::Running;
+use crate::said::Said;
+use crate::thread::Thread;
 use std::alloc::{AllocError, Global};
 
-/// The process or thread of this PID.
+/// The process of this PID.
 pub(crate) fn running_of(running: &[Running], pid: u32) -> Option<Running>
     ensures { result ≡ running_of running.now pid }
 {
@@ -48,7 +53,7 @@ pub(crate) fn file_of(files: &[NumberedFile], path: u32) -> Option<NumberedFile>
     None
 }
 
-// Whether it is the process or thread of this PID.
+// Whether it is the process of this PID.
 fn has_pid(one: &Running, pid: u32) -> bool
     ensures { result ≡ has_pid pid one.now }
 {
@@ -181,28 +186,107 @@ pub(crate) fn remove_all_held(held: &mut Vec<Held>, place: Place)
     held.retain(|one| !one.place.is_at(place));
 }
 
-/// The process goes, with its threads.
+/// The process goes.
 pub(crate) fn remove_process(running: &mut Vec<Running>, place: Place)
     ensures { running.new.items ≡ filter (λ r. not (runs_at place r)) running.old.items }
 {
     running.retain(|one| !one.place.is_at(place));
 }
 
-/// The process or thread of this PID goes.
-pub(crate) fn remove_pid(running: &mut Vec<Running>, pid: u32)
-    ensures { running.new.items ≡ filter (λ t. not (has_pid pid t)) running.old.items }
+/// The waits of the process are open no more.
+pub(crate) fn remove_waiting(waiting: &mut Vec<Place>, place: Place)
+    ensures { waiting.new.items ≡ filter (λ p. not (is_at place p)) waiting.old.items }
 {
-    running.retain(|one| one.pid != pid);
+    waiting.retain(|one| !one.is_at(place));
 }
 
-/// Whether the process or thread of this PID is one of these.
+/// Where the processes of this PID are placed by hand.
+pub(crate) fn placing_of(placings: &[Placing], pid: u32) -> Option<Placing>
+    ensures { result ≡ placing_of placings.now pid }
+{
+    for placing in placings {
+        if has_placed(placing, pid) {
+            return Some(*placing);
+        }
+    }
+    None
+}
+
+// Whether it places the processes of this PID.
+fn has_placed(placing: &Placing, pid: u32) -> bool
+    ensures { result ≡ has_placed pid placing.now }
+{
+    placing.pid() == pid
+}
+
+/// The PID of the process that a PID belongs to.
+pub(crate) fn process_of(threads: &[Thread], pid: u32) -> u32
+    ensures { result ≡ process_of threads.now pid }
+{
+    match thread_of(threads, pid) {
+        Some(thread) => thread.process,
+        None => pid,
+    }
+}
+
+// The thread of this PID.
+fn thread_of(threads: &[Thread], pid: u32) -> Option<Thread>
+    ensures { result ≡ find (is_thread pid) threads.now }
+{
+    for thread in threads {
+        if is_thread(thread, pid) {
+            return Some(*thread);
+        }
+    }
+    None
+}
+
+// Whether it is the thread of this PID.
+fn is_thread(thread: &Thread, pid: u32) -> bool
+    ensures { result ≡ is_thread pid thread.now }
+{
+    thread.pid == pid
+}
+
+/// Whether the PID is that of a thread.
+pub(crate) fn has_thread(threads: &[Thread], pid: u32) -> bool
+    ensures { result ≡ list_any (is_thread pid) threads.now }
+{
+    threads.iter().any(|thread| is_thread(thread, pid))
+}
+
+/// The thread of this PID goes.
+pub(crate) fn remove_thread(threads: &mut Vec<Thread>, pid: u32)
+    ensures { threads.new.items ≡ filter (λ t. not (is_thread pid t)) threads.old.items }
+{
+    threads.retain(|thread| thread.pid != pid);
+}
+
+/// The threads of the process of this PID go.
+pub(crate) fn remove_threads_of(threads: &mut Vec<Thread>, pid: u32)
+    ensures { threads.new.items ≡ filter (λ t. not (is_thread_of pid t)) threads.old.items }
+{
+    threads.retain(|thread| thread.process != pid);
+}
+
+/// Lines that try the open waits of these processes again come last.
+pub(crate) fn push_retries(lines: &mut Vec<Line>, waiting: &[Place]) -> Result<(), AllocError>
+    ensures { OnOk result (lines.new.items ≡ lines.old.items ++ map retry_of waiting.now) }
+{
+    for place in waiting {
+        lines.push(Line::Says(Said::retry(*place)))?;
+    }
+    Ok(())
+}
+
+/// Whether the process of this PID is one of these.
 pub(crate) fn is_left(left: &[u32], pid: u32) -> bool
     ensures { result ≡ is_left left.now pid }
 {
     left.iter().any(|other| *other == pid)
 }
 
-/// The process or thread of this PID is none of these any more.
+/// The process of this PID is none of these any more.
 pub(crate) fn remove_left(left: &mut Vec<u32>, pid: u32)
     ensures { left.new.items ≡ filter (λ other. not (other == pid)) left.old.items }
 {

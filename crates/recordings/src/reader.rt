@@ -1,13 +1,17 @@
 //! The events of a recording.
+use crate::asked::{Asked, Wish};
 use crate::calls::{
-    Command, argument, close_of, close_range_of, command_of, number_in, open_of, query_of, set_of,
+    Command, answer_of, argument, close_of, close_range_of, command_of, error_in, found_of,
+    number_in, open_of, query_of, set_of,
 };
+use crate::described::Described;
 use crate::pending::Pending;
 use crate::reason::Reason;
 use crate::recorded::Happening;
 use crate::start::Start;
-use crate::strace_line::{StraceLine, is_aside, line_of, pid_of};
+use crate::strace_line::{StraceLine, behind_time, is_aside, line_of, pid_of};
 use crate::trace::Trace;
+use model::owner::Kind;
 use std::alloc::{AllocError, Global};
 
 /// Reads the lines of a recording.
@@ -20,8 +24,9 @@ struct Reader<'a> {
 /// The events of a recording, in order, as `strace -f` writes it of the calls `fcntl`, `open`, `openat`,
 /// `openat2`, `creat`, `dup`, `dup2`, `dup3`, `close`, `close_range`, `clone`, `clone3`, `fork`, `vfork`,
 /// `execve`, `execveat` and `exit_group`. Other calls are passed over. A process or thread is made, descriptors
-/// are closed, a program is executed and a lock is asked for where the call begins; a file is opened where it
-/// returns.
+/// are closed and a program is executed where the call begins; a file is opened where it returns. A lock that
+/// was got is asked for where the call returns, as is what is in the way; any other lock call, and one without an end, stands
+/// where it begins.
 ///
 /// # Errors
 /// `AllocError` where a request for memory was refused.
@@ -41,11 +46,11 @@ pub(crate) fn events_of<'a>(alloc: Global, recorded: &'a str) -> Result<Trace<'a
 impl<'a> Reader<'a> {
     // Takes a line.
     fn take(&mut self, line: u64, text: &'a str) -> Result<(), AllocError> {
-        if is_aside(text) {
+        if is_aside(behind_time(text)) {
             return Ok(());
         }
         let Some((pid, text)) = pid_of(text) else {
-            let reason = match line_of(text) {
+            let reason = match line_of(behind_time(text)) {
                 Some(_) => Reason::NoProcess,
                 None => Reason::NotUnderstood,
             };
@@ -126,10 +131,16 @@ impl<'a> Reader<'a> {
     }
 
     // That a call with these arguments opened a file comes last.
-    fn push_open(&mut self, line: u64, call: &Pending<'a>, fd: u32) -> Result<(), AllocError> {
-        let happening = match open_of(call.name, call.arguments) {
+    fn push_open(
+        &mut self,
+        line: u64,
+        call: &Pending<'a>,
+        made: Described<'a>,
+    ) -> Result<(), AllocError> {
+        let happening = match open_of(call.name, call.arguments, made.path()) {
             Ok((path, access)) => {
                 let path = self.trace.number_of(path)?;
+                let fd = made.number;
                 Happening::Opens { fd, path, access }
             }
             Err(reason) => Happening::Unserved(reason),
@@ -204,19 +215,50 @@ impl<'a> Reader<'a> {
         pid: u32,
         arguments: &'a str,
     ) -> Result<Start, AllocError> {
-        let Some(fd) = number_in(arguments) else {
+        let Some(file) = Described::of(arguments) else {
             return self.begin_told(line, pid, Happening::Unserved(Reason::NotUnderstood));
         };
-        let Command::Sets { kind, waits } = command_of(argument(arguments, 1).unwrap_or("")) else {
+        let Command::Sets { kind, waits } = command_in(&file) else {
             return Ok(Start::Nothing);
         };
-        match set_of(kind, waits, arguments) {
-            Ok(asked) => {
-                self.push(line, pid, Happening::Asks { fd, asked })?;
-                Ok(Start::Asked(fd))
-            }
+        match set_of(kind, waits, file.rest) {
+            Ok(asked) => self.begin_asked(line, pid, file, asked),
             Err(reason) => self.begin_told(line, pid, Happening::Unserved(reason)),
         }
+    }
+
+    // Takes the beginning of a lock call that sets a lock or none.
+    fn begin_asked(
+        &mut self,
+        line: u64,
+        pid: u32,
+        file: Described<'a>,
+        asked: Asked,
+    ) -> Result<Start, AllocError> {
+        self.refer(line, pid, file, asked.kind)?;
+        let fd = file.number;
+        let answer = None;
+        let index = self
+            .trace
+            .push(line, pid, Happening::Asks { fd, asked, answer })?;
+        Ok(Start::Asked { fd, asked, index })
+    }
+
+    // What is told of the descriptor of a lock call comes last. Of a lock of its open file description more matters than its
+    // file: who else has that.
+    fn refer(
+        &mut self,
+        line: u64,
+        pid: u32,
+        file: Described<'a>,
+        kind: Kind,
+    ) -> Result<(), AllocError> {
+        let (Some(path), Kind::OfProcess) = (file.path(), kind) else {
+            return Ok(());
+        };
+        let path = self.trace.number_of(path)?;
+        let fd = file.number;
+        self.push(line, pid, Happening::Refers { fd, path })
     }
 
     // Takes the end of a call, with these more arguments.
@@ -225,11 +267,14 @@ impl<'a> Reader<'a> {
         line: u64,
         call: &Pending<'a>,
         more: &'a str,
-        gave: &str,
+        gave: &'a str,
     ) -> Result<(), AllocError> {
         match call.start {
             Start::Told => Ok(()),
-            Start::Asked(fd) => self.end_asked(line, call.pid, fd, gave),
+            Start::Asked { fd, asked, index } => {
+                self.place_asked(line, call.pid, fd, asked, index, gave)?;
+                self.end_asked(line, call.pid, fd, asked, gave)
+            }
             Start::Made(index) => {
                 self.tell_child(index, call.arguments, gave);
                 Ok(())
@@ -240,22 +285,53 @@ impl<'a> Reader<'a> {
                 }
                 Ok(())
             }
-            Start::Nothing => match number_in(gave) {
-                Some(number) => self.end_other(line, call, more, number),
+            Start::Nothing => match Described::of(gave) {
+                Some(made) => self.end_other(line, call, more, made),
                 None => Ok(()),
             },
         }
     }
 
+    // A lock that was got is asked for where the call returns, and else where it began.
+    fn place_asked(
+        &mut self,
+        line: u64,
+        pid: u32,
+        fd: u32,
+        asked: Asked,
+        index: usize,
+        gave: &str,
+    ) -> Result<(), AllocError> {
+        let answer = answer_of(asked.wish, gave);
+        let happening = Happening::Asks { fd, asked, answer };
+        match asked.wish {
+            Wish::Set(_) | Wish::Wait(_) if gave == "0" => {
+                self.trace.tell(index, Happening::Nothing);
+                self.push(line, pid, happening)
+            }
+            _ => {
+                self.trace.tell(index, happening);
+                Ok(())
+            }
+        }
+    }
+
     // Takes the end of a lock call, unless the process was killed in it.
-    fn end_asked(&mut self, line: u64, pid: u32, fd: u32, gave: &str) -> Result<(), AllocError> {
+    fn end_asked(
+        &mut self,
+        line: u64,
+        pid: u32,
+        fd: u32,
+        asked: Asked,
+        gave: &str,
+    ) -> Result<(), AllocError> {
         if gave == "?" {
             return Ok(());
         }
-        if is_given_up(gave) {
-            return self.push(line, pid, Happening::GivesUp { fd });
+        match asked.wish {
+            Wish::Wait(_) if is_given_up(gave) => self.push(line, pid, Happening::GivesUp { fd }),
+            _ => self.push(line, pid, Happening::Returns { fd }),
         }
-        self.push(line, pid, Happening::Returns { fd })
     }
 
     // Takes the end of a call that returned this number.
@@ -264,11 +340,12 @@ impl<'a> Reader<'a> {
         line: u64,
         call: &Pending<'a>,
         more: &'a str,
-        number: u32,
+        made: Described<'a>,
     ) -> Result<(), AllocError> {
         let pid = call.pid;
+        let number = made.number;
         match call.name {
-            "open" | "openat" | "openat2" | "creat" => self.push_open(line, call, number),
+            "open" | "openat" | "openat2" | "creat" => self.push_open(line, call, made),
             "dup" | "dup2" | "dup3" => match number_in(call.arguments) {
                 Some(fd) => self.push(line, pid, Happening::Duplicates { fd, to: number }),
                 None => self.push(line, pid, Happening::Unserved(Reason::NotUnderstood)),
@@ -286,26 +363,44 @@ impl<'a> Reader<'a> {
         more: &'a str,
         number: u32,
     ) -> Result<(), AllocError> {
-        let Some(fd) = number_in(call.arguments) else {
+        let Some(file) = Described::of(call.arguments) else {
             return Ok(());
         };
-        let structure = if more.is_empty() {
-            call.arguments
-        } else {
-            more
-        };
-        match command_of(argument(call.arguments, 1).unwrap_or("")) {
+        let fd = file.number;
+        match command_in(&file) {
             Command::Duplicates => {
                 self.push(line, call.pid, Happening::Duplicates { fd, to: number })
             }
-            Command::Asks(kind) => match query_of(kind, structure) {
-                Ok(asked) => {
-                    self.push(line, call.pid, Happening::Asks { fd, asked })?;
-                    self.push(line, call.pid, Happening::Returns { fd })
-                }
-                Err(reason) => self.push(line, call.pid, Happening::Unserved(reason)),
-            },
+            Command::Asks(kind) => {
+                let structure = if more.is_empty() { file.rest } else { more };
+                self.end_query(line, call.pid, file, kind, structure)
+            }
             _ => Ok(()),
+        }
+    }
+
+    // Takes the end of a lock call that asked what is in the way, where this is what it gave back.
+    fn end_query(
+        &mut self,
+        line: u64,
+        pid: u32,
+        file: Described<'a>,
+        kind: Kind,
+        structure: &str,
+    ) -> Result<(), AllocError> {
+        let found = query_of(kind, structure).and_then(|asked| Ok((
+            asked,
+            found_of(&asked, structure)?,
+        )));
+        match found {
+            Ok((asked, answer)) => {
+                self.refer(line, pid, file, kind)?;
+                let fd = file.number;
+                let answer = Some(answer);
+                self.push(line, pid, Happening::Asks { fd, asked, answer })?;
+                self.push(line, pid, Happening::Returns { fd })
+            }
+            Err(reason) => self.push(line, pid, Happening::Unserved(reason)),
         }
     }
 
@@ -315,7 +410,10 @@ impl<'a> Reader<'a> {
             Some(thread) if arguments.contains("CLONE_THREAD") => {
                 Happening::StartsThread { thread }
             }
-            Some(child) => Happening::Forks { child },
+            Some(child) => {
+                let shares = arguments.contains("CLONE_FILES");
+                Happening::Forks { child, shares }
+            }
             None => Happening::Nothing,
         };
         self.trace.tell(index, happening);
@@ -324,5 +422,13 @@ impl<'a> Reader<'a> {
 
 // Whether a wait that returned this ended without its lock.
 fn is_given_up(gave: &str) -> bool {
-    gave.starts_with("? ERESTART") || gave.starts_with("-1 EINTR") || gave.starts_with("-1 EDEADLK")
+    match error_in(gave) {
+        Some(error) => error == "EINTR" || error == "EDEADLK" || error.starts_with("ERESTART"),
+        None => false,
+    }
+}
+
+// The command of an `fcntl` call on this descriptor.
+fn command_in(file: &Described<'_>) -> Command {
+    command_of(argument(file.rest, 1).unwrap_or(""))
 }

@@ -17,6 +17,8 @@ pub enum Reason {
     Relative,
     /// A process that has descriptors in the script runs another program.
     Executes,
+    /// A child and its parent share descriptors.
+    SharesDescriptors,
     /// No open of the descriptor is recorded.
     NotOpen,
     /// There are locks on 256 other files.
@@ -43,6 +45,8 @@ impl Reason {
             Reason::Whence => "l_whence is not SEEK_SET",
             Reason::Relative => "the path is relative to a descriptor",
             Reason::Executes => "descriptors that close where a program is executed stay open here",
+            Reason::SharesDescriptors =>
+                "the child shares the descriptors of its parent, and has its own here",
             Reason::NotOpen => "no open of the descriptor is recorded",
             Reason::TooManyFiles => "256 other files have locks",
             Reason::TooManyProcesses => "the node has 256 other processes",

@@ -27,7 +27,7 @@ impl Said {
     ghost use Rattle.std.specs.Prelude.{◌≡◌};
     ghost use Rattle.lockscript.specs.Scripts.{IsCommand};
     ghost use Rattle.lockscript.specs.Served.{IsServedOp};
-    ghost use Rattle.lockscript.specs.declared.script_line.Command.TheVariants.{Call, Settle, Interrupt};
+    ghost use Rattle.lockscript.specs.declared.script_line.Command.TheVariants.{Call, Settle, Interrupt, Retry};
 
     /// A process makes a call.
     pub(crate) fn call(place: Place, op: Op) -> Said
@@ -58,6 +58,17 @@ impl Said {
         let pid = place.number();
         Said {
             command: Command::Interrupt { node, pid },
+        }
+    }
+
+    /// The wait of a process is tried again.
+    pub(crate) fn retry(place: Place) -> Said
+        ensures { result ≡ Retry place.node place.number }
+    {
+        let node = place.node();
+        let pid = place.number();
+        Said {
+            command: Command::Retry { node, pid },
         }
     }
 

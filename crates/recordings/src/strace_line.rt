@@ -1,5 +1,6 @@
 //! Lines as `strace` writes them.
 use crate::calls::number_in;
+use crate::described::Described;
 
 /// What stands in a line behind the PID.
 #[derive(Clone, Copy)]
@@ -76,11 +77,7 @@ fn unfinished(text: &str) -> Option<&str> {
     let (arguments, process) = text
         .strip_suffix(" ...>")?
         .rsplit_once(" <pid changed to ")?;
-    if is_number(process) {
-        Some(arguments)
-    } else {
-        None
-    }
+    number_in(process).map(|_| arguments)
 }
 
 // Whether a line says that the process or thread is gone.
@@ -100,7 +97,18 @@ pub(crate) fn is_aside(text: &str) -> bool {
 fn returned(text: &str) -> Option<(&str, &str)> {
     let (call, gave) = text.rsplit_once(" = ")?;
     let arguments = call.trim_end().strip_suffix(')')?;
-    Some((arguments, gave))
+    Some((arguments, without_duration(gave)))
+}
+
+// What was returned, without the time that the call took, which `strace -T` writes.
+fn without_duration(gave: &str) -> &str {
+    let Some((front, time)) = gave
+        .strip_suffix('>')
+        .and_then(|gave| gave.rsplit_once(" <"))
+    else {
+        return gave;
+    };
+    if is_time(time) { front } else { gave }
 }
 
 // Whether the text is the name of a call.
@@ -108,17 +116,43 @@ fn is_name(text: &str) -> bool {
     !text.is_empty() && text.chars().all(|c| c.is_ascii_alphanumeric() || c == '_')
 }
 
-// Whether the text is a number.
-fn is_number(text: &str) -> bool {
-    !text.is_empty() && text.chars().all(|c| c.is_ascii_digit())
+/// The PID before a line, `PID ` or `[pid PID] `, and what stands behind it and behind the time.
+pub(crate) fn pid_of(line: &str) -> Option<(u32, &str)> {
+    let (process, rest) = match line.strip_prefix("[pid ") {
+        Some(inside) => {
+            let process = Described::of(inside.trim_start())?;
+            (process, process.rest.strip_prefix(']')?)
+        }
+        None => {
+            let process = Described::of(line)?;
+            (process, process.rest)
+        }
+    };
+    let rest = rest.strip_prefix(' ')?;
+    Some((process.number, behind_time(rest.trim_start())))
 }
 
-/// The PID before a line, `PID ` or `[pid PID] `, and what stands behind it.
-pub(crate) fn pid_of(line: &str) -> Option<(u32, &str)> {
-    let (pid, rest) = match line.strip_prefix("[pid ") {
-        Some(rest) => rest.split_once("] ")?,
-        None => line.split_once(' ')?,
+/// What stands behind the time with which a text begins, as `strace -t`, `-tt`, `-ttt` and `-r` write it, if it does.
+pub(crate) fn behind_time(text: &str) -> &str {
+    let Some((word, rest)) = text.trim_start().split_once(' ') else {
+        return text;
     };
-    let pid = pid.trim().parse().ok()?;
-    Some((pid, rest.trim_start()))
+    if !is_time(word) {
+        return text;
+    }
+    let rest = rest.trim_start();
+    match rest
+        .strip_prefix("(+")
+        .and_then(|since| since.split_once(") "))
+    {
+        Some((_, behind)) => behind,
+        None => rest,
+    }
+}
+
+// Whether the word is a time: of the day, since 1970, or since the line before.
+fn is_time(word: &str) -> bool {
+    word.chars()
+        .all(|c| c.is_ascii_digit() || c == ':' || c == '.')
+        && word.chars().any(|c| c == ':' || c == '.')
 }

@@ -1,9 +1,13 @@
 //! The texts of a script that is made, and of notes.
 ghost use Rattle.std.specs.Prelude.{◌≡◌, ◌++◌, codes, decimal, flat_map, slice_get, length, string_bytes, OnOk};
+ghost use Rattle.std.specs.List.{list_any};
 ghost use Rattle.lockscript.specs.Scripts.{shape_text};
+ghost use Rattle.model.specs.Limits.{IsNumber, most_nodes};
 ghost use Rattle.messages.specs.declared.version.Version.TheVariants.{Second};
-ghost use Rattle.recordings.specs.Texts.{at_least_one, file_text, first_line, line_text, note_text, notes_text, others_text, shape_of, shown, told, with_feed};
+ghost use Rattle.texts.specs.Reads.{pair_text};
+ghost use Rattle.recordings.specs.Texts.{answer_text, at_least_one, begins_on, empties_text, empty_text, file_text, first_line, line_text, note_text, notes_text, others_text, shape_of, shown, told, with_feed};
 
+use crate::answer::Answer;
 use crate::line::Line;
 use crate::note::Note;
 use crate::numbered_file::NumberedFile;
@@ -135,6 +139,86 @@ fn push_line(out: &mut String, line: &Line) -> Result<(), AllocError>
             push_command(out, &said.command())?;
             out.push_str("\n")
         }
+        Line::Expects(answer) => {
+            out.push_str("# expect ")?;
+            push_answer(out, *answer)?;
+            out.push_str("\n")
+        }
+    }
+}
+
+// Writes an answer.
+#[tactic(auto, unfolding(crate::specs::Texts::answer_text))]
+fn push_answer(out: &mut String, answer: Answer) -> Result<(), AllocError>
+    ensures { OnOk result (string_bytes out.new ≡ string_bytes out.old ++ answer_text answer) }
+{
+    match answer {
+        Answer::Done => out.push_str("done"),
+        Answer::Again => out.push_str("again"),
+        Answer::Interrupted => out.push_str("interrupted"),
+        Answer::Free => out.push_str("free"),
+        Answer::BlockedByRead => out.push_str("blocked read"),
+        Answer::BlockedByWrite { first, last } => push_blocked(out, first, last),
+        Answer::NoLocks => out.push_str("no-locks"),
+        Answer::BadFd => out.push_str("bad-fd"),
+        Answer::Invalid => out.push_str("invalid"),
+        Answer::Overflow => out.push_str("overflow"),
+    }
+}
+
+// Writes which bytes have an exclusive lock that is in the way.
+fn push_blocked(out: &mut String, first: u64, last: u64) -> Result<(), AllocError>
+    ensures { OnOk result (string_bytes out.new ≡ string_bytes out.old ++ (codes "blocked write " ++ pair_text decimal decimal (first, last))) }
+{
+    write!(out, "blocked write {first} {last}")
+}
+
+/// Writes which of so many nodes have no process.
+///
+/// # Errors
+/// `AllocError` where a request for memory was refused.
+pub(crate) fn push_empties(out: &mut String, lines: &[Line], nodes: u8) -> Result<(), AllocError>
+    requires { IsNumber most_nodes nodes }
+    ensures { OnOk result (string_bytes out.new ≡ string_bytes out.old ++ empties_text lines.now nodes) }
+{
+    for told in 0..nodes {
+        push_empty(out, lines, told + 1)?;
+    }
+    Ok(())
+}
+
+// Writes that the node has no process, if it has none.
+#[tactic(auto, unfolding(crate::specs::Texts::empty_text))]
+fn push_empty(out: &mut String, lines: &[Line], node: u8) -> Result<(), AllocError>
+    ensures { OnOk result (string_bytes out.new ≡ string_bytes out.old ++ empty_text lines.now node) }
+{
+    if has_process(lines, node) {
+        return Ok(());
+    }
+    push_lack(out, node)
+}
+
+// Writes that the node has no process.
+fn push_lack(out: &mut String, node: u8) -> Result<(), AllocError>
+    ensures { OnOk result (string_bytes out.new ≡ string_bytes out.old ++ (codes "node " ++ decimal node ++ codes " has no process\n")) }
+{
+    writeln!(out, "node {node} has no process")
+}
+
+// Whether a process begins on the node.
+fn has_process(lines: &[Line], node: u8) -> bool
+    ensures { result ≡ list_any (begins_on node) lines.now }
+{
+    lines.iter().any(|line| begins_on(line, node))
+}
+
+// Whether a process begins on the node by this line.
+fn begins_on(line: &Line, node: u8) -> bool
+    ensures { result ≡ begins_on node line.now }
+{
+    match line {
+        Line::Begins { place, pid: _ } => place.node() == node,
+        Line::Says(_) | Line::Expects(_) => false,
     }
 }
 

@@ -11,8 +11,8 @@ use Rattle.replay.specs.Stores.{HasText}
 
 -- what is shown of a recording: a script, which some events make on so many nodes, and what is noted of them, if anything is; that they are the events of the file is not said
 abbrev pub IsRecorded : ℕ → Shown → Type 0
-IsRecorded nodes (Text text) = HasScript (string_bytes text) × IsOfEvents nodes (string_bytes text) []
-IsRecorded nodes (Partial text told) = HasScript (string_bytes text) × IsOfEvents nodes (string_bytes text) (string_bytes told) × (string_bytes told ≢ [])
+IsRecorded nodes (Text text) = HasScript (string_bytes text) × IsOfEvents nodes [] (string_bytes text) []
+IsRecorded nodes (Partial text told) = HasScript (string_bytes text) × IsOfEvents nodes [] (string_bytes text) (string_bytes told) × (string_bytes told ≢ [])
 IsRecorded nodes (Wanting text) = ⊥
 IsRecorded nodes Yes = ⊥
 IsRecorded nodes (No position) = ⊥

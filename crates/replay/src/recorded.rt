@@ -33,9 +33,14 @@ fn recorded_in<'a>(alloc: Global, text: &str, nodes: u8) -> Result<Shown, Fault<
     ensures done { IfOk result (IsRecorded nodes) }
     ensures fault { IfErr result (λ fault. fault ≡ NoMemory) }
 {
-    let made = match script_of(alloc, text, nodes) {
+    let made = match script_of(alloc, text, nodes, &[]) {
         Ok(made) => made,
-        Err(RecordingError::NoMemory | RecordingError::Nodes | RecordingError::TooLong) => {
+        Err(
+            RecordingError::NoMemory
+            | RecordingError::Nodes
+            | RecordingError::Placed
+            | RecordingError::TooLong,
+        ) => {
             return Err(Fault::NoMemory);
         }
     };
