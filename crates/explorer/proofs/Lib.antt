@@ -1,3 +1,4 @@
+mod Left
 mod MetOutcomes
 mod Orders
 mod Puts

@@ -39,7 +39,7 @@ behind-length [] (r ∷ rest) op at = (rest, ap (λ (x : Op). x ∷ rest) (same_
 behind-length (x ∷ xs) rest op at = behind-length xs rest op at
 
 -- the calls of a process are still the first of those of the lines
-abbrev Begins : List Op → List Op → Type 0
+abbrev pub Begins : List Op → List Op → Type 0
 Begins made all = (rest : List Op) × (all ≡ made ++ rest)
 
 begins-more : (made all : List Op) (op : Op) → Begins made all → slice_get all (length made) ≡ Some op → Begins (made ++ op ∷ []) all

@@ -1,5 +1,5 @@
 -- What indexes know of scripts, schedules and entries.
-use Rattle.std.specs.Prelude.{◌≡◌, ℕ, nat_eq, List, length, slice_get, Option, Some, None}
+use Rattle.std.specs.Prelude.{◌≡◌, ◌⊎◌, ℕ, nat_eq, List, length, slice_get, Option, Some, None, ⊤}
 use Rattle.std.specs.HashMap.{HashMap, get}
 use Rattle.std.specs.declared.hash.FoldHasher.{FoldHasher}
 use Rattle.std.specs.declared.hash.BuildHasherDefault.{BuildHasherDefault}
@@ -8,6 +8,7 @@ use Rattle.model.specs.declared.op.Op.{Op}
 use Rattle.model.specs.declared.reply.Reply.{Reply}
 use Rattle.model.specs.contracts.call.CallIdPartialEq.TheImpl as derived
 use Rattle.messages.specs.Entries.{EntryFields}
+use Rattle.cluster_core.specs.World.{WorldState}
 use Rattle.lockscript.specs.declared.refused_line.RefusedLine.{RefusedLine}
 use Rattle.lockscript.specs.declared.script_line.Command.{Command}
 use Rattle.lockscript.specs.declared.script_line.Command.TheVariants.{Call}
@@ -16,6 +17,7 @@ use Rattle.explorer.specs.declared.answer.Answer.{Answer}
 use Rattle.explorer.specs.declared.answer.Answer.TheVariants.{NotMade, Refused, Open}
 use Rattle.explorer.specs.Answers.{answer_or, named_answer, names, refusal_of, reply_answer, tries}
 use Rattle.explorer.specs.ByProcess.{ByProcess, list_in}
+use Rattle.explorer.specs.Ends.{IsOpenAfter}
 use Rattle.explorer.specs.Schedules.{calls_in, calls_of, numbered}
 
 -- the index has the calls of each process among the commands
@@ -66,3 +68,13 @@ answer_tried (Some None) answer = answer
 abbrev pub answer_by : List EntryFields → ByProcess Op → Option (Option ℕ) → Command → Answer
 answer_by entries taken tried (Call node pid op) = answer_tried tried (named_answer (slice_get (names node pid entries) (length (list_in taken node pid))) entries)
 answer_by entries taken tried _ = NotMade
+
+-- behind these commands the process has no call left, or the last one of those that were made of it is open
+abbrev pub CannotGoOn : List LineFields → List Command → ByProcess (Option ℕ) → List EntryFields → WorldState → ℕ → ℕ → Type 0
+CannotGoOn lines taken made entries world node pid =
+    (slice_get (calls_in node pid lines) (length (calls_of node pid taken)) ≡ None) ⊎ IsOpenAfter node pid (list_in made node pid) entries world
+
+-- it is so of the process of the command, if that is a call
+abbrev pub HoldsOfCaller : (ℕ → ℕ → Type 0) → Command → Type 0
+HoldsOfCaller Holds (Call node pid op) = Holds node pid
+HoldsOfCaller Holds _ = ⊤

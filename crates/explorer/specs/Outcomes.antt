@@ -1,12 +1,15 @@
 -- Outcomes of a script.
-use Rattle.std.specs.Prelude.{◌≡◌, ◌≢◌, ◌⊎◌, ℕ, ◌+◌, ◌-◌, ◌%◌, All, AllPairs, Bool, Contains, if◌then◌else◌, List, [], ◌∷◌, ◌++◌, length, map, sum_by}
+use Rattle.std.specs.Prelude.{◌≡◌, ◌≢◌, ◌⊎◌, ℕ, ◌+◌, ◌-◌, ◌%◌, ◌&&◌, not, nat_eq, All, AllPairs, Bool, true, false, Contains, if◌then◌else◌, List, [], ◌∷◌, ◌++◌, length, map, slice_get, sum_by, Option, Some}
+use Rattle.std.specs.List.{list_any}
 use Rattle.std.specs.Ordering.{nat_cmp, ordering_then}
 use Rattle.std.specs.List.Sorted.{IsSortedByKey}
 use Rattle.lockscript.specs.declared.script_line.Command.{Command}
-use Rattle.lockscript.specs.Scripts.{ScriptFields}
+use Rattle.lockscript.specs.Scripts.{LineFields, ScriptFields}
 use Rattle.player.specs.Played.{PlayedState, ComesTo}
 use Rattle.explorer.specs.declared.answer.Answer.{Answer}
+use Rattle.explorer.specs.declared.answer.Answer.TheVariants.{Open}
 use Rattle.explorer.specs.Answers.{answers_in}
+use Rattle.explorer.specs.Ends.{IsEnded}
 use Rattle.explorer.specs.Expectations.{breaks}
 use Rattle.explorer.specs.Schedules.{numbered, IsScheduleOf}
 
@@ -16,12 +19,13 @@ pub record OutcomeParts : Type 0 where
   pub seeds : List ℕ
   pub breaks : Bool
 
--- some schedule of the script comes to these answers
+-- some schedule of the script, which makes all calls that it can, comes to these answers
 pub record ComesIn (failures : Bool) (script : ScriptFields) (answers : List Answer) : Type 0 where
   pub commands : List Command
   pub played : PlayedState
   pub of_script : IsScheduleOf failures script.lines commands
   pub comes : ComesTo script.shape (numbered commands) played
+  pub ended : IsEnded script.lines commands played
   pub answered : answers ≡ answers_in script.lines commands played
 
 -- the same of an outcome, of which it is known whether it breaks what the text expects
@@ -64,6 +68,28 @@ pub record AreMet (failures : Bool) (script : ScriptFields) (first seeds : ℕ) 
   pub of_seeds : length came ≡ seeds
   pub of_script : All (ComesIn failures script) came
   pub outcomes_of : AreOutcomesOf first came outcomes
+
+-- the answer at this place is open
+abbrev pub is_open : Option Answer → Bool
+is_open (Some Open) = true
+is_open _ = false
+
+-- in some outcome the answer at this place is another one
+abbrev pub is_ended_in_some : List OutcomeParts → ℕ → Bool
+is_ended_in_some outcomes index = list_any (λ o. not (is_open (slice_get o.answers index))) outcomes
+
+-- there is an outcome, and in each the answer at this place is open
+abbrev pub is_open_in_each : List OutcomeParts → ℕ → Bool
+is_open_in_each outcomes index = not (nat_eq (length outcomes) 0) && not (is_ended_in_some outcomes index)
+
+-- the numbers of the lines that are open in each outcome, the first of these lines having the answers at this place
+abbrev pub open_from : List OutcomeParts → ℕ → List LineFields → List ℕ
+open_from outcomes index [] = []
+open_from outcomes index (l ∷ ls) = if is_open_in_each outcomes index then l.number ∷ open_from outcomes (index + 1) ls else open_from outcomes (index + 1) ls
+
+-- the numbers of the lines whose calls are open in each outcome
+abbrev pub open_in_each : List OutcomeParts → List LineFields → List ℕ
+open_in_each outcomes lines = open_from outcomes 0 lines
 
 -- outcomes that break what is expected come first, and of each kind the more frequent ones
 abbrev pub rank : OutcomeParts → ℕ × ℕ

@@ -1,5 +1,5 @@
 -- The text of outcomes.
-use Rattle.std.specs.Prelude.{ℕ, ◌+◌, ◌||◌, not, Bool, false, if◌then◌else◌, List, [], ◌∷◌, ◌++◌, codes, count_by, decimal, is_some, length, slice_get, unwrap_or, Option, Some, None}
+use Rattle.std.specs.Prelude.{ℕ, ◌+◌, ◌||◌, not, Bool, false, if◌then◌else◌, List, [], ◌∷◌, ◌++◌, codes, count_by, decimal, flat_map, is_some, length, slice_get, unwrap_or, Option, Some, None}
 use Rattle.std.specs.List.{list_any}
 use Rattle.lockscript.specs.declared.script_line.Command.{Command}
 use Rattle.lockscript.specs.declared.script_line.Command.TheVariants.{Call}
@@ -9,7 +9,7 @@ use Rattle.explorer.specs.declared.answer.Answer.{Answer}
 use Rattle.explorer.specs.contracts.answer.AnswerPartialEq.TheImpl as derived
 use Rattle.explorer.specs.Answers.{answer_text}
 use Rattle.explorer.specs.Expectations.{expected, is_broken}
-use Rattle.explorer.specs.Outcomes.{OutcomeParts}
+use Rattle.explorer.specs.Outcomes.{OutcomeParts, open_in_each}
 
 abbrev pub first_of : List ℕ → ℕ
 first_of seeds = unwrap_or (slice_get seeds 0) 0
@@ -80,11 +80,29 @@ expecting count = codes ", expected " ++ decimal count
 
 -- how many outcomes break that
 unfoldable pub breaking : ℕ → List ℕ
-breaking count = codes ", breaking " ++ decimal count ++ codes "\n"
+breaking count = codes ", breaking " ++ decimal count
+
+-- how many lines are open in each outcome
+unfoldable pub open_count : ℕ → List ℕ
+open_count count = codes ", open in each " ++ decimal count ++ codes "\n"
 
 -- the last line
-unfoldable pub counts : ℕ → ℕ → ℕ → ℕ → List ℕ
-counts outcomes seeds expected broken = totals outcomes seeds ++ expecting expected ++ breaking broken
+unfoldable pub counts : ℕ → ℕ → ℕ → ℕ → ℕ → List ℕ
+counts outcomes seeds expected broken unanswered = totals outcomes seeds ++ expecting expected ++ breaking broken ++ open_count unanswered
+
+-- the first line that is open in each outcome, and each further one
+unfoldable pub first_open : ℕ → List ℕ
+first_open number = codes "open in each: line " ++ decimal number
+
+abbrev pub more_open : ℕ → List ℕ
+more_open number = codes ", line " ++ decimal number
+
+-- the line of those that are open in each outcome, if there are any
+abbrev pub open_text : List ℕ → List ℕ
+open_text [] = []
+open_text (n ∷ ns) = first_open n ++ flat_map more_open ns ++ codes "\n"
 
 abbrev pub report_text : List ℕ → List LineFields → List OutcomeParts → ℕ → List ℕ
-report_text text lines outcomes seeds = blocks text lines outcomes seeds 1 outcomes ++ counts (length outcomes) seeds (expected_count text lines) (count_by (λ o. o.breaks) outcomes)
+report_text text lines outcomes seeds =
+    let unanswered = open_in_each outcomes lines in
+    blocks text lines outcomes seeds 1 outcomes ++ open_text unanswered ++ counts (length outcomes) seeds (expected_count text lines) (count_by (λ o. o.breaks) outcomes) (length unanswered)

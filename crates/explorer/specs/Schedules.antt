@@ -1,5 +1,5 @@
 -- Schedules of the calls of a script.
-use Rattle.std.specs.Prelude.{◌≡◌, ◌≤◌, ℕ, ◌==◌, ◌&&◌, ◌||◌, Bool, true, false, if◌then◌else◌, List, [], ◌∷◌, ◌++◌, All, flat_map, length, map, slice_get, None, Some, ⊤}
+use Rattle.std.specs.Prelude.{◌≡◌, ◌≤◌, ◌+◌, ◌*◌, ℕ, nat_lt, ◌==◌, ◌&&◌, ◌||◌, Bool, true, false, if◌then◌else◌, List, [], ◌∷◌, ◌++◌, All, flat_map, length, map, slice_get, None, Some, ⊤}
 use Rattle.std.specs.List.{enumerate_from, list_any}
 use Rattle.model.specs.declared.op.Op.{Op}
 use Rattle.lockscript.specs.declared.script_line.Command.{Command}
@@ -15,6 +15,13 @@ line_of p = record { number = p.0; command = p.1 }
 -- the greatest number of lines that a schedule has behind its `cluster` line
 abbrev pub most_lines : ℕ
 most_lines = 100000
+
+-- the same of a script of so many lines
+abbrev pub limit_of : ℕ → ℕ
+limit_of count = if nat_lt (64 + 40 * count) most_lines then 64 + 40 * count else most_lines
+
+abbrev pub line_limit : List LineFields → ℕ
+line_limit lines = limit_of (length lines)
 
 -- the lines of a schedule, by their numbers in its text, where the `cluster` line is the first
 abbrev pub numbered : List Command → List LineFields

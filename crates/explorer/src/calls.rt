@@ -1,6 +1,7 @@
 //! The calls of processes.
 ghost use Rattle.std.specs.Prelude.{◌≡◌, ◌++◌, ℕ, IfOk, OnOk};
 ghost use Rattle.explorer.specs.ByProcess.{list_in};
+ghost use Rattle.explorer.specs.Ends.{AreServed};
 ghost use Rattle.explorer.specs.Indexes.{KnowsLines};
 ghost use Rattle.explorer.specs.Schedules.{op_of};
 
@@ -13,12 +14,13 @@ use std::collections::HashMap;
 /// By a process: what its calls ask for, in their order.
 pub(crate) type Calls = ByProcess<Op>;
 
-/// The calls of the lines.
+/// The calls of the lines, each of which is one that a script may have.
 ///
 /// # Errors
 /// `AllocError` where a request for memory was refused.
 pub(crate) fn calls_in(alloc: Global, lines: &[ScriptLine]) -> Result<Calls, AllocError>
-    ensures { IfOk result (λ calls. KnowsLines calls lines.now) }
+    ensures calls { IfOk result (λ calls. KnowsLines calls lines.now) }
+    ensures served { OnOk result (AreServed lines.now) }
 {
     let mut calls = HashMap::new(alloc);
     for line in lines {

@@ -258,11 +258,20 @@ impl<'a> Chooser<'a> {
         self.begin_phase()
     }
 
-    // A line of the script that is no call has its turn.
+    // A line of the script that is no call has its turn. One that settles has it with all those right behind it,
+    // which find nothing that is not settled.
     fn change(&mut self, command: Command) -> Result<(), AllocError> {
         self.taken = self.taken.saturating_add(1);
         if !matches!(command, Command::Settle) {
             self.queue.push_back(command)?;
+            return Ok(());
+        }
+        let lines = self.lines;
+        for line in lines.iter().skip(self.taken) {
+            if !matches!(line.command(), Command::Settle) {
+                break;
+            }
+            self.taken = self.taken.saturating_add(1);
         }
         Ok(())
     }

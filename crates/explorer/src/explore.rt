@@ -31,8 +31,9 @@ use std::alloc::{AllocError, Global};
 ///
 /// Those that break what is expected come before the others, and of each kind the more frequent ones first. Of
 /// each the lines are told in which outcomes differ, and those that break what is expected: a comment line
-/// `# expect WORDS` right behind a call line, where the answer's text has to begin with the words. Of each seed that
-/// is done the watcher is told.
+/// `# expect WORDS` right behind a call line, where the answer's text has to begin with the words. Behind them the
+/// lines are told whose calls are open in each outcome, if there are any. Of each seed that is done the watcher is
+/// told.
 ///
 /// # Errors
 /// `JournalFull` where a run needs more entries than a journal may have; `NoMemory` where a request for memory

@@ -1,11 +1,12 @@
 //! What may come next in a schedule.
-ghost use Rattle.std.specs.Prelude.{◌≡◌, ◌||◌, true, FitsSigned, IfSome, List};
+ghost use Rattle.std.specs.Prelude.{◌≡◌, ◌||◌, true, length, slice_get, Bool, FitsSigned, IfSome, List, None};
 ghost use Rattle.lockscript.specs.declared.script_line.Command.{Command};
 ghost use Rattle.lockscript.specs.Scripts.{IsCommand, LineFields};
 ghost use Rattle.std.specs.Int.{w64};
 ghost use Rattle.lockscript.specs.Served.{IsDescriptor, IsServedOp};
+ghost use Rattle.explorer.specs.Ends.{AreServed};
 ghost use Rattle.explorer.specs.Indexes.{KnowsCalls, KnowsLines};
-ghost use Rattle.explorer.specs.Schedules.{is_among, may_stand, same_change, Follows, IsNextCall};
+ghost use Rattle.explorer.specs.Schedules.{calls_in, calls_of, is_among, may_stand, same_change, Follows, IsNextCall};
 
 use crate::by_process::{count, value_at};
 use crate::calls::Calls;
@@ -31,6 +32,21 @@ pub(crate) fn following(
     let command = next_of(calls, made, wanted)?;
     if is_in_limits(&command) && may_stand(failures, lines, &command) {
         Some(command)
+    } else {
+        None
+    }
+}
+
+/// The next call of the process in a schedule of lines that have these calls, behind commands that made those
+/// calls. None where it has no call left, or one that no line may ask for.
+pub(crate) fn following_call(calls: &Calls, made: &Calls, node: u8, pid: u16) -> Option<Command>
+    ensures follows { (failures : Bool) (lines : List LineFields) (taken : List Command) → KnowsLines calls.now lines → KnowsCalls made.now taken → IfSome result (Follows failures lines taken) }
+    ensures none { result ≡ None → (lines : List LineFields) (taken : List Command) → KnowsLines calls.now lines → KnowsCalls made.now taken → AreServed lines → slice_get (calls_in node pid lines) (length (calls_of node pid taken)) ≡ None }
+{
+    let op = value_at(calls, node, pid, count(made, node, pid))?;
+    let call = Command::Call { node, pid, op };
+    if is_in_limits(&call) {
+        Some(call)
     } else {
         None
     }
@@ -92,7 +108,8 @@ fn same_change(one: &Command, other: &Command) -> bool
 
 // Whether a line may ask for the command.
 fn is_in_limits(command: &Command) -> bool
-    ensures { result ≡ true → IsCommand command.now }
+    ensures served { result ≡ true → IsCommand command.now }
+    ensures all { IsCommand command.now → result ≡ true }
 {
     match command {
         Command::Call { node, pid, op } => is_node(*node) && is_process(*pid) && is_served(op),
@@ -114,7 +131,8 @@ fn is_in_limits(command: &Command) -> bool
 
 // Whether a call of a line may ask for this.
 fn is_served(op: &Op) -> bool
-    ensures { result ≡ true → IsServedOp op.now }
+    ensures served { result ≡ true → IsServedOp op.now }
+    ensures all { IsServedOp op.now → result ≡ true }
 {
     match op {
         Op::Spawn | Op::Exit => true,
@@ -132,14 +150,16 @@ fn is_served(op: &Op) -> bool
 
 // Whether a script may name the descriptor: it may name each that fits its type.
 fn is_descriptor(fd: u8) -> bool
-    ensures { result ≡ true → IsDescriptor fd }
+    ensures served { result ≡ true → IsDescriptor fd }
+    ensures all { result ≡ true }
 {
     fd <= u8::MAX
 }
 
 // Whether a script may name the offset: it may name each that fits its type.
 fn is_offset(offset: i64) -> bool
-    ensures { result ≡ true → FitsSigned w64 offset }
+    ensures served { result ≡ true → FitsSigned w64 offset }
+    ensures all { result ≡ true }
 {
     offset <= i64::MAX
 }
@@ -149,21 +169,24 @@ ghost use Rattle.messages.specs.Shapes.{most_files};
 
 // Whether a node may have the number.
 fn is_node(node: u8) -> bool
-    ensures { result ≡ true → IsNumber most_nodes node }
+    ensures served { result ≡ true → IsNumber most_nodes node }
+    ensures all { IsNumber most_nodes node → result ≡ true }
 {
     node >= 1 && node <= MOST_NODES
 }
 
 // Whether a process may have the number.
 fn is_process(pid: u16) -> bool
-    ensures { result ≡ true → IsNumber most_processes pid }
+    ensures served { result ≡ true → IsNumber most_processes pid }
+    ensures all { IsNumber most_processes pid → result ≡ true }
 {
     pid >= 1 && pid <= MOST_PROCESSES
 }
 
 // Whether a file may have the number.
 fn is_file(file: u16) -> bool
-    ensures { result ≡ true → IsNumber most_files file }
+    ensures served { result ≡ true → IsNumber most_files file }
+    ensures all { IsNumber most_files file → result ≡ true }
 {
     file >= 1 && file <= MOST_FILES
 }

@@ -17,6 +17,7 @@ pub mod laws;
 mod outcome;
 mod part;
 mod reader;
+mod ready;
 mod report;
 pub mod schedule;
 pub mod scheduled;

@@ -1,7 +1,8 @@
 //! The text of outcomes.
-ghost use Rattle.std.specs.Prelude.{◌≡◌, ◌++◌, codes, count_by, length, option_map, slice_get, string_bytes, IfOk, OnOk};
+ghost use Rattle.std.specs.Prelude.{◌≡◌, ◌∷◌, ◌++◌, not, codes, count_by, flat_map, length, option_map, slice_get, string_bytes, IfOk, OnOk};
 ghost use Rattle.explorer.specs.Expectations.{expected};
-ghost use Rattle.explorer.specs.Reports.{answer_part, blocks, call_part, counts, differs, ending, expected_count, first_of, heading, is_other, report_text, told, told_lines};
+ghost use Rattle.explorer.specs.Outcomes.{is_ended_in_some, is_open, is_open_in_each, open_in_each};
+ghost use Rattle.explorer.specs.Reports.{answer_part, blocks, call_part, counts, differs, ending, expected_count, first_of, first_open, heading, is_other, more_open, open_text, report_text, told, told_lines};
 
 use crate::answer::{Answer, push_answer};
 use crate::expectations::{expected, is_broken};
@@ -30,7 +31,16 @@ pub(crate) fn report(
     push_blocks(&mut out, alloc, text, lines, outcomes, seeds)?;
     let expected = count_expected(text, lines);
     let broken = count_breaking(outcomes);
-    push_counts(&mut out, outcomes, seeds, expected, broken)?;
+    let unanswered = open_in_each(alloc, lines, outcomes)?;
+    push_open(&mut out, unanswered.as_slice())?;
+    push_counts(
+        &mut out,
+        outcomes,
+        seeds,
+        expected,
+        broken,
+        unanswered.len(),
+    )?;
     Ok(out)
 }
 
@@ -203,21 +213,112 @@ fn push_ending(out: &mut String, broken: bool, words: Option<&str>) -> Result<()
     }
 }
 
-// Writes how many outcomes there are, seeds, lines of which something is expected, and outcomes that break that.
-#[tactic(auto, unfolding(crate::specs::Reports::counts, crate::specs::Reports::totals, crate::specs::Reports::expecting, crate::specs::Reports::breaking))]
+// The numbers of the lines whose calls are open in each outcome, if there is one.
+fn open_in_each(
+    alloc: Global,
+    lines: &[ScriptLine],
+    outcomes: &[Outcome],
+) -> Result<Vec<u32>, AllocError>
+    ensures { IfOk result (λ numbers. numbers.items ≡ open_in_each outcomes.now lines.now) }
+{
+    let mut numbers = Vec::new(alloc);
+    let mut index = 0usize;
+    for line in lines {
+        if is_open_in_each(outcomes, index) {
+            numbers.push(line.number())?;
+        }
+        index += 1;
+    }
+    Ok(numbers)
+}
+
+// Whether there is an outcome, and in each the answer at the index is open.
+fn is_open_in_each(outcomes: &[Outcome], index: usize) -> bool
+    ensures { result ≡ is_open_in_each outcomes.now index }
+{
+    !outcomes.is_empty() && !is_ended_in_some(outcomes, index)
+}
+
+// Whether in some outcome the answer at the index is another one.
+fn is_ended_in_some(outcomes: &[Outcome], index: usize) -> bool
+    ensures { result ≡ is_ended_in_some outcomes.now index }
+{
+    for outcome in outcomes {
+        if is_ended_in(outcome, index) {
+            return true;
+        }
+    }
+    false
+}
+
+// Whether the answer at the index of the outcome is another one.
+fn is_ended_in(outcome: &Outcome, index: usize) -> bool
+    ensures { result ≡ not (is_open (slice_get outcome.now.answers index)) }
+{
+    !is_open(outcome.answers().get(index))
+}
+
+// Whether the answer is that a call is open.
+fn is_open(answer: Option<&Answer>) -> bool
+    ensures { result ≡ is_open (option_map (λ a. a.now) answer.entry) }
+{
+    matches!(answer, Some(Answer::Open))
+}
+
+// Writes the numbers of the lines that are open in each outcome, if there are any.
+fn push_open(out: &mut String, numbers: &[u32]) -> Result<(), AllocError>
+    ensures { OnOk result (string_bytes out.new ≡ string_bytes out.old ++ open_text numbers.now) }
+{
+    match numbers.split_first() {
+        Some((first, rest)) => push_open_line(out, *first, rest),
+        None => Ok(()),
+    }
+}
+
+// Writes the line of these, of which there is a first one.
+fn push_open_line(out: &mut String, first: u32, rest: &[u32]) -> Result<(), AllocError>
+    ensures { OnOk result (string_bytes out.new ≡ string_bytes out.old ++ open_text (first ∷ rest.now)) }
+{
+    push_first_open(out, first)?;
+    push_more_open(out, rest)?;
+    out.push_str("\n")
+}
+
+// Writes the first of them.
+#[tactic(auto, unfolding(crate::specs::Reports::first_open))]
+fn push_first_open(out: &mut String, first: u32) -> Result<(), AllocError>
+    ensures { OnOk result (string_bytes out.new ≡ string_bytes out.old ++ first_open first) }
+{
+    write!(out, "open in each: line {first}")
+}
+
+// Writes those behind the first.
+fn push_more_open(out: &mut String, numbers: &[u32]) -> Result<(), AllocError>
+    ensures { OnOk result (string_bytes out.new ≡ string_bytes out.old ++ flat_map more_open numbers.now) }
+{
+    for number in numbers {
+        write!(out, ", line {number}")?;
+    }
+    Ok(())
+}
+
+// Writes how many outcomes there are, seeds, lines of which something is expected, outcomes that break that, and
+// lines that are open in each.
+#[tactic(auto, unfolding(crate::specs::Reports::counts, crate::specs::Reports::totals, crate::specs::Reports::expecting, crate::specs::Reports::breaking, crate::specs::Reports::open_count))]
 fn push_counts(
     out: &mut String,
     outcomes: &[Outcome],
     seeds: u32,
     expected: usize,
     broken: usize,
+    unanswered: usize,
 ) -> Result<(), AllocError>
-    ensures { OnOk result (string_bytes out.new ≡ string_bytes out.old ++ counts (length outcomes.now) seeds expected broken) }
+    ensures { OnOk result (string_bytes out.new ≡ string_bytes out.old ++ counts (length outcomes.now) seeds expected broken unanswered) }
 {
     let count = outcomes.len();
     writeln!(
         out,
-        "outcomes {count}, seeds {seeds}, expected {expected}, breaking {broken}"
+        "outcomes {count}, seeds {seeds}, expected {expected}, breaking {broken}, open in each {unanswered}"
     )
 }
 

@@ -1,5 +1,6 @@
 //! Making schedules.
-ghost use Rattle.std.specs.Prelude.{◌≡◌, ◌+◌, ◌≤◌, ◌∷◌, ◌++◌, [], ℕ, List, length, IfErr, IfOk, IfSome, OnOk, Some};
+ghost use Rattle.std.specs.Prelude.{◌≡◌, ◌+◌, ◌≤◌, ◌∷◌, ◌++◌, [], ℕ, List, length, IfErr, IfOk, IfSome, None, OnOk, Some};
+ghost use Rattle.messages.specs.Shapes.{ShapeFields};
 ghost use Rattle.cluster_core.specs.Histories.{HasOneHistory};
 ghost use Rattle.cluster_core.specs.Runs.{Leads};
 ghost use Rattle.cluster_core.specs.World.{first_world};
@@ -9,12 +10,14 @@ ghost use Rattle.player.specs.Parts.{progress, state_of};
 ghost use Rattle.player.specs.Played.{played_of, ComesTo};
 ghost use Rattle.player.specs.Progress.{Does, RunsTo};
 ghost use Rattle.explorer.specs.ByProcess.{list_in};
+ghost use Rattle.explorer.specs.Ends.{AreServed, IsEnded, MakesAll};
 ghost use Rattle.explorer.specs.Indexes.{KnowsCalls, KnowsLines};
-ghost use Rattle.explorer.specs.Schedules.{most_lines, numbered, op_of, Follows, HasFullSchedule, IsFullFrom, IsScheduleOf};
+ghost use Rattle.explorer.specs.Schedules.{limit_of, line_limit, most_lines, numbered, op_of, Follows, HasFullSchedule, IsFullFrom, IsScheduleOf};
 
 use crate::calls::{Calls, calls_in, note_call};
 use crate::chooser::Chooser;
 use crate::follows::following;
+use crate::ready::ready_call;
 use crate::scheduled::Scheduled;
 use cluster_core::run::Run;
 use lockscript::play_error::PlayError;
@@ -38,8 +41,9 @@ const MOST_LINES: u32 = 100_000;
 /// goes on; then all messages are settled, and the line that is no call has its turn. With `failures` a node and
 /// a server may be declared failed at some time, and begin again later.
 ///
-/// A schedule has at most 64 lines and 40 more for each line of the script behind its `cluster` line, and no more
-/// than 100,000; where it ends so, later calls are not made.
+/// Of each process it makes all calls, unless the last one that it makes is open at the end. It has at most 64
+/// lines and 40 more for each line of the script behind its `cluster` line, and no more than 100,000; where it ends
+/// so, later calls are not made.
 ///
 /// # Errors
 /// `JournalFull` where the run needs more entries than a journal may have; `NoMemory` where a request for
@@ -52,6 +56,10 @@ pub fn schedule(
 ) -> Result<Scheduled, PlayError>
     // It is a schedule of the script's lines.
     ensures of_script { IfOk result (λ s. IsScheduleOf failures script.now.lines s.commands) }
+
+    // It makes all calls of each process, unless the last one that it makes is open at the end, or it has as many
+    // lines as it may have.
+    ensures ended { IfOk result (λ s. IsEnded script.now.lines s.commands (state_of s.played)) }
 
     // It has no more lines than this, behind the `cluster` line.
     ensures few { IfOk result (λ s. length s.commands ≤ most_lines) }
@@ -92,6 +100,7 @@ fn choose(
     ensures of_script { IfOk result (λ made. IsScheduleOf failures lines.now made.items) }
     ensures few { IfOk result (λ made. length made.items ≤ most_lines) }
     ensures runs { IfOk result (λ made. RunsTo (progress player.old) (numbered made.items) (Some (progress player.new))) }
+    ensures ended { IfOk result (λ made. (shape : ShapeFields) → IsEnded lines.now made.items (played_of shape (progress player.new))) }
     ensures full { IfErr result (λ error. error ≡ JournalFull → IsFullFrom failures lines.now (progress player.old)) }
 {
     let mut chooser = Chooser::new(alloc, lines, seed, failures);
@@ -109,6 +118,7 @@ fn choose_lines(
     ensures of_script { IfOk result (λ made. IsScheduleOf failures lines.now made.items) }
     ensures few { IfOk result (λ made. length made.items ≤ most_lines) }
     ensures runs { IfOk result (λ made. RunsTo (progress player.old) (numbered made.items) (Some (progress player.new))) }
+    ensures ended { IfOk result (λ made. (shape : ShapeFields) → IsEnded lines.now made.items (played_of shape (progress player.new))) }
     ensures full { IfErr result (λ error. error ≡ JournalFull → IsFullFrom failures lines.now (progress player.old)) }
 {
     chooser.begin_phase()?;
@@ -116,10 +126,13 @@ fn choose_lines(
     let mut made = HashMap::new(alloc);
     let mut commands = Vec::new(alloc);
     for number in FIRST_LINE..line_limit(lines) {
-        let next = next_line(failures, lines, &calls, &made, chooser, player.run())?;
+        let taken = commands.as_slice();
+        let next = next_line(
+            alloc, failures, lines, &calls, &made, taken, chooser, player,
+        )?;
         match next {
             Some(command) => carry_out(alloc, number, command, player, &mut made, &mut commands)?,
-            None => break,
+            None => return Ok(commands),
         }
     }
     Ok(commands)
@@ -156,8 +169,32 @@ fn add(commands: &mut Vec<Command>, command: Command) -> Result<(), AllocError>
 }
 
 // What comes next in a schedule of the lines, which have these calls, behind commands that made those calls and
-// led to this run.
+// led there: what the chooser wants, or else the next call of a process that can go on.
 fn next_line(
+    alloc: Global,
+    failures: bool,
+    lines: &[ScriptLine],
+    calls: &Calls,
+    made: &Calls,
+    commands: &[Command],
+    chooser: &mut Chooser<'_>,
+    player: &Player,
+) -> Result<Option<Command>, AllocError>
+    requires lines { KnowsLines calls.now lines.now }
+    requires made { KnowsCalls made.now commands.now }
+    requires of_script { IsScheduleOf failures lines.now commands.now }
+    requires served { AreServed lines.now }
+    ensures follows { IfOk result (λ next. IfSome next (Follows failures lines.now commands.now)) }
+    ensures ended { IfOk result (λ next. next ≡ None → (shape : ShapeFields) → MakesAll lines.now commands.now (played_of shape (progress player.now))) }
+{
+    match wanted_line(failures, lines, calls, made, chooser, player.run())? {
+        Some(command) => Ok(Some(command)),
+        None => ready_call(alloc, lines, calls, made, commands, player),
+    }
+}
+
+// What the chooser wants next, if that may come.
+fn wanted_line(
     failures: bool,
     lines: &[ScriptLine],
     calls: &Calls,
@@ -176,11 +213,24 @@ fn next_line(
 
 // The number of the first line that a schedule of these lines has not.
 fn line_limit(lines: &[ScriptLine]) -> u32
-    ensures { result ≤ most_lines + 2 }
+    ensures limit { result ≡ line_limit lines.now + 2 }
+    ensures few { result ≤ most_lines + 2 }
 {
-    let mut limit: u32 = 64;
-    for _ in lines {
-        limit = limit.saturating_add(40);
+    limit_of(lines.len()) + FIRST_LINE
+}
+
+// How many lines a schedule of so many lines may have.
+fn limit_of(count: usize) -> u32
+    ensures limit { result ≡ limit_of count }
+    ensures few { result ≤ most_lines }
+{
+    if count >= MOST_LINES as usize {
+        return MOST_LINES;
     }
-    limit.min(MOST_LINES) + FIRST_LINE
+    let wanted = 64 + 40 * count as u32;
+    if wanted < MOST_LINES {
+        wanted
+    } else {
+        MOST_LINES
+    }
 }

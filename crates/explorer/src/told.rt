@@ -36,7 +36,8 @@ impl<'a> Model for Told<'a> {
 }
 
 impl<'a> Told<'a> {
-    ghost use Rattle.std.specs.Prelude.{◌≡◌, slice_get, IfOk};
+    ghost use Rattle.std.specs.Prelude.{◌≡◌, slice_get, IfOk, IfSome, Some};
+    ghost use Rattle.explorer.specs.declared.answer.Answer.TheVariants.{Open};
     ghost use Rattle.explorer.specs.Answers.{named_answer, names, reply_answer};
 
     /// What these entries tell.
@@ -60,6 +61,18 @@ impl<'a> Told<'a> {
         match value_at(&self.names, node, pid, index) {
             Some(call) => self.answer_to(&call),
             None => Answer::Open,
+        }
+    }
+
+    /// The name of the call at the index, from 0, of those of the process that were taken, if no entry replies to
+    /// it.
+    pub(crate) fn open_call(&self, node: u8, pid: u16, index: usize) -> Option<CallId>
+        ensures { IfSome result (λ call. (slice_get (names node pid self.now) index ≡ Some call) × (reply_answer call self.now ≡ Open)) }
+    {
+        let call = value_at(&self.names, node, pid, index)?;
+        match self.answer_to(&call) {
+            Answer::Open => Some(call),
+            _ => None,
         }
     }
 

@@ -82,6 +82,13 @@ impl Player {
         &self.run
     }
 
+    /// The lines that were refused so far, each by its number with the number of the refusal, in order.
+    pub fn refused(&self) -> &[RefusedLine]
+        ensures { result.now ≡ self.now.refused }
+    {
+        self.refused.as_slice()
+    }
+
     /// Does what the line asks for. A line whose event is refused, but for want of memory or of room in
     /// the journal, is listed. After an error the player may stand in the middle of the line, and is of no
     /// more use.

@@ -1,6 +1,7 @@
 -- What is shown of the schedules of a script, and why nothing is.
 use Rattle.std.specs.Prelude.{◌≡◌, ℕ, Bool, true, false, List, string_bytes, Option}
 use Rattle.explorer.specs.declared.explored.Explored.{Explored}
+use Rattle.explorer.specs.Ends.{IsEnded}
 use Rattle.explorer.specs.Explores.{Explores}
 use Rattle.explorer.specs.Schedules.{HasFullSchedule, IsScheduleOf, numbered}
 use Rattle.explorer.specs.Texts.{script_text}
@@ -16,10 +17,10 @@ use Rattle.replay.specs.Faults.{IsFileFault}
 use Rattle.replay.specs.Stores.{HasText}
 use Rattle.replay.specs.Threads.{IsTaken}
 
--- the text is a script of a schedule of this one, which comes to something
+-- the text is a script of a schedule of this one, which comes to something, and makes all calls that it can
 abbrev pub IsScheduleText : Bool → ScriptFields → List ℕ → Type 0
 IsScheduleText failures s text =
-    (commands : List Command) × IsScheduleOf failures s.lines commands × ((played : PlayedState) × ComesTo s.shape (numbered commands) played) × (text ≡ script_text s.shape commands)
+    (commands : List Command) × IsScheduleOf failures s.lines commands × ((played : PlayedState) × ComesTo s.shape (numbered commands) played × IsEnded s.lines commands played) × (text ≡ script_text s.shape commands)
 
 -- what is shown of a schedule of the script that a text writes
 abbrev pub IsScheduled : Bool → List ℕ → Shown → Type 0

@@ -13,5 +13,5 @@ returns-clause-answered c =
     let made = c.in_ok-scheduled.ensures in
     let script = c.args.script.now in
     IfOk-weaker c.answers_under.result (λ (answers : Vec Answer). answers.items ≡ answers_in script.lines s.commands (state_of s.played)) (λ (answers : Vec Answer). ComesIn c.args.failures script answers.items)
-    (λ answers is. record { commands = s.commands; played = state_of s.played; of_script = made.of_script; comes = made.played; answered = is })
+    (λ answers is. record { commands = s.commands; played = state_of s.played; of_script = made.of_script; comes = made.played; ended = made.ended; answered = is })
     c.answers_under.ensures.answered

@@ -1,10 +1,14 @@
-use Rattle.std.proofs.Common.{refl, sym, subst}
+use Rattle.std.proofs.Common.{List, refl, sym, subst}
 use Rattle.std.proofs.lemmas.Result.{err_from_is_err_and}
 use Rattle.cluster_core.specs.Runs.{Leads}
 use Rattle.cluster_core.specs.World.{first_world}
 use Rattle.player.specs.Parts.{progress}
+use Rattle.lockscript.specs.declared.script_line.Command.{Command}
+use Rattle.lockscript.specs.Scripts.{LineFields}
+use Rattle.player.specs.Played.{PlayedState, played_of}
 use Rattle.player.specs.Progress.{Progress}
 use Rattle.player.proofs.Progresses.{lines_lead}
+use Rattle.explorer.specs.Ends.{IsEnded}
 use Rattle.explorer.proofs.schedule.schedule.Goals as goal
 
 pub finished-requires : goal.finished-requires
@@ -16,6 +20,14 @@ pub returns-clause-played : goal.returns-clause-played
 returns-clause-played c =
     let runs = rw c.in_ok-player.ensures.first at c.in_ok-commands.ensures.runs in
     rw (c.finished.ensures.commands, ← c.shape-shape.ensures) (progress c.choose.new.player, runs, c.finished.ensures.played)
+
+pub returns-clause-ended : goal.returns-clause-ended
+returns-clause-ended c =
+    let commands = c.in_ok-commands.commands.items in
+    let played = played_of c.shape-shape.result (progress c.choose.new.player) in
+    let ended = subst (λ (ls : List LineFields). IsEnded ls commands played) c.lines.ensures (c.in_ok-commands.ensures.ended c.shape-shape.result) in
+    let of_commands = subst (λ (cs : List Command). IsEnded c.args.script.now.lines cs played) (sym c.finished.ensures.commands) ended in
+    subst (λ (p : PlayedState). IsEnded c.args.script.now.lines c.finished.result.commands p) (sym c.finished.ensures.played) of_commands
 
 pub returns-in_err-commands-clause-full : goal.returns-in_err-commands-clause-full
 returns-in_err-commands-clause-full c =

@@ -9,7 +9,7 @@ pub returns-clause-done : goal.returns-clause-done
 returns-clause-done c =
     let shape = c.shape-shape.ensures in
     let text = c.in_ok-script_text.ensures ∙ ap (λ (s : ShapeFields). script_text s c.commands.result.now) shape ∙ ap (λ (cs : List _). script_text c.in_ok-script.script.shape cs) c.commands.ensures in
-    (c.in_ok-script.script, c.in_ok-script.ensures.script, (c.in_ok-made.made.commands, c.in_ok-made.ensures.of_script, (_, c.in_ok-made.ensures.played), text))
+    (c.in_ok-script.script, c.in_ok-script.ensures.script, (c.in_ok-made.made.commands, c.in_ok-made.ensures.of_script, (_, c.in_ok-made.ensures.played, c.in_ok-made.ensures.ended), text))
 
 pub returns-in_err-made-clause-fault : goal.returns-in_err-made-clause-fault
 returns-in_err-made-clause-fault c =

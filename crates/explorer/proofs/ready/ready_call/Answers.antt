@@ -1,0 +1,18 @@
+use Rattle.std.proofs.Common.{◌∙◌, List, ap}
+use Rattle.cluster_core.specs.Parts.{world_state}
+use Rattle.cluster_core.specs.Journals.{RunFields}
+use Rattle.lockscript.specs.declared.refused_line.RefusedLine.{RefusedLine}
+use Rattle.explorer.specs.Answers.{tries}
+use Rattle.explorer.specs.Schedules.{numbered}
+use Rattle.player.specs.Parts.{progress}
+use Rattle.player.specs.Played.{played_of}
+use Rattle.explorer.proofs.Left.{none-goes-on}
+use Rattle.explorer.proofs.ready.ready_call.Goals as goal
+
+pub returns-clause-ended : goal.returns-clause-ended
+returns-clause-ended c none shape node pid =
+    let commands = c.args.commands.now in
+    let made = c.in_ok-tries.ensures node pid ∙ ap (λ (rs : List RefusedLine). tries rs node pid (numbered commands)) c.refused.ensures in
+    let entries = c.in_ok-told.ensures ∙ c.entries.ensures ∙ ap (λ (r : RunFields). r.entries) c.run-run.ensures in
+    let world = ap world_state (c.world.ensures.value ∙ ap (λ (r : RunFields). r.world) c.run-run.ensures) in
+    none-goes-on c.args.lines.now commands node pid _ _ _ (c.requires.in_order node pid) (c.ready_in.ensures.none none commands c.requires.lines c.requires.made c.requires.served node pid) (played_of shape (progress c.args.player.now)) made entries world
