@@ -205,6 +205,19 @@ for seed in {1..32}; do
     judge "the weather of seed $seed" 0 "$came" wanted came.out none came.err
 done
 
+# The weather is that of the seed: that of 36 loses the first three messages of node 1. They are requests for its first lock, so none comes before
+# that is tried again three times.
+printf 'cluster nodes 1 files 1 policy wide\ncall 1 1 spawn\ncall 1 1 open 1 rw\ncall 1 1 set 0 proc write 0 10\n' >lost.lock
+timeout 120 "$program" threads lost.lock --seed 36 --journal threads.journal >threads.out 2>came.err </dev/null
+came=$?
+{
+    tail -n 2 threads.out
+    awk '$3 == "retry" { tries++ }
+    $3 == "deliver" { print (tries < 3 ? "early" : "in time"); exit }' threads.journal
+} >came.out
+printf 'receipts 3\naudit yes\nin time\n' >wanted
+judge 'three messages that the weather of a seed loses' 0 "$came" wanted came.out none came.err
+
 # Waits, denials, nodes and servers that fail and begin again, under a hundred weathers: each call is answered, and the journal is one of a run.
 # Of sixteen messages the weather sends one twice and loses one. So in many of the journals a text comes more often than it was sent, which
 # nothing else makes, and in many a request comes less often. (Without a weather one may be under way at the end, which is rare.)

@@ -1,4 +1,5 @@
 mod Askers
+mod Denied
 mod InCuts
 mod InPhases
 mod SameCommands

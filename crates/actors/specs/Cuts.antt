@@ -1,11 +1,12 @@
--- Runs that were ended as stuck: which calls are open, and which lines were left.
+-- Calls without a reply, and runs that were ended as stuck: which calls are open, and which lines were left.
 use Rattle.std.specs.Prelude.{◌≡◌, ◌≢◌, ◌⊎◌, ℕ, ◌-◌, ◌<◌, ◌≤◌, Bool, true, false, List, All, Option, Some, None, slice_get}
 use Rattle.lockscript.specs.declared.script_line.Command.{Command}
 use Rattle.model.specs.declared.call.CallId.{CallId}
 use Rattle.model.specs.declared.reply.Reply.{Reply}
 use Rattle.messages.specs.declared.entry.Entry.{Entry}
+use Rattle.actors.specs.declared.call_error.CallError.TheVariants.{Killed}
 use Rattle.actors.specs.declared.line_outcome.LineOutcome.{LineOutcome}
-use Rattle.actors.specs.declared.line_outcome.LineOutcome.TheVariants.{Open, Left}
+use Rattle.actors.specs.declared.line_outcome.LineOutcome.TheVariants.{Denied, Open, Left}
 use Rattle.actors.specs.declared.played_line.PlayedLine.{PlayedLine}
 use Rattle.actors.specs.Lines.{asker}
 
@@ -32,6 +33,11 @@ name_at entries at = name_of (slice_get entries (at - 1))
 abbrev pub open_by : List Entry → LineOutcome → Option CallId
 open_by entries (Open at) = name_at entries at
 open_by entries _ = None
+
+-- the name of the line's call, if that ended without a reply
+abbrev pub killed_by : List Entry → LineOutcome → Option CallId
+killed_by entries (Denied (Killed at)) = name_at entries at
+killed_by entries _ = None
 
 -- no entry replies to the call
 abbrev pub IsUnanswered : List Entry → CallId → Type 0

@@ -15,7 +15,7 @@ use Rattle.messages.specs.declared.refusal.Refused.{Refused as Refusal}
 use Rattle.messages.specs.declared.refusal.Refused.TheVariants as refusal
 use Rattle.actors.specs.declared.asked.Asked.{Asked}
 use Rattle.actors.specs.declared.call_error.CallError.{CallError}
-use Rattle.actors.specs.declared.call_error.CallError.TheVariants.{Busy, Stranger, Fenced, Killed, Spent}
+use Rattle.actors.specs.declared.call_error.CallError.TheVariants.{Stranger, Fenced, Killed}
 use Rattle.actors.specs.declared.line_outcome.LineOutcome.{LineOutcome}
 use Rattle.actors.specs.declared.line_outcome.LineOutcome.TheVariants.{Answered, Denied, Made, Refused, Settled, Open, Left}
 use Rattle.actors.specs.declared.played_line.PlayedLine.{PlayedLine}
@@ -33,12 +33,10 @@ is_change (FailServer f) = true
 is_change (StartServer f) = true
 is_change _ = false
 
--- how a call is denied while the run goes on; one that ended without a reply is the entry at a position, from 1
+-- how a call is denied while the run goes on: its process has one client, so it never has another call open, and a journal is full before a node has no number left; one that ended without a reply is the entry at a position, from 1
 abbrev pub may_be_denied : CallError → Bool
-may_be_denied Busy = true
 may_be_denied Stranger = true
 may_be_denied Fenced = true
-may_be_denied Spent = true
 may_be_denied (Killed at) = nat_lt 0 at
 may_be_denied _ = false
 

@@ -8,7 +8,8 @@ use Rattle.cluster_core.specs.World.{journal_limit}
 use Rattle.lockscript.specs.declared.refused_line.RefusedLine.{RefusedLine}
 use Rattle.lockscript.specs.Scripts.{ScriptFields}
 use Rattle.actors.specs.declared.played_line.PlayedLine.{PlayedLine}
-use Rattle.actors.specs.Cuts.{AreBarred, IsUnanswered, is_cut, open_by}
+use Rattle.actors.specs.Cuts.{AreBarred, IsUnanswered, is_cut, killed_by, open_by}
+use Rattle.actors.specs.Denials.{MayAllCome, first_of}
 use Rattle.actors.specs.Lines.{AreLinesOf, ArePhases, Fits, parts, receipt_in, refused_in}
 
 -- the journal of the run, the script's lines with what each came to, the receipts of the calls that were answered, the refused lines, and the calls that are open where the run was ended as stuck
@@ -19,12 +20,14 @@ pub record ThreadRunFields : Type 0 where
   pub refused : List RefusedLine
   pub open_calls : List CallId
 
--- the run is of the script: its cluster is the script's, each line came to what it may, the lines made the entries that were asked for, each phase stands after the one before, where a line of failures or starts parts phases unless it doesn't join the clients, and the receipts, the refused lines and the open calls are theirs, in order of the lines; only one that may stop where it is stuck has open calls, which no entry answers, and lines that were left for them
+-- the run is of the script: its cluster is the script's, each line came to what it may, also as the failures and starts before it have it and those behind a call in its phase, the lines made the entries that were asked for, each phase stands after the one before, where a line of failures or starts parts phases unless it doesn't join the clients, no entry answers a call that ended without a reply, and the receipts, the refused lines and the open calls are theirs, in order of the lines; only one that may stop where it is stuck has open calls, which no entry answers, and lines that were left for them
 pub record IsOfScript (script : ScriptFields) (no_join may_stop : Bool) (run : ThreadRunFields) : Type 0 where
   pub shape : run.journal.shape ≡ script.shape
   pub lines : AreLinesOf script.lines run.journal.entries run.lines
   pub fit : All (λ l. Fits l.line.command l.outcome) run.lines
   pub phases : ArePhases (parts no_join) run.lines
+  pub come : MayAllCome (parts no_join) script.shape (first_of script.shape) run.lines
+  pub killed : All (IsUnanswered run.journal.entries) (filter_map (λ l. killed_by run.journal.entries l.outcome) run.lines)
   pub receipts : run.receipts ≡ filter_map receipt_in run.lines
   pub refused : run.refused ≡ filter_map refused_in run.lines
   pub open_calls : run.open_calls ≡ filter_map (λ l. open_by run.journal.entries l.outcome) run.lines

@@ -1,6 +1,7 @@
 //! The calls of a process in a phase.
 use crate::call_error::CallError;
 use crate::client::Client;
+use crate::gate::Gate;
 use crate::line_outcome::LineOutcome;
 use book::receipt::Receipt;
 use lockscript::play_error::PlayError;
@@ -12,28 +13,28 @@ use trail::name::Name;
 /// A call that is to be made: the index of its line in the script, what it asks, and the client that makes it and
 /// those behind it, where that is another than before.
 #[derive(Drop)]
-pub(crate) struct NextCall<'a, J: Name> {
+pub(crate) struct NextCall<'a, J: Name, G: Gate> {
     pub(crate) index: usize,
     pub(crate) op: Op,
-    pub(crate) client: Option<Client<'a, J>>,
+    pub(crate) client: Option<Client<'a, J, G>>,
 }
 
 /// The calls that a process is still to make in a phase, in order; its client, while no call is under way;
 /// whether a call that is added needs another, and whether a thread makes them; what the calls so far came to,
 /// and why no more are made, if that was met.
 #[derive(Drop)]
-pub(crate) struct CallQueue<'a, J: Name> {
-    calls: VecDeque<NextCall<'a, J>>,
-    client: Option<Client<'a, J>>,
+pub(crate) struct CallQueue<'a, J: Name, G: Gate> {
+    calls: VecDeque<NextCall<'a, J, G>>,
+    client: Option<Client<'a, J, G>>,
     needs_client: bool,
     has_thread: bool,
     outcomes: Vec<(usize, LineOutcome)>,
     stopped: Option<PlayError>,
 }
 
-impl<'a, J: Name> CallQueue<'a, J> {
+impl<'a, J: Name, G: Gate> CallQueue<'a, J, G> {
     /// No call, and no client.
-    pub(crate) fn new(alloc: Global) -> CallQueue<'a, J> {
+    pub(crate) fn new(alloc: Global) -> CallQueue<'a, J, G> {
         CallQueue {
             calls: VecDeque::new(alloc),
             client: None,
@@ -55,7 +56,7 @@ impl<'a, J: Name> CallQueue<'a, J> {
     }
 
     /// Adds a call, with its client if one is needed.
-    pub(crate) fn add(&mut self, call: NextCall<'a, J>) -> Result<(), AllocError> {
+    pub(crate) fn add(&mut self, call: NextCall<'a, J, G>) -> Result<(), AllocError> {
         self.calls.push_back(call)?;
         self.needs_client = false;
         Ok(())
@@ -70,14 +71,14 @@ impl<'a, J: Name> CallQueue<'a, J> {
 
     /// The next call for the thread: the index of its line, what it asks, and the client that makes it. With none
     /// the thread has ended.
-    pub(crate) fn next(&mut self) -> Option<(usize, Op, Client<'a, J>)> {
+    pub(crate) fn next(&mut self) -> Option<(usize, Op, Client<'a, J, G>)> {
         let next = self.take_next();
         self.has_thread = next.is_some();
         next
     }
 
     // Takes out the next call, and the client that makes it.
-    fn take_next(&mut self) -> Option<(usize, Op, Client<'a, J>)> {
+    fn take_next(&mut self) -> Option<(usize, Op, Client<'a, J, G>)> {
         let NextCall { index, op, client } = self.calls.pop_front()?;
         let client = match client {
             Some(client) => client,
@@ -90,7 +91,7 @@ impl<'a, J: Name> CallQueue<'a, J> {
     /// or has no answer since the run was ended.
     pub(crate) fn end_call(
         &mut self,
-        client: Client<'a, J>,
+        client: Client<'a, J, G>,
         index: usize,
         made: Result<Receipt, CallError>,
     ) {
@@ -129,7 +130,7 @@ impl<'a, J: Name> CallQueue<'a, J> {
     /// What the calls came to, each with the index of its line, and the client for later calls, if there is one.
     pub(crate) fn into_outcomes(
         self,
-    ) -> Result<(Vec<(usize, LineOutcome)>, Option<Client<'a, J>>), PlayError> {
+    ) -> Result<(Vec<(usize, LineOutcome)>, Option<Client<'a, J, G>>), PlayError> {
         let CallQueue {
             client,
             needs_client,

@@ -4,6 +4,7 @@ ghost use Rattle.actors.specs.Clients.{ClientFields, IsMadeBy};
 
 use crate::call_error::CallError;
 use crate::direct::Direct;
+use crate::gate::Gate;
 use crate::letter::{Answer, Letter, Question};
 use book::mark::Mark;
 use book::receipt::Receipt;
@@ -19,16 +20,16 @@ use trail::name::Name;
 /// it may make itself, where the cluster's gate is open. Any other goes to the node's worker, which has where the answers to
 /// the client go, up to a call that fails; the next one tells another path.
 #[derive(Drop)]
-pub struct Client<'a, J: Name> {
+pub struct Client<'a, J: Name, G: Gate> {
     process: Process,
     last: Option<Mark>,
     alloc: Global,
     mailbox: &'a Sender<Letter>,
-    direct: Option<Direct<'a, J>>,
+    direct: Option<Direct<'a, J, G>>,
     answers: Option<Receiver<Answer>>,
 }
 
-impl<'a, J: Name> Model for Client<'a, J> {
+impl<'a, J: Name, G: Gate> Model for Client<'a, J, G> {
     ghost use Rattle.std.specs.Prelude.{unwrap_or};
     ghost use Rattle.actors.specs.Clients.{ClientFields};
 
@@ -37,14 +38,14 @@ impl<'a, J: Name> Model for Client<'a, J> {
     ghost view = { λ c. record { process = c.process; last = unwrap_or c.last 0 } };
 }
 
-impl<'a, J: Name> Client<'a, J> {
+impl<'a, J: Name, G: Gate> Client<'a, J, G> {
     /// A client of the process that has seen nothing of the journal.
     pub(crate) fn new(
         alloc: Global,
         process: Process,
         mailbox: &'a Sender<Letter>,
-        direct: Option<Direct<'a, J>>,
-    ) -> Client<'a, J>
+        direct: Option<Direct<'a, J, G>>,
+    ) -> Client<'a, J, G>
         ensures { result ≡ record { process = process; last = 0 } }
     {
         Client {

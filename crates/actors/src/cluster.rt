@@ -11,7 +11,7 @@ use crate::call_error::CallError;
 use crate::client::Client;
 use crate::desk::{Desk, Work};
 use crate::direct::Direct;
-use crate::gate::Gate;
+use crate::gate::{Gate, OpenGate};
 use crate::halt::Halt;
 use crate::letter::Letter;
 use crate::pacer::pace;
@@ -40,12 +40,14 @@ use std::thread::{Scope, Threads};
 use std::time::Clock;
 use trail::name::Name;
 
-/// A cluster that runs on threads. It has no desks where its gate isn't open, and its clients then make no call themselves.
+/// A cluster that runs on threads, with the gate that is told of the steps that its clients make themselves. It has no desks where
+/// they may make none, as its actors' gate isn't open.
 #[derive(Drop)]
-pub struct Cluster<'a, J: Name> {
+pub struct Cluster<'a, J: Name, G: Gate> {
     alloc: Global,
     nodes: u8,
     book: &'a Mutex<Book<J>>,
+    gate: &'a G,
     mailboxes: &'a [Mailbox],
     desks: &'a [Desk<J>],
     places: &'a [Mutex<Place<J>>],
@@ -56,7 +58,7 @@ pub struct Cluster<'a, J: Name> {
     ghost has_places: { length places.now ≡ nodes },
 }
 
-impl<'a, J: Name> Cluster<'a, J> {
+impl<'a, J: Name, G: Gate> Cluster<'a, J, G> {
     // The place of the node.
     fn place(&self, node: u8) -> Option<&'a Mutex<Place<J>>> {
         self.places.get(usize::from(node).checked_sub(1)?)
@@ -106,7 +108,7 @@ impl<'a, J: Name> Cluster<'a, J> {
     /// In this order: `Stranger` where the node is outside the shape or the process outside 1 to 256;
     /// `Fenced` while the node is declared failed; `Busy` where a client of that process of this
     /// incarnation was handed out already; `NoMemory` where a request for memory was refused.
-    pub fn client<R: Wait>(&self, rt: &R, node: u8, pid: u16) -> Result<Client<'a, J>, CallError>
+    pub fn client<R: Wait>(&self, rt: &R, node: u8, pid: u16) -> Result<Client<'a, J, G>, CallError>
         ensures process { IfOk result (λ client. (client.process.node ≡ node) × (client.process.pid ≡ pid)) }
         ensures fresh { IfOk result (λ client. client.last ≡ 0) }
         ensures stranger { IsErrOf result Stranger ↔ (IsNumber self.now.nodes node × IsNumber most_processes pid → ⊥) }
@@ -127,9 +129,9 @@ impl<'a, J: Name> Cluster<'a, J> {
     }
 
     // What a client needs for calls at the desk of the node at the index.
-    fn direct(&self, index: usize) -> Option<Direct<'a, J>> {
+    fn direct(&self, index: usize) -> Option<Direct<'a, J, G>> {
         let desk = self.desks.get(index)?;
-        Some(Direct::new(self.alloc, desk, self.book, self.halt))
+        Some(Direct::new(self.alloc, desk, self.book, self.gate, self.halt))
     }
 
     /// Declares the node failed, and each server is sent word of it.
@@ -238,8 +240,8 @@ impl<'a, J: Name> Cluster<'a, J> {
 
 /// Runs a cluster of the shape on threads for as long as the body does, which is lent it. Each actor
 /// has a thread, a mailbox and a weather, nodes first. Where the gate is open, as it is asked once, a call that needs no other
-/// actor may be made on the thread of who calls. The body's result comes with the journal. Its book has no trail, so
-/// at each step the seat's state is compared with the book's copy (that of `run_threads` has one).
+/// actor may be made on the thread of who calls, and the gate isn't told of it. The body's result comes with the journal. Its book
+/// has no trail, so at each step the seat's state is compared with the book's copy (that of `run_threads` has one).
 ///
 /// Where a hundred requests for memory are refused one after the other, with no step between them, the
 /// threads of the actors end: calls that are open then are answered `Unanswered`, and later ones `Closed`.
@@ -251,7 +253,7 @@ pub fn with_cluster<
     W: Weather + Send,
     R: Threads + Wait + Clock + Sync,
     T,
-    F: FnOnce(&Cluster<'_, Brand>) -> T,
+    F: FnOnce(&Cluster<'_, Brand, OpenGate>) -> T,
 >(
     rt: &R,
     alloc: Global,
@@ -311,21 +313,20 @@ impl<J: Name> Begun<J> {
         }
     }
 
-    /// What is lent to whoever calls the nodes.
+    /// What is lent to whoever calls the nodes, with the gate that is told of the steps that clients make themselves, which
+    /// they may if it is open to them.
     pub(crate) fn cluster<'a, G: Gate>(
         &'a self,
         book: &'a Mutex<Book<J>>,
-        gate: &G,
-    ) -> Cluster<'a, J> {
-        let desks: &'a [Desk<J>] = if gate.is_open() {
-            self.desks.as_slice()
-        } else {
-            &[]
-        };
+        gate: &'a G,
+        is_open: bool,
+    ) -> Cluster<'a, J, G> {
+        let desks: &'a [Desk<J>] = if is_open { self.desks.as_slice() } else { &[] };
         Cluster {
             alloc: self.alloc,
             nodes: self.nodes,
             book,
+            gate,
             mailboxes: self.mailboxes.as_slice(),
             desks,
             places: self.places.as_slice(),
@@ -379,7 +380,7 @@ fn run_body<
     W: Weather + Send,
     R: Threads + Wait + Clock + Sync,
     T,
-    F: FnOnce(&Cluster<'_, Brand>) -> T,
+    F: FnOnce(&Cluster<'_, Brand, OpenGate>) -> T,
 >(
     rt: &R,
     alloc: Global,
@@ -395,7 +396,7 @@ fn run_body<
 {
     let (begun, workers) = begin(alloc, shape, seats, weathers)?;
     let shared = begun.shared(book, gate);
-    let cluster = begun.cluster(book, gate);
+    let cluster = begun.cluster(book, &OpenGate, gate.is_open());
     thread::scope(thread::scope_env(), rt, |scope| {
         let all = start_all(scope, rt, &shared, workers);
         let made = if all {

@@ -1,9 +1,8 @@
-//! Runs that were ended as stuck.
-ghost use Rattle.std.specs.Prelude.{◌≡◌, ◌≢◌, ◌⊎◌, ◌↔◌, ◌++◌, ◌∷◌, [], true, All, IfOk, IsTrue, Some, if◌then◌else◌};
+//! Calls of entries, and runs that were ended as stuck.
+ghost use Rattle.std.specs.Prelude.{◌≡◌, ◌≢◌, ◌⊎◌, ◌↔◌, ◌++◌, ◌∷◌, [], true, IfOk, IsTrue, Some, if◌then◌else◌};
 ghost use Rattle.std.specs.List.{Contains};
-ghost use Rattle.model.specs.declared.reply.Reply.{Reply};
 ghost use Rattle.actors.specs.declared.line_outcome.LineOutcome.TheVariants.{Left};
-ghost use Rattle.actors.specs.Cuts.{AreBarred, IsUnanswered, is_open, name_at};
+ghost use Rattle.actors.specs.Cuts.{AreBarred, is_open, name_at};
 ghost use Rattle.actors.specs.Lines.{asker, parts};
 
 use crate::played_line::PlayedLine;
@@ -16,37 +15,6 @@ pub(crate) fn name_at(entries: &[Entry], position: u32) -> Option<CallId>
     ensures { result ≡ name_at entries.now position }
 {
     entries.get(position.saturating_sub(1) as usize)?.call()
-}
-
-/// Whether no entry replies to any of the calls.
-pub(crate) fn are_unanswered(entries: &[Entry], calls: &[CallId]) -> bool
-    ensures { IsTrue result → All (IsUnanswered entries.now) calls.now }
-{
-    calls.iter().all(|call| is_unanswered(entries, call))
-}
-
-// Whether no entry replies to the call.
-fn is_unanswered(entries: &[Entry], call: &CallId) -> bool
-    ensures { IsTrue result ↔ IsUnanswered entries.now call.now }
-{
-    entries.iter().all(|entry| !replies_to(entry, call))
-}
-
-// Whether the entry replies to the call.
-fn replies_to(entry: &Entry, call: &CallId) -> bool
-    ensures { IsTrue result ↔ ((reply : Reply) × (entry.now.reply ≡ Some (call.now, reply))) }
-{
-    match entry.reply() {
-        Some((answered, _)) => same_call(&answered, call),
-        None => false,
-    }
-}
-
-// Whether both are one call.
-fn same_call(one: &CallId, other: &CallId) -> bool
-    ensures { IsTrue result ↔ (one.now ≡ other.now) }
-{
-    one == other
 }
 
 // What of the lines so far bars others: who has an open call, and whether one was open before a line that

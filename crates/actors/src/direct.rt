@@ -2,7 +2,9 @@
 ghost use Rattle.std.specs.Prelude.{◌≡◌, IfSome};
 ghost use Rattle.messages.specs.declared.event.Event.TheVariants.{Call};
 
+use crate::commits::commit;
 use crate::desk::Desk;
+use crate::gate::Gate;
 use crate::halt::Halt;
 use crate::locks::lock;
 use crate::open_calls::may_release;
@@ -17,28 +19,31 @@ use std::alloc::Global;
 use std::sync::{Mutex, Wait};
 use trail::name::Name;
 
-/// What a client needs to do its calls at its node's desk, on its own thread: the desk, the book, and whether the workers
-/// are to end.
+/// What a client needs to do its calls at its node's desk, on its own thread: the desk, the book, the gate, and whether the
+/// workers are to end.
 #[derive(Drop)]
-pub(crate) struct Direct<'a, J: Name> {
+pub(crate) struct Direct<'a, J: Name, G: Gate> {
     alloc: Global,
     desk: &'a Desk<J>,
     book: &'a Mutex<Book<J>>,
+    gate: &'a G,
     halt: &'a Halt,
 }
 
-impl<'a, J: Name> Direct<'a, J> {
+impl<'a, J: Name, G: Gate> Direct<'a, J, G> {
     /// The calls at that desk.
     pub(crate) fn new(
         alloc: Global,
         desk: &'a Desk<J>,
         book: &'a Mutex<Book<J>>,
+        gate: &'a G,
         halt: &'a Halt,
-    ) -> Direct<'a, J> {
+    ) -> Direct<'a, J, G> {
         Direct {
             alloc,
             desk,
             book,
+            gate,
             halt,
         }
     }
@@ -89,9 +94,9 @@ impl<'a, J: Name> Direct<'a, J> {
         if outcome.reply.is_none() || !outcome.sends.is_empty() {
             return None;
         }
-        let committed = lock(rt, self.book).commit(self.alloc, seat, prepared, seen);
-        let stamp = committed.ok()?;
-        self.halt.note_step();
-        Some(stamp)
+        let committed = commit(
+            rt, self.alloc, self.book, self.gate, self.halt, seat, prepared, seen,
+        );
+        committed.ok()
     }
 }

@@ -15,8 +15,8 @@ pub enum Point {
 pub trait Gate {
     fn at(&self, point: Point);
 
-    /// Whether no actor is held here, as is asked once, when the cluster begins. A client may then make a call that needs no
-    /// other actor on its own thread, and the gate isn't told of it.
+    /// Whether it is open to clients, as is asked once, when the cluster begins. A client may then make a call that needs no
+    /// other actor on its own thread. The gate of `run_threads` is told of such a step too, that of `with_cluster` isn't.
     fn is_open(&self) -> bool {
         false
     }

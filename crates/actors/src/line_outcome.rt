@@ -1,6 +1,6 @@
 //! What lines of a script come to.
 ghost use Rattle.std.specs.Prelude.{◌≡◌};
-ghost use Rattle.actors.specs.Cuts.{is_cut, is_open, open_by};
+ghost use Rattle.actors.specs.Cuts.{is_cut, is_open, killed_by, open_by};
 ghost use Rattle.actors.specs.Lines.{begins, code_of, ends, receipt_of};
 
 use crate::call_error::CallError;
@@ -89,6 +89,16 @@ impl LineOutcome {
     {
         match self {
             LineOutcome::Open(at) => name_at(entries, *at),
+            _ => None,
+        }
+    }
+
+    /// The name of the call that ended without a reply in a run of these entries.
+    pub(crate) fn killed_call(&self, entries: &[Entry]) -> Option<CallId>
+        ensures { result ≡ killed_by entries.now self.now }
+    {
+        match self {
+            LineOutcome::Denied(CallError::Killed { call_at }) => name_at(entries, *call_at),
             _ => None,
         }
     }

@@ -1,6 +1,7 @@
 //! The part of a process in a phase.
 use crate::call_queue::{CallQueue, NextCall};
 use crate::client::Client;
+use crate::gate::Gate;
 use crate::line_outcome::LineOutcome;
 use lockscript::play_error::PlayError;
 use model::op::Op;
@@ -10,14 +11,14 @@ use trail::name::Name;
 
 /// The node of a process, and its calls in a phase, which one thread at most makes, while others may be added.
 #[derive(Drop)]
-pub(crate) struct Part<'a, J: Name> {
+pub(crate) struct Part<'a, J: Name, G: Gate> {
     node: u8,
-    queue: Mutex<CallQueue<'a, J>>,
+    queue: Mutex<CallQueue<'a, J, G>>,
 }
 
-impl<'a, J: Name> Part<'a, J> {
+impl<'a, J: Name, G: Gate> Part<'a, J, G> {
     /// The part of a process of the node that makes no call.
-    pub(crate) fn new(alloc: Global, node: u8) -> Part<'a, J> {
+    pub(crate) fn new(alloc: Global, node: u8) -> Part<'a, J, G> {
         Part {
             node,
             queue: Mutex::new(CallQueue::new(alloc)),
@@ -37,7 +38,7 @@ impl<'a, J: Name> Part<'a, J> {
     }
 
     /// Adds a call, with its client if one is needed.
-    pub(crate) fn add<R: Wait>(&self, rt: &R, call: NextCall<'a, J>) -> Result<(), AllocError> {
+    pub(crate) fn add<R: Wait>(&self, rt: &R, call: NextCall<'a, J, G>) -> Result<(), AllocError> {
         self.queue.lock(rt).add(call)
     }
 
@@ -60,7 +61,7 @@ impl<'a, J: Name> Part<'a, J> {
     }
 
     // Makes the call of the line at the index, with this client.
-    fn make<R: Wait>(&self, rt: &R, index: usize, op: Op, client: Client<'a, J>) {
+    fn make<R: Wait>(&self, rt: &R, index: usize, op: Op, client: Client<'a, J, G>) {
         let mut client = client;
         let made = client.call(rt, op);
         self.queue.lock(rt).end_call(client, index, made);
@@ -69,7 +70,7 @@ impl<'a, J: Name> Part<'a, J> {
     /// What the calls came to, each with the index of its line, and the client for later calls, if there is one.
     pub(crate) fn into_outcomes(
         self,
-    ) -> Result<(Vec<(usize, LineOutcome)>, Option<Client<'a, J>>), PlayError> {
+    ) -> Result<(Vec<(usize, LineOutcome)>, Option<Client<'a, J, G>>), PlayError> {
         let Part { queue, .. } = self;
         queue.into_inner().into_outcomes()
     }

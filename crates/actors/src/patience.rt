@@ -1,4 +1,6 @@
 //! When to try again.
+ghost use Rattle.std.specs.Prelude.{◌≡◌};
+ghost use Rattle.actors.specs.Distances.{after_tick, at_first, is_due, next_distance};
 
 // How many ticks pass before the first try, and at most between two.
 const FIRST_TICKS: u32 = 16;
@@ -15,7 +17,9 @@ pub(crate) struct Patience {
 
 impl Patience {
     /// No tick has passed, and there was no try.
-    pub(crate) fn new() -> Patience {
+    pub(crate) fn new() -> Patience
+        ensures { result ≡ at_first }
+    {
         Patience {
             between: FIRST_TICKS,
             left: FIRST_TICKS,
@@ -23,14 +27,15 @@ impl Patience {
     }
 
     /// A tick has passed. Whether it is time for a try.
-    pub(crate) fn pass_tick(&mut self) -> bool {
-        self.left = self.left.saturating_sub(1);
-        if self.left > 0 {
+    pub(crate) fn pass_tick(&mut self) -> bool
+        ensures due { result ≡ is_due self.old }
+        ensures next { self.new ≡ after_tick self.old }
+    {
+        if self.left > 1 {
+            self.left -= 1;
             return false;
         }
-        if self.between < MOST_TICKS {
-            self.between = self.between.saturating_mul(2);
-        }
+        self.between = self.between.saturating_mul(2).min(MOST_TICKS);
         self.left = self.between;
         true
     }

@@ -3,6 +3,7 @@ use crate::call_error::CallError;
 use crate::call_queue::NextCall;
 use crate::client::Client;
 use crate::cluster::Cluster;
+use crate::gate::Gate;
 use crate::line_outcome::LineOutcome;
 use crate::manner::Manner;
 use crate::part::Part;
@@ -28,23 +29,23 @@ use trail::name::Name;
 /// of each process stands, the clients that make no call in it, each by its process, the last receipt of the
 /// earlier phases, and the files whose token servers are declared failed.
 #[derive(Drop)]
-pub(crate) struct Phases<'a, 'b, J: Name> {
+pub(crate) struct Phases<'a, 'b, J: Name, G: Gate> {
     alloc: Global,
-    cluster: &'b Cluster<'a, J>,
+    cluster: &'b Cluster<'a, J, G>,
     manner: Manner,
     is_over: bool,
     lines: Vec<PlayedLine>,
     first: usize,
-    parts: Vec<Part<'a, J>>,
+    parts: Vec<Part<'a, J, G>>,
     places: BTreeMap<(u8, u16), usize>,
-    idle: BTreeMap<(u8, u16), Client<'a, J>>,
+    idle: BTreeMap<(u8, u16), Client<'a, J, G>>,
     last: Option<Receipt>,
     failed: Vec<u16>,
 }
 
-impl<'a, 'b, J: Name + Send + Sync> Phases<'a, 'b, J> {
+impl<'a, 'b, J: Name + Send + Sync, G: Gate + Sync> Phases<'a, 'b, J, G> {
     /// No line was taken.
-    pub(crate) fn new(cluster: &'b Cluster<'a, J>, manner: Manner) -> Phases<'a, 'b, J> {
+    pub(crate) fn new(cluster: &'b Cluster<'a, J, G>, manner: Manner) -> Phases<'a, 'b, J, G> {
         let alloc = cluster.alloc();
         Phases {
             alloc,
@@ -123,7 +124,7 @@ impl<'a, 'b, J: Name + Send + Sync> Phases<'a, 'b, J> {
         rt: &R,
         index: usize,
         command: Command,
-        parts: &[Part<'a, J>],
+        parts: &[Part<'a, J, G>],
     ) -> Result<(), PlayError> {
         let outcome = self.change(rt, command, parts)?;
         self.note(index, outcome);
@@ -135,7 +136,7 @@ impl<'a, 'b, J: Name + Send + Sync> Phases<'a, 'b, J> {
         &mut self,
         rt: &R,
         command: Command,
-        parts: &[Part<'a, J>],
+        parts: &[Part<'a, J, G>],
     ) -> Result<LineOutcome, PlayError> {
         let made = match command {
             Command::Declare { node } => self.declare(rt, node),
@@ -178,7 +179,7 @@ impl<'a, 'b, J: Name + Send + Sync> Phases<'a, 'b, J> {
         &mut self,
         rt: &R,
         node: u8,
-        parts: &[Part<'a, J>],
+        parts: &[Part<'a, J, G>],
     ) -> Result<u32, Refused> {
         let position = self.cluster.restart(rt, node)?;
         self.idle.retain(|process, _| process.0 != node);
@@ -189,7 +190,12 @@ impl<'a, 'b, J: Name + Send + Sync> Phases<'a, 'b, J> {
     }
 
     // The client of the process, after all earlier phases: the one that it has, or else a new one.
-    fn client<R: Wait>(&mut self, rt: &R, node: u8, pid: u16) -> Result<Client<'a, J>, CallError> {
+    fn client<R: Wait>(
+        &mut self,
+        rt: &R,
+        node: u8,
+        pid: u16,
+    ) -> Result<Client<'a, J, G>, CallError> {
         let mut client = match self.idle.remove(&(node, pid)) {
             Some(client) => client,
             None => self.cluster.client(rt, node, pid)?,
@@ -231,7 +237,7 @@ impl<'a, 'b, J: Name + Send + Sync> Phases<'a, 'b, J> {
     fn play_all<R: Threads + Wait + Clock + Sync, V: RunWatcher>(
         &mut self,
         rt: &R,
-        parts: &[Part<'a, J>],
+        parts: &[Part<'a, J, G>],
         watcher: &mut V,
     ) -> Result<(), PlayError> {
         let cluster = self.cluster;
@@ -258,7 +264,7 @@ impl<'a, 'b, J: Name + Send + Sync> Phases<'a, 'b, J> {
     fn play_on<'s, E, R: Threads + Wait + Clock + Sync, V: RunWatcher>(
         &mut self,
         scope: &Scope<'s, E>,
-        stage: &Stage<'s, 'a, J, R>,
+        stage: &Stage<'s, 'a, J, G, R>,
         watcher: &mut V,
     ) -> Result<(), PlayError> {
         for index in self.first..self.lines.len() {
@@ -287,7 +293,7 @@ impl<'a, 'b, J: Name + Send + Sync> Phases<'a, 'b, J> {
     // client.
     fn queue<R: Wait>(
         &mut self,
-        stage: &Stage<'_, 'a, J, R>,
+        stage: &Stage<'_, 'a, J, G, R>,
         index: usize,
         node: u8,
         pid: u16,
@@ -313,12 +319,17 @@ impl<'a, 'b, J: Name + Send + Sync> Phases<'a, 'b, J> {
     }
 
     // The part of the process, of those of the phase, if it has one.
-    fn part_of<'p>(&self, parts: &'p [Part<'a, J>], node: u8, pid: u16) -> Option<&'p Part<'a, J>> {
+    fn part_of<'p>(
+        &self,
+        parts: &'p [Part<'a, J, G>],
+        node: u8,
+        pid: u16,
+    ) -> Option<&'p Part<'a, J, G>> {
         parts.get(*self.places.get(&(node, pid))?)
     }
 
     // Keeps the client of a process that makes no call now.
-    fn keep(&mut self, client: Client<'a, J>) -> Result<(), PlayError> {
+    fn keep(&mut self, client: Client<'a, J, G>) -> Result<(), PlayError> {
         let process = client.process();
         match self.idle.insert((process.node, process.pid), client) {
             Ok(_) => Ok(()),
@@ -327,7 +338,7 @@ impl<'a, 'b, J: Name + Send + Sync> Phases<'a, 'b, J> {
     }
 
     // Takes in a part that was played.
-    fn end(&mut self, part: Part<'a, J>) -> Result<(), PlayError> {
+    fn end(&mut self, part: Part<'a, J, G>) -> Result<(), PlayError> {
         let (outcomes, client) = part.into_outcomes()?;
         for (index, outcome) in outcomes.iter() {
             self.note(*index, *outcome);

@@ -150,7 +150,7 @@ fn may_be_denied(why: CallError) -> bool
     ensures { result ≡ may_be_denied why }
 {
     match why {
-        CallError::Busy | CallError::Stranger | CallError::Fenced | CallError::Spent => true,
+        CallError::Stranger | CallError::Fenced => true,
         CallError::Killed { call_at } => call_at > 0,
         _ => false,
     }

@@ -1,4 +1,7 @@
 //! When a server sends again.
+ghost use Rattle.std.specs.Prelude.{◌≡◌, ◌&&◌, false};
+ghost use Rattle.actors.specs.Distances.{at_first, is_answer, is_due, noted, rests, ticked};
+
 use crate::patience::Patience;
 use messages::event::Event;
 use messages::message::Message;
@@ -13,7 +16,9 @@ pub(crate) struct Resends {
 
 impl Resends {
     /// Nothing was sent.
-    pub(crate) fn new() -> Resends {
+    pub(crate) fn new() -> Resends
+        ensures { result ≡ rests at_first }
+    {
         Resends {
             needed: false,
             patience: Patience::new(),
@@ -21,12 +26,16 @@ impl Resends {
     }
 
     /// Whether there may be something to send again.
-    pub(crate) fn are_needed(&self) -> bool {
+    pub(crate) fn are_needed(&self) -> bool
+        ensures { result ≡ self.now.needed }
+    {
         self.needed
     }
 
     /// The server has done a step at this event. An answer to it lets it wait anew.
-    pub(crate) fn note(&mut self, event: &Event) {
+    pub(crate) fn note(&mut self, event: &Event)
+        ensures { self.new ≡ noted self.old event.now }
+    {
         if !self.needed || is_answer(event) {
             self.patience = Patience::new();
         }
@@ -34,23 +43,32 @@ impl Resends {
     }
 
     /// A tick has passed. Whether it is time to send again.
-    pub(crate) fn pass_tick(&mut self) -> bool {
+    pub(crate) fn pass_tick(&mut self) -> bool
+        ensures due { result ≡ (self.old.needed && is_due self.old.patience) }
+        ensures next { self.new ≡ ticked self.old }
+    {
         self.needed && self.patience.pass_tick()
     }
 
     /// It was refused memory, and waits as if for the first time.
-    pub(crate) fn wait_anew(&mut self) {
+    pub(crate) fn wait_anew(&mut self)
+        ensures { self.new ≡ record self.old { patience = at_first } }
+    {
         self.patience = Patience::new();
     }
 
     /// There is nothing to send again before the next step.
-    pub(crate) fn end(&mut self) {
+    pub(crate) fn end(&mut self)
+        ensures { self.new ≡ rests self.old.patience }
+    {
         self.needed = false;
     }
 }
 
 // Whether the event brings a node's answer to a command.
-fn is_answer(event: &Event) -> bool {
+fn is_answer(event: &Event) -> bool
+    ensures { result ≡ is_answer event.now }
+{
     match event {
         Event::Deliver(message) => matches!(
             message.get(),

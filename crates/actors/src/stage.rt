@@ -1,5 +1,6 @@
 //! Where a phase is played.
 use crate::cluster::Cluster;
+use crate::gate::Gate;
 use crate::part::Part;
 use crate::run_watcher::RunWatcher;
 use lockscript::play_error::PlayError;
@@ -15,14 +16,20 @@ const LONGEST_PAUSE: u64 = 64;
 
 /// The parts of a phase, the cluster on which threads play them, and how many threads do.
 #[derive(Drop)]
-pub(crate) struct Stage<'s, 'a, J: Name, R> {
+pub(crate) struct Stage<'s, 'a, J: Name, G: Gate, R> {
     pub(crate) rt: &'s R,
-    pub(crate) cluster: &'s Cluster<'a, J>,
-    pub(crate) parts: &'s [Part<'a, J>],
+    pub(crate) cluster: &'s Cluster<'a, J, G>,
+    pub(crate) parts: &'s [Part<'a, J, G>],
     pub(crate) playing: &'s AtomicU64,
 }
 
-impl<'s, 'a: 's, J: Name + Send + Sync, R: Threads + Wait + Clock + Sync> Stage<'s, 'a, J, R> {
+impl<'s, 'a: 's, J: Name + Send + Sync, G: Gate + Sync, R: Threads + Wait + Clock + Sync> Stage<
+    's,
+    'a,
+    J,
+    G,
+    R,
+> {
     /// Starts a thread for each part that has calls to make, and no thread.
     pub(crate) fn start<E>(&self, scope: &Scope<'s, E>) -> Result<(), PlayError> {
         let (rt, cluster, playing) = (self.rt, self.cluster, self.playing);
@@ -74,10 +81,10 @@ impl<'s, 'a: 's, J: Name + Send + Sync, R: Threads + Wait + Clock + Sync> Stage<
 }
 
 // Plays a part. Where it stops before its end, the cluster ends.
-fn play<J: Name, R: Wait>(
+fn play<J: Name, G: Gate, R: Wait>(
     rt: &R,
-    cluster: &Cluster<'_, J>,
-    part: &Part<'_, J>,
+    cluster: &Cluster<'_, J, G>,
+    part: &Part<'_, J, G>,
     playing: &AtomicU64,
 ) {
     if !part.play(rt) {

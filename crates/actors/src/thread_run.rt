@@ -1,15 +1,18 @@
 //! What came of a script on threads.
 ghost use Rattle.std.specs.Prelude.{◌≡◌, ◌↔◌, true, false, All, IfOk, IsTrue, filter_map, map};
 ghost use Rattle.lockscript.specs.Scripts.{LineFields};
-ghost use Rattle.actors.specs.Cuts.{AreBarred, IsUnanswered, is_cut, open_by};
+ghost use Rattle.actors.specs.Cuts.{AreBarred, IsUnanswered, is_cut, killed_by, open_by};
+ghost use Rattle.actors.specs.Denials.{MayAllCome, first_of};
 ghost use Rattle.actors.specs.Lines.{AreLinesOf, ArePhases, Fits, parts, receipt_in, refused_in};
 ghost use Rattle.actors.specs.Runs.{IsOfScript};
 
 use crate::asked::are_made;
-use crate::cut::{are_barred, are_unanswered};
+use crate::cut::are_barred;
+use crate::denials::may_all_come;
 use crate::manner::Manner;
 use crate::phase_order::are_phases;
 use crate::played_line::PlayedLine;
+use crate::unanswered::are_unanswered;
 use book::receipt::Receipt;
 use cluster_core::journal::Journal;
 use lockscript::refused_line::RefusedLine;
@@ -60,7 +63,7 @@ impl ThreadRun {
         let (told, entries) = (lines.as_slice(), journal.entries());
         let open_calls = open_in(alloc, entries, told)?;
         let calls = open_calls.as_slice();
-        if !are_of_script(alloc, script.lines(), manner, entries, told, calls)? {
+        if !are_of_script(alloc, script, manner, entries, told, calls)? {
             return Err(AllocError);
         }
         let receipts = receipts_in(alloc, told)?;
@@ -121,21 +124,30 @@ impl ThreadRun {
 // open calls.
 fn are_of_script(
     alloc: Global,
-    script: &[ScriptLine],
+    script: &Script,
     manner: Manner,
     entries: &[Entry],
     lines: &[PlayedLine],
     open_calls: &[CallId],
 ) -> Result<bool, AllocError>
-    ensures lines { IfOk result (λ are. are ≡ true → AreLinesOf script.now entries.now lines.now) }
+    ensures lines { IfOk result (λ are. are ≡ true → AreLinesOf script.now.lines entries.now lines.now) }
     ensures fit { IfOk result (λ are. are ≡ true → All (λ l. Fits l.line.command l.outcome) lines.now) }
     ensures phases { IfOk result (λ are. are ≡ true → ArePhases (parts manner.no_join) lines.now) }
+    ensures killed { IfOk result (λ are. are ≡ true → All (IsUnanswered entries.now) (filter_map (λ l. killed_by entries.now l.outcome) lines.now)) }
+    ensures come { IfOk result (λ are. are ≡ true → MayAllCome (parts manner.no_join) script.now.shape (first_of script.now.shape) lines.now) }
     ensures unanswered { IfOk result (λ are. are ≡ true → All (IsUnanswered entries.now) open_calls.now) }
     ensures barred { IfOk result (λ are. are ≡ true → AreBarred (parts manner.no_join) lines.now) }
     ensures whole { IfOk result (λ are. are ≡ true → manner.may_stop ≡ false → All (λ l. is_cut l.outcome ≡ false) lines.now) }
 {
-    let are_lines = are_lines_of(alloc, script, entries, lines)?;
+    let are_lines = are_lines_of(alloc, script.lines(), entries, lines)?;
     if !are_lines || !all_fit(lines) || !are_phases(manner.no_join, lines) {
+        return Ok(false);
+    }
+    if !may_all_come(alloc, script.shape(), manner.no_join, lines)? {
+        return Ok(false);
+    }
+    let killed = killed_in(alloc, entries, lines)?;
+    if !are_unanswered(alloc, entries, killed.as_slice())? {
         return Ok(false);
     }
     are_cut_so(alloc, manner, entries, lines, open_calls)
@@ -153,7 +165,10 @@ fn are_cut_so(
     ensures barred { IfOk result (λ are. are ≡ true → AreBarred (parts manner.no_join) lines.now) }
     ensures whole { IfOk result (λ are. are ≡ true → manner.may_stop ≡ false → All (λ l. is_cut l.outcome ≡ false) lines.now) }
 {
-    if !are_unanswered(entries, open_calls) || !are_barred(alloc, manner.no_join, lines)? {
+    if !are_unanswered(alloc, entries, open_calls)? {
+        return Ok(false);
+    }
+    if !are_barred(alloc, manner.no_join, lines)? {
         return Ok(false);
     }
     Ok(manner.may_stop || are_whole(lines))
@@ -177,6 +192,20 @@ fn open_in(
     lines
         .iter()
         .filter_map(|line| line.outcome.open_call(entries))
+        .collect(alloc)
+}
+
+// The names of the calls that ended without a reply.
+fn killed_in(
+    alloc: Global,
+    entries: &[Entry],
+    lines: &[PlayedLine],
+) -> Result<Vec<CallId>, AllocError>
+    ensures { IfOk result (λ calls. calls.items ≡ filter_map (λ l. killed_by entries.now l.outcome) lines.now) }
+{
+    lines
+        .iter()
+        .filter_map(|line| line.outcome.killed_call(entries))
         .collect(alloc)
 }
 

@@ -194,7 +194,7 @@ fn run_on<J: Name + Send + Sync, G: Gate + Sync, R: Threads + Wait + Clock + Syn
     let weathers = weathers_of(alloc, seed, actors)?;
     let (begun, workers) = begin(alloc, shape, seats, weathers)?;
     let shared = begun.shared(book, gate);
-    let cluster = begun.cluster(book, gate);
+    let cluster = begun.cluster(book, gate, gate.is_open());
     thread::scope(thread::scope_env(), rt, |scope| {
         let all = start_all(scope, rt, &shared, workers);
         let played = if all {
@@ -226,9 +226,14 @@ fn weathers_of(alloc: Global, seed: u32, count: u32) -> Result<Vec<Seeded>, Allo
 }
 
 // Runs the lines in order on a cluster that runs.
-fn run_lines<J: Name + Send + Sync, R: Threads + Wait + Clock + Sync, V: RunWatcher>(
+fn run_lines<
+    J: Name + Send + Sync,
+    G: Gate + Sync,
+    R: Threads + Wait + Clock + Sync,
+    V: RunWatcher,
+>(
     rt: &R,
-    cluster: &Cluster<'_, J>,
+    cluster: &Cluster<'_, J, G>,
     lines: &[ScriptLine],
     manner: Manner,
     watcher: &mut V,

@@ -4,8 +4,9 @@ ghost use Rattle.std.specs.Vec.{vec_capacity};
 ghost use Rattle.book.specs.Commits.{Names, IsStepFrom};
 
 use crate::call_error::CallError;
+use crate::commits::commit;
 use crate::desk::Desk;
-use crate::gate::{Gate, Point};
+use crate::gate::Gate;
 use crate::letter::{Letter, Question};
 use crate::locks::lock;
 use crate::open_calls::{OpenCall, OpenCalls, may_release};
@@ -396,7 +397,7 @@ impl<W: Weather> Worker<W> {
             self.resends.end();
             return;
         }
-        match commit(rt, shared, seat, prepared, None) {
+        match commit_to(rt, shared, seat, prepared, None) {
             Ok(stamp) => self.outgoing.send_all(rt, shared, &stamp),
             Err(CallError::Fenced) => self.resends.end(),
             Err(CallError::NoMemory) => self.lack_memory(shared),
@@ -492,11 +493,11 @@ fn try_step<J: Name, G: Gate, R: Wait>(
     seen: Option<&Mark>,
 ) -> Result<Stamp, CallError> {
     let prepared = seat.prepare(shared.alloc, event)?;
-    commit(rt, shared, seat, prepared, seen)
+    commit_to(rt, shared, seat, prepared, seen)
 }
 
-// Commits a step that the seat prepared, under the lock of the book.
-fn commit<J: Name, G: Gate, R: Wait>(
+// Commits a step that the seat prepared.
+fn commit_to<J: Name, G: Gate, R: Wait>(
     rt: &R,
     shared: &Shared<'_, J, G>,
     seat: &mut Seat<J>,
@@ -505,11 +506,15 @@ fn commit<J: Name, G: Gate, R: Wait>(
 ) -> Result<Stamp, CallError>
     requires { Names prepared seat.old → IsStepFrom seat.old prepared }
 {
-    let actor = seat.actor();
-    shared.gate.at(Point::Prepared(actor));
-    let committed = lock(rt, shared.book).commit(shared.alloc, seat, prepared, seen);
-    let stamp = committed?;
-    shared.halt.note_step();
-    shared.gate.at(Point::Committed(actor, stamp.position()));
-    Ok(stamp)
+    let committed = commit(
+        rt,
+        shared.alloc,
+        shared.book,
+        shared.gate,
+        shared.halt,
+        seat,
+        prepared,
+        seen,
+    );
+    Ok(committed?)
 }

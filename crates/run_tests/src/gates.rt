@@ -7,8 +7,8 @@ use std::time::{Clock, Duration};
 
 const TURNS: u64 = 10_000;
 
-// Waits until the word is set, and says whether it was.
-fn wait_for<R: Clock>(rt: &R, word: &AtomicU64) -> bool {
+/// Waits until the word is set, and says whether it was.
+pub fn wait_for<R: Clock>(rt: &R, word: &AtomicU64) -> bool {
     for _ in 0..TURNS {
         if word.load(Ordering::SeqCst) != 0 {
             return true;
@@ -56,11 +56,12 @@ impl Gate for Counter {
     }
 }
 
-/// Once armed, holds the next step that node 1 prepares until it is let go. A step that node 2 commits
-/// meanwhile lets it go.
+/// Once armed, holds the next step that node 1 prepares until it is let go, and up to that step those of node 2. A step that
+/// node 2 commits while it is held lets it go.
 #[derive(Drop)]
 pub struct Holder<'a, R: Clock> {
     rt: &'a R,
+    is_open: bool,
     armed: AtomicU64,
     came: AtomicU64,
     let_go: AtomicU64,
@@ -68,9 +69,10 @@ pub struct Holder<'a, R: Clock> {
 }
 
 impl<'a, R: Clock> Holder<'a, R> {
-    pub fn new(rt: &'a R) -> Holder<'a, R> {
+    pub fn new(rt: &'a R, is_open: bool) -> Holder<'a, R> {
         Holder {
             rt,
+            is_open,
             armed: AtomicU64::new(0),
             came: AtomicU64::new(0),
             let_go: AtomicU64::new(0),
@@ -97,19 +99,29 @@ impl<'a, R: Clock> Holder<'a, R> {
     pub fn was_let_go(&self) -> bool {
         self.let_go.load(Ordering::SeqCst) == 1 && self.late.load(Ordering::SeqCst) == 0
     }
+
+    // Whether a step of node 1 is still to come that is held.
+    fn is_armed(&self) -> bool {
+        self.armed.load(Ordering::SeqCst) == 1
+    }
+
+    // Holds a step until the word is set.
+    fn hold(&self, word: &AtomicU64) {
+        if !wait_for(self.rt, word) {
+            self.late.store(1, Ordering::SeqCst);
+        }
+    }
 }
 
 impl<R: Clock> Gate for Holder<'_, R> {
     fn at(&self, point: Point) {
         match point {
-            Point::Prepared(Actor::Node(1)) => {
-                if self.armed.swap(0, Ordering::SeqCst) == 1 {
-                    self.came.store(1, Ordering::SeqCst);
-                    if !wait_for(self.rt, &self.let_go) {
-                        self.late.store(1, Ordering::SeqCst);
-                    }
-                }
+            Point::Prepared(Actor::Node(1)) if self.is_armed() => {
+                self.came.store(1, Ordering::SeqCst);
+                self.armed.store(0, Ordering::SeqCst);
+                self.hold(&self.let_go);
             }
+            Point::Prepared(Actor::Node(2)) if self.is_armed() => self.hold(&self.came),
             Point::Committed(Actor::Node(2), _) => {
                 if self.came.load(Ordering::SeqCst) == 1 {
                     self.let_go();
@@ -117,5 +129,9 @@ impl<R: Clock> Gate for Holder<'_, R> {
             }
             _ => {}
         }
+    }
+
+    fn is_open(&self) -> bool {
+        self.is_open
     }
 }

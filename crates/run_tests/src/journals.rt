@@ -1,6 +1,8 @@
 //! Journals of tests. Their entries say what is to happen and what it has to give, also where no run comes to it.
 use journal_text::parse::parse;
+use messages::actor::Actor;
 use messages::entry::Entry;
+use messages::event::Event;
 use messages::message::Message;
 use messages::outcome::Outcome;
 use messages::shape::Shape;
@@ -21,6 +23,17 @@ pub fn is_of(entry: &Entry, outcome: &Outcome) -> bool {
     outcome.call == entry.call()
         && outcome.reply == entry.reply()
         && same_messages(outcome.sends.as_slice(), entry.sends())
+}
+
+/// The actor that takes the event, if one does, where there is one file.
+pub fn actor_of(event: &Event) -> Actor {
+    match event {
+        Event::Call { node, .. } | Event::Retry { node, .. } | Event::Interrupt { node, .. } => {
+            Actor::Node(*node)
+        }
+        Event::Deliver(message) => message.get().addressee(),
+        _ => Actor::Server(1),
+    }
 }
 
 fn same_messages(given: &[Message], sends: &[SharedMessage]) -> bool {

@@ -5,6 +5,8 @@
 #[cfg(test)]
 mod books;
 #[cfg(test)]
+mod clusters;
+#[cfg(test)]
 mod gates;
 #[cfg(test)]
 mod journals;
@@ -35,6 +37,12 @@ mod of_placement;
 #[cfg(test)]
 mod of_refused_memory;
 #[cfg(test)]
+mod of_threads;
+#[cfg(test)]
 mod of_token_server;
 #[cfg(test)]
 mod of_token_set;
+#[cfg(test)]
+mod of_weathers;
+#[cfg(test)]
+mod under_way;

@@ -1,41 +1,26 @@
 //! Clusters on threads, where a gate holds an actor or a node is declared failed meanwhile.
+use crate::clusters::{Caller, Lent, begin, holds_all, lock, runs_right};
 use crate::gates::{Counter, Holder};
 use actors::call_error::CallError;
-use actors::client::Client;
-use actors::cluster::{Cluster, with_cluster};
 use actors::gate::{Gate, OpenGate};
-use actors::seeded::Seeded;
-use actors::weather::{Fair, Fate, Weather};
+use actors::weather::Fair;
 use book::confirms::Confirms;
 use book::receipt::Receipt;
 use cluster_core::journal::Journal;
 use messages::event::Event;
-use messages::file_number::FileNumber;
-use messages::message::Message;
-use messages::shape::Shape;
-use model::access::Access;
-use model::host::Host;
 use model::mode::Mode;
 use model::op::Op;
 use model::owner::Kind;
-use model::policy::Policy;
 use std::alloc::Global;
-use std::marker::Brand;
 use std::sync::Wait;
 use std::test::Fail;
 use std::thread;
 use std::thread::Threads;
 use std::time::{Clock, Duration};
 
-// A lock of a process on descriptor 0.
+// A write lock of a process on descriptor 0.
 fn set(start: i64, len: i64) -> Op {
-    Op::Set {
-        fd: 0,
-        kind: Kind::OfProcess,
-        mode: Mode::Write,
-        start,
-        len,
-    }
+    lock(Mode::Write, start, len)
 }
 
 // Gives a lock up.
@@ -57,58 +42,33 @@ const WAIT: Op = Op::Wait {
     len: 10,
 };
 
-// The process begins, opens file 1 and sets a lock.
-fn begin<R: Wait>(rt: &R, client: &mut Client<'_, Brand>, op: Op) -> Option<Receipt> {
-    client.call(rt, Op::Spawn).ok()?;
-    let open = Op::Open {
-        file: 1,
-        access: Access::ReadWrite,
-    };
-    client.call(rt, open).ok()?;
-    client.call(rt, op).ok()
-}
-
-// Runs a cluster of two nodes and one file, in fair weather, for as long as the body does. Whether what the body made is right, by the
-// journal.
-fn runs_right<
+// The same as `runs_right`, in fair weather.
+fn runs_fairly<
     R: Threads + Wait + Clock + Sync,
     G: Gate + Sync,
     T,
-    F: FnOnce(&Cluster<'_, Brand>) -> Option<T>,
+    F: FnOnce(&Lent<'_>) -> Option<T>,
     L: FnOnce(T, &Journal) -> bool,
 >(rt: &R, alloc: Global, gate: &G, body: F, is_right: L) -> Result<bool, Fail>
     requires body { F.IsAlwaysCallable body }
     requires is_right { L.IsAlwaysCallable is_right }
 {
-    let shape = Shape::new(2, 1, Policy::Exact)?;
     let weathers = vec![in alloc; Fair, Fair, Fair]?;
-    let (made, journal) = with_cluster(rt, alloc, shape, gate, weathers, body)?;
-    match made {
-        Some(made) => Ok(is_right(made, &journal)),
-        None => Ok(false),
-    }
+    runs_right(rt, alloc, gate, weathers, body, is_right)
 }
 
 // Clients of process 1 of node 1, and of process 2 of that node.
-fn clients<'a, R: Wait>(
-    rt: &R,
-    cluster: &Cluster<'a, Brand>,
-    node: u8,
-) -> Option<(Client<'a, Brand>, Client<'a, Brand>)> {
+fn clients<'a, R: Wait>(rt: &R, cluster: &Lent<'a>, node: u8) -> Option<(Caller<'a>, Caller<'a>)> {
     let one = cluster.client(rt, 1, 1).ok()?;
     Some((one, cluster.client(rt, node, 2).ok()?))
-}
-
-fn holds_all(journal: &Journal, receipts: &[Receipt]) -> bool {
-    receipts.iter().all(|receipt| journal.holds(receipt))
 }
 
 // Node 2 makes a call while a call of node 1 is held at the gate.
 fn call_beside<R: Threads + Wait + Clock + Sync>(
     rt: &R,
     gate: &Holder<'_, R>,
-    one: &mut Client<'_, Brand>,
-    two: &mut Client<'_, Brand>,
+    one: &mut Caller<'_>,
+    two: &mut Caller<'_>,
 ) -> Option<[Receipt; 4]> {
     let first = begin(rt, one, set(0, 10))?;
     two.told(&first);
@@ -117,18 +77,15 @@ fn call_beside<R: Threads + Wait + Clock + Sync>(
     let (third, fourth) = thread::join(
         rt,
         || one.call(rt, unlock(0, 10)),
-        || {
-            gate.wait_for_node();
-            two.call(rt, set(20, 5))
-        },
+        || two.call(rt, set(20, 5)),
     );
     Some([first, second, third.ok()?, fourth.ok()?])
 }
 
 #[test]
 fn a_node_commits_while_another_is_held(rt: HostRuntime) -> Result<(), Fail> {
-    let gate = Holder::new(&rt);
-    let is_right = runs_right(
+    let gate = Holder::new(&rt, false);
+    let is_right = runs_fairly(
         &rt,
         rt.alloc(),
         &gate,
@@ -149,7 +106,7 @@ fn is_told<R: Threads + Wait + Clock + Sync>(
     is_open: bool,
 ) -> Result<bool, Fail> {
     let gate = Counter::new(is_open);
-    runs_right(
+    runs_fairly(
         rt,
         alloc,
         &gate,
@@ -173,8 +130,8 @@ fn a_client_makes_calls_itself_where_the_gate_is_open(rt: HostRuntime) -> Result
 fn declare_beside<R: Threads + Wait + Clock + Sync>(
     rt: &R,
     gate: &Holder<'_, R>,
-    cluster: &Cluster<'_, Brand>,
-    client: &mut Client<'_, Brand>,
+    cluster: &Lent<'_>,
+    client: &mut Caller<'_>,
 ) -> bool {
     let (refused, is_declared) = thread::join(
         rt,
@@ -198,9 +155,9 @@ fn has_no_call(journal: &Journal) -> bool {
 
 #[test]
 fn a_step_of_a_declared_node_is_not_taken(rt: HostRuntime) -> Result<(), Fail> {
-    let gate = Holder::new(&rt);
+    let gate = Holder::new(&rt, false);
     gate.arm();
-    let is_right = runs_right(
+    let is_right = runs_fairly(
         &rt,
         rt.alloc(),
         &gate,
@@ -215,12 +172,7 @@ fn a_step_of_a_declared_node_is_not_taken(rt: HostRuntime) -> Result<(), Fail> {
 }
 
 // Makes calls that the node's token covers until one fails, since the node was declared failed: the last receipt.
-fn call_on<R: Wait>(
-    rt: &R,
-    client: &mut Client<'_, Brand>,
-    op: Op,
-    begun: Receipt,
-) -> Option<Receipt> {
+fn call_on<R: Wait>(rt: &R, client: &mut Caller<'_>, op: Op, begun: Receipt) -> Option<Receipt> {
     let mut last = begun;
     for _ in 0..400_000 {
         match client.call(rt, op) {
@@ -233,7 +185,7 @@ fn call_on<R: Wait>(
 }
 
 // Node 1 fails and begins again: the first receipt behind that.
-fn begin_again<R: Wait + Clock>(rt: &R, cluster: &Cluster<'_, Brand>) -> Option<Receipt> {
+fn begin_again<R: Wait + Clock>(rt: &R, cluster: &Lent<'_>) -> Option<Receipt> {
     thread::sleep(rt, Duration::from_millis(5));
     cluster.declare(rt, 1).ok()?;
     cluster.restart(rt, 1).ok()?;
@@ -243,9 +195,9 @@ fn begin_again<R: Wait + Clock>(rt: &R, cluster: &Cluster<'_, Brand>) -> Option<
 // Both processes of node 1 call until it fails: their last receipts, and the first of the next incarnation.
 fn call_until_failure<R: Threads + Wait + Clock + Sync>(
     rt: &R,
-    cluster: &Cluster<'_, Brand>,
-    one: &mut Client<'_, Brand>,
-    two: &mut Client<'_, Brand>,
+    cluster: &Lent<'_>,
+    one: &mut Caller<'_>,
+    two: &mut Caller<'_>,
 ) -> Option<[Receipt; 3]> {
     let first = begin(rt, one, set(0, 10))?;
     let second = begin(rt, two, set(20, 10))?;
@@ -265,7 +217,7 @@ fn call_until_failure<R: Threads + Wait + Clock + Sync>(
 
 #[test]
 fn a_node_is_declared_while_its_clients_call(rt: HostRuntime) -> Result<(), Fail> {
-    let is_right = runs_right(
+    let is_right = runs_fairly(
         &rt,
         rt.alloc(),
         &OpenGate,
@@ -300,8 +252,8 @@ fn is_wait_at(journal: &Journal, why: Option<CallError>) -> bool {
 // Declares node 2 failed while its process waits: why the wait ended.
 fn declare_beside_wait<R: Threads + Wait + Clock + Sync>(
     rt: &R,
-    cluster: &Cluster<'_, Brand>,
-    two: &mut Client<'_, Brand>,
+    cluster: &Lent<'_>,
+    two: &mut Caller<'_>,
 ) -> Option<CallError> {
     let (ended, _) = thread::join(
         rt,
@@ -315,7 +267,7 @@ fn declare_beside_wait<R: Threads + Wait + Clock + Sync>(
 }
 
 // Whether a call of the declared node is refused.
-fn is_fenced<R: Wait>(rt: &R, client: &mut Client<'_, Brand>) -> bool {
+fn is_fenced<R: Wait>(rt: &R, client: &mut Caller<'_>) -> bool {
     client.call(rt, Op::Spawn).err() == Some(CallError::Fenced)
 }
 
@@ -323,9 +275,9 @@ fn is_fenced<R: Wait>(rt: &R, client: &mut Client<'_, Brand>) -> bool {
 // receipt of the next incarnation.
 fn wait_until_failure<R: Threads + Wait + Clock + Sync>(
     rt: &R,
-    cluster: &Cluster<'_, Brand>,
-    one: &mut Client<'_, Brand>,
-    two: &mut Client<'_, Brand>,
+    cluster: &Lent<'_>,
+    one: &mut Caller<'_>,
+    two: &mut Caller<'_>,
 ) -> Option<(Option<CallError>, Receipt)> {
     let held = begin(rt, one, set(0, 10))?;
     two.told(&held);
@@ -347,7 +299,7 @@ fn is_first_again(receipt: &Receipt) -> bool {
 
 #[test]
 fn a_wait_ends_as_its_node_is_declared(rt: HostRuntime) -> Result<(), Fail> {
-    let is_right = runs_right(
+    let is_right = runs_fairly(
         &rt,
         rt.alloc(),
         &OpenGate,
@@ -361,38 +313,4 @@ fn a_wait_ends_as_its_node_is_declared(rt: HostRuntime) -> Result<(), Fail> {
     )?;
     assert!(rt; is_right);
     Ok(())
-}
-
-// Whether this becomes of the message at that place, from 0, of the fourth actor, where the seed is 3: as the generator's words were
-// worked out apart from the program.
-fn is_wanted(place: u8, fate: Fate) -> bool {
-    let wanted = match place {
-        7 | 12 | 17 => Fate::Drop,
-        8 | 11 => Fate::Hold(4),
-        18 => Fate::Twice,
-        _ => Fate::Pass,
-    };
-    fate == wanted
-}
-
-// Whether that becomes of one message at each of the places.
-fn are_wanted(weather: &mut Seeded, message: &Message) -> bool {
-    for place in 0..19 {
-        if !is_wanted(place, weather.fate(message)) {
-            return false;
-        }
-    }
-    true
-}
-
-#[test]
-fn a_seed_says_what_becomes_of_each_message(rt: HostRuntime) {
-    let message = Message::Freed {
-        file: FileNumber::of(1),
-        holder: Host {
-            node: 1,
-            incarnation: 1,
-        },
-    };
-    assert!(rt; are_wanted(&mut Seeded::new(3, 4), &message));
 }

@@ -3,7 +3,7 @@
 ghost use Rattle.std.specs.Prelude.{◌≡◌};
 
 use crate::books::{Opened, commits, open, position, put, put_first};
-use crate::journals::read;
+use crate::journals::{actor_of, read};
 use book::book::Book;
 use book::new_trail::NewTrail;
 use book::seat::Seat;
@@ -168,17 +168,6 @@ fn begins_again(alloc: Global, shape: Shape) -> Result<Box<World>, AllocError> {
 fn world_takes(alloc: Global, shape: Shape, entries: &[Entry]) -> Result<bool, AllocError> {
     let mut world = begins_again(alloc, shape)?;
     Ok(takes_all(alloc, &mut *world, entries))
-}
-
-// The actor that takes the event, if one does. There is one file.
-fn actor_of(event: &Event) -> Actor {
-    match event {
-        Event::Call { node, .. } | Event::Retry { node, .. } | Event::Interrupt { node, .. } => {
-            Actor::Node(*node)
-        }
-        Event::Deliver(message) => message.get().addressee(),
-        _ => Actor::Server(1),
-    }
 }
 
 // The actor's seat.

@@ -1,0 +1,40 @@
+//! Commits to the book that threads share.
+ghost use Rattle.std.specs.Prelude.{◌≡◌, IfOk};
+ghost use Rattle.book.specs.Commits.{Names, IsStepFrom};
+
+use crate::gate::{Gate, Point};
+use crate::halt::Halt;
+use crate::locks::lock;
+use book::book::Book;
+use book::commit_error::CommitError;
+use book::mark::Mark;
+use book::prepared::Prepared;
+use book::seat::Seat;
+use book::stamp::Stamp;
+use std::alloc::Global;
+use std::sync::{Mutex, Wait};
+use trail::name::Name;
+
+/// Commits a step that the seat prepared, under the lock of the book. The gate is told before that is taken, and once it was given
+/// back.
+pub(crate) fn commit<J: Name, G: Gate, R: Wait>(
+    rt: &R,
+    alloc: Global,
+    book: &Mutex<Book<J>>,
+    gate: &G,
+    halt: &Halt,
+    seat: &mut Seat<J>,
+    prepared: Prepared,
+    seen: Option<&Mark>,
+) -> Result<Stamp, CommitError>
+    requires { Names prepared seat.old → IsStepFrom seat.old prepared }
+    ensures { IfOk result (λ stamp. stamp.event ≡ prepared.event) }
+{
+    let actor = seat.actor();
+    gate.at(Point::Prepared(actor));
+    let committed = lock(rt, book).commit(alloc, seat, prepared, seen);
+    let stamp = committed?;
+    halt.note_step();
+    gate.at(Point::Committed(actor, stamp.position()));
+    Ok(stamp)
+}

@@ -1,0 +1,261 @@
+//! Whether lines that were played may have come to what they did, as failures and starts have it.
+ghost use Rattle.std.specs.Prelude.{◌≡◌, ◌⊎◌, ℕ, Bool, List, ◌∷◌, Some, None, Ok, Err, max, unwrap_or, if◌then◌else◌, ◌==◌, true, false, IfOk, IfErr, OnOk, OnErr, IsTrue};
+ghost use Rattle.std.specs.BTreeMap as tree;
+ghost use Rattle.std.specs.Ordering.{nat_cmp};
+ghost use Rattle.actors.specs.Lines.{parts};
+ghost use Rattle.lockscript.specs.declared.script_line.Command.{Command};
+ghost use Rattle.actors.specs.declared.line_outcome.LineOutcome.TheVariants.{Denied};
+ghost use Rattle.actors.specs.declared.played_line.PlayedLine.{PlayedLine};
+ghost use Rattle.actors.specs.Awaited.{AreMet, members_of};
+ghost use Rattle.actors.specs.Denials.{MayAllCome, MayCallCome, MayChangeCome, MayCome, after_line, changed_by, declares, first_of, has_call, has_process, if_made};
+ghost use Rattle.node_core.specs.Calls.{is_in_shape};
+ghost use Rattle.messages.specs.Messages.{is_within};
+ghost use Rattle.messages.specs.Versions.{may_rebuild};
+ghost use Rattle.messages.specs.declared.refusal.Refused.TheVariants as refusal;
+
+use crate::call_error::CallError;
+use crate::line_outcome::LineOutcome;
+use crate::played_line::PlayedLine;
+use lockscript::script_line::Command;
+use members::members::Members;
+use messages::refusal::Refused;
+use messages::shape::Shape;
+use model::limits::MOST_PROCESSES;
+use model::op::Op;
+use std::alloc::{AllocError, Global};
+use std::collections::BTreeMap;
+
+// Whether the number is one of those from 1 to the most.
+fn is_number(most: u16, number: u16) -> bool
+    ensures { result ≡ is_within most number }
+{
+    1 <= number && number <= most
+}
+
+// Whether the node is of the cluster, and the process one that a node can have.
+fn has_process(shape: Shape, node: u8, pid: u16) -> bool
+    ensures { result ≡ has_process shape node pid }
+{
+    is_number(u16::from(shape.nodes()), u16::from(node)) && is_number(MOST_PROCESSES, pid)
+}
+
+// Whether the file and the process that the operation names are ones that there can be.
+fn is_in_shape(shape: Shape, op: &Op) -> bool
+    ensures { result ≡ is_in_shape shape op.now }
+{
+    match op {
+        Op::Open { file, .. } => is_number(shape.files(), *file),
+        Op::Fork { child } => is_number(MOST_PROCESSES, *child),
+        _ => true,
+    }
+}
+
+// Whether all that the call names is of the cluster.
+fn has_call(shape: Shape, node: u8, pid: u16, op: &Op) -> bool
+    ensures { result ≡ has_call shape node pid op.now }
+{
+    has_process(shape, node, pid) && is_in_shape(shape, op)
+}
+
+// The members of a cluster behind the lines that were passed; and of each node that has still to be declared failed
+// in the phase, behind which position.
+#[derive(Drop)]
+struct Passed {
+    members: Members,
+    awaited: BTreeMap<u8, u32>,
+}
+
+impl Passed {
+    // No line was passed.
+    fn new(alloc: Global, shape: Shape) -> Result<Passed, AllocError>
+        ensures members { IfOk result (λ p. members_of p.members ≡ first_of shape) }
+    {
+        Ok(Passed {
+            members: Members::new(alloc, shape)?,
+            awaited: BTreeMap::new(alloc),
+        })
+    }
+
+    // Makes the failure or the start that the line asks for.
+    fn change(&mut self, shape: Shape, command: Command) -> Result<(), Refused>
+        ensures ok { OnOk result (changed_by shape (members_of self.old.members) command ≡ Ok (members_of self.new.members)) }
+        ensures err { IfErr result (λ why. changed_by shape (members_of self.old.members) command ≡ Err why) }
+        ensures unchanged { OnErr result (self.new.members ≡ self.old.members) }
+        ensures awaited { self.new.awaited ≡ self.old.awaited }
+    {
+        match command {
+            Command::Declare { node } => {
+                self.members.declare(node)?;
+            }
+            Command::Restart { node } => {
+                self.members.restart(node)?;
+            }
+            Command::FailServer { file } => {
+                rebuilds(shape)?;
+                self.members.fail_server(file)?;
+            }
+            Command::StartServer { file } => {
+                rebuilds(shape)?;
+                self.members.start_server(file)?;
+            }
+            _ => {}
+        }
+        Ok(())
+    }
+
+    // Makes the failure or the start, if it was made. Whether it may have come to this.
+    fn pass_change(&mut self, shape: Shape, command: Command, outcome: &LineOutcome) -> bool
+        ensures may { IsTrue result → MayChangeCome (changed_by shape (members_of self.old.members) command) outcome.now }
+        ensures members { IsTrue result → members_of self.new.members ≡ if_made (members_of self.old.members) (changed_by shape (members_of self.old.members) command) outcome.now }
+        ensures awaited { self.new.awaited ≡ self.old.awaited }
+    {
+        match outcome {
+            LineOutcome::Made(_) => self.change(shape, command).is_ok(),
+            LineOutcome::Refused(why) => match self.change(shape, command) {
+                Ok(()) => false,
+                Err(other) => other == *why,
+            },
+            _ => true,
+        }
+    }
+
+    // The node has still to be declared failed in the phase, by an entry behind this position.
+    fn expect(&mut self, node: u8, after: u32) -> Result<(), AllocError>
+        ensures members { self.new.members ≡ self.old.members }
+        ensures awaited { OnOk result ((n : ℕ) → tree.get nat_cmp self.new.awaited n ≡ (if n == node then Some (max after (unwrap_or (tree.get nat_cmp self.old.awaited node) 0)) else tree.get nat_cmp self.old.awaited n)) }
+    {
+        let known = match self.awaited.get(&node) {
+            Some(known) => *known,
+            None => 0,
+        };
+        self.awaited.insert(node, after.max(known))?;
+        Ok(())
+    }
+
+    // The line may have declared a node failed that has to be. False where that stands too early.
+    fn meet(&mut self, command: Command, outcome: &LineOutcome) -> bool
+        ensures members { self.new.members ≡ self.old.members }
+        ensures awaited { IsTrue result → (n after : ℕ) → tree.get nat_cmp self.old.awaited n ≡ Some after → (declares n after command outcome.now ≡ true) ⊎ (tree.get nat_cmp self.new.awaited n ≡ Some after) }
+    {
+        let (Command::Declare { node }, LineOutcome::Made(at)) = (command, outcome) else {
+            return true;
+        };
+        match self.awaited.remove(&node) {
+            Some(after) => after < *at,
+            None => true,
+        }
+    }
+
+    // Whether the call of the process may have come to this. Where that wants its node declared failed behind it, this is
+    // awaited from here on.
+    fn pass_call(
+        &mut self,
+        shape: Shape,
+        node: u8,
+        pid: u16,
+        op: Op,
+        outcome: &LineOutcome,
+    ) -> Result<bool, AllocError>
+        ensures members { self.new.members ≡ self.old.members }
+        ensures may { IfOk result (λ may. may ≡ true → (is_between : Command → Bool) (behind : List PlayedLine) → AreMet is_between self.new.awaited behind → MayCallCome is_between shape (members_of self.old.members).nodes node pid op outcome.now behind × AreMet is_between self.old.awaited behind) }
+    {
+        let live = self.members.alive(node);
+        match outcome {
+            LineOutcome::Answered(receipt) => {
+                let is_live = live == Some(receipt.call().incarnation);
+                Ok(is_live && has_call(shape, node, pid, &op))
+            }
+            LineOutcome::Denied(why) => self.pass_denied(shape, node, pid, op, *why),
+            LineOutcome::Open(_) => Ok(live.is_some() && has_call(shape, node, pid, &op)),
+            _ => Ok(true),
+        }
+    }
+
+    // The same of a call that was denied.
+    fn pass_denied(
+        &mut self,
+        shape: Shape,
+        node: u8,
+        pid: u16,
+        op: Op,
+        why: CallError,
+    ) -> Result<bool, AllocError>
+        ensures members { self.new.members ≡ self.old.members }
+        ensures may { IfOk result (λ may. may ≡ true → (is_between : Command → Bool) (behind : List PlayedLine) → AreMet is_between self.new.awaited behind → MayCallCome is_between shape (members_of self.old.members).nodes node pid op (Denied why) behind × AreMet is_between self.old.awaited behind) }
+    {
+        let is_live = self.members.alive(node).is_some();
+        match why {
+            CallError::Stranger => Ok(!has_call(shape, node, pid, &op)),
+            CallError::Fenced if !is_live => Ok(has_process(shape, node, pid)),
+            CallError::Fenced => {
+                self.expect(node, 0)?;
+                Ok(has_process(shape, node, pid))
+            }
+            CallError::Killed { call_at } => {
+                self.expect(node, call_at)?;
+                Ok(is_live && has_call(shape, node, pid, &op))
+            }
+            _ => Ok(true),
+        }
+    }
+
+    // Whether nothing is awaited.
+    fn is_met(&self) -> bool
+        ensures { IsTrue result → (n : ℕ) → tree.get nat_cmp self.now.awaited n ≡ None }
+    {
+        self.awaited.is_empty()
+    }
+
+    // Whether the line parts no phases, or nothing is awaited.
+    fn may_part(&self, no_join: bool, line: &PlayedLine) -> bool
+        ensures { IsTrue result → parts no_join line.now.line.command ≡ true → (n : ℕ) → tree.get nat_cmp self.now.awaited n ≡ None }
+    {
+        !line.parts(no_join) || self.is_met()
+    }
+
+    // Passes the next line. False where it can't have come to this.
+    fn pass(&mut self, shape: Shape, no_join: bool, line: &PlayedLine) -> Result<bool, AllocError>
+        ensures members { IfOk result (λ may. may ≡ true → members_of self.new.members ≡ after_line shape (members_of self.old.members) line.now) }
+        ensures may { IfOk result (λ may. may ≡ true → (behind : List PlayedLine) → AreMet (parts no_join) self.new.awaited behind → MayCome (parts no_join) shape (members_of self.old.members) line.now.line.command line.now.outcome behind × AreMet (parts no_join) self.old.awaited (line.now ∷ behind)) }
+    {
+        let command = line.line.command();
+        if !self.may_part(no_join, line) || !self.meet(command, &line.outcome) {
+            return Ok(false);
+        }
+        match command {
+            Command::Call { node, pid, op } => self.pass_call(shape, node, pid, op, &line.outcome),
+            _ => Ok(self.pass_change(shape, command, &line.outcome)),
+        }
+    }
+}
+
+/// Whether each line may have come to what it says, as the failures and starts before it have it, and those behind a
+/// call in its phase.
+pub(crate) fn may_all_come(
+    alloc: Global,
+    shape: Shape,
+    no_join: bool,
+    lines: &[PlayedLine],
+) -> Result<bool, AllocError>
+    ensures { IfOk result (λ may. may ≡ true → MayAllCome (parts no_join) shape (first_of shape) lines.now) }
+{
+    let mut passed = Passed::new(alloc, shape)?;
+    for line in lines {
+        if !passed.pass(shape, no_join, line)? {
+            return Ok(false);
+        }
+    }
+    Ok(passed.is_met())
+}
+
+// Whether token servers may fail and begin again.
+fn rebuilds(shape: Shape) -> Result<(), Refused>
+    ensures yes { OnOk result (may_rebuild shape.version ≡ true) }
+    ensures no { IfErr result (λ why. (why ≡ refusal.Stranger) × (may_rebuild shape.version ≡ false)) }
+{
+    if shape.version().may_rebuild() {
+        Ok(())
+    } else {
+        Err(Refused::Stranger)
+    }
+}
