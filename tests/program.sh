@@ -11,6 +11,18 @@ try 'a script' 0 first.listing none run first.lock
 try 'a script behind --' 0 first.listing none run -- first.lock
 timeout 120 "$program" run /dev/stdin <first.lock >came.out 2>came.err
 judge 'a script from standard input' 0 $? first.listing came.out none came.err
+timeout 120 "$program" run - <first.lock >came.out 2>came.err
+judge 'a script that is -' 0 $? first.listing came.out none came.err
+echo 'cannot read -' >no-input
+timeout 120 "$program" run - <. >came.out 2>came.err
+judge 'a folder as the script that is -' 3 $? none came.out no-input came.err
+timeout 120 "$program" run --journal - first.lock >came.out 2>came.err </dev/null
+judge 'a journal that is -' 0 $? first.listing came.out none came.err
+[ -s ./- ]
+judge 'a file that is named -' 0 $? none none none none
+timeout 120 "$program" audit - <./- >came.out 2>came.err
+judge 'a journal from standard input that is -' 0 $? yes came.out none came.err
+rm -f ./-
 { cat empty.lock; for _ in $(seq 25000); do echo settle; done; } | head -c 200001 | sed '$d' >long.lock
 try 'a script of 200,000 bytes' 0 empty.listing none run long.lock
 
@@ -116,7 +128,7 @@ for seed in many '' 1.5; do
 done
 try_text 'a seed left out' 2 err "a value is required for '--seed <N>'" threads first.lock --seed
 try_text 'a seed for run' 2 err 'Usage: lockreplay run' run first.lock --seed 1
-try_text 'the version' 0 out 'lockreplay 0.1.0' --version
+try_text 'the version' 0 out 'lockreplay 0.2.0' --version
 
 # The input.
 try 'a missing file' 3 none no-file run missing.lock
@@ -482,7 +494,8 @@ for command in explore schedule; do
 done
 printf 'cluster nodes 1 files 1 policy wide\n' >wanted.lock
 : >empty.strace
-try 'a recording of nothing' 0 wanted.lock none from-strace empty.strace
+echo 'node 1 has no process' >wanted.err
+try 'a recording of nothing' 1 wanted.lock wanted.err from-strace empty.strace
 echo settle >>wanted.lock
 try 'a schedule of nothing' 0 wanted.lock none schedule empty.lock
 
@@ -507,7 +520,9 @@ for failures in '' --failures; do
 done
 echo 'cluster nodes 64 files 1 policy wide' >first-line
 timeout 120 "$program" from-strace "$tests/../examples/sqlite.strace" --nodes 64 2>came.err </dev/null | sed -n '/^cluster/p' >came.out
-judge 'a recording on 64 nodes' 0 "${PIPESTATUS[0]}" first-line came.out none came.err
+recorded=${PIPESTATUS[0]}
+seq -f 'node %g has no process' 3 64 >wanted.err
+judge 'a recording on 64 nodes' 1 "$recorded" first-line came.out wanted.err came.err
 cat first.journal first.journal >written.journal
 try 'a run with its journal in the place of a longer file' 0 first.listing none run first.lock --journal written.journal
 cmp -s first.journal written.journal

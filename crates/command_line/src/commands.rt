@@ -16,12 +16,12 @@ use std::alloc::{AllocError, Global};
 
 const SCRIPT: Argument<'static> = Argument::Word {
     id: "SCRIPT",
-    help: "The script: a file of lines, or /dev/stdin",
+    help: "The script: a file of lines, or - for standard input",
 };
 
 const JOURNAL: Argument<'static> = Argument::Word {
     id: "JOURNAL",
-    help: "The journal: a file of lines, or /dev/stdin",
+    help: "The journal: a file of lines, or - for standard input",
 };
 
 const FILE: Argument<'static> = Argument::Value {
@@ -121,7 +121,7 @@ const PICTURE: &[Argument<'static>] = &[
 const STRACE: &[Argument<'static>] = &[
     Argument::Word {
         id: "RECORDING",
-        help: "The recording: the output of strace -f, or /dev/stdin",
+        help: "The recording: the output of strace -f, or - for standard input",
     },
     Argument::Number {
         id: "N",

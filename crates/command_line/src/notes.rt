@@ -1,7 +1,7 @@
 //! The texts of the long help.
 
 /// The program's version.
-pub(crate) const VERSION: &str = "0.1.0";
+pub(crate) const VERSION: &str = "0.2.0";
 
 /// What stands under the options of the program.
 pub(crate) const PROGRAM_NOTES: &str = "\
@@ -17,7 +17,11 @@ Exit status:
      lines
   4  no memory, or more entries than a journal may have (1048576)
 Standard error says which, of 2 to 4: at 3 and 4 in one line, but of check of a script in
-one for each of the first hundred bad lines, and one for how many more there are.
+one for each of the first hundred bad lines, and one for how many more there are. Where
+run or threads says 'bad line L', 'lockreplay check SCRIPT' tells why, and where audit or
+history does, 'lockreplay check JOURNAL'.
+
+Where a file is read, - is standard input. FILE is the name of a file also where it is -.
 
 A journal is a file that holds the entries of a run in their order, each with its reply
 and the messages that it sends. To keep the journal of a run, to see later whether its
@@ -46,7 +50,7 @@ To make a script of what programs did, which strace recorded to a file:
 pub(crate) const RUN_NOTES: &str = "\
 A script is text in lines. Each line ends with a line feed, the last one too; empty
 lines and lines that begin with # are skipped. Words have one space between them,
-and numbers are decimal, without leading zeros. SCRIPT may be /dev/stdin.
+and numbers are decimal, without leading zeros. SCRIPT may be - for standard input.
 
 The first line gives the cluster:
   cluster nodes N files F policy P      N to 64, F to 256, P is wide or exact
@@ -95,6 +99,7 @@ server the codes are as of a node):
                                         19  the actor ran out of numbers
 These refusals end the run (see the exit status):
    3  no memory       9  bad line       16  journal full
+Of a 'bad line L' 'lockreplay check SCRIPT' tells why.
 
 With --journal FILE the journal of the run is written to FILE, in the place of what was
 there, before the listing is printed. A run that fails before that leaves FILE as it was.
@@ -152,7 +157,8 @@ other. The text is one of these:
   audit no K     entry K, counted from 1, is the first that is not the next step
                  of a run (exit status 1)
 Every run has a history, in which one table of locks gives each reply of the run.
-'lockreplay history' prints it.";
+'lockreplay history' prints it. Where the text is no journal ('bad line L'), 'lockreplay
+check JOURNAL' tells why.";
 
 /// What stands under the options of `history`.
 pub(crate) const HISTORY_NOTES: &str = "\
@@ -209,9 +215,10 @@ RECORDING is what this writes of a program and of the processes that it begins:
   strace -f -e trace=fcntl,open,openat,openat2,creat,dup,dup2,dup3,close,close_range,\
 clone,clone3,fork,vfork,execve,execveat,exit_group -o RECORDING PROGRAM
 The text is a script, for 'lockreplay run', of the locks and descriptors of that
-program. The files that are locked and the processes are numbered. Each recorded process
-that no other began is placed on a node, of the N nodes in turn, and its children on its
-node.
+program, with the kernel's answers as '# expect' lines. The files that are locked and the
+processes are numbered. Each recorded process that opens a file that is locked, and that
+none of these began, is placed on the next node, of the N nodes in turn; its children are
+on its node. A node that stays empty is told.
 
 What is not served is told on standard error, by the line of RECORDING, the first hundred
 times, and then how often more; the script is that of the other lines, and the exit

@@ -45,6 +45,7 @@ hint_text hint.LeadingZero = codes "numbers have no leading zeros"
 hint_text hint.LeadingPlus = codes "numbers have no leading plus sign"
 hint_text hint.SignedZero = codes "zero has no sign"
 hint_text hint.Hexadecimal = codes "numbers are decimal"
+hint_text hint.ToTheEnd = codes "a length of 0 goes to the end of the file"
 hint_text hint.ClusterLineFirst = codes "the cluster line stands once, before all other lines"
 hint_text hint.BehindCall = codes "an operation stands behind call N PID"
 

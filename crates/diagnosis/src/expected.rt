@@ -1,10 +1,12 @@
 //! What is expected in a line.
 use crate::forms::{
-    ACCESSES, CLUSTER_LINE, COMMANDS, Form, KINDS, MODES, OPERATIONS, POLICIES, form_in,
+    ACCESSES, CLUSTER_LINE, COMMANDS, Form, KINDS, LENGTH_NAME, MODES, OPERATIONS, POLICIES,
+    form_in,
 };
 use crate::hint::Hint;
 use crate::nearest::nearest;
 use crate::reason::Reason;
+use crate::synonyms::{KIND_SYNONYMS, MODE_SYNONYMS, OPERATION_SYNONYMS, Synonym, meant_by};
 use std::alloc::{AllocError, Global};
 use std::fmt;
 use std::fmt::{Display, Formatter, Write};
@@ -68,6 +70,9 @@ impl Expected {
         if let Some(hint) = self.hint_of_place(word) {
             return Ok(Some(hint));
         }
+        if let Some(meant) = meant_by(self.synonyms(), word) {
+            return Ok(Some(Hint::Meant(meant)));
+        }
         match nearest(alloc, word, self.forms())? {
             Some(meant) => Ok(Some(Hint::Meant(meant))),
             None => Ok(self.hint_of_rule(word)),
@@ -93,8 +98,19 @@ impl Expected {
         match self {
             Expected::ClusterLine => Some(Hint::ClusterLineFirst),
             Expected::Number { .. } => Hint::of_number(word),
+            Expected::Offset(name) if name == LENGTH_NAME => Hint::of_length(word),
             Expected::Offset(_) => Hint::of_number(word),
             _ => None,
+        }
+    }
+
+    // What other systems call the words that may stand there.
+    fn synonyms(self) -> &'static [Synonym] {
+        match self {
+            Expected::Operation => &OPERATION_SYNONYMS,
+            Expected::Kind => &KIND_SYNONYMS,
+            Expected::Mode => &MODE_SYNONYMS,
+            _ => &[],
         }
     }
 

@@ -52,7 +52,10 @@ const DESCRIPTOR: Expected = Expected::Number {
 
 const START: Expected = Expected::Offset("a start");
 
-const LENGTH: Expected = Expected::Offset("a length");
+/// What a length is called.
+pub(crate) const LENGTH_NAME: &str = "a length";
+
+const LENGTH: Expected = Expected::Offset(LENGTH_NAME);
 
 /// What stands behind `set`, `wait` and `query`.
 const ASKED_LOCK: [Expected; 5] = [DESCRIPTOR, Expected::Kind, Expected::Mode, START, LENGTH];

@@ -15,6 +15,8 @@ pub enum Hint {
     SignedZero,
     /// Numbers are decimal.
     Hexadecimal,
+    /// How a segment is written that goes to the end.
+    ToTheEnd,
     /// There is one cluster line, the first of all.
     ClusterLineFirst,
     /// An operation is part of a call.
@@ -39,6 +41,14 @@ impl Hint {
         }
         None
     }
+
+    /// What may help one who wrote this for a length.
+    pub(crate) fn of_length(word: &str) -> Option<Hint> {
+        if word.eq_ignore_ascii_case("eof") {
+            return Some(Hint::ToTheEnd);
+        }
+        Hint::of_number(word)
+    }
 }
 
 /// As it is told.
@@ -55,6 +65,7 @@ impl Display for Hint {
             Hint::LeadingPlus => f.write_str("numbers have no leading plus sign"),
             Hint::SignedZero => f.write_str("zero has no sign"),
             Hint::Hexadecimal => f.write_str("numbers are decimal"),
+            Hint::ToTheEnd => f.write_str("a length of 0 goes to the end of the file"),
             Hint::ClusterLineFirst => {
                 f.write_str("the cluster line stands once, before all other lines")
             }

@@ -19,4 +19,5 @@ mod reader;
 pub mod reason;
 pub mod report;
 pub mod script_fault;
+mod synonyms;
 pub mod verdict;

@@ -17,7 +17,7 @@ const NAMES: u32 = 16;
 // How many bytes are written to it at once.
 const AT_ONCE: usize = 65_536;
 
-/// The files of the system, by paths as the caller gives them.
+/// The files of the system, by paths as the caller gives them; `-` is standard input where it is read.
 #[derive(Drop)]
 pub struct Disk<'a, R> {
     rt: &'a R,
@@ -34,7 +34,8 @@ impl<R: Files + AllocGlobal> Store for Disk<'_, R> {
     type Draft = DiskDraft<R::File>;
 
     fn read(&mut self, _alloc: Global, path: &str) -> Result<Vec<u8>, StoreError> {
-        fs::read(self.rt, path).map_err(|error| reason_of(&error))
+        let name = if path == "-" { "/dev/stdin" } else { path };
+        fs::read(self.rt, name).map_err(|error| reason_of(&error))
     }
 
     fn begin(&mut self, path: &str) -> DiskDraft<R::File> {
