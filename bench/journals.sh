@@ -13,8 +13,7 @@ if [ -z "$folder" ]; then
 fi
 [ $# -gt 0 ] || set -- covered lossy fight storm walk
 mkdir -p "$folder" || exit 1
-"$here/../lockreplay" --help >/dev/null || exit 1
-program=$here/../crates/lockreplay/out/lockreplay
+program=$("$here/../lockreplay" --program) || exit 1
 
 echo "kind     entries  journal MB  run s   MB     with s  MB     times  audit s  MB     times"
 for kind in "$@"; do

@@ -15,8 +15,7 @@ if [ -z "$folder" ]; then
 fi
 [ $# -gt 0 ] || set -- covered readers lossy fight storm crowd walk scattered regions churn failures turns queue rivals opens wide rebuilt revokes
 mkdir -p "$folder" || exit 1
-"$here/../lockreplay" --help >/dev/null || exit 1
-program=$here/../crates/lockreplay/out/lockreplay
+program=$("$here/../lockreplay" --program) || exit 1
 
 # The position of the last reply of a listing.
 entries_of() {

@@ -11,8 +11,7 @@ here=$(dirname -- "$(readlink -f -- "$0")") || exit 1
 calls=${1:-960000}
 folder=$(mktemp -d) || exit 1
 trap 'rm -rf "$folder"' EXIT
-"$here/../lockreplay" --help >/dev/null || exit 1
-program=$here/../crates/lockreplay/out/lockreplay
+program=$("$here/../lockreplay" --program) || exit 1
 cc -O2 -o "$folder/fcntl" "$here/fcntl.c" || exit 1
 cc -O2 -pthread -o "$folder/limit" "$here/limit.c" || exit 1
 
