@@ -1,0 +1,132 @@
+-- A call that comes before others in an order.
+use Rattle.std.proofs.Common.{◌≡◌, ℕ, zero, suc, ◌+◌, ◌<◌, ◌≤◌, ◌⊎◌, inl, inr, ⊎_elim, true, List, [], ◌∷◌, ◌++◌, length, slice_get, Some, refl, sym, ap, subst, ◌∙◌, arith}
+use Rattle.std.proofs.lemmas.Bool.{cases_lt}
+use Rattle.std.proofs.lemmas.Option.{none-some}
+use Rattle.model.specs.Locks.{Locks, no_locks}
+use Rattle.client_history.specs.declared.client_call.ClientCall.{ClientCall}
+use Rattle.client_history.specs.Explained.{Leads, IsLegal, IsOnce, Stands, IsAt, EndsBefore, AreInTime, ExitsAreLast, IsExplainedBy}
+use Rattle.client_history.specs.Prefixes.{Passes, NoneEnded, AreOfOthers}
+use Rattle.client_history.proofs.Fronts.{moves_first}
+use Rattle.client_history.proofs.Orders.{get_one}
+use Rattle.client_history.proofs.Steps.{leads_is_one, leads_split, leads_join}
+
+module _ {X : Type 0} where
+  -- what stands in two lists, one behind the other
+  get_split : (xs ys : List X) (k : ℕ) (x : X) → slice_get (xs ++ ys) k ≡ Some x → ((k < length xs) × (slice_get xs k ≡ Some x)) ⊎ ((l : ℕ) × (k ≡ length xs + l) × (slice_get ys l ≡ Some x))
+  get_split [] ys k x at = inr (k, omega arith, at)
+  get_split (y ∷ xs) ys zero x at = inl (omega arith, at)
+  get_split (y ∷ xs) ys (suc k) x at = ⊎_elim (λ p. let lt = p.0 in inl (omega arith, p.1)) (λ p. let e = p.1 in inr (p.0, omega arith, p.2)) (get_split xs ys k x at)
+
+  get_left : (xs ys : List X) (k : ℕ) (x : X) → slice_get xs k ≡ Some x → slice_get (xs ++ ys) k ≡ Some x
+  get_left [] ys k x at = absurd (none-some x at)
+  get_left (y ∷ xs) ys zero x at = at
+  get_left (y ∷ xs) ys (suc k) x at = get_left xs ys k x at
+
+  get_right : (xs ys : List X) (k l : ℕ) (x : X) → k ≡ length xs + l → slice_get ys l ≡ Some x → slice_get (xs ++ ys) k ≡ Some x
+  get_right [] ys k l x e at = let same : k ≡ l = omega arith in ap (slice_get ys) same ∙ at
+  get_right (y ∷ xs) ys zero l x e at = absurd (omega arith)
+  get_right (y ∷ xs) ys (suc k) l x e at = get_right xs ys k l x (omega arith) at
+
+module _ (front before behind : List ℕ) (i : ℕ) where
+  abbrev rest : List ℕ
+  rest = before ++ (i ∷ behind)
+
+  abbrev moved : List ℕ
+  moved = i ∷ (before ++ behind)
+
+  -- what stood at the one place stands at the other
+  abbrev Goes : ℕ → ℕ → Type 0
+  Goes j k = ((j ≡ k) × ((k < length front) ⊎ (length front + length before < k))) ⊎ (((j ≡ length front + length before) × (k ≡ length front)) ⊎ ((k ≡ j + 1) × (length front ≤ j) × (j < length front + length before)))
+
+  -- where it stood
+  from : (k x : ℕ) → slice_get (front ++ moved) k ≡ Some x → (j : ℕ) × (slice_get (front ++ rest) j ≡ Some x) × Goes j k
+  from k x at = ⊎_elim (λ p. (k, get_left front rest k x p.1, inl (refl, inl p.0))) (λ p. by p.0 p.1 p.2) (get_split front moved k x at)
+    where
+      by : (l : ℕ) → k ≡ length front + l → slice_get moved l ≡ Some x → (j : ℕ) × (slice_get (front ++ rest) j ≡ Some x) × Goes j k
+      by zero e got = (length front + length before, get_right front rest (length front + length before) (length before) x refl (get_right before (i ∷ behind) (length before) 0 x (omega arith) got), inr (inl (refl, omega arith)))
+      by (suc l) e got = ⊎_elim
+          (λ p. let lt = p.0 in (length front + l, get_right front rest (length front + l) l x refl (get_left before (i ∷ behind) l x p.1), inr (inr (omega arith, omega arith, omega arith))))
+          (λ p. let far = p.1 in (k, get_right front rest k (suc l) x e (get_right before (i ∷ behind) (suc l) (suc p.0) x (omega arith) p.2), inl (refl, inr (omega arith))))
+          (get_split before behind l x got)
+
+  -- what stood stands
+  stays : (x : ℕ) → Stands (front ++ rest) x → Stands (front ++ moved) x
+  stays x stands = ⊎_elim (λ p. (stands.0, get_left front moved stands.0 x p.1)) (λ p. ⊎_elim (λ q. (length front + suc p.0, get_right front moved (length front + suc p.0) (suc p.0) x refl (get_left before behind p.0 x q.1))) (λ q. by q.0 q.2) (get_split before (i ∷ behind) p.0 x p.2)) (get_split front rest stands.0 x stands.1)
+    where
+      by : (m : ℕ) → slice_get (i ∷ behind) m ≡ Some x → Stands (front ++ moved) x
+      by zero got = (length front, get_right front moved (length front) 0 x (omega arith) got)
+      by (suc m) got = (length front + suc (length before + m), get_right front moved (length front + suc (length before + m)) (suc (length before + m)) x refl (get_right before behind (length before + m) m x refl got))
+
+  -- of two places the first came first, or is that of the call that passes the other
+  later : (j k m n : ℕ) → Goes j k → Goes n m → k < m → (j < n) ⊎ ((k ≡ length front) × (length front ≤ n) × (n < length front + length before))
+  later j k m n p q lt = ⊎_elim (λ low. inl low) (λ past. inr (omega arith, omega arith, omega arith)) (cases_lt j n)
+
+  one : (j k n : ℕ) → Goes n j → Goes n k → j ≡ k
+  one j k n p q = omega arith
+
+  -- what is passed
+  passed : (n y : ℕ) → slice_get (front ++ rest) n ≡ Some y → length front ≤ n → n < length front + length before → Stands before y
+  passed n y at lo hi = ⊎_elim (λ p. let lt = p.0 in absurd (omega arith)) (λ p. let e = p.1 in ⊎_elim (λ q. (p.0, q.1)) (λ q. let far = q.1 in absurd (omega arith)) (get_split before (i ∷ behind) p.0 y p.2)) (get_split front rest n y at)
+
+module _ (calls : List ClientCall) (front before behind : List ℕ) (time i : ℕ) (h : Locks) (call : ClientCall) (there : slice_get calls i ≡ Some call) (whole : IsExplainedBy time calls (front ++ (before ++ (i ∷ behind)))) (leads : Leads calls no_locks front h) where
+  abbrev old : List ℕ
+  old = front ++ (before ++ (i ∷ behind))
+
+  abbrev new : List ℕ
+  new = front ++ (i ∷ (before ++ behind))
+
+  at_of : (k : ℕ) (a : ClientCall) → IsAt calls new k a → (j : ℕ) × IsAt calls old j a × Goes front before behind i j k
+  at_of k a at = let was = from front before behind i k at.index at.at in (was.0, record { index = at.index; at = was.1; there = at.there }, was.2)
+
+  is_call : (k : ℕ) (a : ClientCall) → k ≡ length front → IsAt calls new k a → a ≡ call
+  is_call k a e at =
+      let here : slice_get new k ≡ Some i = get_right front (i ∷ (before ++ behind)) k 0 i (omega arith) refl in
+      get_one calls at.index i a call (get_one new k k at.index i refl at.at here) at.there there
+
+  -- two calls stand as they stood, or one is the call and the other one that it passes
+  pair : (k m : ℕ) (a b : ClientCall) → k < m → IsAt calls new k a → IsAt calls new m b → ((j : ℕ) × (n : ℕ) × (j < n) × IsAt calls old j a × IsAt calls old n b) ⊎ ((a ≡ call) × (l : ℕ) × IsAt calls before l b)
+  pair k m a b lt p q =
+      let was = at_of k a p in
+      let next = at_of m b q in
+      ⊎_elim
+      (λ low. inl (was.0, next.0, low, was.1, next.1))
+      (λ over. let stands = passed front before behind i next.0 next.1.index next.1.at over.1 over.2 in inr (is_call k a over.0 p, stands.0, record { index = next.1.index; at = stands.1; there = next.1.there }))
+      (later front before behind i was.0 k m next.0 was.2 next.2 lt)
+
+  new_once : IsOnce new
+  new_once j k x p q =
+      let was = from front before behind i j x p in
+      let next = from front before behind i k x q in
+      let same : next.0 ≡ was.0 = whole.once next.0 was.0 x next.1 was.1 in
+      one front before behind i j k was.0 was.2 (subst (λ (n : ℕ). Goes front before behind i n k) same next.2)
+
+  -- the locks behind the front lead on
+  leads_on : Leads calls h (before ++ (i ∷ behind)) whole.legal.0
+  leads_on =
+      let parts = leads_split calls no_locks whole.legal.0 front (before ++ (i ∷ behind)) whole.legal.1 in
+      subst (λ (m : Locks). Leads calls m (before ++ (i ∷ behind)) whole.legal.0) (leads_is_one calls no_locks parts.0 h front parts.1 leads) parts.2
+
+  module _ (none : NoneEnded calls before call.begin) (others : call.is_last ≡ true → AreOfOthers calls before call.owner) (passes : Passes calls h call before) where
+    new_in_time : AreInTime calls new
+    new_in_time k m a b lt p q ends = ⊎_elim (λ o. whole.in_time o.0 o.1 a b o.2 o.3 o.4 ends) (λ o. none o.1 b o.2 (subst (λ (c : ClientCall). EndsBefore b c.begin) o.0 ends)) (pair k m a b lt p q)
+
+    new_last : ExitsAreLast calls new
+    new_last k m a b lt p q last same = ⊎_elim
+        (λ o. whole.last o.0 o.1 a b o.2 o.3 o.4 last same)
+        (λ o. others (ap (λ (c : ClientCall). c.is_last) (sym o.0) ∙ last) o.1 b o.2 (sym (ap (λ (c : ClientCall). c.owner) o.0) ∙ sym same))
+        (pair k m a b lt p q)
+
+    new_legal : IsLegal calls new
+    new_legal = (whole.legal.0, leads_join calls no_locks h whole.legal.0 front (i ∷ (before ++ behind)) leads (moves_first calls h whole.legal.0 call i before behind there passes leads_on))
+
+    -- the order explains the calls with the call in front, too
+    pub moved_explained : IsExplainedBy time calls new
+    moved_explained = record {
+      legal = new_legal;
+      once = new_once;
+      begun = λ k a at. let was = at_of k a at in whole.begun was.0 a was.1;
+      answered = λ x a at ended. stays front before behind i x (whole.answered x a at ended);
+      in_time = new_in_time;
+      last = new_last;
+      whole = λ k x a b at last found same some. let was = at_of k a at in stays front before behind i x (whole.whole was.0 x a b was.1 last found same some);
+    }

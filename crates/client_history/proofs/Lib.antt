@@ -1,0 +1,14 @@
+pub mod Blocked
+pub mod Exchange
+pub mod ExitLaws
+pub mod Fronts
+pub mod MarkLaws
+pub mod MoveLaws
+pub mod Orders
+pub mod OwnQuestions
+pub mod Owners
+pub mod Parts
+pub mod Regions
+pub mod Releases
+pub mod Steps
+pub mod TimeLaws

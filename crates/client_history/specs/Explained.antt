@@ -1,0 +1,78 @@
+-- When one table of record locks explains what clients saw.
+use Rattle.std.specs.Prelude.{◌≡◌, ◌≢◌, ℕ, ◌≤◌, ◌<◌, true, List, [], ◌∷◌, slice_get, Some, None}
+use Rattle.model.specs.Locks.{Locks, no_locks}
+use Rattle.client_history.specs.declared.client_call.ClientCall.{ClientCall}
+use Rattle.client_history.specs.Acts.{ActStep}
+
+-- the file whose locks are judged: each file has a history of its own
+abbrev pub the_file : ℕ
+the_file = 1
+
+-- the calls with these indexes, one after the other, lead from the old locks to the new ones
+abbrev pub Leads : List ClientCall → Locks → List ℕ → Locks → Type 0
+Leads calls old [] new = old ≡ new
+Leads calls old (i ∷ is) new = (call : ClientCall) × (mid : Locks) × (slice_get calls i ≡ Some call) × ActStep the_file old call.owner call.act mid × Leads calls mid is new
+
+-- they may follow one another in one table, which has no lock at first
+abbrev pub IsLegal : List ClientCall → List ℕ → Type 0
+IsLegal calls order = (last : Locks) × Leads calls no_locks order last
+
+-- the call had its reply by that time
+abbrev pub EndedBy : ℕ → ClientCall → Type 0
+EndedBy time call = (end : ℕ) × (call.end ≡ Some end) × (end ≤ time)
+
+-- the call ended before that time
+abbrev pub EndsBefore : ClientCall → ℕ → Type 0
+EndsBefore call time = (end : ℕ) × (call.end ≡ Some end) × (end < time)
+
+-- each index is that of one of so many calls
+abbrev pub AreWithin : ℕ → List ℕ → Type 0
+AreWithin count order = (k i : ℕ) → slice_get order k ≡ Some i → i < count
+
+-- the index stands in the order
+abbrev pub Stands : List ℕ → ℕ → Type 0
+Stands order i = (k : ℕ) × (slice_get order k ≡ Some i)
+
+-- that call stands at that place of the order
+pub record IsAt (calls : List ClientCall) (order : List ℕ) (k : ℕ) (call : ClientCall) : Type 0 where
+  pub index : ℕ
+  pub at : slice_get order k ≡ Some index
+  pub there : slice_get calls index ≡ Some call
+
+-- no index stands twice
+abbrev pub IsOnce : List ℕ → Type 0
+IsOnce order = (j k i : ℕ) → slice_get order j ≡ Some i → slice_get order k ≡ Some i → j ≡ k
+
+-- each call of the order began by that time
+abbrev pub HaveBegun : ℕ → List ClientCall → List ℕ → Type 0
+HaveBegun time calls order = (k : ℕ) (call : ClientCall) → IsAt calls order k call → call.begin ≤ time
+
+-- each call that had its reply by that time stands in the order
+abbrev pub AreAnswered : ℕ → List ClientCall → List ℕ → Type 0
+AreAnswered time calls order = (i : ℕ) (call : ClientCall) → slice_get calls i ≡ Some call → EndedBy time call → Stands order i
+
+-- no call stands behind one that began after its end
+abbrev pub AreInTime : List ClientCall → List ℕ → Type 0
+AreInTime calls order = (j k : ℕ) (a b : ClientCall) → j < k → IsAt calls order j a → IsAt calls order k b → EndsBefore b a.begin → ⊥
+
+-- no call stands behind its owner's exit
+abbrev pub ExitsAreLast : List ClientCall → List ℕ → Type 0
+ExitsAreLast calls order = (j k : ℕ) (a b : ClientCall) → j < k → IsAt calls order j a → IsAt calls order k b → a.is_last ≡ true → b.owner ≢ a.owner
+
+-- where an exit stands, each call of its owner that has a reply does
+abbrev pub ExitsAreWhole : List ClientCall → List ℕ → Type 0
+ExitsAreWhole calls order = (k i : ℕ) (a b : ClientCall) → IsAt calls order k a → a.is_last ≡ true → slice_get calls i ≡ Some b → b.owner ≡ a.owner → b.end ≢ None → Stands order i
+
+-- up to a time: each call that ended by then happened, some of those that began by then may have, no call twice, each between its begin and its end, nothing of an owner behind its exit, and each reply is what one table of record locks gives there, which has no lock at first
+pub record IsExplainedBy (time : ℕ) (calls : List ClientCall) (order : List ℕ) : Type 0 where
+  pub legal : IsLegal calls order
+  pub once : IsOnce order
+  pub begun : HaveBegun time calls order
+  pub answered : AreAnswered time calls order
+  pub in_time : AreInTime calls order
+  pub last : ExitsAreLast calls order
+  pub whole : ExitsAreWhole calls order
+
+-- a time behind every end: the greatest that a call can have
+abbrev pub always : ℕ
+always = 18446744073709551615

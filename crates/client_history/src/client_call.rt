@@ -1,0 +1,15 @@
+//! Calls as clients saw them.
+use crate::act::Act;
+use model::owner::Owner;
+
+/// A call of a client about a file: when it began and, where it has a reply, when it ended, by one clock.
+/// A call without a reply may have happened at any time since it began, or never. The last call of an owner
+/// is its exit: nothing of that owner happens behind it.
+#[derive(Clone, Copy, Debug, PartialEq, Eq)]
+pub struct ClientCall {
+    pub owner: Owner,
+    pub begin: u64,
+    pub end: Option<u64>,
+    pub act: Act,
+    pub is_last: bool,
+}

@@ -1,0 +1,33 @@
+//! Whether calls stand between their begins and their ends.
+ghost use Rattle.std.specs.Prelude.{◌≡◌, ◌<◌, ℕ, IsTrue, ◌↔◌, length, Some};
+ghost use Rattle.client_history.specs.Explained.{AreWithin, AreInTime, EndsBefore};
+
+use crate::client_call::ClientCall;
+
+// Whether the call ended before that time.
+fn ends_before(call: &ClientCall, time: u64) -> bool
+    ensures { IsTrue result ↔ EndsBefore call.now time }
+{
+    match call.end {
+        Some(end) => end < time,
+        None => false,
+    }
+}
+
+/// Whether no call of the order stands behind one that began after its end.
+pub(crate) fn are_in_time(calls: &[ClientCall], order: &[usize]) -> bool
+    requires { AreWithin (length calls.now) order.now }
+    ensures { IsTrue result ↔ AreInTime calls.now order.now }
+{
+    let mut latest = 0;
+    for i in order {
+        let call = &calls[*i];
+        if ends_before(call, latest) {
+            return false;
+        }
+        if latest < call.begin {
+            latest = call.begin;
+        }
+    }
+    true
+}

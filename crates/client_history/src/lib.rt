@@ -1,0 +1,26 @@
+//! Histories that clients of a lock manager saw, and whether one table of record locks explains one.
+#![tactic(auto)]
+
+pub mod act;
+mod answered;
+pub mod client_call;
+mod event;
+mod exits;
+pub mod explains;
+mod first_calls;
+mod follow;
+mod front;
+mod in_time;
+pub mod judge;
+pub mod laws;
+mod legal;
+mod marks;
+mod needs;
+mod open_call;
+mod owner_calls;
+mod paths;
+mod search;
+#[cfg(test)]
+mod tests;
+pub mod told_lock;
+pub mod verdict;

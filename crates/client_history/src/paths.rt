@@ -1,0 +1,52 @@
+//! The ways that the search went.
+use std::alloc::{AllocError, Global};
+
+// A call that was taken, and the number of steps of the way before it.
+#[derive(Clone, Copy)]
+struct Step {
+    before: usize,
+    call: usize,
+}
+
+/// The ways that the search went, each as the number of its last step; 0 is the empty one. Ways share what
+/// they have in common.
+#[derive(Drop)]
+pub(crate) struct Paths {
+    steps: Vec<Step>,
+}
+
+impl Paths {
+    /// Only the empty way.
+    pub(crate) fn new(alloc: Global) -> Self {
+        Paths {
+            steps: Vec::new(alloc),
+        }
+    }
+
+    /// The way that takes one call more.
+    ///
+    /// # Errors
+    /// `AllocError`.
+    pub(crate) fn push(&mut self, before: usize, call: usize) -> Result<usize, AllocError> {
+        self.steps.push(Step { before, call })?;
+        Ok(self.steps.len())
+    }
+
+    /// The calls of a way, from the first to the last.
+    ///
+    /// # Errors
+    /// `AllocError`.
+    pub(crate) fn order_of(&self, last: usize) -> Result<Vec<usize>, AllocError> {
+        let mut order = Vec::new(*self.steps.allocator());
+        let mut at = last;
+        for _ in 0..self.steps.len() {
+            let Some(step) = at.checked_sub(1).and_then(|index| self.steps.get(index)) else {
+                break;
+            };
+            order.push(step.call)?;
+            at = step.before;
+        }
+        order.reverse();
+        Ok(order)
+    }
+}

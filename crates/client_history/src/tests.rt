@@ -1,0 +1,149 @@
+//! What no contract says of a judged history: that an order is found where there is one, and how far the search went where there is
+//! none.
+use crate::act::Act;
+use crate::client_call::ClientCall;
+use crate::explains::explains;
+use crate::judge::judge;
+use crate::told_lock::ToldLock;
+use crate::verdict::Verdict;
+use intervals::span::Span;
+use model::mode::Mode;
+use model::owner::{Kind, Owner};
+use std::alloc::{AllocError, Global};
+use std::test::Fail;
+
+const BYTE: Span = Span { lo: 15, hi: 15 };
+
+// More tables than any of these histories needs.
+const STEPS: u64 = 1_000;
+
+// A process of node 1.
+fn first() -> Owner {
+    Owner {
+        node: 1,
+        incarnation: 1,
+        kind: Kind::OfProcess,
+        number: 1,
+    }
+}
+
+// Another one.
+fn second() -> Owner {
+    Owner {
+        number: 2,
+        ..first()
+    }
+}
+
+// A call that took from the first time to the last.
+fn call(owner: Owner, begin: u64, end: u64, act: Act) -> ClientCall {
+    ClientCall {
+        owner,
+        begin,
+        end: Some(end),
+        act,
+        is_last: false,
+    }
+}
+
+fn writes() -> Act {
+    Act::Locks {
+        mode: Mode::Write,
+        span: BYTE,
+    }
+}
+
+// A set to write that is refused, of which nothing is told.
+fn is_denied() -> Act {
+    Act::IsDenied {
+        mode: Mode::Write,
+        span: BYTE,
+        told: ToldLock {
+            mode: None,
+            span: None,
+            owner: None,
+        },
+    }
+}
+
+// A lock is set while another process is refused it and then gets it, whose calls overlap in time.
+fn handover() -> [ClientCall; 4] {
+    [
+        call(second(), 4, 9, writes()),
+        call(first(), 3, 8, Act::Frees { span: BYTE }),
+        call(second(), 1, 2, is_denied()),
+        call(first(), 0, 5, writes()),
+    ]
+}
+
+// Two processes that got one byte to write, one after the other.
+fn granted_twice() -> [ClientCall; 2] {
+    [
+        call(first(), 1, 2, writes()),
+        call(second(), 3, 4, writes()),
+    ]
+}
+
+fn judged(alloc: Global, calls: &[ClientCall], steps: u64) -> Result<Verdict, AllocError> {
+    match judge(alloc, calls, steps) {
+        Ok(verdict) => Ok(verdict),
+        Err(_) => judge(alloc, calls, steps),
+    }
+}
+
+fn explains_again(
+    alloc: Global,
+    calls: &[ClientCall],
+    order: &[usize],
+) -> Result<bool, AllocError> {
+    match explains(alloc, calls, order) {
+        Ok(does) => Ok(does),
+        Err(_) => explains(alloc, calls, order),
+    }
+}
+
+// Whether the search stops at the end of that call.
+fn stops_at(
+    alloc: Global,
+    calls: &[ClientCall],
+    steps: u64,
+    index: usize,
+) -> Result<bool, AllocError> {
+    match judged(alloc, calls, steps)? {
+        Verdict::Explained { .. } => Ok(false),
+        Verdict::Unknown { call } => Ok(call == index),
+    }
+}
+
+#[test]
+fn finds_the_order_of_a_handover(rt: HostRuntime) -> Result<(), Fail> {
+    let found = match judged(rt.alloc(), &handover(), STEPS)? {
+        Verdict::Explained { order } => order.as_slice() == [3, 2, 1, 0].as_slice(),
+        Verdict::Unknown { .. } => false,
+    };
+    assert!(rt; found);
+    Ok(())
+}
+
+#[test]
+fn takes_the_order_of_a_handover(rt: HostRuntime) -> Result<(), Fail> {
+    let calls = handover();
+    let does = explains_again(rt.alloc(), &calls, &[3, 2, 1, 0])?;
+    let late = explains_again(rt.alloc(), &calls, &[3, 1, 2, 0])?;
+    assert!(rt; does && !late);
+    Ok(())
+}
+
+#[test]
+fn stops_where_a_byte_is_granted_twice(rt: HostRuntime) -> Result<(), Fail> {
+    let stops = stops_at(rt.alloc(), &granted_twice(), STEPS, 1)?;
+    assert!(rt; stops);
+    Ok(())
+}
+
+#[test]
+fn stops_where_its_steps_are_taken(rt: HostRuntime) -> Result<(), Fail> {
+    let stops = stops_at(rt.alloc(), &handover(), 1, 2)?;
+    assert!(rt; stops);
+    Ok(())
+}
