@@ -1,0 +1,7 @@
+mod FileLaws
+mod HistoryLaws
+mod LifeLaws
+mod Lines
+mod Lists
+mod NameLaws
+mod OwnerLaws

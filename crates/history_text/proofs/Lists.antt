@@ -1,0 +1,30 @@
+-- Elements of lists.
+use Rattle.std.proofs.Common.{◌≡◌, ℕ, ◌<◌, List, [], ◌∷◌, ◌++◌, length, map, slice_get, Option, Some, None, refl, sym, ap, subst, ◌∙◌, arith, length-append}
+use Rattle.std.specs.List.{All}
+use Rattle.std.specs.Option.{option_map}
+use Rattle.std.proofs.Math.Seq.{get_or-append_seam}
+use Rattle.std.proofs.lemmas.Option.{get_or_from_slice_get, same_Some, slice_get-get_or, slice_get-map, slice_get_within}
+
+module _ {X : Type 0} (xs : List X) where
+  -- what a list has at a place is one
+  pub get_one : (i j : ℕ) (x y : X) → i ≡ j → slice_get xs i ≡ Some x → slice_get xs j ≡ Some y → x ≡ y
+  get_one i j x y e p q = same_Some x y (sym p ∙ ap (slice_get xs) e ∙ q)
+
+  -- it is as each element
+  pub of_all : (P : X → Type 0) (i : ℕ) (x : X) → All P xs → slice_get xs i ≡ Some x → P x
+  of_all P i x all at = subst P (get_or_from_slice_get xs i x x at) (all i x (slice_get_within xs i x at))
+
+  -- what comes last stands behind all
+  pub get_last : (x : X) → slice_get (xs ++ x ∷ []) (length xs) ≡ Some x
+  get_last x =
+      let here : length xs < length (xs ++ x ∷ []) = omega (arith, length-append xs (x ∷ [])) in
+      slice_get-get_or (xs ++ x ∷ []) (length xs) x here ∙ ap Some (get_or-append_seam xs x [] x)
+
+-- what a list that was mapped has at a place is made of what that list has there
+module _ {X Y : Type 0} (f : X → Y) (xs : List X) (i : ℕ) (y : Y) where
+  pub map_get : slice_get (map f xs) i ≡ Some y → (x : X) × (slice_get xs i ≡ Some x) × (f x ≡ y)
+  map_get at = by (slice_get xs i) refl (sym (slice_get-map f xs i) ∙ at)
+    where
+      by : (o : Option X) → slice_get xs i ≡ o → option_map f o ≡ Some y → (x : X) × (slice_get xs i ≡ Some x) × (f x ≡ y)
+      by None e p = absurd (cc)
+      by (Some x) e p = (x, e, same_Some (f x) y p)

@@ -1,0 +1,7 @@
+pub mod Calls
+pub mod Files
+pub mod Histories
+pub mod Lives
+pub mod Owners
+pub mod Readings
+pub mod Times

@@ -1,0 +1,49 @@
+-- A history as far as its lines were read.
+use Rattle.std.specs.Prelude.{◌≡◌, ℕ, ◌≤◌, ◌+◌, ◌++◌, max, List, flat_map, length, count_by, sum_by, All}
+use Rattle.texts.specs.LineFeeds.{line_feed}
+use Rattle.texts.specs.Reads.{IsWithin, Lacks}
+use Rattle.history_text.specs.declared.call_line.Deed.{Deed}
+use Rattle.history_text.specs.declared.call_line.Deed.TheVariants.{Exits, Asks}
+use Rattle.history_text.specs.declared.known.Known.{Known}
+use Rattle.history_text.specs.declared.reader.Reader.{Reader}
+use Rattle.history_text.specs.Calls.{counted, is_call, with_feed}
+use Rattle.history_text.specs.Files.{AreFilesOf, calls_in}
+use Rattle.history_text.specs.Lives.{AreLives, AreOwners, Extends}
+use Rattle.history_text.specs.Owners.{AreDistinct}
+
+-- owners and files are told apart by name
+pub record IsSound (known : Known) : Type 0 where
+  pub owners : AreOwners known.owners.names known.owners.lives.items
+  pub files : AreDistinct known.files
+
+-- words of the line of this number were read
+pub record Learns (line : ℕ) (old new : Known) : Type 0 where
+  pub sound : IsSound new
+  pub extends : Extends old.owners.lives.items new.owners.lives.items
+  pub lives : (lines : ℕ) → IsWithin 1 lines line → AreLives lines old.owners.lives.items → AreLives lines new.owners.lives.items
+
+-- of so many files as before, and now, a call is about one that was there before, or about one more
+abbrev pub NamesOf : Deed → ℕ → ℕ → Type 0
+NamesOf Exits before after = after ≡ before
+NamesOf (Asks file act) before after = (file ≤ before) × (after ≡ max before (file + 1))
+
+-- so many lines were read
+pub record IsRead (lines : ℕ) (reader : Reader) : Type 0 where
+  pub sound : IsSound reader.known
+  pub lives : AreLives lines reader.known.owners.lives.items
+  pub files : AreFilesOf reader.known.owners.lives.items lines reader.files.items
+  pub calls : sum_by calls_in reader.files.items ≡ reader.counts.calls
+
+-- each name of a file is that of one
+abbrev pub IsPaired : Reader → Type 0
+IsPaired reader = length reader.files.items ≡ length reader.known.files
+
+-- so many lines of the text were read, and this is left
+pub record HasRead (text rest : List ℕ) (count : ℕ) (reader : Reader) : Type 0 where
+  pub lines : List (List ℕ)
+  pub parts : text ≡ flat_map with_feed lines ++ rest
+  pub single : All (Lacks line_feed) lines
+  pub count_is : count ≡ length lines
+  pub read : IsRead count reader
+  pub paired : IsPaired reader
+  pub counted_is : counted reader.counts ≡ count_by is_call lines

@@ -1,0 +1,42 @@
+//! Histories.
+ghost use Rattle.std.specs.Prelude.{◌≡◌, ℕ, List, All, IsTrue, ◌↔◌, MatchOption};
+ghost use Rattle.history_text.specs.Owners.{IsNamed};
+
+use crate::counts::Counts;
+use crate::file_calls::FileCalls;
+use crate::machine::Machine;
+use crate::names::Names;
+use crate::owner_numbers::number_of;
+use crate::unit::Unit;
+use model::owner::Owner;
+
+/// What clients of a lock manager saw, as a text tells it: the unit of its times; the machines that it declares; the names of
+/// owners; of each file its name in `names` and at the same place its calls, in the order in which files are first mentioned; and
+/// how many lines of calls there are. An owner of the calls stands for a name, as `name_of` says; else its
+/// fields say nothing.
+#[derive(Drop)]
+pub struct History {
+    pub unit: Unit,
+    pub machines: Vec<Machine>,
+    pub owners: Names,
+    pub names: Names,
+    pub files: Vec<FileCalls>,
+    pub counts: Counts,
+}
+
+impl History {
+    /// The name that the owner stands for, if it stands for one.
+    pub fn name_of(&self, owner: &Owner) -> Option<&str>
+        ensures { MatchOption result ((name : List ℕ) → IsNamed self.now.owners owner.now name → ⊥) (λ name. IsNamed self.now.owners owner.now name.now) }
+    {
+        let number = number_of(owner)?;
+        self.owners.get(number)
+    }
+
+    /// Whether its times are of one clock: no clock of a machine is off.
+    pub fn has_one_clock(&self) -> bool
+        ensures { IsTrue result ↔ All (λ machine. machine.skew ≡ 0) self.now.machines.items }
+    {
+        self.machines.iter().all(|machine| machine.skew == 0)
+    }
+}

@@ -1,0 +1,60 @@
+//! Why a line is not read.
+use crate::error::ReadError;
+use crate::reason::Reason;
+use std::alloc::AllocError;
+
+/// The first word of a line that may not stand there, by how many bytes of the line stand from its first one on, and
+/// why it may not.
+#[derive(Clone, Copy)]
+pub(crate) struct Fault {
+    pub(crate) left: usize,
+    pub(crate) reason: Reason,
+}
+
+/// Why a line is not read.
+#[derive(Clone, Copy)]
+pub(crate) enum LineError {
+    /// A request for memory was refused.
+    NoMemory,
+    /// A word may not stand there.
+    Bad(Fault),
+}
+
+impl From<AllocError> for LineError {
+    fn from(_error: AllocError) -> LineError {
+        LineError::NoMemory
+    }
+}
+
+impl From<Fault> for LineError {
+    fn from(fault: Fault) -> LineError {
+        LineError::Bad(fault)
+    }
+}
+
+impl LineError {
+    /// The error of the whole text, where the line has this number and these words.
+    pub(crate) fn at(self, line: u64, words: &str) -> ReadError {
+        match self {
+            LineError::NoMemory => ReadError::NoMemory,
+            LineError::Bad(Fault { left, reason }) => ReadError::BadLine {
+                line,
+                column: column_of(words, left),
+                reason,
+            },
+        }
+    }
+}
+
+// The place of a character in a line, from 1, by how many bytes stand from its first one on.
+fn column_of(line: &str, left: usize) -> u64 {
+    let bytes = line.as_bytes();
+    let front = &bytes[..bytes.len().saturating_sub(left)];
+    let before = front.iter().filter(|byte| is_first(**byte)).count();
+    (before as u64).saturating_add(1)
+}
+
+// Whether the byte is the first one of a character in UTF-8.
+fn is_first(byte: u8) -> bool {
+    byte < 0x80 || 0xc0 <= byte
+}

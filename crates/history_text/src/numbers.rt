@@ -1,0 +1,90 @@
+//! Times, offsets and modes of a line.
+ghost use Rattle.std.specs.Prelude.{◌≤◌, IfOk, IfSome};
+
+use crate::line_error::Fault;
+use crate::reason::Reason;
+use crate::words::{Word, Words};
+use intervals::span::{GREATEST, Span};
+use model::mode::Mode;
+use texts::number::{number_of, offset_of};
+use texts::words::Named;
+
+/// The time, or the length of time, that the word says: a whole number below 2 to the power of 63.
+///
+/// # Errors
+/// `NotANumber`, and `TooLarge`.
+pub(crate) fn time_of(word: &Word<'_>) -> Result<u64, Fault> {
+    match number_of(word.text, 0, GREATEST) {
+        Some(time) => Ok(time),
+        None => Err(word.fault(unread_number(word.text))),
+    }
+}
+
+/// The end that the word says of a call that began at that time: none for `-`.
+///
+/// # Errors
+/// As `time_of`, and `EndsBeforeBegin`.
+pub(crate) fn end_of(word: &Word<'_>, begin: u64) -> Result<Option<u64>, Fault>
+    ensures { IfOk result (λ end. IfSome end (λ time. begin ≤ time)) }
+{
+    if word.text == "-" {
+        return Ok(None);
+    }
+    let end = time_of(word)?;
+    if end < begin {
+        return Err(word.fault(Reason::EndsBeforeBegin));
+    }
+    Ok(Some(end))
+}
+
+/// Takes the next word, which names a mode.
+///
+/// # Errors
+/// `Missing`, and `UnknownMode`.
+pub(crate) fn next_mode(words: &mut Words<'_>) -> Result<Mode, Fault> {
+    let word = words.next_word()?;
+    match Mode::of_word(word.text) {
+        Some(mode) => Ok(mode),
+        None => Err(word.fault(Reason::UnknownMode)),
+    }
+}
+
+/// Takes the next two words, START and LEN, as in `struct flock`: the bytes that they name.
+///
+/// # Errors
+/// `Missing`, `NotANumber`, `TooLarge`, and at START `NoBytes`.
+pub(crate) fn next_span(words: &mut Words<'_>) -> Result<Span, Fault> {
+    let first = words.next_word()?;
+    let start = offset_in(&first)?;
+    let second = words.next_word()?;
+    let len = offset_in(&second)?;
+    match Span::from_flock(start, len) {
+        Ok(span) => Ok(span),
+        Err(error) => Err(first.fault(Reason::NoBytes(error))),
+    }
+}
+
+// The offset that the word says.
+fn offset_in(word: &Word<'_>) -> Result<i64, Fault> {
+    match offset_of(word.text) {
+        Some(offset) => Ok(offset),
+        None => {
+            let digits = word.text.strip_prefix('-').unwrap_or(word.text);
+            Err(word.fault(unread_number(digits)))
+        }
+    }
+}
+
+// Why a word was not read as a number.
+fn unread_number(word: &str) -> Reason {
+    if is_number(word) {
+        Reason::TooLarge
+    } else {
+        Reason::NotANumber
+    }
+}
+
+// Whether the word is written as a number is, of any size.
+fn is_number(word: &str) -> bool {
+    !word.starts_with('0') && word.bytes().all(|byte| byte.is_ascii_digit())
+}

@@ -1,0 +1,75 @@
+//! Operations of calls.
+use crate::line_error::Fault;
+use crate::numbers::{next_mode, next_span};
+use crate::reason::Reason;
+use crate::words::{Word, Words};
+use intervals::span::Span;
+use model::mode::Mode;
+
+/// What a client asked for of a file.
+#[derive(Clone, Copy)]
+pub(crate) enum Operation {
+    Set { mode: Mode, span: Span },
+    Wait { mode: Mode, span: Span },
+    Unlock { span: Span },
+    Query { mode: Mode, span: Span },
+    Close,
+}
+
+/// The word of an operation of a file.
+#[derive(Clone, Copy)]
+pub(crate) enum Verb {
+    Set,
+    Wait,
+    Unlock,
+    Query,
+    Close,
+}
+
+impl Verb {
+    /// The one that the word names.
+    ///
+    /// # Errors
+    /// `UnknownOperation`.
+    pub(crate) fn of(word: &Word<'_>) -> Result<Verb, Fault> {
+        match word.text {
+            "set" => Ok(Verb::Set),
+            "wait" => Ok(Verb::Wait),
+            "unlock" => Ok(Verb::Unlock),
+            "query" => Ok(Verb::Query),
+            "close" => Ok(Verb::Close),
+            _ => Err(word.fault(Reason::UnknownOperation)),
+        }
+    }
+}
+
+impl Operation {
+    /// Takes the words behind a file: the operation with them.
+    ///
+    /// # Errors
+    /// Those of `next_mode` and `next_span`.
+    pub(crate) fn next(verb: Verb, words: &mut Words<'_>) -> Result<Operation, Fault> {
+        match verb {
+            Verb::Set => {
+                let mode = next_mode(words)?;
+                let span = next_span(words)?;
+                Ok(Operation::Set { mode, span })
+            }
+            Verb::Wait => {
+                let mode = next_mode(words)?;
+                let span = next_span(words)?;
+                Ok(Operation::Wait { mode, span })
+            }
+            Verb::Unlock => {
+                let span = next_span(words)?;
+                Ok(Operation::Unlock { span })
+            }
+            Verb::Query => {
+                let mode = next_mode(words)?;
+                let span = next_span(words)?;
+                Ok(Operation::Query { mode, span })
+            }
+            Verb::Close => Ok(Operation::Close),
+        }
+    }
+}

@@ -1,0 +1,108 @@
+//! Owners of a history.
+ghost use Rattle.std.specs.Prelude.{◌≡◌, ◌<◌, ◌+◌, ℕ, [], length, IfOk, IfSome, OnOk};
+ghost use Rattle.texts.specs.Reads.{IsWithin};
+ghost use Rattle.history_text.specs.Lives.{AreLives, AreOwners, Extends, HasBegun, HasExit};
+
+use crate::life::{Exit, Life};
+use crate::line_error::LineError;
+use crate::names::Names;
+use crate::owner_numbers::{MOST_OWNERS, number_of};
+use crate::reason::Reason;
+use crate::words::Word;
+use model::owner::Owner;
+use std::alloc::{AllocError, Global};
+
+/// The owners that lines name, and when each lived.
+#[derive(Drop)]
+pub(crate) struct Owners {
+    pub(crate) names: Names,
+    pub(crate) lives: Vec<Life>,
+}
+
+impl Owners {
+    /// No owners.
+    pub(crate) fn new(alloc: Global) -> Owners
+        ensures owners { AreOwners result.names result.lives.items }
+        ensures lives { result.lives.items ≡ [] }
+    {
+        Owners {
+            names: Names::new(alloc),
+            lives: Vec::new(alloc),
+        }
+    }
+
+    /// The number of the owner that the word names.
+    ///
+    /// # Errors
+    /// `NoMemory`, and `TooManyOwners`.
+    pub(crate) fn number_of(&mut self, alloc: Global, word: &Word<'_>) -> Result<usize, LineError>
+        requires { AreOwners self.old.names self.old.lives.items }
+        ensures owners { OnOk result (AreOwners self.new.names self.new.lives.items) }
+        ensures within { IfOk result (λ number. number < length self.new.lives.items) }
+        ensures extends { OnOk result (Extends self.old.lives.items self.new.lives.items) }
+        ensures lives { OnOk result ((lines : ℕ) → AreLives lines self.old.lives.items → AreLives lines self.new.lives.items) }
+    {
+        let number = self.names.number_of(alloc, word.text)?;
+        if number >= MOST_OWNERS {
+            return Err(LineError::Bad(word.fault(Reason::TooManyOwners)));
+        }
+        if number == self.lives.len() {
+            push_life(&mut self.lives)?;
+        }
+        Ok(number)
+    }
+
+    /// The owner begins a call then.
+    ///
+    /// # Errors
+    /// `BehindExit`.
+    pub(crate) fn begin_call(&mut self, number: usize, begin: u64) -> Result<(), Reason>
+        requires owners { AreOwners self.old.names self.old.lives.items }
+        requires within { number < length self.old.lives.items }
+        ensures owners { OnOk result (AreOwners self.new.names self.new.lives.items) }
+        ensures extends { OnOk result (Extends self.old.lives.items self.new.lives.items) }
+        ensures begun { OnOk result (HasBegun self.new.lives.items number begin) }
+        ensures lives { OnOk result ((lines : ℕ) → AreLives lines self.old.lives.items → AreLives lines self.new.lives.items) }
+    {
+        let life = self.lives[number].with_call(begin)?;
+        self.lives[number] = life;
+        Ok(())
+    }
+
+    /// The owner exits, which is a call that it has begun.
+    ///
+    /// # Errors
+    /// `SecondExit`, and `EarlyExit`.
+    pub(crate) fn exit(&mut self, number: usize, exit: Exit) -> Result<(), Reason>
+        requires owners { AreOwners self.old.names self.old.lives.items }
+        requires begun { HasBegun self.old.lives.items number exit.begin }
+        ensures owners { OnOk result (AreOwners self.new.names self.new.lives.items) }
+        ensures extends { OnOk result (Extends self.old.lives.items self.new.lives.items) }
+        ensures lives { OnOk result ((lines : ℕ) → IsWithin 1 lines exit.line → AreLives lines self.old.lives.items → AreLives lines self.new.lives.items) }
+    {
+        let life = self.lives[number].with_exit(exit)?;
+        self.lives[number] = life;
+        Ok(())
+    }
+
+    /// The owner's exit, if there is one.
+    pub(crate) fn exit_of(&self, owner: &Owner) -> Option<Exit>
+        ensures { IfSome result (HasExit self.now.lives.items owner.now) }
+    {
+        let number = number_of(owner)?;
+        match self.lives.get(number) {
+            Some(life) => life.exit,
+            None => None,
+        }
+    }
+}
+
+// One more owner is named.
+fn push_life(lives: &mut Vec<Life>) -> Result<(), AllocError>
+    ensures extends { OnOk result (Extends lives.old.items lives.new.items) }
+    ensures lives { OnOk result ((lines : ℕ) → AreLives lines lives.old.items → AreLives lines lives.new.items) }
+    ensures count { OnOk result (length lives.new.items ≡ length lives.old.items + 1) }
+{
+    lives.push(Life::new())?;
+    Ok(())
+}

@@ -1,0 +1,219 @@
+//! A history as far as its lines were read.
+ghost use Rattle.std.specs.Prelude.{◌≡◌, ◌≤◌, ◌<◌, ◌+◌, if◌then◌else◌, false, OnOk};
+ghost use Rattle.history_text.specs.Calls.{counted, is_call};
+ghost use Rattle.history_text.specs.Owners.{most_owners, owner_numbered};
+ghost use Rattle.history_text.specs.Readings.{IsRead, IsPaired};
+
+use crate::call_line::{CallLine, Deed};
+use crate::counts::Counts;
+use crate::file_calls::FileCalls;
+use crate::files::{add_file, push_call};
+use crate::known::Known;
+use crate::line_error::{Fault, LineError};
+use crate::machine::{Machine, is_declared};
+use crate::numbers::time_of;
+use crate::owner_numbers::owner_of;
+use crate::reason::Reason;
+use crate::unit::Unit;
+use crate::words::{Word, Words};
+use client_history::act::Act;
+use client_history::client_call::ClientCall;
+use std::alloc::{AllocError, Global};
+use texts::text::after;
+
+/// What the lines of a history told that were read: the unit, behind the first of them that is not passed; machines, owners and
+/// files; the calls of each file; how many calls.
+#[derive(Drop)]
+pub(crate) struct Reader {
+    pub(crate) unit: Option<Unit>,
+    pub(crate) known: Known,
+    pub(crate) files: Vec<FileCalls>,
+    pub(crate) counts: Counts,
+}
+
+impl Reader {
+    /// No line was read.
+    pub(crate) fn new(alloc: Global) -> Reader
+        ensures read { IsRead 0 result }
+        ensures paired { IsPaired result }
+        ensures counted { counted result.counts ≡ 0 }
+    {
+        Reader {
+            unit: None,
+            known: Known::new(alloc),
+            files: Vec::new(alloc),
+            counts: Counts {
+                calls: 0,
+                exits: 0,
+                silent: 0,
+            },
+        }
+    }
+
+    /// Takes the line of this number.
+    ///
+    /// # Errors
+    /// `NoMemory`, and `Bad` with the first word of the line that may not stand there.
+    pub(crate) fn take(&mut self, alloc: Global, line: u64, text: &str) -> Result<(), LineError>
+        requires read { IsRead line self.old }
+        requires paired { IsPaired self.old }
+        requires line { 1 ≤ line }
+        requires counted { counted self.old.counts < line }
+        ensures read { OnOk result (IsRead line self.new) }
+        ensures paired { OnOk result (IsPaired self.new) }
+        ensures counted { OnOk result (counted self.new.counts ≡ counted self.old.counts + (if is_call text.now then 1 else 0)) }
+    {
+        let Some(rest) = after(text, "call ") else {
+            return self.take_other(alloc, text);
+        };
+        if self.unit.is_none() {
+            return Err(LineError::Bad(Fault {
+                left: text.len(),
+                reason: Reason::NoHead,
+            }));
+        }
+        self.take_call(alloc, line, &mut Words::of(rest))
+    }
+
+    // Takes a line that is not one of a call.
+    fn take_other(&mut self, alloc: Global, text: &str) -> Result<(), LineError>
+        ensures known { self.new.known.owners ≡ self.old.known.owners }
+        ensures names { self.new.known.files ≡ self.old.known.files }
+        ensures files { self.new.files ≡ self.old.files }
+        ensures counts { self.new.counts ≡ self.old.counts }
+    {
+        if text.is_empty() || text.starts_with('#') {
+            return Ok(());
+        }
+        let mut words = Words::of(text);
+        let word = words.next_word()?;
+        if self.unit.is_none() {
+            return self.take_head(&word, &mut words);
+        }
+        match word.text {
+            "note" => Ok(()),
+            "machine" => self.take_machine(alloc, &word, &mut words),
+            "history" => Err(LineError::Bad(word.fault(Reason::SecondHead))),
+            "call" => Err(LineError::Bad(words.fault(Reason::Missing))),
+            _ => Err(LineError::Bad(word.fault(Reason::UnknownLine))),
+        }
+    }
+
+    // Takes the line `history 1 clock UNIT`, of which this is the first word.
+    fn take_head(&mut self, word: &Word<'_>, words: &mut Words<'_>) -> Result<(), LineError>
+        ensures known { self.new.known ≡ self.old.known }
+        ensures files { self.new.files ≡ self.old.files }
+        ensures counts { self.new.counts ≡ self.old.counts }
+    {
+        if word.text != "history" {
+            return Err(LineError::Bad(word.fault(Reason::NoHead)));
+        }
+        words.expect_word("1", Reason::NoHead)?;
+        words.expect_word("clock", Reason::NoHead)?;
+        let name = words.next_word()?;
+        let Some(unit) = Unit::of_word(name.text) else {
+            return Err(LineError::Bad(name.fault(Reason::UnknownUnit)));
+        };
+        words.end()?;
+        self.unit = Some(unit);
+        Ok(())
+    }
+
+    // Takes the line `machine NAME skew S`, of which this is the first word.
+    fn take_machine(
+        &mut self,
+        alloc: Global,
+        word: &Word<'_>,
+        words: &mut Words<'_>,
+    ) -> Result<(), LineError>
+        ensures known { self.new.known.owners ≡ self.old.known.owners }
+        ensures names { self.new.known.files ≡ self.old.known.files }
+        ensures files { self.new.files ≡ self.old.files }
+        ensures counts { self.new.counts ≡ self.old.counts }
+    {
+        if has_calls(&self.counts) {
+            return Err(LineError::Bad(word.fault(Reason::LateMachine)));
+        }
+        let name = words.next_word()?;
+        if is_declared(&self.known.machines, name.text) {
+            return Err(LineError::Bad(name.fault(Reason::SecondMachine)));
+        }
+        words.expect_word("skew", Reason::NoSkew)?;
+        let number = words.next_word()?;
+        let skew = time_of(&number)?;
+        words.end()?;
+        push_machine(alloc, &mut self.known.machines, name.text, skew)?;
+        Ok(())
+    }
+
+    // Takes what stands behind the word `call` in the line of this number.
+    fn take_call(
+        &mut self,
+        alloc: Global,
+        line: u64,
+        words: &mut Words<'_>,
+    ) -> Result<(), LineError>
+        requires read { IsRead line self.old }
+        requires paired { IsPaired self.old }
+        requires line { 1 ≤ line }
+        requires counted { counted self.old.counts < line }
+        ensures read { OnOk result (IsRead line self.new) }
+        ensures paired { OnOk result (IsPaired self.new) }
+        ensures counted { OnOk result (counted self.new.counts ≡ counted self.old.counts + 1) }
+    {
+        let CallLine {
+            owner,
+            begin,
+            end,
+            deed,
+        } = self.known.next_call(alloc, line, words)?;
+        match deed {
+            Deed::Exits => self.counts.exits += 1,
+            Deed::Asks { file, act: None } => {
+                add_file(alloc, &mut self.files, file)?;
+                self.counts.silent += 1;
+            }
+            Deed::Asks {
+                file,
+                act: Some(act),
+            } => {
+                add_file(alloc, &mut self.files, file)?;
+                let call = call_of(owner, begin, end, act);
+                push_call(&mut self.files, file, line, &call)?;
+                self.counts.calls += 1;
+            }
+        }
+        Ok(())
+    }
+}
+
+// The call of the owner of this number.
+fn call_of(owner: usize, begin: u64, end: Option<u64>, act: Act) -> ClientCall
+    requires { owner < most_owners }
+    ensures { result ≡ record { owner = owner_numbered owner; begin = begin; end = end; act = act; is_last = false } }
+{
+    ClientCall {
+        owner: owner_of(owner),
+        begin,
+        end,
+        act,
+        is_last: false,
+    }
+}
+
+// Whether a line of a call was read.
+fn has_calls(counts: &Counts) -> bool {
+    counts.calls > 0 || counts.exits > 0 || counts.silent > 0
+}
+
+// The machine of this name comes last.
+fn push_machine(
+    alloc: Global,
+    machines: &mut Vec<Machine>,
+    name: &str,
+    skew: u64,
+) -> Result<(), AllocError> {
+    let name = String::from_str(alloc, name)?;
+    machines.push(Machine { name, skew })?;
+    Ok(())
+}

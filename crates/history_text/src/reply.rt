@@ -1,0 +1,112 @@
+//! Replies to calls.
+use crate::line_error::Fault;
+use crate::operation::Operation;
+use crate::reason::Reason;
+use crate::words::{Word, Words};
+use client_history::act::Act;
+use client_history::told_lock::ToldLock;
+
+/// The first word of a reply.
+#[derive(Clone, Copy, PartialEq, Eq)]
+pub(crate) enum Answer {
+    Done,
+    Again,
+    Free,
+    Blocked,
+    Interrupted,
+    Refused,
+}
+
+impl Answer {
+    /// The one that the word names.
+    ///
+    /// # Errors
+    /// `UnknownReply`.
+    pub(crate) fn of(word: &Word<'_>) -> Result<Answer, Fault> {
+        match word.text {
+            "done" => Ok(Answer::Done),
+            "again" => Ok(Answer::Again),
+            "free" => Ok(Answer::Free),
+            "blocked" => Ok(Answer::Blocked),
+            "interrupted" => Ok(Answer::Interrupted),
+            "refused" => Ok(Answer::Refused),
+            _ => Err(word.fault(Reason::UnknownReply)),
+        }
+    }
+
+    /// Whether a lock may be told behind it.
+    pub(crate) fn tells_lock(self) -> bool {
+        match self {
+            Answer::Again | Answer::Blocked => true,
+            Answer::Done | Answer::Free | Answer::Interrupted | Answer::Refused => false,
+        }
+    }
+
+    /// Whether such a call may have it.
+    pub(crate) fn goes_with(self, operation: &Operation) -> bool {
+        match operation {
+            Operation::Set { .. } => match self {
+                Answer::Done | Answer::Again | Answer::Interrupted | Answer::Refused => true,
+                Answer::Free | Answer::Blocked => false,
+            },
+            Operation::Wait { .. } => match self {
+                Answer::Done | Answer::Interrupted | Answer::Refused => true,
+                Answer::Again | Answer::Free | Answer::Blocked => false,
+            },
+            Operation::Query { .. } => match self {
+                Answer::Free | Answer::Blocked | Answer::Refused => true,
+                Answer::Done | Answer::Again | Answer::Interrupted => false,
+            },
+            Operation::Unlock { .. } | Operation::Close => match self {
+                Answer::Done | Answer::Refused => true,
+                Answer::Again | Answer::Free | Answer::Blocked | Answer::Interrupted => false,
+            },
+        }
+    }
+}
+
+/// Takes the `->` and the first word of a reply, if the line goes on; a reply goes with an end.
+///
+/// # Errors
+/// `ReplyWithoutEnd` where the call has no end and a reply, `NoArrow`, and `Missing`.
+pub(crate) fn next_reply<'a>(
+    words: &mut Words<'a>,
+    has_end: bool,
+) -> Result<Option<Word<'a>>, Fault> {
+    if !words.has_more() {
+        return Ok(None);
+    }
+    let arrow = words.next_word()?;
+    if arrow.text != "->" {
+        return Err(arrow.fault(Reason::NoArrow));
+    }
+    if !has_end {
+        return Err(arrow.fault(Reason::ReplyWithoutEnd));
+    }
+    let reply = words.next_word()?;
+    Ok(Some(reply))
+}
+
+/// What the call did, as far as its answer says; none is as one that is done, where the call may have changed something.
+pub(crate) fn act_of(operation: &Operation, answer: Option<Answer>, told: ToldLock) -> Option<Act> {
+    match *operation {
+        Operation::Set { mode, span } | Operation::Wait { mode, span } => match answer {
+            None | Some(Answer::Done) => Some(Act::Locks { mode, span }),
+            Some(Answer::Again) => Some(Act::IsDenied { mode, span, told }),
+            _ => None,
+        },
+        Operation::Query { mode, span } => match answer {
+            Some(Answer::Free) => Some(Act::IsFree { mode, span }),
+            Some(Answer::Blocked) => Some(Act::IsDenied { mode, span, told }),
+            _ => None,
+        },
+        Operation::Unlock { span } => match answer {
+            None | Some(Answer::Done) => Some(Act::Frees { span }),
+            _ => None,
+        },
+        Operation::Close => match answer {
+            None | Some(Answer::Done) => Some(Act::Drops),
+            _ => None,
+        },
+    }
+}

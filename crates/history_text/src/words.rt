@@ -1,0 +1,106 @@
+//! Words of a line.
+use crate::line_error::Fault;
+use crate::reason::Reason;
+use texts::text::split_field;
+
+/// A word, and how many bytes of its line stand from its first one on.
+#[derive(Clone, Copy)]
+pub(crate) struct Word<'a> {
+    pub(crate) text: &'a str,
+    left: usize,
+}
+
+impl Word<'_> {
+    /// That the word may not stand there.
+    pub(crate) fn fault(&self, reason: Reason) -> Fault {
+        Fault {
+            left: self.left,
+            reason,
+        }
+    }
+}
+
+/// What is left of a line, from the next word on. Words have one space between them.
+#[derive(Drop)]
+pub(crate) struct Words<'a> {
+    rest: Option<&'a str>,
+}
+
+impl<'a> Words<'a> {
+    /// All words of a line, or of the end of one.
+    pub(crate) fn of(line: &'a str) -> Words<'a> {
+        Words { rest: Some(line) }
+    }
+
+    /// Whether there is a next word.
+    pub(crate) fn has_more(&self) -> bool {
+        self.rest.is_some()
+    }
+
+    /// Takes the next word.
+    ///
+    /// # Errors
+    /// `Missing` where there is none.
+    pub(crate) fn next_word(&mut self) -> Result<Word<'a>, Fault> {
+        let Some(line) = self.rest else {
+            return Err(missing(0));
+        };
+        let left = line.len();
+        let text = match split_field(line) {
+            Some((text, rest)) => {
+                self.rest = Some(rest);
+                text
+            }
+            None => {
+                self.rest = None;
+                line
+            }
+        };
+        if text.is_empty() {
+            return Err(missing(left));
+        }
+        Ok(Word { text, left })
+    }
+
+    /// Takes the next word, which is this one.
+    ///
+    /// # Errors
+    /// `Missing` where there is none, and this reason where it is another one.
+    pub(crate) fn expect_word(&mut self, expected: &str, reason: Reason) -> Result<(), Fault> {
+        let word = self.next_word()?;
+        if word.text == expected {
+            Ok(())
+        } else {
+            Err(word.fault(reason))
+        }
+    }
+
+    /// That there is no next word.
+    ///
+    /// # Errors
+    /// `MoreWords` where there is one.
+    pub(crate) fn end(&self) -> Result<(), Fault> {
+        if self.has_more() {
+            Err(self.fault(Reason::MoreWords))
+        } else {
+            Ok(())
+        }
+    }
+
+    /// That the line may not go on so behind the words that were taken.
+    pub(crate) fn fault(&self, reason: Reason) -> Fault {
+        let left = match self.rest {
+            Some(rest) => rest.len(),
+            None => 0,
+        };
+        Fault { left, reason }
+    }
+}
+
+// That a word is missing, with so many bytes of the line behind the place where it should stand.
+fn missing(left: usize) -> Fault {
+    Fault {
+        left,
+        reason: Reason::Missing,
+    }
+}
