@@ -1,3 +1,4 @@
 pub mod Searches
 pub mod FirstLines
 pub mod Empties
+pub mod Placings

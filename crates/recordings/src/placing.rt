@@ -1,19 +1,42 @@
 //! Processes that are placed by hand.
+ghost use Rattle.std.specs.Prelude.{◌≡◌, IfErr, IfOk};
+ghost use Rattle.recordings.specs.Placings.{HasPlacings, WritesPlacings};
+ghost use Rattle.recordings.specs.declared.placing.PlacingError.TheVariants.{Form, NoMemory};
+
+use std::alloc::{AllocError, AllocFailed, Global};
 use std::marker::Model;
+use texts::number::number_of;
+use texts::text::split_at_first;
 use thiserror::Error;
 
-/// Why a text places no process.
+/// The greatest PID.
+const MOST_PIDS: u64 = 4294967295;
+
+/// Why words place no processes.
 #[derive(Clone, Copy, Debug, PartialEq, Eq, Error)]
 pub enum PlacingError {
-    /// It isn't two words with `=` between them.
+    /// A request for memory was refused.
+    #[error("no memory")]
+    NoMemory,
+    /// They are not `PID=NODE`, or several of that with commas between them.
     #[error("a placing is PID=NODE")]
     Form,
-    /// The first is no PID, from 1 to 4294967295, decimal and without leading zeros.
-    #[error("no process has such a PID")]
-    Pid,
-    /// The second is no node, from 1 to 64, decimal and without leading zeros.
-    #[error("no cluster has such a node")]
-    Node,
+}
+
+impl From<AllocError> for PlacingError {
+    ghost from_gives = { λ error made. made ≡ NoMemory };
+
+    fn from(_error: AllocError) -> PlacingError {
+        PlacingError::NoMemory
+    }
+}
+
+impl<T: Drop> From<AllocFailed<T>> for PlacingError {
+    ghost from_gives = { λ error made. made ≡ NoMemory };
+
+    fn from(_error: AllocFailed<T>) -> PlacingError {
+        PlacingError::NoMemory
+    }
 }
 
 /// On which node, 1 to 64, the recorded processes of a PID are.
@@ -40,6 +63,8 @@ impl Placing {
     ghost use Rattle.std.specs.Prelude.{◌≡◌, Some};
     ghost use Rattle.std.specs.Option.{IfSome};
     ghost use Rattle.model.specs.Limits.{IsNumber, most_nodes};
+    ghost use Rattle.texts.specs.Reads.{Reads};
+    ghost use Rattle.recordings.specs.Placings.{IsPlacing, placing_text};
 
     /// The placing of a PID on a node, if a cluster can have that.
     pub fn new(pid: u32, node: u8) -> Option<Placing>
@@ -53,22 +78,15 @@ impl Placing {
         }
     }
 
-    /// The placing that a text `PID=NODE` says.
-    ///
-    /// # Errors
-    /// `Form` where the text has no `=`; `Pid` where no PID stands before the first one; `Node` where no node stands
-    /// behind it.
-    pub fn of(text: &str) -> Result<Placing, PlacingError> {
-        let Some((pid, node)) = text.split_once('=') else {
-            return Err(PlacingError::Form);
-        };
-        let Some(pid) = count_in(pid) else {
-            return Err(PlacingError::Pid);
-        };
-        match count_in(node).and_then(|node| u8::try_from(node).ok()) {
-            Some(node) => Placing::new(pid, node).ok_or(PlacingError::Node),
-            None => Err(PlacingError::Node),
-        }
+    /// The placing that a text `PID=NODE` writes: of a PID from 1 to 4294967295 on a node from 1 to 64, both decimal
+    /// and without leading zeros.
+    pub fn of(text: &str) -> Option<Placing>
+        ensures { Reads placing_text IsPlacing text.now result }
+    {
+        let (pid, node) = split_at_first(text, b'=')?;
+        let pid = number_of(pid, 1, MOST_PIDS)?;
+        let node = number_of(node, 1, 64)?;
+        Placing::new(pid as u32, node as u8)
     }
 
     /// The PID.
@@ -87,10 +105,28 @@ impl Placing {
     }
 }
 
-// The number from 1 that the text is, without a sign and leading zeros.
-fn count_in(text: &str) -> Option<u32> {
-    if text.starts_with('0') || text.starts_with('+') {
-        return None;
+/// The placings that words write: `PID=NODE`, or several of that with commas between them.
+///
+/// # Errors
+/// `Form` where they write none; `NoMemory` where a request for memory was refused.
+pub fn placings_of(alloc: Global, words: &str) -> Result<Vec<Placing>, PlacingError>
+    ensures value { IfOk result (λ placings. WritesPlacings words.now placings.items) }
+    ensures form { IfErr result (λ error. error ≡ Form → ¬ (HasPlacings words.now)) }
+{
+    let mut placings = Vec::new(alloc);
+    let mut rest = words;
+    while let Some((word, behind)) = split_at_first(rest, b',') {
+        let Some(placing) = Placing::of(word) else {
+            return Err(PlacingError::Form);
+        };
+        placings.push(placing)?;
+        rest = behind;
     }
-    text.parse().ok()
+    match Placing::of(rest) {
+        Some(placing) => {
+            placings.push(placing)?;
+            Ok(placings)
+        }
+        None => Err(PlacingError::Form),
+    }
 }
