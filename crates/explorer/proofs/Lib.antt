@@ -3,6 +3,7 @@ mod MetOutcomes
 mod Orders
 mod Puts
 mod Reading
+mod RunWalks
 mod SameAnswers
 mod Seeds
 mod Walks

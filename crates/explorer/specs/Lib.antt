@@ -1,5 +1,6 @@
 pub mod Answers
 pub mod ByProcess
+pub mod Comparisons
 pub mod Ends
 pub mod Expectations
 pub mod Explores

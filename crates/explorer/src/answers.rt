@@ -97,8 +97,8 @@ fn next_try(tries: &Tries, earlier: &Calls, command: &Command) -> Option<Option<
     }
 }
 
-// What the command of a line comes to where that became of it, behind those that were taken.
-fn answer_by(
+/// What the command of a line comes to where that became of it, behind those that were taken.
+pub(crate) fn answer_by(
     told: &Told<'_>,
     taken: &Calls,
     tried: Option<Option<u16>>,
@@ -126,8 +126,11 @@ fn answer_tried(tried: Option<Option<u16>>, answer: Answer) -> Answer
     }
 }
 
-// The command comes last of the calls of its process that were taken, if that became of it.
-fn note_taken(
+/// The command comes last of the calls of its process that were taken, if that became of it.
+///
+/// # Errors
+/// `AllocError` where a request for memory was refused.
+pub(crate) fn note_taken(
     taken: &mut Calls,
     alloc: Global,
     tried: Option<Option<u16>>,

@@ -92,8 +92,12 @@ fn first_of(seeds: &[u32]) -> u32
     }
 }
 
-// Writes the lines that are told of an outcome.
-fn push_lines(
+/// Writes the lines that are told of an outcome: those in which others of these differ from it, and those whose answers
+/// begin otherwise than the text expects.
+///
+/// # Errors
+/// `AllocError` where a request for memory was refused.
+pub(crate) fn push_lines(
     out: &mut String,
     alloc: Global,
     text: &str,

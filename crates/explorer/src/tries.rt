@@ -39,8 +39,11 @@ pub(crate) fn tries(
     Ok(made)
 }
 
-// The number of the refusal of each line, of equal lines the first.
-fn refusals(alloc: Global, refused: &[RefusedLine]) -> Result<Refusals, AllocError>
+/// The number of the refusal of each line, of equal lines the first.
+///
+/// # Errors
+/// `AllocError` where a request for memory was refused.
+pub(crate) fn refusals(alloc: Global, refused: &[RefusedLine]) -> Result<Refusals, AllocError>
     ensures { IfOk result (λ refusals. KnowsRefusals refusals refused.now) }
 {
     let mut refusals = HashMap::new(alloc);
