@@ -3,9 +3,9 @@ use Rattle.std.specs.Prelude.{option_and_then, slice_get, unwrap_or}
 use Rattle.std.specs.Option.{option_map_or}
 use Rattle.std.specs.Str.{bytes_eq}
 use Rattle.std.specs.Str.Parse.{digits_value, without_leading_plus}
-use Rattle.std.proofs.Common.{ℕ, Bool, Bor, true, false, cond, refl, sym, subst, ap, codes, inl, inr, is_some, option_map, List, Option, Some, None, [], ◌∷◌, ◌≡◌, ◌∙◌}
+use Rattle.std.proofs.Common.{ℕ, Bool, true, false, cond, refl, sym, subst, ap, codes, inl, inr, List, Option, Some, None, [], ◌∷◌, ◌≡◌, ◌∙◌}
 use Rattle.clap.specs.declared.error.Error.{Error}
-use Rattle.clap.specs.Words.{HasKind, IsAmong, kind_of, Kinds, Row, Text, fault_of, first_of, one_of, subcommand_of}
+use Rattle.clap.specs.Words.{HasKind, IsAmong, kind_of, Kinds, Row, Text, all_of, fault_of, first_of, one_of, subcommand_of}
 use Rattle.clap.specs.declared.error.kind.ErrorKind.{ErrorKind}
 use Rattle.clap.specs.declared.error.kind.ErrorKind.TheVariants.{OutOfMemory, ValueValidation}
 use Rattle.command_line.specs.Kinds.{IsKindOf, IsOfKind}
@@ -57,6 +57,10 @@ asks_refused words task NoMemory asks is = refl
 abbrev Values : Type 0
 Values = Text × List (Option Text)
 
+-- the name, the scripts and the file of a check
+abbrev Checked : Type 0
+Checked = Text × Option (List Text) × Option Text
+
 abbrev value_at : ℕ → Option Values → Option Text
 value_at place met = option_and_then (λ (values : Values). unwrap_or (slice_get values.1 place) None) met
 
@@ -66,29 +70,38 @@ text_at place met = unwrap_or (value_at place met) []
 abbrev name_in : Option Values → Text
 name_in met = option_map_or (λ (values : Values). values.0) met []
 
+abbrev checked_name : Option Checked → Text
+checked_name met = option_map_or (λ (values : Checked). values.0) met []
+
+abbrev scripts_in : Option Checked → List Text
+scripts_in met = option_map_or (λ (values : Checked). unwrap_or values.1 []) met []
+
+abbrev file_in : Option Checked → Option Text
+file_in met = option_and_then (λ (values : Checked). values.2) met
+
 abbrev pub name_of : Task → Text
-name_of (run s a j o q) = codes "run"
+name_of (run s a j x o q) = codes "run"
 name_of (threads s n h k j) = codes "threads"
 name_of (audit j) = codes "audit"
 name_of (history j) = codes "history"
 name_of (explain j c) = codes "explain"
 name_of (open_calls j) = codes "open"
-name_of (check s) = codes "check"
+name_of (check ss j) = codes "check"
 name_of (picture j c a b f) = codes "picture"
-name_of (from_strace r n) = codes "from-strace"
+name_of (from_strace r n w) = codes "from-strace"
 name_of (explore s k n f) = codes "explore"
 name_of (schedule s n f) = codes "schedule"
 
 name_is : (p : Text × List Row) (task : Task) → IsMet (Some p) task → p.0 ≡ name_of task
-name_is p (run s a j o q) met = ap name_in met.0
+name_is p (run s a j x o q) met = ap name_in met.0
 name_is p (threads s n h k j) met = ap name_in met.1
 name_is p (audit j) met = ap name_in met
 name_is p (history j) met = ap name_in met
 name_is p (explain j c) met = ap name_in met
 name_is p (open_calls j) met = ap name_in met
-name_is p (check s) met = ap name_in met
+name_is p (check ss j) met = ap checked_name met.0
 name_is p (picture j c a b f) met = ap name_in met.2
-name_is p (from_strace r n) met = ap name_in met.1
+name_is p (from_strace r n w) met = ap name_in met.1
 name_is p (explore s k n f) met = ap name_in met.2
 name_is p (schedule s n f) met = ap name_in met.1
 
@@ -126,21 +139,27 @@ threads_of rows = threads (path_in (codes "SCRIPT") rows) (number_in (codes "N")
 abbrev picture_of : List Row → Task
 picture_of rows = picture (path_in (codes "JOURNAL") rows) (first_of (codes "CALL") rows) (number_in (codes "K") rows) (number_in (codes "L") rows) (format_named (path_in (codes "FORMAT") rows))
 
+abbrev run_of : List Row → Task
+run_of rows = run (path_in (codes "SCRIPT") rows) (first_of (codes "JOURNAL") rows) (first_of (codes "FILE") rows) (flag_in (codes "expect") rows) (flag_in (codes "open") rows) (flag_in (codes "quiet") rows)
+
+abbrev check_of : List Row → Task
+check_of rows = check (unwrap_or (all_of (codes "SCRIPT") rows) []) (first_of (codes "FILE") rows)
+
 abbrev explore_of : List Row → Task
 explore_of rows = explore (path_in (codes "SCRIPT") rows) (number_in (codes "COUNT") rows) (number_in (codes "N") rows) (flag_in (codes "failures") rows)
 
 -- the task of the command of this name, with these values
 abbrev task_named : Text → List Row → Task
 task_named name rows =
-    cond (bytes_eq name (codes "run")) (run (path_in (codes "SCRIPT") rows) (first_of (codes "JOURNAL") rows) (first_of (codes "FILE") rows) (flag_in (codes "open") rows) (flag_in (codes "quiet") rows))
+    cond (bytes_eq name (codes "run")) (run_of rows)
     (cond (bytes_eq name (codes "threads")) (threads_of rows)
     (cond (bytes_eq name (codes "audit")) (audit (path_in (codes "JOURNAL") rows))
     (cond (bytes_eq name (codes "history")) (history (path_in (codes "JOURNAL") rows))
     (cond (bytes_eq name (codes "explain")) (explain (path_in (codes "JOURNAL") rows) (path_in (codes "CALL") rows))
     (cond (bytes_eq name (codes "open")) (open_calls (path_in (codes "JOURNAL") rows))
-    (cond (bytes_eq name (codes "check")) (check (path_in (codes "SCRIPT") rows))
+    (cond (bytes_eq name (codes "check")) (check_of rows)
     (cond (bytes_eq name (codes "picture")) (picture_of rows)
-    (cond (bytes_eq name (codes "from-strace")) (from_strace (path_in (codes "RECORDING") rows) (number_in (codes "N") rows))
+    (cond (bytes_eq name (codes "from-strace")) (from_strace (path_in (codes "RECORDING") rows) (number_in (codes "N") rows) (first_of (codes "PLACES") rows))
     (cond (bytes_eq name (codes "explore")) (explore_of rows)
     (schedule (path_in (codes "SCRIPT") rows) (number_in (codes "N") rows) (flag_in (codes "failures") rows)))))))))))
 
@@ -156,13 +175,14 @@ flag_there place v w flag same there = ap (λ (u : Option Values). is_given (tex
 
 -- the command and its values tell the task
 met_is : (p : Text × List Row) (task : Task) → IsMet (Some p) task → task_named p.0 p.1 ≡ task
-met_is p (run s a j o q) met =
+met_is p (run s a j x o q) met =
     let script = ap (text_at 0) met.0 in
     let after = ap (value_at 1) met.0 in
     let file = ap (value_at 2) met.0 in
-    let open_flag = flag_there 3 _ _ o met.0 refl in
-    let quiet_flag = flag_there 4 _ _ q met.0 refl in
-    named p (run s a j o q) met ∙ (λ i. run (script i) (after i) (file i) (open_flag i) (quiet_flag i))
+    let expect_flag = flag_there 3 _ _ x met.0 refl in
+    let open_flag = flag_there 4 _ _ o met.0 refl in
+    let quiet_flag = flag_there 5 _ _ q met.0 refl in
+    named p (run s a j x o q) met ∙ (λ i. run (script i) (after i) (file i) (expect_flag i) (open_flag i) (quiet_flag i))
 met_is p (threads s n h k j) met =
     let script = ap (text_at 0) met.1 in
     let number = number_there 1 _ _ 0 greatest_seed met.0 n met.1 refl met.2 in
@@ -174,7 +194,7 @@ met_is p (audit j) met = named p (audit j) met ∙ ap (λ (v : Option Values). a
 met_is p (history j) met = named p (history j) met ∙ ap (λ (v : Option Values). history (text_at 0 v)) met
 met_is p (explain j c) met = named p (explain j c) met ∙ ap (λ (v : Option Values). explain (text_at 0 v) (text_at 1 v)) met
 met_is p (open_calls j) met = named p (open_calls j) met ∙ ap (λ (v : Option Values). open_calls (text_at 0 v)) met
-met_is p (check s) met = named p (check s) met ∙ ap (λ (v : Option Values). check (text_at 0 v)) met
+met_is p (check ss j) met = named p (check ss j) met ∙ ap (λ (v : Option Checked). check (scripts_in v) (file_in v)) met.0
 met_is p (picture j c a b f) met =
     let journal = ap (text_at 0) met.2 in
     let call = ap (value_at 1) met.2 in
@@ -182,10 +202,11 @@ met_is p (picture j c a b f) met =
     let last = number_there 3 _ _ 1 greatest_seed met.1 b met.2 refl met.4 in
     let format = ap (λ (v : Option Values). format_named (text_at 4 v)) met.2 ∙ format_is f in
     named p (picture j c a b f) met ∙ (λ i. picture (journal i) (call i) (first i) (last i) (format i))
-met_is p (from_strace r n) met =
+met_is p (from_strace r n w) met =
     let recording = ap (text_at 0) met.1 in
     let number = number_there 1 _ _ 1 most_nodes met.0 n met.1 refl met.2 in
-    named p (from_strace r n) met ∙ (λ i. from_strace (recording i) (number i))
+    let places = ap (value_at 2) met.1 in
+    named p (from_strace r n w) met ∙ (λ i. from_strace (recording i) (number i) (places i))
 met_is p (explore s k n f) met =
     let script = ap (text_at 0) met.2 in
     let count = number_there 1 _ _ 1 greatest_seed met.0 k met.2 refl met.3 in
@@ -198,20 +219,20 @@ met_is p (schedule s n f) met =
     let flag = flag_there 2 _ _ f met.1 refl in
     named p (schedule s n f) met ∙ (λ i. schedule (script i) (number i) (flag i))
 
-unmet : (values : Values) → ◌≡◌ {A = Option Values} None (Some values) → ⊥
+unmet : {A : Type 0} (values : A) → ◌≡◌ {A = Option A} None (Some values) → ⊥
 unmet values is = cc
 
 -- where nothing is met, or a name that no task has, or a name without one of its values
 nothing_met : (task : Task) → IsMet None task → ⊥
-nothing_met (run s a j o q) is = unmet _ is.0
+nothing_met (run s a j x o q) is = unmet _ is.0
 nothing_met (threads s n h k j) is = unmet _ is.1
 nothing_met (audit j) is = cc
 nothing_met (history j) is = cc
 nothing_met (explain j c) is = cc
 nothing_met (open_calls j) is = cc
-nothing_met (check s) is = cc
+nothing_met (check ss j) is = unmet _ is.0
 nothing_met (picture j c a b f) is = unmet _ is.2
-nothing_met (from_strace r n) is = unmet _ is.1
+nothing_met (from_strace r n w) is = unmet _ is.1
 nothing_met (explore s k n f) is = unmet _ is.2
 nothing_met (schedule s n f) is = unmet _ is.1
 
@@ -243,32 +264,24 @@ NoFlag id rows = (flag : Bool) → one_of id rows ≡ Some (flag_text flag) → 
 pub no_script : (rows : List Row) → first_of (codes "SCRIPT") rows ≡ None → Unmet (codes "run") rows
 no_script rows none task met = nowhere _ _ none (ap (value_at 0) (as_named (codes "run") rows task met).0)
 
+pub no_expect_flag : (rows : List Row) → NoFlag (codes "expect") rows → Unmet (codes "run") rows
+no_expect_flag rows none task met = none _ (ap (value_at 3) (as_named (codes "run") rows task met).0)
+
 pub no_run_flag : (rows : List Row) → NoFlag (codes "open") rows → Unmet (codes "run") rows
-no_run_flag rows none task met = none _ (ap (value_at 3) (as_named (codes "run") rows task met).0)
+no_run_flag rows none task met = none _ (ap (value_at 4) (as_named (codes "run") rows task met).0)
 
 pub no_quiet_flag : (rows : List Row) → NoFlag (codes "quiet") rows → Unmet (codes "run") rows
-no_quiet_flag rows none task met = none _ (ap (value_at 4) (as_named (codes "run") rows task met).0)
+no_quiet_flag rows none task met = none _ (ap (value_at 5) (as_named (codes "run") rows task met).0)
 
--- nor where the listing is to be left away and no journal kept
-quiet_alone : (journal : Option Text) (quiet : Bool) → journal ≡ None → quiet ≡ true → MayBeQuiet journal quiet → ⊥
-quiet_alone journal false none is may = cc
-quiet_alone None true none is may = may
-quiet_alone (Some path) true none is may = cc
-
-pub not_quiet : (journal : Option Text) (quiet : Bool) → quiet ≡ false → MayBeQuiet journal quiet
-not_quiet journal false is = tt
-not_quiet journal true is = absurd (cc)
-
-pub quiet_with : (journal : Option (Bor Text)) (quiet : Bool) → is_some journal ≡ true → MayBeQuiet (option_map (λ file. file.now) journal) quiet
-quiet_with None quiet kept = absurd (cc)
-quiet_with (Some file) false kept = tt
-quiet_with (Some file) true kept = tt
-
-pub no_quiet_journal : (rows : List Row) → first_of (codes "FILE") rows ≡ None → one_of (codes "quiet") rows ≡ Some (flag_text true) → Unmet (codes "run") rows
-no_quiet_journal rows none is task met =
+-- nor where the listing may not be left away
+pub no_quiet : (rows : List Row) (journal : Option Text) (expected quiet : Bool) → first_of (codes "FILE") rows ≡ journal → one_of (codes "expect") rows ≡ Some (flag_text expected)
+    → one_of (codes "quiet") rows ≡ Some (flag_text quiet) → (MayBeQuiet journal expected quiet → ⊥) → Unmet (codes "run") rows
+no_quiet rows journal expected quiet file first last may_not task met =
     let same = as_named (codes "run") rows task met in
-    let flag : flag_in (codes "quiet") rows ≡ true = ap (λ (value : Option Text). is_given (unwrap_or value [])) is in
-    quiet_alone _ _ none flag same.1
+    let expect_is : flag_in (codes "expect") rows ≡ expected = ap (λ (value : Option Text). is_given (unwrap_or value [])) first ∙ given_is expected in
+    let quiet_is : flag_in (codes "quiet") rows ≡ quiet = ap (λ (value : Option Text). is_given (unwrap_or value [])) last ∙ given_is quiet in
+    let P : Option Text × Bool × Bool → Type 0 = λ given. MayBeQuiet given.0 given.1 given.2 in
+    may_not (subst P (λ i. (file i, expect_is i, quiet_is i)) same.1)
 
 pub no_threads_script : (rows : List Row) → first_of (codes "SCRIPT") rows ≡ None → Unmet (codes "threads") rows
 no_threads_script rows none task met = nowhere _ _ none (ap (value_at 0) (as_named (codes "threads") rows task met).1)
@@ -299,8 +312,8 @@ no_call rows none task met = nowhere _ _ none (ap (value_at 1) (as_named (codes 
 pub no_open : (rows : List Row) → first_of (codes "JOURNAL") rows ≡ None → Unmet (codes "open") rows
 no_open rows none task met = nowhere _ _ none (ap (value_at 0) (as_named (codes "open") rows task met))
 
-pub no_check : (rows : List Row) → first_of (codes "SCRIPT") rows ≡ None → Unmet (codes "check") rows
-no_check rows none task met = nowhere _ _ none (ap (value_at 0) (as_named (codes "check") rows task met))
+pub no_check : (rows : List Row) → unwrap_or (all_of (codes "SCRIPT") rows) [] ≡ [] → Unmet (codes "check") rows
+no_check rows none task met = (as_named (codes "check") rows task met).1 none
 
 pub no_picture : (rows : List Row) → first_of (codes "JOURNAL") rows ≡ None → Unmet (codes "picture") rows
 no_picture rows none task met = nowhere _ _ none (ap (value_at 0) (as_named (codes "picture") rows task met).2)

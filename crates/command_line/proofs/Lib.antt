@@ -5,6 +5,7 @@ pub mod BuiltCommands
 pub mod Flags
 pub mod Formats
 pub mod Numbers
+pub mod CheckWords
 pub mod ExploreWords
 pub mod PictureWords
 pub mod RunWords

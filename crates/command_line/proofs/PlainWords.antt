@@ -1,15 +1,17 @@
 -- What clap makes of plain words.
-use Rattle.std.proofs.Common.{arith, refl, sym, subst, codes, true, false, List, Some, None, [], ◌∷◌, ◌≡◌, ◌≢◌}
+use Rattle.std.proofs.Common.{arith, refl, sym, subst, codes, true, false, List, Option, Some, None, [], ◌∷◌, ◌++◌, ◌≡◌, ◌≢◌}
 use Rattle.std.specs.Prelude.{decimal, slice_get}
 use Rattle.std.specs.List.{All}
+use Rattle.std.proofs.lemmas.List.Elements.{All-head, All-tail}
 use Rattle.clap.specs.Words.{Text, is_simple, is_simple_and_free}
 use Rattle.clap.proofs.OnLiterals.{clap_on_literals}
-use Rattle.command_line.specs.Program.{audit_app, check_app, explain_app, explore_app, history_app, open_app, picture_app, program_app, schedule_app, strace_app, threads_app}
-use Rattle.command_line.specs.Tasks.{Task, run, threads, audit, history, explain, open_calls, check, picture, from_strace, explore, schedule, greatest_seed, most_nodes, HasPlainWords, paths_of, plain_words_of}
+use Rattle.command_line.specs.Program.{audit_app, explain_app, explore_app, history_app, open_app, picture_app, program_app, schedule_app, strace_app, threads_app}
+use Rattle.command_line.specs.Tasks.{Task, run, threads, audit, history, explain, open_calls, check, picture, from_strace, explore, schedule, given, greatest_seed, most_nodes, HasPlainWords, paths_of, plain_words_of}
 use Rattle.command_line.specs.Words.{AsksFor, IsPlain}
 use Rattle.command_line.specs.declared.format.Format.TheVariants.{Svg}
 use Rattle.command_line.proofs.BuiltCommands.{commands}
-use Rattle.command_line.proofs.CommandWords.{asks_by, is_path, IsPath}
+use Rattle.command_line.proofs.CommandWords.{asks_by, is_path, IsPath, MayBePath}
+use Rattle.command_line.proofs.CheckWords.{check_asks, ArePaths}
 use Rattle.command_line.proofs.ExploreWords.{explore_asks}
 use Rattle.command_line.proofs.Numbers.{greatest_writes, hundred_writes, number_text, one_writes}
 use Rattle.command_line.proofs.PictureWords.{around_asks, picture_asks}
@@ -40,10 +42,6 @@ module _ (program path : Text) (p : IsPath path) where
   unfolding clap_on_literals
   open_asks = asks_by open_app commands.open_calls program (path ∷ []) (open_calls path) (rw (p.no_dashes, p.no_minus, p.no_minus) refl) (rw (p.no_dashes, p.no_minus, p.no_minus) refl)
 
-  check_asks : AsksFor (program ∷ codes "check" ∷ path ∷ []) (check path)
-  unfolding clap_on_literals
-  check_asks = asks_by check_app commands.check program (path ∷ []) (check path) (rw (p.no_dashes, p.no_minus, p.no_minus) refl) (rw (p.no_dashes, p.no_minus, p.no_minus) refl)
-
   -- what is left out
   left_threads : AsksFor (program ∷ codes "threads" ∷ path ∷ []) (threads path 1 false false None)
   unfolding clap_on_literals
@@ -55,9 +53,9 @@ module _ (program path : Text) (p : IsPath path) where
       asks_by picture_app commands.picture program (path ∷ []) (picture path None 1 greatest_seed Svg) (rw (p.no_dashes, p.no_minus, p.no_minus) refl)
       (codes "1", codes "4294967295", rw (p.no_dashes, p.no_minus, p.no_minus) refl, one_writes 1 greatest_seed (omega arith) (omega arith), greatest_writes)
 
-  left_strace : AsksFor (program ∷ codes "from-strace" ∷ path ∷ []) (from_strace path 1)
+  left_strace : AsksFor (program ∷ codes "from-strace" ∷ path ∷ []) (from_strace path 1 None)
   unfolding clap_on_literals
-  left_strace = asks_by strace_app commands.strace program (path ∷ []) (from_strace path 1) (rw (p.no_dashes, p.no_minus, p.no_minus) refl) (codes "1", rw (p.no_dashes, p.no_minus, p.no_minus) refl, one_writes 1 most_nodes (omega arith) (omega arith))
+  left_strace = asks_by strace_app commands.strace program (path ∷ []) (from_strace path 1 None) (rw (p.no_dashes, p.no_minus, p.no_minus) refl) (codes "1", rw (p.no_dashes, p.no_minus, p.no_minus) refl, one_writes 1 most_nodes (omega arith) (omega arith))
 
   left_explore : AsksFor (program ∷ codes "explore" ∷ path ∷ []) (explore path 100 1 false)
   unfolding clap_on_literals
@@ -77,7 +75,7 @@ module _ (program path : Text) (plain : slice_get path 0 ≢ Some 45) where
   pub bare_picture_asks : AsksFor (program ∷ codes "picture" ∷ path ∷ []) (picture path None 1 greatest_seed Svg)
   bare_picture_asks = left_picture program path (is_path path plain)
 
-  pub bare_strace_asks : AsksFor (program ∷ codes "from-strace" ∷ path ∷ []) (from_strace path 1)
+  pub bare_strace_asks : AsksFor (program ∷ codes "from-strace" ∷ path ∷ []) (from_strace path 1 None)
   bare_strace_asks = left_strace program path (is_path path plain)
 
   pub bare_explore_asks : AsksFor (program ∷ codes "explore" ∷ path ∷ []) (explore path 100 1 false)
@@ -93,17 +91,33 @@ explain_asks program journal call p q =
     asks_by explain_app commands.explain program (journal ∷ call ∷ []) (explain journal call) (rw (p.no_dashes, p.no_minus, p.no_minus, q.no_dashes, q.no_minus, q.no_minus) refl)
     (rw (p.no_dashes, p.no_minus, p.no_minus, q.no_dashes, q.no_minus, q.no_minus) refl)
 
+-- a word that begins with no `-` is read as no option; so are scripts, and the file behind them
+abbrev IsPlainWord : Text → Type 0
+IsPlainWord word = slice_get word 0 ≢ Some 45
+
+abbrev ArePlain : List Text → Type 0
+ArePlain = All IsPlainWord
+
+are_paths : (scripts behind : List Text) → ArePlain (scripts ++ behind) → ArePaths scripts
+are_paths [] behind plain = tt
+are_paths (script ∷ scripts) behind plain = (is_path script (All-head IsPlainWord script (scripts ++ behind) plain), are_paths scripts behind (All-tail IsPlainWord script (scripts ++ behind) plain))
+
+may_be_path : (scripts : List Text) (journal : Option Text) → ArePlain (scripts ++ given journal) → MayBePath journal
+may_be_path scripts None plain = tt
+may_be_path [] (Some file) plain = is_path file (All-head IsPlainWord file [] plain)
+may_be_path (script ∷ scripts) (Some file) plain = may_be_path scripts (Some file) (All-tail IsPlainWord script (scripts ++ given (Some file)) plain)
+
 abbrev words_of : Text → Task → List Text
 words_of program task = program ∷ plain_words_of task
 
 plain_task : (program : Text) (task : Task) → All (λ path. slice_get path 0 ≢ Some 45) (paths_of task) → HasPlainWords task → AsksFor (words_of program task) task
-plain_task program (run script None None listed quiet) plain within = run_asks program script (is_path script (plain 0 [] (omega arith))) None tt None tt listed quiet within
-plain_task program (run script None (Some file) listed quiet) plain within =
-    run_asks program script (is_path script (plain 0 [] (omega arith))) None tt (Some file) (is_path file (plain 1 [] (omega arith))) listed quiet within
-plain_task program (run script (Some after) None listed quiet) plain within =
-    run_asks program script (is_path script (plain 0 [] (omega arith))) (Some after) (is_path after (plain 1 [] (omega arith))) None tt listed quiet within
-plain_task program (run script (Some after) (Some file) listed quiet) plain within =
-    run_asks program script (is_path script (plain 0 [] (omega arith))) (Some after) (is_path after (plain 1 [] (omega arith))) (Some file) (is_path file (plain 2 [] (omega arith))) listed quiet within
+plain_task program (run script None None expected listed quiet) plain within = run_asks program script (is_path script (plain 0 [] (omega arith))) None tt None tt expected listed quiet within
+plain_task program (run script None (Some file) expected listed quiet) plain within =
+    run_asks program script (is_path script (plain 0 [] (omega arith))) None tt (Some file) (is_path file (plain 1 [] (omega arith))) expected listed quiet within
+plain_task program (run script (Some after) None expected listed quiet) plain within =
+    run_asks program script (is_path script (plain 0 [] (omega arith))) (Some after) (is_path after (plain 1 [] (omega arith))) None tt expected listed quiet within
+plain_task program (run script (Some after) (Some file) expected listed quiet) plain within =
+    run_asks program script (is_path script (plain 0 [] (omega arith))) (Some after) (is_path after (plain 1 [] (omega arith))) (Some file) (is_path file (plain 2 [] (omega arith))) expected listed quiet within
 plain_task program (threads script seed stop no_join None) plain within =
     threads_asks program script (decimal seed) seed (is_path script (plain 0 [] (omega arith))) (number_text 0 greatest_seed seed (omega arith) (omega arith) within) None tt stop no_join
 plain_task program (threads script seed stop no_join (Some file)) plain within =
@@ -113,15 +127,18 @@ plain_task program (audit journal) plain within = audit_asks program journal (is
 plain_task program (history journal) plain within = history_asks program journal (is_path journal (plain 0 [] (omega arith)))
 plain_task program (explain journal call) plain within = explain_asks program journal call (is_path journal (plain 0 [] (omega arith))) (is_path call (plain 1 [] (omega arith)))
 plain_task program (open_calls journal) plain within = open_asks program journal (is_path journal (plain 0 [] (omega arith)))
-plain_task program (check script) plain within = check_asks program script (is_path script (plain 0 [] (omega arith)))
+plain_task program (check scripts journal) plain within = check_asks program scripts journal within (are_paths scripts (given journal) plain) (may_be_path scripts journal plain)
 plain_task program (picture journal None first last format) plain within =
     picture_asks program journal (decimal first) (decimal last) first last format (is_path journal (plain 0 [] (omega arith)))
     (number_text 1 greatest_seed first (omega arith) within.0 within.1) (number_text 1 greatest_seed last (omega arith) within.2 within.3)
 plain_task program (picture journal (Some call) first last format) plain within =
     around_asks program journal (decimal first) (decimal last) first last format (is_path journal (plain 0 [] (omega arith)))
     (number_text 1 greatest_seed first (omega arith) within.0 within.1) (number_text 1 greatest_seed last (omega arith) within.2 within.3) call (is_path call (plain 1 [] (omega arith)))
-plain_task program (from_strace recording nodes) plain within =
-    strace_asks program recording (decimal nodes) nodes (is_path recording (plain 0 [] (omega arith))) (number_text 1 most_nodes nodes (omega arith) within.0 within.1)
+plain_task program (from_strace recording nodes None) plain within =
+    strace_asks program recording (decimal nodes) nodes (is_path recording (plain 0 [] (omega arith))) (number_text 1 most_nodes nodes (omega arith) within.0 within.1) None tt
+plain_task program (from_strace recording nodes (Some places)) plain within =
+    strace_asks program recording (decimal nodes) nodes (is_path recording (plain 0 [] (omega arith))) (number_text 1 most_nodes nodes (omega arith) within.0 within.1) (Some places)
+    (is_path places (plain 1 [] (omega arith)))
 plain_task program (explore script seeds first failures) plain within =
     explore_asks program script (decimal seeds) (decimal first) seeds first (is_path script (plain 0 [] (omega arith)))
     (number_text 1 greatest_seed seeds (omega arith) within.0 within.1) (number_text 0 greatest_seed first (omega arith) (omega arith) within.2) failures

@@ -26,12 +26,18 @@ named script (Some after) None = has_value (codes "JOURNAL") after (path_row (co
 named script None (Some file) = has_value (codes "FILE") file (path_row (codes "SCRIPT") script ∷ [])
 named script (Some after) (Some file) = has_value (codes "FILE") file (path_row (codes "SCRIPT") script ∷ path_row (codes "JOURNAL") after ∷ [])
 
--- where the flags behind them are read
-abbrev flagged : Text → Option Text → Option Text → Bool → Bool → Walk
-flagged script after file false false = named script after file
-flagged script after file true false = has_flag (rows script after file ++ path_row (codes "open") (codes "true") ∷ [])
-flagged script after file false true = has_flag (rows script after file ++ path_row (codes "quiet") (codes "true") ∷ [])
-flagged script after file true true = has_flag (rows script after file ++ path_row (codes "open") (codes "true") ∷ path_row (codes "quiet") (codes "true") ∷ [])
+-- the row of a flag, if it is given
+abbrev flag_rows : Text → Bool → List Row
+flag_rows name false = []
+flag_rows name true = path_row name (codes "true") ∷ []
+
+-- where flags with these rows are read behind them
+abbrev with_flags : Text → Option Text → Option Text → List Row → Walk
+with_flags script after file [] = named script after file
+with_flags script after file (flag ∷ flags) = has_flag (rows script after file ++ flag ∷ flags)
+
+abbrev flagged : Text → Option Text → Option Text → Bool → Bool → Bool → Walk
+flagged script after file expected listed quiet = with_flags script after file (flag_rows (codes "expect") expected ++ (flag_rows (codes "open") listed ++ flag_rows (codes "quiet") quiet))
 
 script_read : (script : Text) → IsPath script → Reads run_app begin script (named script None None)
 unfolding clap_on_literals
@@ -55,29 +61,57 @@ file_read : (seen : List Row) (path : Text) → IsPath path → Reads run_app (w
 unfolding clap_on_literals
 file_read seen path p = record { step = rw (p.no_dashes, p.no_minus, p.no_minus) refl; fine = rw (p.no_dashes, p.no_minus, p.no_minus) refl }
 
-open_read : (script : Text) (after file : Option Text) → Reads run_app (named script after file) (codes "--open") (flagged script after file true false)
+-- each flag behind those before it
+expect_read : (script : Text) (after file : Option Text) → Reads run_app (flagged script after file false false false) (codes "--expect") (flagged script after file true false false)
 unfolding clap_on_literals
-open_read script None None = record { step = refl; fine = refl }
-open_read script (Some after) None = record { step = refl; fine = refl }
-open_read script None (Some file) = record { step = refl; fine = refl }
-open_read script (Some after) (Some file) = record { step = refl; fine = refl }
+expect_read script None None = record { step = refl; fine = refl }
+expect_read script (Some after) None = record { step = refl; fine = refl }
+expect_read script None (Some file) = record { step = refl; fine = refl }
+expect_read script (Some after) (Some file) = record { step = refl; fine = refl }
 
-quiet_read : (script : Text) (after : Option Text) (file : Text) (listed : Bool) → Reads run_app (flagged script after (Some file) listed false) (codes "--quiet") (flagged script after (Some file) listed true)
+open_read : (script : Text) (after file : Option Text) (expected : Bool) → Reads run_app (flagged script after file expected false false) (codes "--open") (flagged script after file expected true false)
 unfolding clap_on_literals
-quiet_read script None file false = record { step = refl; fine = refl }
-quiet_read script None file true = record { step = refl; fine = refl }
-quiet_read script (Some after) file false = record { step = refl; fine = refl }
-quiet_read script (Some after) file true = record { step = refl; fine = refl }
+open_read script None None false = record { step = refl; fine = refl }
+open_read script None None true = record { step = refl; fine = refl }
+open_read script (Some after) None false = record { step = refl; fine = refl }
+open_read script (Some after) None true = record { step = refl; fine = refl }
+open_read script None (Some file) false = record { step = refl; fine = refl }
+open_read script None (Some file) true = record { step = refl; fine = refl }
+open_read script (Some after) (Some file) false = record { step = refl; fine = refl }
+open_read script (Some after) (Some file) true = record { step = refl; fine = refl }
 
-flags_read : (script : Text) (after file : Option Text) (listed quiet : Bool) → MayBeQuiet file quiet
-    → ReadsAll run_app (named script after file) (flag_words (codes "--open") listed ++ flag_words (codes "--quiet") quiet) (flagged script after file listed quiet)
-flags_read script after file false false may = none_read _ (named script after file)
-flags_read script after file true false may = read_then _ (open_read script after file) (none_read _ (flagged script after file true false))
-flags_read script after (Some file) false true may = read_then _ (quiet_read script after file false) (none_read _ (flagged script after (Some file) false true))
-flags_read script after (Some file) true true may =
-    read_then _ (open_read script after (Some file)) (read_then _ (quiet_read script after file true) (none_read _ (flagged script after (Some file) true true)))
-flags_read script after None false true may = absurd may
-flags_read script after None true true may = absurd may
+quiet_read : (script : Text) (after file : Option Text) (expected listed : Bool) → Reads run_app (flagged script after file expected listed false) (codes "--quiet") (flagged script after file expected listed true)
+unfolding clap_on_literals
+quiet_read script None None false false = record { step = refl; fine = refl }
+quiet_read script None None false true = record { step = refl; fine = refl }
+quiet_read script None None true false = record { step = refl; fine = refl }
+quiet_read script None None true true = record { step = refl; fine = refl }
+quiet_read script (Some after) None false false = record { step = refl; fine = refl }
+quiet_read script (Some after) None false true = record { step = refl; fine = refl }
+quiet_read script (Some after) None true false = record { step = refl; fine = refl }
+quiet_read script (Some after) None true true = record { step = refl; fine = refl }
+quiet_read script None (Some file) false false = record { step = refl; fine = refl }
+quiet_read script None (Some file) false true = record { step = refl; fine = refl }
+quiet_read script None (Some file) true false = record { step = refl; fine = refl }
+quiet_read script None (Some file) true true = record { step = refl; fine = refl }
+quiet_read script (Some after) (Some file) false false = record { step = refl; fine = refl }
+quiet_read script (Some after) (Some file) false true = record { step = refl; fine = refl }
+quiet_read script (Some after) (Some file) true false = record { step = refl; fine = refl }
+quiet_read script (Some after) (Some file) true true = record { step = refl; fine = refl }
+
+quiet_words_read : (script : Text) (after file : Option Text) (expected listed quiet : Bool) → ReadsAll run_app (flagged script after file expected listed false) (flag_words (codes "--quiet") quiet) (flagged script after file expected listed quiet)
+quiet_words_read script after file expected listed false = none_read _ (flagged script after file expected listed false)
+quiet_words_read script after file expected listed true = read_then _ (quiet_read script after file expected listed) (none_read _ (flagged script after file expected listed true))
+
+open_words_read : (script : Text) (after file : Option Text) (expected listed quiet : Bool)
+    → ReadsAll run_app (flagged script after file expected false false) (flag_words (codes "--open") listed ++ flag_words (codes "--quiet") quiet) (flagged script after file expected listed quiet)
+open_words_read script after file expected false quiet = quiet_words_read script after file expected false quiet
+open_words_read script after file expected true quiet = read_then _ (open_read script after file expected) (quiet_words_read script after file expected true quiet)
+
+flags_read : (script : Text) (after file : Option Text) (expected listed quiet : Bool)
+    → ReadsAll run_app (named script after file) (flag_words (codes "--expect") expected ++ flag_words (codes "--open") listed ++ flag_words (codes "--quiet") quiet) (flagged script after file expected listed quiet)
+flags_read script after file false listed quiet = open_words_read script after file false listed quiet
+flags_read script after file true listed quiet = read_then _ (expect_read script after file) (open_words_read script after file true listed quiet)
 
 file_words_read : (script : Text) (after file : Option Text) → MayBePath file → (words : List Text) (last : Walk) → ReadsAll run_app (named script after file) words last
     → ReadsAll run_app (named script after None) (option_words (codes "--journal") file ++ words) last
@@ -91,29 +125,49 @@ after_words_read script None a words last more = more
 after_words_read script (Some after) a words last more = read_then _ (after_read script) (read_then _ (path_read (rows script None None) after a) more)
 
 -- nothing is wrong at the end, where all is met
-last_tells : (script : Text) (after file : Option Text) (listed quiet : Bool) → MayBeQuiet file quiet
-    → (fault_after run_app (flagged script after file listed quiet) ≡ [])
-    × (values_after (flagged script after file listed quiet) ≡ Some (codes "run", Some script ∷ after ∷ file ∷ Some (flag_text listed) ∷ Some (flag_text quiet) ∷ []))
+last_tells : (script : Text) (after file : Option Text) (expected listed quiet : Bool)
+    → (fault_after run_app (flagged script after file expected listed quiet) ≡ [])
+    × (values_after (flagged script after file expected listed quiet) ≡ Some (codes "run", Some script ∷ after ∷ file ∷ Some (flag_text expected) ∷ Some (flag_text listed) ∷ Some (flag_text quiet) ∷ []))
 unfolding clap_on_literals
-last_tells script None None false false may = (refl, refl)
-last_tells script None None true false may = (refl, refl)
-last_tells script (Some after) None false false may = (refl, refl)
-last_tells script (Some after) None true false may = (refl, refl)
-last_tells script None (Some file) false false may = (refl, refl)
-last_tells script None (Some file) true false may = (refl, refl)
-last_tells script None (Some file) false true may = (refl, refl)
-last_tells script None (Some file) true true may = (refl, refl)
-last_tells script (Some after) (Some file) false false may = (refl, refl)
-last_tells script (Some after) (Some file) true false may = (refl, refl)
-last_tells script (Some after) (Some file) false true may = (refl, refl)
-last_tells script (Some after) (Some file) true true may = (refl, refl)
-last_tells script after None listed true may = absurd may
+last_tells script None None false false false = (refl, refl)
+last_tells script None None false false true = (refl, refl)
+last_tells script None None false true false = (refl, refl)
+last_tells script None None false true true = (refl, refl)
+last_tells script None None true false false = (refl, refl)
+last_tells script None None true false true = (refl, refl)
+last_tells script None None true true false = (refl, refl)
+last_tells script None None true true true = (refl, refl)
+last_tells script (Some after) None false false false = (refl, refl)
+last_tells script (Some after) None false false true = (refl, refl)
+last_tells script (Some after) None false true false = (refl, refl)
+last_tells script (Some after) None false true true = (refl, refl)
+last_tells script (Some after) None true false false = (refl, refl)
+last_tells script (Some after) None true false true = (refl, refl)
+last_tells script (Some after) None true true false = (refl, refl)
+last_tells script (Some after) None true true true = (refl, refl)
+last_tells script None (Some file) false false false = (refl, refl)
+last_tells script None (Some file) false false true = (refl, refl)
+last_tells script None (Some file) false true false = (refl, refl)
+last_tells script None (Some file) false true true = (refl, refl)
+last_tells script None (Some file) true false false = (refl, refl)
+last_tells script None (Some file) true false true = (refl, refl)
+last_tells script None (Some file) true true false = (refl, refl)
+last_tells script None (Some file) true true true = (refl, refl)
+last_tells script (Some after) (Some file) false false false = (refl, refl)
+last_tells script (Some after) (Some file) false false true = (refl, refl)
+last_tells script (Some after) (Some file) false true false = (refl, refl)
+last_tells script (Some after) (Some file) false true true = (refl, refl)
+last_tells script (Some after) (Some file) true false false = (refl, refl)
+last_tells script (Some after) (Some file) true false true = (refl, refl)
+last_tells script (Some after) (Some file) true true false = (refl, refl)
+last_tells script (Some after) (Some file) true true true = (refl, refl)
 
-pub run_asks : (program script : Text) → IsPath script → (after : Option Text) → MayBePath after → (file : Option Text) → MayBePath file → (listed quiet : Bool) → MayBeQuiet file quiet
-    → AsksFor (program ∷ codes "run" ∷ script ∷ (option_words (codes "--after") after ++ (option_words (codes "--journal") file ++ (flag_words (codes "--open") listed ++ flag_words (codes "--quiet") quiet)))) (run script after file listed quiet)
-run_asks program script p after a file f listed quiet may =
-    let last = flagged script after file listed quiet in
-    let flags = flags_read script after file listed quiet may in
+pub run_asks : (program script : Text) → IsPath script → (after : Option Text) → MayBePath after → (file : Option Text) → MayBePath file → (expected listed quiet : Bool) → MayBeQuiet file expected quiet
+    → AsksFor (program ∷ codes "run" ∷ script ∷ (option_words (codes "--after") after ++ (option_words (codes "--journal") file ++ (flag_words (codes "--expect") expected ++ flag_words (codes "--open") listed ++ flag_words (codes "--quiet") quiet))))
+    (run script after file expected listed quiet)
+run_asks program script p after a file f expected listed quiet may =
+    let last = flagged script after file expected listed quiet in
+    let flags = flags_read script after file expected listed quiet in
     let paths = after_words_read script after a _ last (file_words_read script after file f _ last flags) in
-    let tells = last_tells script after file listed quiet may in
-    asks_after run_app commands.run program _ last (run script after file listed quiet) (read_then _ (script_read script p) paths) tells.0 (tells.1, may)
+    let tells = last_tells script after file expected listed quiet in
+    asks_after run_app commands.run program _ last (run script after file expected listed quiet) (read_then _ (script_read script p) paths) tells.0 (tells.1, may)

@@ -1,16 +1,17 @@
 -- What the table of a command says of its parts.
-use Rattle.std.proofs.Common.{ap, refl, sym, true, false, is_some, map, not, option_map, Bool, Bor, List, Option, [], ◌∷◌, None, Some, ◌≡◌, ◌∙◌}
+use Rattle.std.proofs.Common.{ap, arith, refl, sym, true, false, is_some, length, map, not, option_map, Bool, Bor, List, Option, [], ◌∷◌, None, Some, ◌==◌, ◌≡◌, ◌≢◌, ◌∙◌}
 use Rattle.std.specs.Prelude.{fold}
+use Rattle.std.proofs.lemmas.Bool.{ne_eqb}
 use Rattle.clap.specs.Walk.{is_empty, is_simple_arg}
-use Rattle.clap.specs.Words.{app_of, first_of, first_value, new_app, rows_of, rule_of, with_rule, App, Rule, Text}
+use Rattle.clap.specs.Words.{all_of, app_of, first_of, first_value, matched_of, new_app, raw_values, rows_of, rule_of, with_rule, App, Rule, Text}
 use Rattle.clap.specs.declared.parser.matches.Found.{Found}
 use Rattle.clap.specs.declared.builder.arg.Arg.{Arg}
 use Rattle.clap.specs.declared.builder.command.Command.{Command}
 use Rattle.clap.specs.declared.builder.command.Command.TheViews.{out-Command}
-use Rattle.clap.proofs.WalkLemmas.{both, first_value-rows}
+use Rattle.clap.proofs.WalkLemmas.{both, first_value-rows, raw_values-rows}
 use Rattle.command_line.specs.Table.{app_given, rule_given}
 use Rattle.command_line.specs.declared.argument.Argument.{Argument}
-use Rattle.command_line.specs.declared.argument.Argument.TheVariants.{Word, Value, Default, Number, Flag}
+use Rattle.command_line.specs.declared.argument.Argument.TheVariants.{Word, Words, Value, Default, Number, Flag}
 use Rattle.command_line.specs.declared.subcommand.Subcommand.{Subcommand}
 
 is_not : (b : Bool) → not b ≡ true → b ≡ false
@@ -47,9 +48,29 @@ no_value found id result ensured is = sym (first_value-rows found id) ∙ (sym e
 pub same_value : (found : Found) (id : Text) (result : Option (Bor Text)) → option_map (λ s. s.now) result ≡ first_value found id → first_of id (rows_of found) ≡ option_map (λ s. s.now) result
 same_value found id result ensured = sym (first_value-rows found id) ∙ sym ensured
 
+-- the values that a getter gives
+pub texts_are : (found : Found) (id : Text) (result : Option (Bor (List (Bor Text)))) (texts : Bor (List (Bor Text)))
+    → option_map (λ s. map (λ v. v.now) s.now) result ≡ option_map raw_values (matched_of found id) → result ≡ Some texts → all_of id (rows_of found) ≡ Some (map (λ v. v.now) texts.now)
+texts_are found id result texts ensured is = sym (raw_values-rows found id) ∙ (sym ensured ∙ ap (option_map (λ (s : Bor (List (Bor Text))). map (λ (v : Bor Text). v.now) s.now)) is)
+
+pub no_texts : (found : Found) (id : Text) (result : Option (Bor (List (Bor Text))))
+    → option_map (λ s. map (λ v. v.now) s.now) result ≡ option_map raw_values (matched_of found id) → result ≡ None → all_of id (rows_of found) ≡ None
+no_texts found id result ensured is = sym (raw_values-rows found id) ∙ (sym ensured ∙ ap (option_map (λ (s : Bor (List (Bor Text))). map (λ (v : Bor Text). v.now) s.now)) is)
+
+pub are_none : (texts : List (Bor Text)) → (length texts == 0) ≡ true → map (λ v. v.now) texts ≡ []
+are_none [] none = refl
+are_none (text ∷ texts) none =
+    let differs = ne_eqb (length (text ∷ texts)) 0 (λ e. omega (arith, e)) in
+    absurd (cc)
+
+pub are_some : (texts : List (Bor Text)) → (length texts == 0) ≡ false → map (λ v. v.now) texts ≢ []
+are_some [] some none = cc
+are_some (text ∷ texts) some none = cc
+
 -- each argument of the table is a simple one
 pub is_simple : (argument : Argument) → (rule_given argument).is_simple ≡ true
 is_simple (Word id help) = refl
+is_simple (Words id help) = refl
 is_simple (Value id long help) = refl
 is_simple (Default id long default help) = refl
 is_simple (Number id long default least greatest help) = refl

@@ -1,15 +1,19 @@
 -- The command line as clap reads it.
-use Rattle.std.specs.Prelude.{◌≡◌, ◌≤◌, ℕ, pos, Bool, true, false, codes, List, [], ◌∷◌, map, option_map, Option, Some}
+use Rattle.std.specs.Prelude.{◌≡◌, ◌≢◌, ◌≤◌, ℕ, pos, Bool, true, false, codes, List, [], ◌∷◌, map, option_map, Option, Some}
 use Rattle.std.specs.Str.Parse.{IsNumeral, digits_value, without_leading_plus}
-use Rattle.clap.specs.Words.{App, Row, Rule, Text, first_of, one_of, new_app, new_rule, with_rule, with_subcommand}
+use Rattle.clap.specs.Words.{App, Row, Rule, Text, all_of, first_of, one_of, new_app, new_rule, with_rule, with_subcommand}
 use Rattle.clap.specs.Simple.{on_top}
-use Rattle.clap.specs.declared.builder.action.ArgAction.TheVariants.{SetTrue}
+use Rattle.clap.specs.declared.builder.action.ArgAction.TheVariants.{Append, SetTrue}
 use Rattle.clap.specs.declared.builder.value_parser.ValueParser.TheVariants.{Signed}
 use Rattle.command_line.specs.Tasks.{Task, run, threads, audit, history, explain, open_calls, check, picture, from_strace, explore, schedule, format_text, greatest_seed, most_nodes, MayBeQuiet}
 
 -- a word that must be there: a path, or the name of a call
 abbrev pub path_rule : Text → Rule
 path_rule id = record (new_rule id) { required = true }
+
+-- one such word or more
+abbrev pub paths_rule : Text → Rule
+paths_rule id = record (path_rule id) { action = Some Append }
 
 -- an option with a value, which may be left out: its name, and the name behind `--`
 abbrev pub option_rule : Text → Text → Rule
@@ -30,6 +34,10 @@ file_rule = option_rule (codes "FILE") (codes "journal")
 -- `--after JOURNAL`
 abbrev pub after_rule : Rule
 after_rule = option_rule (codes "JOURNAL") (codes "after")
+
+-- `--place PLACES`
+abbrev pub places_rule : Rule
+places_rule = option_rule (codes "PLACES") (codes "place")
 
 -- `--around CALL`
 abbrev pub around_rule : Rule
@@ -59,7 +67,7 @@ abbrev pub nodes_rule : Rule
 nodes_rule = number_rule (codes "N") (codes "nodes") (codes "1") 1 most_nodes
 
 abbrev pub run_app : App
-run_app = with_rule (with_rule (with_rule (with_rule (with_rule (new_app (codes "run")) (path_rule (codes "SCRIPT"))) after_rule) file_rule) (flag_rule (codes "open"))) (flag_rule (codes "quiet"))
+run_app = with_rule (with_rule (with_rule (with_rule (with_rule (with_rule (new_app (codes "run")) (path_rule (codes "SCRIPT"))) after_rule) file_rule) (flag_rule (codes "expect"))) (flag_rule (codes "open"))) (flag_rule (codes "quiet"))
 
 abbrev pub threads_app : App
 threads_app = with_rule (with_rule (with_rule (with_rule (with_rule (new_app (codes "threads")) (path_rule (codes "SCRIPT"))) (seed_rule (codes "seed"))) (flag_rule (codes "stop-when-stuck"))) (flag_rule (codes "no-join"))) file_rule
@@ -77,13 +85,13 @@ abbrev pub open_app : App
 open_app = with_rule (new_app (codes "open")) (path_rule (codes "JOURNAL"))
 
 abbrev pub check_app : App
-check_app = with_rule (new_app (codes "check")) (path_rule (codes "SCRIPT"))
+check_app = with_rule (with_rule (new_app (codes "check")) (paths_rule (codes "SCRIPT"))) file_rule
 
 abbrev pub picture_app : App
 picture_app = with_rule (with_rule (with_rule (with_rule (with_rule (new_app (codes "picture")) (path_rule (codes "JOURNAL"))) around_rule) from_rule) to_rule) format_rule
 
 abbrev pub strace_app : App
-strace_app = with_rule (with_rule (new_app (codes "from-strace")) (path_rule (codes "RECORDING"))) nodes_rule
+strace_app = with_rule (with_rule (with_rule (new_app (codes "from-strace")) (path_rule (codes "RECORDING"))) nodes_rule) places_rule
 
 abbrev pub explore_app : App
 explore_app = with_rule (with_rule (with_rule (with_rule (new_app (codes "explore")) (path_rule (codes "SCRIPT"))) seeds_rule) (seed_rule (codes "first"))) (flag_rule (codes "failures"))
@@ -125,7 +133,7 @@ flag_text false = codes "false"
 
 -- the paths, numbers and flags of the commands that have more than paths
 abbrev pub run_values_in : Option (Text × List Row) → Option (Text × List (Option Text))
-run_values_in = read_in (first_of (codes "SCRIPT") ∷ first_of (codes "JOURNAL") ∷ first_of (codes "FILE") ∷ one_of (codes "open") ∷ one_of (codes "quiet") ∷ [])
+run_values_in = read_in (first_of (codes "SCRIPT") ∷ first_of (codes "JOURNAL") ∷ first_of (codes "FILE") ∷ one_of (codes "expect") ∷ one_of (codes "open") ∷ one_of (codes "quiet") ∷ [])
 
 abbrev pub threads_values_in : Option (Text × List Row) → Option (Text × List (Option Text))
 threads_values_in = read_in (first_of (codes "SCRIPT") ∷ one_of (codes "N") ∷ one_of (codes "stop-when-stuck") ∷ one_of (codes "no-join") ∷ first_of (codes "FILE") ∷ [])
@@ -134,7 +142,11 @@ abbrev pub picture_values_in : Option (Text × List Row) → Option (Text × Lis
 picture_values_in = read_in (first_of (codes "JOURNAL") ∷ first_of (codes "CALL") ∷ one_of (codes "K") ∷ one_of (codes "L") ∷ first_of (codes "FORMAT") ∷ [])
 
 abbrev pub strace_values_in : Option (Text × List Row) → Option (Text × List (Option Text))
-strace_values_in = read_in (first_of (codes "RECORDING") ∷ one_of (codes "N") ∷ [])
+strace_values_in = read_in (first_of (codes "RECORDING") ∷ one_of (codes "N") ∷ first_of (codes "PLACES") ∷ [])
+
+-- the scripts of a check, and the file that it names
+abbrev pub check_values_in : Option (Text × List Row) → Option (Text × Option (List Text) × Option Text)
+check_values_in = option_map (λ p. (p.0, all_of (codes "SCRIPT") p.1, first_of (codes "FILE") p.1))
 
 abbrev pub explore_values_in : Option (Text × List Row) → Option (Text × List (Option Text))
 explore_values_in = read_in (first_of (codes "SCRIPT") ∷ one_of (codes "COUNT") ∷ one_of (codes "N") ∷ one_of (codes "failures") ∷ [])
@@ -142,22 +154,22 @@ explore_values_in = read_in (first_of (codes "SCRIPT") ∷ one_of (codes "COUNT"
 abbrev pub schedule_values_in : Option (Text × List Row) → Option (Text × List (Option Text))
 schedule_values_in = read_in (first_of (codes "SCRIPT") ∷ one_of (codes "N") ∷ one_of (codes "failures") ∷ [])
 
--- it is the command of the task, with its paths, its numbers, its flags, its format and the name of its call
+-- it is the command of the task, with its paths, its numbers, its flags, its format, the name of its call and the words that place processes
 abbrev pub IsMet : Option (Text × List Row) → Task → Type 0
-IsMet met (run script after journal listed quiet) =
-    (run_values_in met ≡ Some (codes "run", Some script ∷ after ∷ journal ∷ Some (flag_text listed) ∷ Some (flag_text quiet) ∷ [])) × MayBeQuiet journal quiet
+IsMet met (run script after journal expected listed quiet) =
+    (run_values_in met ≡ Some (codes "run", Some script ∷ after ∷ journal ∷ Some (flag_text expected) ∷ Some (flag_text listed) ∷ Some (flag_text quiet) ∷ [])) × MayBeQuiet journal expected quiet
 IsMet met (threads script seed stop no_join journal) =
     (text : Text) × (threads_values_in met ≡ Some (codes "threads", Some script ∷ Some text ∷ Some (flag_text stop) ∷ Some (flag_text no_join) ∷ journal ∷ [])) × IsNumber 0 greatest_seed text seed
 IsMet met (audit journal) = values_in (codes "JOURNAL" ∷ []) met ≡ Some (codes "audit", Some journal ∷ [])
 IsMet met (history journal) = values_in (codes "JOURNAL" ∷ []) met ≡ Some (codes "history", Some journal ∷ [])
 IsMet met (explain journal call) = values_in (codes "JOURNAL" ∷ codes "CALL" ∷ []) met ≡ Some (codes "explain", Some journal ∷ Some call ∷ [])
 IsMet met (open_calls journal) = values_in (codes "JOURNAL" ∷ []) met ≡ Some (codes "open", Some journal ∷ [])
-IsMet met (check script) = values_in (codes "SCRIPT" ∷ []) met ≡ Some (codes "check", Some script ∷ [])
+IsMet met (check scripts journal) = (check_values_in met ≡ Some (codes "check", Some scripts, journal)) × (scripts ≢ [])
 IsMet met (picture journal call first last format) =
     (from : Text) × (to : Text) × (picture_values_in met ≡ Some (codes "picture", Some journal ∷ call ∷ Some from ∷ Some to ∷ Some (format_text format) ∷ []))
     × IsNumber 1 greatest_seed from first × IsNumber 1 greatest_seed to last
-IsMet met (from_strace recording nodes) =
-    (text : Text) × (strace_values_in met ≡ Some (codes "from-strace", Some recording ∷ Some text ∷ [])) × IsNumber 1 most_nodes text nodes
+IsMet met (from_strace recording nodes places) =
+    (text : Text) × (strace_values_in met ≡ Some (codes "from-strace", Some recording ∷ Some text ∷ places ∷ [])) × IsNumber 1 most_nodes text nodes
 IsMet met (explore script seeds first failures) =
     (count : Text) × (text : Text) × (explore_values_in met ≡ Some (codes "explore", Some script ∷ Some count ∷ Some text ∷ Some (flag_text failures) ∷ []))
     × IsNumber 1 greatest_seed count seeds × IsNumber 0 greatest_seed text first

@@ -9,14 +9,14 @@ use Rattle.command_line.specs.Tasks.{Task, HasPlainWords, paths_of, plain_words_
 use Rattle.command_line.specs.declared.refusal.Refusal.{Refusal}
 use Rattle.command_line.specs.declared.refusal.Refusal.TheVariants.{Help, Wrong, NotText, NoMemory}
 
--- the words are the program's name and the plain words of the task; a path or the name of a call that begins with `-` is taken for an option
+-- the words are the program's name and the plain words of the task; a path, the name of a call or a word of places that begins with `-` is taken for an option
 pub record IsPlain (words : List Text) (task : Task) : Type 0 where
   pub program : Text
   pub words_are : words ≡ program ∷ plain_words_of task
   pub no_option : All (λ path. slice_get path 0 ≢ Some 45) (paths_of task)
   pub has_words : HasPlainWords task
 
--- by the program's table of arguments nothing is wrong with the words, and they are the command of the task, with its paths, its numbers, its flags, its format and the name of its call
+-- by the program's table of arguments nothing is wrong with the words, and they are the command of the task, with its paths, its numbers, its flags, its format, the name of its call and the words that place processes
 pub record AsksFor (words : List Text) (task : Task) : Type 0 where
   pub taken : fault_of program_app words ≡ []
   pub met : IsMet (subcommand_of program_app words) task

@@ -1,7 +1,7 @@
 //! Arguments of commands.
 ghost use Rattle.std.specs.Prelude.{◌≡◌};
 ghost use Rattle.clap.specs.Words.{Text, rule_of};
-ghost use Rattle.command_line.specs.Program.{flag_rule, number_rule, option_rule, path_rule};
+ghost use Rattle.command_line.specs.Program.{flag_rule, number_rule, option_rule, path_rule, paths_rule};
 ghost use Rattle.command_line.specs.Table.{rule_given};
 
 use clap::builder::ValueParser;
@@ -12,6 +12,11 @@ use std::alloc::Global;
 pub(crate) enum Argument<'a> {
     /// A word that must be there: a path, or the name of a call.
     Word {
+        id: &'a str,
+        help: &'a str,
+    },
+    /// One such word or more.
+    Words {
         id: &'a str,
         help: &'a str,
     },
@@ -51,6 +56,7 @@ impl<'a> Argument<'a> {
     {
         match self {
             Argument::Word { id, help } => path_argument(alloc, *id, *help),
+            Argument::Words { id, help } => paths_argument(alloc, *id, *help),
             Argument::Value { id, long, help } => option_argument(alloc, *id, *long, *help),
             Argument::Default {
                 id,
@@ -79,6 +85,13 @@ fn path_argument<'a>(alloc: Global, id: &'a str, help: &'a str) -> Arg<'a>
     ensures { rule_of result ≡ path_rule id.entry.now }
 {
     Arg::new(alloc, id).required(true).help(help)
+}
+
+// One such word or more.
+fn paths_argument<'a>(alloc: Global, id: &'a str, help: &'a str) -> Arg<'a>
+    ensures { rule_of result ≡ paths_rule id.entry.now }
+{
+    path_argument(alloc, id, help).action(ArgAction::Append)
 }
 
 // An option with a value, which may be left out: its name, and the name behind `--`.

@@ -35,10 +35,20 @@ const FAILURES: Argument<'static> = Argument::Flag {
     help: "Let nodes and servers fail",
 };
 
-// What commands have that read a journal or a script alone.
+// What commands have that read a journal alone.
 const OF_JOURNAL: &[Argument<'static>] = &[JOURNAL];
 
-const OF_SCRIPT: &[Argument<'static>] = &[SCRIPT];
+const CHECK: &[Argument<'static>] = &[
+    Argument::Words {
+        id: "SCRIPT",
+        help: "The script or the journal: a file of lines, or - for standard input",
+    },
+    Argument::Value {
+        id: "FILE",
+        long: "journal",
+        help: "Say also why a journal can't be written to FILE",
+    },
+];
 
 const RUN: &[Argument<'static>] = &[
     SCRIPT,
@@ -49,12 +59,16 @@ const RUN: &[Argument<'static>] = &[
     },
     FILE,
     Argument::Flag {
+        name: "expect",
+        help: "Compare the replies with the '# expect' lines of SCRIPT",
+    },
+    Argument::Flag {
         name: "open",
         help: "List the calls without a reply behind the listing",
     },
     Argument::Flag {
         name: "quiet",
-        help: "Make no listing: what is kept of the run is FILE",
+        help: "Make no listing, which needs --journal or --expect",
     },
 ];
 
@@ -130,6 +144,11 @@ const STRACE: &[Argument<'static>] = &[
         least: 1,
         greatest: MOST_NODES,
         help: "The nodes of the script's cluster, from 1 to 64",
+    },
+    Argument::Value {
+        id: "PLACES",
+        long: "place",
+        help: "Place recorded processes by hand, as 10=1,12=2",
     },
 ];
 
@@ -299,9 +318,9 @@ fn check_command<'a>() -> Subcommand<'a>
 {
     Subcommand {
         name: "check",
-        about: "Say what is wrong in a script",
+        about: "Say what is wrong in scripts and journals",
         notes: CHECK_NOTES,
-        arguments: OF_SCRIPT,
+        arguments: CHECK,
     }
 }
 

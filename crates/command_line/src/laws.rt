@@ -4,12 +4,13 @@ ghost use Rattle.command_line.specs.declared.format.Format.TheVariants.{Svg};
 ghost use Rattle.command_line.specs.Tasks.{Task, explore, from_strace, greatest_seed, picture, schedule, threads};
 ghost use Rattle.command_line.specs.Words.{AsksFor, IsPlain};
 
-/// The words `PROGRAM run SCRIPT`, with `--after JOURNAL`, `--journal FILE`, `--open` and `--quiet` behind it, or
-/// some of them in this order, `--quiet` where `--journal FILE` is one, `PROGRAM threads SCRIPT --seed N`, with
-/// `--stop-when-stuck`, `--no-join` and `--journal FILE`, or some of them in this order, behind it,
-/// `PROGRAM audit JOURNAL`, `PROGRAM history JOURNAL`, `PROGRAM explain JOURNAL CALL`,
-/// `PROGRAM open JOURNAL`, `PROGRAM check SCRIPT`, `PROGRAM picture JOURNAL`, with `--around CALL` or without,
-/// and `--from K --to L --format FORMAT` behind it, `PROGRAM from-strace RECORDING --nodes N`,
+/// The words `PROGRAM run SCRIPT`, with `--after JOURNAL`, `--journal FILE`, `--expect`, `--open` and `--quiet`
+/// behind it, or some of them in this order, `--quiet` where `--journal FILE` or `--expect` is one,
+/// `PROGRAM threads SCRIPT --seed N`, with `--stop-when-stuck`, `--no-join` and `--journal FILE`, or some of them in
+/// this order, behind it, `PROGRAM audit JOURNAL`, `PROGRAM history JOURNAL`, `PROGRAM explain JOURNAL CALL`,
+/// `PROGRAM open JOURNAL`, `PROGRAM check SCRIPT..`, of one script or more, with `--journal FILE` or without,
+/// `PROGRAM picture JOURNAL`, with `--around CALL` or without, and `--from K --to L --format FORMAT` behind it,
+/// `PROGRAM from-strace RECORDING --nodes N`, with `--place PLACES` or without,
 /// `PROGRAM explore SCRIPT --seeds COUNT --first N` and `PROGRAM schedule SCRIPT --seed N`, with `--failures` or
 /// without, ask for just that, by the program's table of arguments, where each number is in its range.
 pub fn plain_words_ask_for_their_task()
@@ -23,11 +24,11 @@ pub fn a_seed_left_out_is_1()
 {}
 
 /// The words `PROGRAM picture JOURNAL` ask for a picture as SVG, of the entries from 1 to 4294967295, around no
-/// call; `PROGRAM from-strace RECORDING` for one node; `PROGRAM explore SCRIPT` for 100 seeds, from 1 on,
+/// call; `PROGRAM from-strace RECORDING` for one node, with no process placed by words; `PROGRAM explore SCRIPT` for 100 seeds, from 1 on,
 /// without failures; and `PROGRAM schedule SCRIPT` for the seed 1, without failures.
 pub fn what_is_left_out_has_its_default()
     ensures picture { (program journal : List ℕ) → slice_get journal 0 ≢ Some 45 → AsksFor (program ∷ codes "picture" ∷ journal ∷ []) (picture journal None 1 greatest_seed Svg) }
-    ensures strace { (program recording : List ℕ) → slice_get recording 0 ≢ Some 45 → AsksFor (program ∷ codes "from-strace" ∷ recording ∷ []) (from_strace recording 1) }
+    ensures strace { (program recording : List ℕ) → slice_get recording 0 ≢ Some 45 → AsksFor (program ∷ codes "from-strace" ∷ recording ∷ []) (from_strace recording 1 None) }
     ensures explore { (program script : List ℕ) → slice_get script 0 ≢ Some 45 → AsksFor (program ∷ codes "explore" ∷ script ∷ []) (explore script 100 1 false) }
     ensures schedule { (program script : List ℕ) → slice_get script 0 ≢ Some 45 → AsksFor (program ∷ codes "schedule" ∷ script ∷ []) (schedule script 1 false) }
 {}

@@ -1,10 +1,11 @@
 //! The lines that words may ask for.
-ghost use Rattle.std.specs.Prelude.{◌≡◌, ◌⊎◌, codes, List, map, IfErr, IfOk, Some};
+ghost use Rattle.std.specs.Prelude.{◌≡◌, ◌⊎◌, codes, false, true, List, map, IfErr, IfOk, Some};
+ghost use Rattle.std.specs.Option.{option_map};
 ghost use Rattle.clap.specs.Words.{app_of, found_of, kind_of, rows_of, subcommand_rows_of};
 ghost use Rattle.clap.specs.declared.error.kind.ErrorKind.TheVariants.{OutOfMemory, ValueValidation};
 ghost use Rattle.command_line.specs.Kinds.{IsKindOf, IsLineOf};
 ghost use Rattle.command_line.specs.Program.{program_app};
-ghost use Rattle.command_line.specs.Tasks.{task_of};
+ghost use Rattle.command_line.specs.Tasks.{task_of, MayBeQuiet};
 ghost use Rattle.command_line.specs.Words.{AsksFor, IsRefusal};
 
 use crate::commands::program;
@@ -13,20 +14,22 @@ use crate::refusal::Refusal;
 use crate::values::{GREATEST_SEED, MOST_NODES, flag_in, number_in};
 use clap::error::ErrorKind;
 use clap::{ArgMatches, Command, Error};
-use std::alloc::Global;
+use std::alloc::{AllocError, Global};
 use std::convert::AsStr;
 
-/// What the words of a command line ask for. Each text is a path, or the name of a call.
-#[derive(Clone, Copy)]
+/// What the words of a command line ask for. Each text is a path, the name of a call, or the places of processes.
+#[derive(Drop)]
 pub enum Line<'a> {
-    /// `run SCRIPT [--after JOURNAL] [--journal FILE] [--open] [--quiet]`: to run each line of the script in
-    /// order, in a cluster that begins or behind the run of a journal, and print the listing, with the calls
-    /// that have no reply behind it, if that is asked for, and first to write the journal of the run to the
-    /// file, if there is one. Where there is one, the listing may be left away.
+    /// `run SCRIPT [--after JOURNAL] [--journal FILE] [--expect] [--open] [--quiet]`: to run each line of the
+    /// script in order, in a cluster that begins or behind the run of a journal, and print the listing, with
+    /// the calls that have no reply behind it, if that is asked for, and first to write the journal of the run
+    /// to the file, if there is one; to compare the replies with what the script expects, if that is asked
+    /// for. Where there is such a file, or they are compared, the listing may be left away.
     Run {
         script: &'a str,
         after: Option<&'a str>,
         journal: Option<&'a str>,
+        expect: bool,
         open: bool,
         quiet: bool,
     },
@@ -59,9 +62,11 @@ pub enum Line<'a> {
     Open {
         journal: &'a str,
     },
-    /// `check SCRIPT`: to say what is wrong in the script, and whether it can be run on threads.
+    /// `check SCRIPT.. [--journal FILE]`: to say what is wrong in each script, of which there is at least one,
+    /// and whether it can be run on threads, and why a journal can't be written to the file, if there is one.
     Check {
-        script: &'a str,
+        scripts: Vec<&'a str>,
+        journal: Option<&'a str>,
     },
     /// `picture JOURNAL [--around CALL] [--from K] [--to L] [--format FORMAT]`: to draw, in this format or as
     /// SVG, the entries of the journal, or those around the call of this name, of them those from entry K to
@@ -73,11 +78,13 @@ pub enum Line<'a> {
         to: u32,
         format: Format,
     },
-    /// `from-strace RECORDING [--nodes N]`: to turn the recording of the calls of processes into a script of
-    /// a cluster of N nodes, from 1 to 64, or of 1.
+    /// `from-strace RECORDING [--nodes N] [--place PLACES]`: to turn the recording of the calls of processes
+    /// into a script of a cluster of N nodes, from 1 to 64, or of 1, with processes at the places that these
+    /// words name, if there are any. What these words say is not read here.
     FromStrace {
         recording: &'a str,
         nodes: u8,
+        places: Option<&'a str>,
     },
     /// `explore SCRIPT [--seeds COUNT] [--first N] [--failures]`: to run the script under so many schedules,
     /// from 1 on, or under 100, from the seed N or 1 on, with failures of nodes and servers, if they are asked
@@ -120,16 +127,21 @@ fn line_in<'a, S: AsStr>(alloc: Global, words: &'a [S]) -> Result<Line<'a>, Erro
     ensures kind { IfErr result (λ error. IsKindOf (map S.text words.entry.now) (kind_of error)) }
 {
     let mut command = program(alloc)?;
-    line_by(&mut command, words)
+    line_by(alloc, &mut command, words)
 }
 
 // The line that the program's command makes of the words, or its error.
-fn line_by<'a, S: AsStr>(command: &mut Command<'a>, words: &'a [S]) -> Result<Line<'a>, Error>
+fn line_by<'a, S: AsStr>(
+    alloc: Global,
+    command: &mut Command<'a>,
+    words: &'a [S],
+) -> Result<Line<'a>, Error>
     ensures asked { app_of command.old ≡ program_app → IfOk result (λ line. AsksFor (map S.text words.entry.now) (task_of line)) }
     ensures kind { app_of command.old ≡ program_app → IfErr result (λ error. IsKindOf (map S.text words.entry.now) (kind_of error)) }
 {
     let matches = command.try_get_matches_from_mut(words)?;
-    match line_of(&matches) {
+    let met = line_of(alloc, &matches)?;
+    match met {
         Some(line) => Ok(line),
         None => Err(unserved(command, &matches)),
     }
@@ -150,29 +162,31 @@ fn complaint(matches: &ArgMatches<'_>) -> &'static str {
     match matches.subcommand() {
         Some(("picture", _)) =>
             "invalid value for '--format <FORMAT>': it is svg, mermaid or trace",
-        Some(("run", _)) => "the argument '--quiet' needs '--journal <FILE>'",
+        Some(("run", _)) => "the argument '--quiet' needs '--journal <FILE>' or '--expect'",
         _ => "no command is given",
     }
 }
 
 // The line that the words came to.
-fn line_of<'a>(matches: &ArgMatches<'a>) -> Option<Line<'a>>
-    ensures { IsLineOf (subcommand_rows_of matches.now) result }
+fn line_of<'a>(alloc: Global, matches: &ArgMatches<'a>) -> Result<Option<Line<'a>>, AllocError>
+    ensures { IfOk result (IsLineOf (subcommand_rows_of matches.now)) }
 {
-    let (name, values) = matches.subcommand()?;
+    let Some((name, values)) = matches.subcommand() else {
+        return Ok(None);
+    };
     match name {
-        "run" => run_in(values),
-        "threads" => threads_in(values),
-        "audit" => audit_in(values),
-        "history" => history_in(values),
-        "explain" => explain_in(values),
-        "open" => open_in(values),
-        "check" => check_in(values),
-        "picture" => picture_in(values),
-        "from-strace" => strace_in(values),
-        "explore" => explore_in(values),
-        "schedule" => schedule_in(values),
-        _ => None,
+        "run" => Ok(run_in(values)),
+        "threads" => Ok(threads_in(values)),
+        "audit" => Ok(audit_in(values)),
+        "history" => Ok(history_in(values)),
+        "explain" => Ok(explain_in(values)),
+        "open" => Ok(open_in(values)),
+        "check" => check_in(alloc, values),
+        "picture" => Ok(picture_in(values)),
+        "from-strace" => Ok(strace_in(values)),
+        "explore" => Ok(explore_in(values)),
+        "schedule" => Ok(schedule_in(values)),
+        _ => Ok(None),
     }
 }
 
@@ -182,18 +196,28 @@ fn run_in<'a>(values: &ArgMatches<'a>) -> Option<Line<'a>>
     let script = values.get_str("SCRIPT")?;
     let after = values.get_str("JOURNAL");
     let journal = values.get_str("FILE");
+    let expect = flag_in(values, "expect")?;
     let open = flag_in(values, "open")?;
     let quiet = flag_in(values, "quiet")?;
-    if quiet && journal.is_none() {
+    if !may_be_quiet(journal, expect, quiet) {
         return None;
     }
     Some(Line::Run {
         script,
         after,
         journal,
+        expect,
         open,
         quiet,
     })
+}
+
+// Whether the listing of a run is made, or may be left away.
+fn may_be_quiet(journal: Option<&str>, expect: bool, quiet: bool) -> bool
+    ensures may { result ≡ true → MayBeQuiet (option_map (λ file. file.now) journal.entry) expect quiet }
+    ensures may_not { result ≡ false → MayBeQuiet (option_map (λ file. file.now) journal.entry) expect quiet → ⊥ }
+{
+    !quiet || expect || journal.is_some()
 }
 
 fn threads_in<'a>(values: &ArgMatches<'a>) -> Option<Line<'a>>
@@ -242,11 +266,19 @@ fn open_in<'a>(values: &ArgMatches<'a>) -> Option<Line<'a>>
     Some(Line::Open { journal })
 }
 
-fn check_in<'a>(values: &ArgMatches<'a>) -> Option<Line<'a>>
-    ensures { IsLineOf (Some (codes "check", rows_of (found_of values.now))) result }
+fn check_in<'a>(alloc: Global, values: &ArgMatches<'a>) -> Result<Option<Line<'a>>, AllocError>
+    ensures { IfOk result (IsLineOf (Some (codes "check", rows_of (found_of values.now)))) }
 {
-    let script = values.get_str("SCRIPT")?;
-    Some(Line::Check { script })
+    let Some(paths) = values.get_strs("SCRIPT") else {
+        return Ok(None);
+    };
+    if paths.is_empty() {
+        return Ok(None);
+    }
+    let mut scripts = Vec::new(alloc);
+    scripts.extend_from_slice(paths)?;
+    let journal = values.get_str("FILE");
+    Ok(Some(Line::Check { scripts, journal }))
 }
 
 fn picture_in<'a>(values: &ArgMatches<'a>) -> Option<Line<'a>>
@@ -271,9 +303,11 @@ fn strace_in<'a>(values: &ArgMatches<'a>) -> Option<Line<'a>>
 {
     let recording = values.get_str("RECORDING")?;
     let nodes = number_in(values, "N", 1, MOST_NODES)?;
+    let places = values.get_str("PLACES");
     Some(Line::FromStrace {
         recording,
         nodes: nodes as u8,
+        places,
     })
 }
 

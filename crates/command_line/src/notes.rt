@@ -9,17 +9,19 @@ Exit status:
   0  done; of audit, history, explain, open and picture: the journal is one of a run
   1  audit, history, explain, open, picture or --after: the journal is not one of a run;
      explain, picture: it has no such call; picture: entries that were asked for are
-     not drawn; threads: it lacks a receipt, or the run was stopped as stuck; explore: an
-     outcome is not as expected; from-strace: a part of the recording is not served
+     not drawn; threads: it lacks a receipt, or the run was stopped as stuck; explore and
+     run --expect: an outcome is not as expected; from-strace: a part of the recording is
+     not served
   2  the words of the command line are refused
   3  SCRIPT or JOURNAL has a bad line, that or RECORDING can't be read, JOURNAL is too
-     old to go on from, or FILE or the text can't be written; check: the file has bad
-     lines
+     old to go on from, PLACES places no process, or FILE or the text can't be written;
+     check: a file has bad lines
   4  no memory, or more entries than a journal may have (1048576)
-Standard error says which, of 2 to 4: at 3 and 4 in one line, but of check of a script in
-one for each of the first hundred bad lines, and one for how many more there are. Where
-run or threads says 'bad line L', 'lockreplay check SCRIPT' tells why, and where audit or
-history does, 'lockreplay check JOURNAL'.
+Standard error says which, of 2 to 4: at 3 and 4 in one line, but of check in one for each
+of the first hundred bad lines of a script, and one for how many more there are. Where run
+or threads says 'bad line L', 'lockreplay check SCRIPT' tells why, and where audit or
+history does, 'lockreplay check JOURNAL'. Of a file that can't be read these four tell no
+reason, which 'lockreplay check FILE' does; the other commands tell it.
 
 Where a file is read, - is standard input. FILE is the name of a file also where it is -.
 
@@ -43,6 +45,9 @@ To run a script under many schedules, and to see the script of one of them, of s
   lockreplay schedule SCRIPT --seed 7
 To make a script of what programs did, which strace recorded to a file:
   lockreplay from-strace RECORDING
+To see what is wrong in scripts, and whether each reply of a run is as its script expects:
+  lockreplay check SCRIPT SCRIPT
+  lockreplay run SCRIPT --expect --quiet
 
 'lockreplay help run' tells how a script is written and what the listing shows.";
 
@@ -107,9 +112,14 @@ there, before the listing is printed. A run that fails before that leaves FILE a
 With --open the calls that have no reply are listed behind the listing, as 'lockreplay
 open' tells of them.
 
-With --journal FILE --quiet no listing is made, and the time and the memory for it are
-spared: nothing is printed, or with --open those calls alone. Which lines were refused is
-not told then.
+With --expect the replies are compared with what comment lines right behind 'call' lines
+say, as 'lockreplay explore' reads them; each call that came to something else is told on
+standard error, and the exit status is 1:
+  # expect WORDS
+
+With --quiet, which needs --journal FILE or --expect, no listing is made, and the time and
+the memory for it are spared: nothing is printed, or with --open those calls alone. Which
+lines were refused is not told then.
 
 With --after JOURNAL the script goes on behind the run of JOURNAL, a file that --journal
 wrote. Its first line has to name the same cluster. Messages are counted on, 'settle'
@@ -220,6 +230,10 @@ processes are numbered. Each recorded process that opens a file that is locked, 
 none of these began, is placed on the next node, of the N nodes in turn; its children are
 on its node. A node that stays empty is told.
 
+With --place PID=NODE,.. each recorded process of such a PID is on node NODE, from 1 to N.
+It begins there by itself, with no descriptor of the process that began it. Where PLACES
+is no such list, or a NODE is past N, no script is made (exit status 3).
+
 What is not served is told on standard error, by the line of RECORDING, the first hundred
 times, and then how often more; the script is that of the other lines, and the exit
 status is 1. Else it is 0.";
@@ -247,9 +261,9 @@ lines, which say what becomes of each message. 'lockreplay run' replays it. With
 
 /// What stands under the options of `check`.
 pub(crate) const CHECK_NOTES: &str = "\
-The script is read and not run. Each bad line, of the first hundred, is told in a line on
-standard error, with the place in it where it goes wrong, and then how many more there
-are (exit status 3):
+Each SCRIPT is read. Each bad line, of the first hundred, is told in a line on standard
+error, with the place in it where it goes wrong, and then how many more there are (exit
+status 3):
   SCRIPT:LINE:COLUMN: expected .., found \"..\"
 Where all lines are good, the text is 'script yes' and one of these (exit status 0):
   threads yes     'lockreplay threads' takes every line
@@ -257,4 +271,12 @@ Where all lines are good, the text is 'script yes' and one of these (exit status
 
 SCRIPT may be a journal too, whose first line begins with 'journal '. Where it reads as
 one, the text is 'journal yes' (exit status 0). Else it is told on standard error where
-its text goes wrong, as that it was cut off (exit status 3).";
+its text goes wrong, as that it was cut off (exit status 3).
+
+Of several files each line of the text begins with 'SCRIPT: '. Where one can't be read, or
+with --journal FILE no journal could be written to FILE, standard error says why (exit
+status 3); FILE stays as it is.
+
+Standard error also warns of a '# expect' line that counts for nothing, and of a line that
+'lockreplay run' would refuse with 13 or 14, for which a good script is run. That changes
+no exit status.";

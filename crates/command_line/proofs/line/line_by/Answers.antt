@@ -1,6 +1,7 @@
 use Rattle.std.proofs.Common.{ap, sym, subst, inl, inr, ◌∙◌, map, Option, List}
 use Rattle.std.proofs.lemmas.Result.{err_from_is_err_and}
-use Rattle.clap.specs.Words.{App, HasKind, Row, Text, fault_of, is_simple, is_simple_and_free, subcommand_of}
+use Rattle.clap.specs.Words.{App, HasKind, Row, Text, fault_of, is_simple, is_simple_and_free, subcommand_of, subcommand_rows_of}
+use Rattle.command_line.specs.Kinds.{IsLineOf}
 use Rattle.command_line.specs.Program.{IsMet}
 use Rattle.command_line.specs.Tasks.{task_of}
 use Rattle.command_line.proofs.CommandLine.{fails_so, not_shown}
@@ -21,7 +22,7 @@ returns-in-Some-clause-asked g c = λ app.
     let P : Option (Text × List Row) → Type 0 = λ met. IsMet met (task_of c.in-Some.line) in
     record {
       taken = ap (λ (a : App). fault_of a words) (sym app) ∙ c.in_ok-matches.ensures.kinds (ap is_simple_and_free app ∙ is_free_program);
-      met = subst P (rows_are ∙ ap (λ (a : App). subcommand_of a words) app) c.in-Some.ensures;
+      met = subst P (rows_are ∙ ap (λ (a : App). subcommand_of a words) app) (subst (IsLineOf (subcommand_rows_of c.in_ok-matches.matches)) c.in-Some.is c.in_ok-met.ensures);
     }
 
 pub returns-clause-kind : goal.returns-clause-kind
@@ -36,7 +37,7 @@ returns-clause-kind g c = λ app.
           taken,
           λ task asks.
               let P : Option (Text × List Row) → Type 0 = λ met. IsMet met task in
-              c.in-None.ensures task (subst P (sym (rows_are ∙ ap (λ (a : App). subcommand_of a words) app)) asks.met),
+              (subst (IsLineOf (subcommand_rows_of c.in_ok-matches.matches)) c.in-None.is c.in_ok-met.ensures) task (subst P (sym (rows_are ∙ ap (λ (a : App). subcommand_of a words) app)) asks.met),
         ),
       ))
       | inr short ↦ inl short
