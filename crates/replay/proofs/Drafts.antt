@@ -59,13 +59,13 @@ ok_both (Ok value) P Q first second = (first, second)
 ok_both (Err error) P Q first second = tt
 
 -- why the journal that is made beside what a run shows took no file's place is a fault of the run
-pub journal_fault : (old begun new : Files) (RanShort : Type 0) (Refuses : List ℕ → Type 0) (task : Task) (path : List ℕ) (f : Fault) → SameFiles old begun → HasJournalFor old task path → IsInputFault old RanShort task fault.NoMemory → IsUnwritten begun Refuses path new f → (f ≢ fault.CannotWriteOutput) × IsFault old RanShort Refuses task new f
-journal_fault old begun new RanShort Refuses task path (fault.CannotWrite named) same has short is =
+pub journal_fault : (old begun new : Files) (RanShort : Type 0) (Refuses : List ℕ → Type 0) (task : Task) (path : List ℕ) (f : Fault) → SameFiles old begun → HasJournalFor old task path → IsInputFault old RanShort Refuses task fault.NoMemory → IsUnwritten begun Refuses path new f → (f ≢ fault.CannotWriteOutput) × IsFault old RanShort Refuses task new f
+journal_fault old begun new RanShort Refuses task path (fault.CannotWrite named reason) same has short is =
     let at = sym is.0 in
     (λ e. absurd (cc), (subst (HasJournalFor old task) at has, subst Refuses at is.1, subst (SameOthers old new) at (others-after old begun new path same is.2)))
 journal_fault old begun new RanShort Refuses task path fault.NoMemory same has short is = (λ e. absurd (cc), (short, same-after old begun new same is))
 journal_fault old begun new RanShort Refuses task path (fault.BadLine line) same has short is = absurd is
-journal_fault old begun new RanShort Refuses task path (fault.CannotRead named) same has short is = absurd is
+journal_fault old begun new RanShort Refuses task path (fault.CannotRead named reason) same has short is = absurd is
 journal_fault old begun new RanShort Refuses task path fault.CannotWriteOutput same has short is = absurd is
 journal_fault old begun new RanShort Refuses task path fault.JournalFull same has short is = absurd is
 journal_fault old begun new RanShort Refuses task path fault.OldJournal same has short is = absurd is

@@ -16,10 +16,10 @@ use Rattle.replay.specs.Stores.{Files, SameFiles}
 
 -- of a task whose input is a script that is explored
 pub explore-fault : (failures : Bool) (old new : Files) (RanShort : Type 0) (Refuses : List ℕ → Type 0) (task : Task) (path text : List ℕ) (fault : Fault) → old path (Some text) → IsUtf8 text → SameFiles old new
-    → ((f : Fault) → IsExploreFault failures (old path) RanShort path f → IsInputFault old RanShort task f) → IsExploreTextFault failures text fault → (fault ≢ CannotWriteOutput) × IsFault old RanShort Refuses task new fault
+    → ((f : Fault) → IsExploreFault failures (old path) RanShort path f → IsInputFault old RanShort Refuses task f) → IsExploreTextFault failures text fault → (fault ≢ CannotWriteOutput) × IsFault old RanShort Refuses task new fault
 explore-fault failures old new RanShort Refuses task path text (BadLine line) holds utf8 same input is = (λ e. absurd (cc), (input (BadLine line) (text, holds, utf8, is), same))
-explore-fault failures old new RanShort Refuses task path text (CannotRead named) holds utf8 same input is = absurd is
-explore-fault failures old new RanShort Refuses task path text (CannotWrite named) holds utf8 same input is = absurd is
+explore-fault failures old new RanShort Refuses task path text (CannotRead named reason) holds utf8 same input is = absurd is
+explore-fault failures old new RanShort Refuses task path text (CannotWrite named reason) holds utf8 same input is = absurd is
 explore-fault failures old new RanShort Refuses task path text CannotWriteOutput holds utf8 same input is = absurd is
 explore-fault failures old new RanShort Refuses task path text NoMemory holds utf8 same input is = (λ e. absurd (cc), (input NoMemory (inr (is.0, (text, holds, utf8, is.1))), same))
 explore-fault failures old new RanShort Refuses task path text JournalFull holds utf8 same input is = (λ e. absurd (cc), (input JournalFull (is.0, (text, holds, utf8, is.1), is.2), same))

@@ -19,8 +19,8 @@ has-journal Holds bytes j holds text writes = ((bytes, holds, text, writes.0), w
 -- a fault of the text is one of the file
 pub text-fault : (Holds : Option (List ℕ) → Type 0) (RanShort : Type 0) (path bytes : List ℕ) (f : Fault) → Holds (Some bytes) → IsUtf8 bytes → IsTextFault bytes f → IsJournalFault Holds RanShort path f
 text-fault Holds RanShort path bytes (fault.BadLine line) holds text is = (bytes, holds, text, is)
-text-fault Holds RanShort path bytes (fault.CannotRead named) holds text is = absurd is
-text-fault Holds RanShort path bytes (fault.CannotWrite named) holds text is = absurd is
+text-fault Holds RanShort path bytes (fault.CannotRead named reason) holds text is = absurd is
+text-fault Holds RanShort path bytes (fault.CannotWrite named reason) holds text is = absurd is
 text-fault Holds RanShort path bytes fault.CannotWriteOutput holds text is = absurd is
 text-fault Holds RanShort path bytes fault.NoMemory holds text is = inr (is.0, has-journal Holds bytes is.0 holds text is.1)
 text-fault Holds RanShort path bytes fault.JournalFull holds text is = (is.0, (bytes, holds, text, is.1), is.2)
@@ -43,8 +43,8 @@ short-fault bytes s count is = (record { shape = s; entries = is.measured.0 }, (
 -- what the walk over the text tells, but want of memory, is a fault of it, and so is that once it was measured
 told-fault : (bytes : List ℕ) (f : Fault) → (f ≢ fault.NoMemory → IsTextFault bytes f) → IsTextFault bytes fault.NoMemory → IsTextFault bytes f
 told-fault bytes (fault.BadLine line) told short = told (λ e. absurd (cc))
-told-fault bytes (fault.CannotRead named) told short = told (λ e. absurd (cc))
-told-fault bytes (fault.CannotWrite named) told short = told (λ e. absurd (cc))
+told-fault bytes (fault.CannotRead named reason) told short = told (λ e. absurd (cc))
+told-fault bytes (fault.CannotWrite named reason) told short = told (λ e. absurd (cc))
 told-fault bytes fault.CannotWriteOutput told short = told (λ e. absurd (cc))
 told-fault bytes fault.NoMemory told short = short
 told-fault bytes fault.JournalFull told short = told (λ e. absurd (cc))

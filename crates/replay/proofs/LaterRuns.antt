@@ -1,6 +1,6 @@
 -- Lemmas on scripts that go on behind a journal.
 use Rattle.std.proofs.Common.{◌≡◌, ℕ, List, Option, Some, inl, inr, refl, subst}
-use Rattle.std.specs.Prelude.{IsUtf8}
+use Rattle.std.specs.Prelude.{Bool, IsUtf8}
 use Rattle.cluster_core.specs.Journals.{JournalFields}
 use Rattle.messages.specs.declared.version.Version.{Version}
 use Rattle.messages.specs.declared.version.Version.TheVariants.{First, Second}
@@ -16,10 +16,12 @@ use Rattle.replay.specs.declared.fault.Fault.{Fault}
 use Rattle.replay.specs.declared.fault.Fault.TheVariants.{BadLine, CannotRead, CannotWrite, CannotWriteOutput, NoMemory, JournalFull, OldJournal, Faulty}
 use Rattle.cluster_core.specs.Runs.{IsRun}
 use Rattle.replay.specs.Audits.{HasNewJournal}
-use Rattle.replay.specs.Commands.{IsGoingFault}
+use Rattle.replay.specs.declared.shown.Shown.{Shown}
+use Rattle.replay.specs.declared.shown.Shown.TheVariants.{Text, Wanting, Partial, Noted, Yes, No}
+use Rattle.replay.specs.Commands.{GoesOn, IsGoingFault, WentOn}
 use Rattle.replay.specs.Faults.{IsBehindFault, IsOldFault, IsTextFault, fault_of_parse, fault_of_play}
 use Rattle.player.specs.Played.{FillsBehind, PlayedState}
-use Rattle.replay.specs.Scripts.{HasRunBehind, HasScriptFor}
+use Rattle.replay.specs.Scripts.{HasComparedRun, HasComparedRunBehind, HasRun, HasRunBehind, HasScriptFor}
 use Rattle.replay.specs.Stores.{Files, SameFiles}
 use Rattle.replay.proofs.Journals.{has-journal}
 use Rattle.replay.proofs.Stores.{had-no_text, had-text}
@@ -39,8 +41,8 @@ is_new text j not_old writes = new-version j.shape.version (λ is. not_old (old-
 -- a fault of a text that is not old is one of the file, behind whose journal a run goes on
 pub old-fault : (Holds : Option (List ℕ) → Type 0) (RanShort : Type 0) (path bytes : List ℕ) (fault : Fault) → Holds (Some bytes) → IsUtf8 bytes → (IsOld bytes → ⊥) → IsTextFault bytes fault → IsOldFault Holds RanShort path fault
 old-fault Holds RanShort path bytes (BadLine line) holds text not_old is = (bytes, holds, text, (is, not_old))
-old-fault Holds RanShort path bytes (CannotRead named) holds text not_old is = absurd is
-old-fault Holds RanShort path bytes (CannotWrite named) holds text not_old is = absurd is
+old-fault Holds RanShort path bytes (CannotRead named reason) holds text not_old is = absurd is
+old-fault Holds RanShort path bytes (CannotWrite named reason) holds text not_old is = absurd is
 old-fault Holds RanShort path bytes CannotWriteOutput holds text not_old is = absurd is
 old-fault Holds RanShort path bytes NoMemory holds text not_old is = inr (is.0, (has-journal Holds bytes is.0 holds text is.1, is_new bytes is.0 not_old is.1.0))
 old-fault Holds RanShort path bytes JournalFull holds text not_old is = (is.0, (bytes, holds, text, is.1), is_new bytes is.0 not_old is.1, is.2)
@@ -60,13 +62,20 @@ play-fault j Holds RanShort path script play.NoMemory has full = inr (script, ha
 play-fault j Holds RanShort path script play.JournalFull has full = (script, has, full refl)
 
 -- what a script comes to, or why not, by the files that there were
-pub had-run : (old new : Files) (path : List ℕ) (j : JournalFields) (played : PlayedState) → SameFiles old new → HasRunBehind (new path) j played → HasRunBehind (old path) j played
-had-run old new path j played same has = (has.0, had-text old new path (λ text. IsForShape j.shape text has.0) same has.1, has.2)
+pub had-run : (old new : Files) (path : List ℕ) (j : JournalFields) (compares : Bool) (played : PlayedState) (breaking : Bool) → SameFiles old new → HasComparedRunBehind (new path) j compares played breaking → HasComparedRunBehind (old path) j compares played breaking
+had-run old new path j compares played breaking same has = (has.0, had-text old new path _ same has.1, has.2)
+
+-- a run that is compared is a run
+pub uncompared : (Holds : Option (List ℕ) → Type 0) (compares breaking : Bool) (played : PlayedState) → HasComparedRun Holds compares played breaking → HasRun Holds played
+uncompared Holds compares breaking played has = (has.0, (has.1.0, has.1.1, has.1.2, has.1.3.0), has.2)
+
+pub uncompared-behind : (Holds : Option (List ℕ) → Type 0) (j : JournalFields) (compares breaking : Bool) (played : PlayedState) → HasComparedRunBehind Holds j compares played breaking → HasRunBehind Holds j played
+uncompared-behind Holds j compares breaking played has = (has.0, (has.1.0, has.1.1, has.1.2, has.1.3.0), has.2)
 
 pub had-fault : (old new : Files) (RanShort : Type 0) (path : List ℕ) (j : JournalFields) (fault : Fault) → SameFiles old new → IsBehindFault j (new path) RanShort path fault → IsBehindFault j (old path) RanShort path fault
 had-fault old new RanShort path j (BadLine line) same is = had-text old new path _ same is
-had-fault old new RanShort path j (CannotRead named) same is = (is.0, had-no_text old new path same is.1)
-had-fault old new RanShort path j (CannotWrite named) same is = absurd is
+had-fault old new RanShort path j (CannotRead named reason) same is = (is.0, had-no_text old new path same is.1)
+had-fault old new RanShort path j (CannotWrite named reason) same is = absurd is
 had-fault old new RanShort path j CannotWriteOutput same is = absurd is
 had-fault old new RanShort path j NoMemory same (inl short) = inl short
 had-fault old new RanShort path j NoMemory same (inr is) = inr (is.0, had-text old new path (λ text. IsForShape j.shape text is.0) same is.1)
@@ -79,3 +88,12 @@ pub going-fault : (old new : Files) (RanShort : Type 0) (script after : List ℕ
     → IsBehindFault journal (new script) RanShort script fault → IsGoingFault old RanShort script after fault
 going-fault old new RanShort script after journal j fault has same run files is =
     inr (j, has, run, had-fault old new RanShort script j fault files (subst (λ (k : JournalFields). IsBehindFault k (new script) RanShort script fault) same is))
+
+-- what is shown of the whole run
+pub goes-on : (old new : Files) (script : List ℕ) (j : JournalFields) (to : Option (List ℕ)) (compares with_open quiet : Bool) (shown : Shown) → IsRun j.shape j.entries → WentOn old script j to compares with_open quiet new shown → GoesOn old script j to compares with_open quiet new shown
+goes-on old new script j to compares with_open quiet (Text text) run went = (run, went)
+goes-on old new script j to compares with_open quiet (Partial text told) run went = (run, went)
+goes-on old new script j to compares with_open quiet (Wanting text) run went = absurd went.3
+goes-on old new script j to compares with_open quiet (Noted text told) run went = absurd went.3
+goes-on old new script j to compares with_open quiet Yes run went = absurd went.3
+goes-on old new script j to compares with_open quiet (No position) run went = absurd went.3

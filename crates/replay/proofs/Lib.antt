@@ -12,3 +12,5 @@ pub mod Refused
 pub mod Tellings
 pub mod Explorations
 pub mod LeftFiles
+pub mod Checks
+pub mod FaultLines

@@ -46,8 +46,8 @@ refused-told NoMemory status A F E B Failed Same T help refused more = let told 
 -- a fault with status 4 leaves nothing on the writer
 pub short-leaves : {O : Type 0} (IsDone : Shown → Type 0) (taken : O → Option (List ℕ)) (has_failed : O → Type 0) (old new : O) (f : Fault) → status_of f ≡ 4 → Leaves IsDone taken has_failed old new f → new ≡ old
 short-leaves IsDone taken has_failed old new (BadLine line) four leaves = leaves
-short-leaves IsDone taken has_failed old new (CannotRead path) four leaves = leaves
-short-leaves IsDone taken has_failed old new (CannotWrite path) four leaves = leaves
+short-leaves IsDone taken has_failed old new (CannotRead path reason) four leaves = leaves
+short-leaves IsDone taken has_failed old new (CannotWrite path reason) four leaves = leaves
 short-leaves IsDone taken has_failed old new CannotWriteOutput four leaves = absurd (let three : 3 ≡ 4 = four in cc (three))
 short-leaves IsDone taken has_failed old new fault.NoMemory four leaves = leaves
 short-leaves IsDone taken has_failed old new JournalFull four leaves = leaves

@@ -33,16 +33,16 @@ had-no_text old new path same (inr no_text) = inr (no_text.0, (same path (Some n
 
 -- a file that is not that of the journal is as it was
 pub same-unless : (old new : Files) (task : Task) (path : List ℕ) (file : Option (List ℕ)) → SameButJournal task old new → journal_path task ≢ Some path → new path file ↔ old path file
-same-unless old new (run script after None with_open quiet) path file kept owing_nothing = kept path file
-same-unless old new (run script after (Some other) with_open quiet) path file kept owing_nothing = kept path file (λ is. owing_nothing (ap (λ (p : List ℕ). Some p) (sym is)))
+same-unless old new (run script after None compares with_open quiet) path file kept owing_nothing = kept path file
+same-unless old new (run script after (Some other) compares with_open quiet) path file kept owing_nothing = kept path file (λ is. owing_nothing (ap (λ (p : List ℕ). Some p) (sym is)))
 same-unless old new (threads script seed may_stop no_join None) path file kept owing_nothing = kept path file
 same-unless old new (threads script seed may_stop no_join (Some other)) path file kept owing_nothing = kept path file (λ is. owing_nothing (ap (λ (p : List ℕ). Some p) (sym is)))
 same-unless old new (audit journal) path file kept owing_nothing = kept path file
 same-unless old new (history journal) path file kept owing_nothing = kept path file
 same-unless old new (explain journal name) path file kept owing_nothing = kept path file
 same-unless old new (open_calls journal) path file kept owing_nothing = kept path file
-same-unless old new (check script) path file kept owing_nothing = kept path file
+same-unless old new (check scripts journal) path file kept owing_nothing = kept path file
 same-unless old new (picture journal name from to format) path file kept owing_nothing = kept path file
-same-unless old new (from_strace recording nodes) path file kept owing_nothing = kept path file
+same-unless old new (from_strace recording nodes places) path file kept owing_nothing = kept path file
 same-unless old new (explore script seeds first failures) path file kept owing_nothing = kept path file
 same-unless old new (schedule script seed failures) path file kept owing_nothing = kept path file

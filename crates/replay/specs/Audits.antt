@@ -13,7 +13,7 @@ use Rattle.lockscript.specs.Listing.{history_text}
 use Rattle.replay.specs.declared.audit.Audited.{Audited}
 use Rattle.replay.specs.declared.audit.Audited.TheVariants.{Run, Wrong}
 use Rattle.replay.specs.declared.shown.Shown.{Shown}
-use Rattle.replay.specs.declared.shown.Shown.TheVariants.{Text, Wanting, Partial, Yes, No}
+use Rattle.replay.specs.declared.shown.Shown.TheVariants.{Text, Wanting, Partial, Noted, Yes, No}
 use Rattle.replay.specs.Stores.{HasText}
 
 -- the file writes a journal of these entries, whether they are a run or not
@@ -62,6 +62,7 @@ IsAudit j (No position) = IsFirstWrong j.shape j.entries position
 IsAudit j (Text text) = ⊥
 IsAudit j (Wanting text) = ⊥
 IsAudit j (Partial text told) = ⊥
+IsAudit j (Noted text told) = ⊥
 
 -- the text is the one history of the run
 abbrev pub IsHistoryText : JournalFields → List ℕ → Type 0
@@ -72,5 +73,6 @@ abbrev pub IsHistory : JournalFields → Shown → Type 0
 IsHistory j Yes = ⊥
 IsHistory j (Wanting text) = ⊥
 IsHistory j (Partial text told) = ⊥
+IsHistory j (Noted text told) = ⊥
 IsHistory j (No position) = IsFirstWrong j.shape j.entries position
 IsHistory j (Text text) = IsRun j.shape j.entries × IsHistoryText j (string_bytes text)

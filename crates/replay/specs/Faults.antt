@@ -32,25 +32,25 @@ fault_of_play play.JournalFull = JournalFull
 
 -- why the bytes of the file of this path are not there: it can't be read, or memory is short
 abbrev pub IsUnread : (Option (List ℕ) → Type 0) → Type 0 → List ℕ → Fault → Type 0
-IsUnread Holds RanShort path (CannotRead named) = (named.now ≡ path) × Holds None
+IsUnread Holds RanShort path (CannotRead named reason) = (named.now ≡ path) × Holds None
 IsUnread Holds RanShort path NoMemory = RanShort
 IsUnread Holds RanShort path fault = ⊥
 
 -- why the text of the file of this path is not there: it has none, or memory is short
 abbrev pub IsTextless : (Option (List ℕ) → Type 0) → Type 0 → List ℕ → Fault → Type 0
-IsTextless Holds RanShort path (CannotRead named) = (named.now ≡ path) × HasNoText Holds
+IsTextless Holds RanShort path (CannotRead named reason) = (named.now ≡ path) × HasNoText Holds
 IsTextless Holds RanShort path NoMemory = RanShort
 IsTextless Holds RanShort path fault = ⊥
 
 -- a fault at a file of this path: it has no text, memory is short where `RanShort` says it, or `Told` allows the fault, which may be short memory too
 abbrev pub IsFileFault : (Option (List ℕ) → Type 0) → Type 0 → List ℕ → (Fault → Type 0) → Fault → Type 0
-IsFileFault Holds RanShort path Told (CannotRead named) = (named.now ≡ path) × HasNoText Holds
+IsFileFault Holds RanShort path Told (CannotRead named reason) = (named.now ≡ path) × HasNoText Holds
 IsFileFault Holds RanShort path Told NoMemory = RanShort ⊎ Told NoMemory
 IsFileFault Holds RanShort path Told fault = Told fault
 
 -- why the file of this path was not made beside something else: it can't be written, or memory is short, and then no file changed
 abbrev pub IsUnwritten : Files → (List ℕ → Type 0) → List ℕ → Files → Fault → Type 0
-IsUnwritten old Refuses path new (CannotWrite named) = (named.now ≡ path) × Refuses path × SameOthers old new path
+IsUnwritten old Refuses path new (CannotWrite named reason) = (named.now ≡ path) × Refuses path × SameOthers old new path
 IsUnwritten old Refuses path new NoMemory = SameFiles old new
 IsUnwritten old Refuses path new fault = ⊥
 
@@ -142,8 +142,8 @@ IsBehindFault j Holds RanShort path = IsFileFault Holds RanShort path (BehindFau
 -- its number or its path, as the user gave it
 abbrev pub fault_line : Fault → List ℕ
 fault_line (BadLine line) = codes "bad line " ++ decimal line ++ codes "\n"
-fault_line (CannotRead path) = codes "cannot read " ++ path.now ++ codes "\n"
-fault_line (CannotWrite path) = codes "cannot write " ++ path.now ++ codes "\n"
+fault_line (CannotRead path reason) = codes "cannot read " ++ path.now ++ codes "\n"
+fault_line (CannotWrite path reason) = codes "cannot write " ++ path.now ++ codes "\n"
 fault_line CannotWriteOutput = codes "cannot write standard output\n"
 fault_line NoMemory = codes "no memory\n"
 fault_line JournalFull = codes "journal full\n"

@@ -10,6 +10,9 @@ pub mod Explorations
 pub mod Recordings
 pub mod Audits
 pub mod Faults
+pub mod FaultLines
 pub mod Tellings
+pub mod Checks
 pub mod LaterRuns
 pub mod Commands
+pub mod Comparing

@@ -1,5 +1,5 @@
 -- What the script of a file comes to.
-use Rattle.std.specs.Prelude.{◌≡◌, ℕ, List, Option}
+use Rattle.std.specs.Prelude.{◌≡◌, ℕ, ◌&&◌, Bool, List, length, Option}
 use Rattle.cluster_core.specs.declared.held_lock.HeldLock.{HeldLock}
 use Rattle.cluster_core.specs.declared.item.Item.{Item}
 use Rattle.cluster_core.specs.declared.token_run.TokenRun.{TokenRun}
@@ -7,6 +7,7 @@ use Rattle.cluster_core.specs.Histories.{HasHistory, EachAtItsPlace}
 use Rattle.cluster_core.specs.Listings.{IsTokenListing, IsLockListing}
 use Rattle.cluster_core.specs.Journals.{JournalFields}
 use Rattle.cluster_core.specs.Safe.{IsSafe}
+use Rattle.explorer.specs.Comparisons.{breaks_behind}
 use Rattle.lockscript.specs.Listing.{listing_start, listing_text}
 use Rattle.lockscript.specs.Scripts.{ScriptFields, IsScript}
 use Rattle.lockscript.specs.ShapedScripts.{IsForShape}
@@ -22,6 +23,11 @@ HasScript Holds script = HasText Holds (λ text. IsScript text script)
 abbrev pub HasRun : (Option (List ℕ) → Type 0) → PlayedState → Type 0
 HasRun Holds played = (script : ScriptFields) × HasScript Holds script × ComesTo script.shape script.lines played
 
+-- the same, and it is known whether a reply of the run begins otherwise than the text of the script expects, where the two are compared
+abbrev pub HasComparedRun : (Option (List ℕ) → Type 0) → Bool → PlayedState → Bool → Type 0
+HasComparedRun Holds compares played breaking =
+    (script : ScriptFields) × HasText Holds (λ text. IsScript text script × (breaking ≡ (compares && breaks_behind text script.lines 0 played))) × ComesTo script.shape script.lines played
+
 -- the file writes this script, of a cluster of this shape
 abbrev pub HasScriptFor : (Option (List ℕ) → Type 0) → ShapeFields → ScriptFields → Type 0
 HasScriptFor Holds shape script = HasText Holds (λ text. IsForShape shape text script)
@@ -29,6 +35,11 @@ HasScriptFor Holds shape script = HasText Holds (λ text. IsForShape shape text 
 -- and behind the run of the journal the script comes to this
 abbrev pub HasRunBehind : (Option (List ℕ) → Type 0) → JournalFields → PlayedState → Type 0
 HasRunBehind Holds j played = (script : ScriptFields) × HasScriptFor Holds j.shape script × GoesOnTo j script.lines played
+
+-- the same, and it is known whether a reply behind that journal begins otherwise than the text of the script expects, where the two are compared
+abbrev pub HasComparedRunBehind : (Option (List ℕ) → Type 0) → JournalFields → Bool → PlayedState → Bool → Type 0
+HasComparedRunBehind Holds j compares played breaking =
+    (script : ScriptFields) × HasText Holds (λ text. IsForShape j.shape text script × (breaking ≡ (compares && breaks_behind text script.lines (length j.entries) played))) × GoesOnTo j script.lines played
 
 -- what a listing of a run tells: the tokens and the locks at its end, which is safe, and a history of one table, each call of it at its place
 pub record Lists (played : PlayedState) (tokens : List TokenRun) (locks : List HeldLock) (history : List Item) : Type 0 where

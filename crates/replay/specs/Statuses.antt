@@ -6,8 +6,8 @@ use Rattle.replay.specs.declared.fault.Fault.TheVariants.{BadLine, CannotRead, C
 -- 3: the input or the output is at fault; 4: the run needs more than there is
 abbrev pub status_of : Fault → ℕ
 status_of (BadLine line) = 3
-status_of (CannotRead path) = 3
-status_of (CannotWrite path) = 3
+status_of (CannotRead path reason) = 3
+status_of (CannotWrite path reason) = 3
 status_of CannotWriteOutput = 3
 status_of OldJournal = 3
 status_of (Faulty report) = 3

@@ -1,86 +1,136 @@
-//! What is wrong in the script or the journal of a file.
-ghost use Rattle.std.specs.Prelude.{◌≢◌, Some, IfErr, IfOk};
+//! What is wrong in scripts or journals of files, and whether a journal can be written to another.
+ghost use Rattle.std.specs.Prelude.{◌≡◌, ◌≢◌, ◌⊎◌, false, map, option_map, IfErr, IfOk};
 ghost use Rattle.command_line.specs.Tasks.{check};
-ghost use Rattle.diagnosis.specs.JournalReports.{BeginsAsJournal};
-ghost use Rattle.lockscript.specs.Scripts.{HasScript, IsScript, ScriptFields};
-ghost use Rattle.replay.specs.declared.fault.Fault.TheVariants.{CannotWriteOutput};
+ghost use Rattle.replay.specs.declared.fault.Fault.TheVariants.{CannotWriteOutput, NoMemory};
+ghost use Rattle.replay.specs.Checks.{AreChecked, AreCheckFault, IsChecksFault, IsTrialFault};
 ghost use Rattle.replay.specs.Commands.{Does, IsFault};
-ghost use Rattle.replay.specs.Faults.{IsCheckTextFault};
-ghost use Rattle.replay.specs.Tellings.{IsChecked};
+ghost use Rattle.replay.specs.Stores.{SameFiles};
 
+use crate::check_reports::{push_fault, push_reason};
+use crate::check_text::checked_at;
 use crate::fault::Fault;
-use crate::input::text_of;
+use crate::reason::Reason;
+use crate::several::several_checked;
 use crate::shown::Shown;
-use crate::store::Store;
-use diagnosis::journal_report::{begins_as_journal, journal_report};
-use diagnosis::report::report;
-use diagnosis::verdict::verdict;
-use lockscript::error::ParseError;
-use lockscript::laws::every_text_has_one_reading;
-use lockscript::script::Script;
+use crate::store::{Store, StoreError};
+use player::watcher::Watcher;
 use std::alloc::{AllocError, Global};
 
-// That a file writes a script, and whether threads take it, or that it writes a journal.
-pub(crate) fn check<'a, S: Store>(
+// That each file writes a script, and whether threads take it, or that it writes a journal; of several files each line of
+// that begins with the path. Where a file is named for a journal, it is tried whether one could be written there.
+pub(crate) fn check<'a, S: Store, V: Watcher>(
     alloc: Global,
     store: &mut S,
-    path: &'a str,
+    paths: &[&'a str],
+    journal: Option<&'a str>,
+    watcher: &mut V,
 ) -> Result<Shown, Fault<'a>>
-    ensures done { IfOk result (Does (S.holds store.old) (check path.now) (S.holds store.new)) }
+    ensures done { IfOk result (Does (S.holds store.old) (check (map (λ path. path.now) paths.now) (option_map (λ file. file.now) journal.entry)) (S.holds store.new)) }
     ensures fault { IfErr result (λ fault. (fault ≢ CannotWriteOutput)
-        × IsFault (S.holds store.old) (S.ran_short store.new) (S.refuses store.new) (check path.now) (S.holds store.new) fault) }
+        × IsFault (S.holds store.old) (S.ran_short store.new) (S.refuses store.new) (check (map (λ path. path.now) paths.now) (option_map (λ file. file.now) journal.entry)) (S.holds store.new) fault) }
 {
-    let text = text_of(alloc, store, path)?;
-    checked_in(alloc, path, text.as_str())
+    all_checked(alloc, store, paths, journal, watcher)
 }
 
-// The same of the text of the file.
-fn checked_in<'a>(alloc: Global, path: &'a str, text: &str) -> Result<Shown, Fault<'a>>
-    ensures done { IfOk result (IsChecked text.now) }
-    ensures fault { IfErr result (IsCheckTextFault path.now text.now) }
+// The same, by what is known of the files.
+fn all_checked<'a, S: Store, V: Watcher>(
+    alloc: Global,
+    store: &mut S,
+    paths: &[&'a str],
+    journal: Option<&'a str>,
+    watcher: &mut V,
+) -> Result<Shown, Fault<'a>>
+    ensures done { IfOk result (AreChecked (S.holds store.old) (map (λ path. path.now) paths.now)) }
+    ensures fault { IfErr result (IsChecksFault (S.holds store.old) (S.ran_short store.new) (S.refuses store.new) (map (λ path. path.now) paths.now) (option_map (λ file. file.now) journal.entry)) }
+    ensures files { SameFiles (S.holds store.old) (S.holds store.new) }
 {
-    if begins_as_journal(text) {
-        journal_checked(alloc, path, text)
+    match looked_at(alloc, store, paths, watcher) {
+        Ok(shown) => {
+            tried(alloc, store, journal, None)?;
+            Ok(shown)
+        }
+        Err(fault) => Err(beside_trial(alloc, store, journal, fault)),
+    }
+}
+
+// What is shown of the files, one or several.
+fn looked_at<'a, S: Store, V: Watcher>(
+    alloc: Global,
+    store: &mut S,
+    paths: &[&'a str],
+    watcher: &mut V,
+) -> Result<Shown, Fault<'a>>
+    ensures done { IfOk result (AreChecked (S.holds store.old) (map (λ path. path.now) paths.now)) }
+    ensures fault { IfErr result (AreCheckFault (S.holds store.old) (S.ran_short store.new) (map (λ path. path.now) paths.now)) }
+    ensures files { SameFiles (S.holds store.old) (S.holds store.new) }
+{
+    if paths.len() == 1 {
+        checked_at(alloc, store, paths[0], watcher)
     } else {
-        script_checked(alloc, path, text)
+        several_checked(alloc, store, paths, watcher)
     }
 }
 
-// The same of a text that begins as a journal.
-fn journal_checked<'a>(alloc: Global, path: &'a str, text: &str) -> Result<Shown, Fault<'a>>
-    requires { BeginsAsJournal text.now }
-    ensures done { IfOk result (IsChecked text.now) }
-    ensures fault { IfErr result (IsCheckTextFault path.now text.now) }
+// The fault, or, where no journal can be written to the file either, that behind it.
+fn beside_trial<'a, S: Store>(
+    alloc: Global,
+    store: &mut S,
+    journal: Option<&'a str>,
+    fault: Fault<'a>,
+) -> Fault<'a>
+    ensures fault { ((result ≡ fault.entry) × (fault.entry ≡ NoMemory → store.new ≡ store.old)) ⊎ IsTrialFault (S.ran_short store.new) (S.refuses store.new) (option_map (λ file. file.now) journal.entry) result }
+    ensures files { SameFiles (S.holds store.old) (S.holds store.new) }
 {
-    if let Some(report) = journal_report(alloc, path, text)? {
-        return Err(Fault::Faulty(report));
+    if is_short(&fault) {
+        return fault;
     }
-    let yes = String::from_str(alloc, "journal yes\n")?;
-    Ok(Shown::Text(yes))
+    match tried(alloc, store, journal, Some(&fault)) {
+        Ok(()) => fault,
+        Err(other) => other,
+    }
 }
 
-// The same of a text that does not.
-fn script_checked<'a>(alloc: Global, path: &'a str, text: &str) -> Result<Shown, Fault<'a>>
-    requires { ¬ (BeginsAsJournal text.now) }
-    ensures done { IfOk result (IsChecked text.now) }
-    ensures fault { IfErr result (IsCheckTextFault path.now text.now) }
+// Whether memory was short.
+fn is_short(fault: &Fault<'_>) -> bool
+    ensures { result ≡ false → fault.now ≢ NoMemory }
 {
-    if let Some(report) = report(alloc, path, text)? {
-        return Err(Fault::Faulty(report));
-    }
-    let script = script_in(alloc, text)?;
-    Ok(Shown::Text(verdict(alloc, &script)?))
+    matches!(fault, Fault::NoMemory)
 }
 
-// The script that the text writes.
-fn script_in(alloc: Global, text: &str) -> Result<Script, AllocError>
-    requires { HasScript text.now }
-    ensures { IfOk result (IsScript text.now) }
+// Whether a journal could be written to the file, if one is named. Where it could not, that is told behind the fault that
+// was found before, if there is one.
+fn tried<'a, S: Store>(
+    alloc: Global,
+    store: &mut S,
+    journal: Option<&'a str>,
+    found: Option<&Fault<'a>>,
+) -> Result<(), Fault<'a>>
+    ensures fault { IfErr result (IsTrialFault (S.ran_short store.new) (S.refuses store.new) (option_map (λ file. file.now) journal.entry)) }
+    ensures files { SameFiles (S.holds store.old) (S.holds store.new) }
 {
-    every_text_has_one_reading();
-    match Script::parse(alloc, text) {
-        Ok(script) => Ok(script),
-        Err(ParseError::NoMemory) => Err(AllocError),
-        Err(ParseError::BadLine(_)) => unreachable!(),
+    let Some(file) = journal else {
+        return Ok(());
+    };
+    match store.try_write(file) {
+        Ok(()) => Ok(()),
+        Err(StoreError::NoMemory) => Err(Fault::NoMemory),
+        Err(StoreError::Failed(reason)) => {
+            Err(Fault::Faulty(refusal_text(alloc, file, reason, found)?))
+        }
     }
+}
+
+// That no journal can be written to the file, behind what is wrong besides.
+fn refusal_text(
+    alloc: Global,
+    file: &str,
+    reason: Reason,
+    found: Option<&Fault<'_>>,
+) -> Result<String, AllocError> {
+    let mut told = String::new(alloc);
+    if let Some(fault) = found {
+        push_fault(&mut told, fault)?;
+    }
+    push_reason(&mut told, "cannot write ", file, reason)?;
+    Ok(told)
 }

@@ -4,9 +4,10 @@ ghost use Rattle.std.specs.IoError.{error_kind};
 ghost use Rattle.replay.specs.declared.store.StoreError.TheVariants.{NoMemory};
 
 use crate::disk_draft::DiskDraft;
+use crate::reason::Reason;
 use crate::store::{Store, StoreError};
 use std::alloc::Global;
-use std::fs::{File, Metadata, OpenFile};
+use std::fs::{File, Metadata, OpenFile, OpenOptions};
 use std::io::{BufWriter, Error, ErrorKind, Write};
 use std::rt::Files;
 use std::{fs, io};
@@ -16,6 +17,9 @@ const NAMES: u32 = 16;
 
 // How many bytes are written to it at once.
 const AT_ONCE: usize = 65_536;
+
+// How many bytes are written to a file that is only a trial.
+const BLOCK: usize = 4_096;
 
 /// The files of the system, by paths as the caller gives them; `-` is standard input where it is read.
 #[derive(Drop)]
@@ -35,7 +39,7 @@ impl<R: Files + AllocGlobal> Store for Disk<'_, R> {
 
     fn read(&mut self, _alloc: Global, path: &str) -> Result<Vec<u8>, StoreError> {
         let name = if path == "-" { "/dev/stdin" } else { path };
-        fs::read(self.rt, name).map_err(|error| reason_of(&error))
+        fs::read(self.rt, name).map_err(|error| unread(&error))
     }
 
     fn begin(&mut self, path: &str) -> DiskDraft<R::File> {
@@ -46,7 +50,7 @@ impl<R: Files + AllocGlobal> Store for Disk<'_, R> {
     }
 
     fn commit(&mut self, path: &str, draft: DiskDraft<R::File>) -> Result<(), StoreError> {
-        put_there(self.rt, path, draft).map_err(|error| reason_of(&error))
+        put_there(self.rt, path, draft).map_err(|error| unwritten(&error))
     }
 
     fn abandon(&mut self, draft: DiskDraft<R::File>) {
@@ -55,14 +59,47 @@ impl<R: Files + AllocGlobal> Store for Disk<'_, R> {
             let _ = fs::remove_file(self.rt, &name);
         }
     }
+
+    fn try_write(&mut self, path: &str) -> Result<(), StoreError> {
+        tried(self.rt, path).map_err(|error| unwritten(&error))
+    }
 }
 
-fn reason_of(error: &Error) -> StoreError
+// Why a file was not read.
+fn unread(error: &Error) -> StoreError
     ensures { error_kind error.now ≡ ErrorKind.OutOfMemory ↔ result ≡ NoMemory }
 {
     match error.kind() {
         ErrorKind::OutOfMemory => StoreError::NoMemory,
-        _ => StoreError::Failed,
+        kind => StoreError::Failed(reason_of(kind)),
+    }
+}
+
+// Why one was not written: where something is missing, it is its folder.
+fn unwritten(error: &Error) -> StoreError
+    ensures { error_kind error.now ≡ ErrorKind.OutOfMemory ↔ result ≡ NoMemory }
+{
+    match error.kind() {
+        ErrorKind::OutOfMemory => StoreError::NoMemory,
+        ErrorKind::NotFound => StoreError::Failed(Reason::NoFolder),
+        kind => StoreError::Failed(reason_of(kind)),
+    }
+}
+
+fn reason_of(kind: ErrorKind) -> Reason {
+    match kind {
+        ErrorKind::NotFound => Reason::Missing,
+        ErrorKind::IsADirectory => Reason::IsDirectory,
+        ErrorKind::NotADirectory => Reason::NotADirectory,
+        ErrorKind::PermissionDenied => Reason::NoPermission,
+        ErrorKind::StorageFull | ErrorKind::QuotaExceeded | ErrorKind::FileTooLarge => {
+            Reason::NoSpace
+        }
+        ErrorKind::ReadOnlyFilesystem => Reason::ReadOnlyDisk,
+        ErrorKind::InvalidFilename | ErrorKind::InvalidInput => Reason::BadName,
+        ErrorKind::FilesystemLoop => Reason::LinksInACircle,
+        ErrorKind::ResourceBusy | ErrorKind::ExecutableFileBusy => Reason::InUse,
+        _ => Reason::Refused,
     }
 }
 
@@ -151,4 +188,56 @@ fn put_there<R: Files>(rt: &R, path: &str, draft: DiskDraft<R::File>) -> io::Res
 fn sent_on<F: Write + Drop>(file: BufWriter<F>) -> io::Result<()> {
     let mut file = file;
     file.flush()
+}
+
+// Whether a file could be put in the place of that of the path: by one that is made beside it, gets a block and goes
+// again, or else by what the system says of one that is written in place.
+fn tried<R: Files + AllocGlobal>(rt: &R, path: &str) -> io::Result<()> {
+    match draft_of(rt, path)? {
+        DiskDraft::Beside { name, file, .. } => {
+            let filled = block_written(file);
+            let _ = fs::remove_file(rt, &name);
+            filled
+        }
+        DiskDraft::Kept(_) => tried_in_place(rt, path),
+        DiskDraft::Refused(error) => Err(error),
+    }
+}
+
+fn block_written<F: Write + Drop>(file: F) -> io::Result<()> {
+    let mut file = file;
+    file.write_all(&[b'\n'; BLOCK])?;
+    file.flush()
+}
+
+// The same of a file that is written in place. One that is there is only opened, and a device or a pipe not even that.
+fn tried_in_place<R: Files>(rt: &R, path: &str) -> io::Result<()> {
+    match fs::metadata(rt, path) {
+        Ok(found) if found.is_dir() => Err(Error::from(ErrorKind::IsADirectory)),
+        Ok(found) if found.is_file() => opened(rt, path),
+        Ok(_) => Ok(()),
+        Err(error) if error.kind() == ErrorKind::NotFound => made_once(rt, path),
+        Err(error) => Err(error),
+    }
+}
+
+// Whether the file may be written.
+fn opened<R: Files>(rt: &R, path: &str) -> io::Result<()> {
+    let mut how = OpenOptions::new();
+    how.write(true);
+    how.open(rt, path)?;
+    Ok(())
+}
+
+// Whether a file can be made where none is; it goes again. Of a link to nothing this is not tried.
+fn made_once<R: Files>(rt: &R, path: &str) -> io::Result<()> {
+    match File::create_new(rt, path) {
+        Ok(file) => {
+            let filled = block_written(file);
+            let _ = fs::remove_file(rt, path);
+            filled
+        }
+        Err(error) if error.kind() == ErrorKind::AlreadyExists => Ok(()),
+        Err(error) => Err(error),
+    }
 }

@@ -4,7 +4,8 @@ ghost use Rattle.replay.specs.Faults.{IsUnwritten};
 ghost use Rattle.replay.specs.Stores.{SameOthers};
 
 use crate::fault::Fault;
-use crate::store::Store;
+use crate::reason::Reason;
+use crate::store::{Store, StoreError};
 use std::alloc::AllocError;
 
 // What was made beside a draft, which takes the place of the file. Where memory was short for it, the draft is given up.
@@ -25,6 +26,7 @@ pub(crate) fn committed<'a, S: Store, T: Drop>(
     };
     match store.commit(file, draft) {
         Ok(()) => Ok(value),
-        Err(_) => Err(Fault::CannotWrite(file)),
+        Err(StoreError::NoMemory) => Err(Fault::CannotWrite(file, Reason::NoMemory)),
+        Err(StoreError::Failed(reason)) => Err(Fault::CannotWrite(file, reason)),
     }
 }

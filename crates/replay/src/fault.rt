@@ -1,11 +1,13 @@
 //! Why a command was not done.
-ghost use Rattle.std.specs.Prelude.{◌≡◌};
+ghost use Rattle.std.specs.Prelude.{◌≡◌, ◌++◌, ℕ, List, codes};
 ghost use Rattle.replay.specs.declared.fault.Fault.TheVariants.{NoMemory};
+ghost use Rattle.replay.specs.FaultLines.{IsFaultLine};
 ghost use Rattle.replay.specs.Faults.{fault_line, fault_of_parse, fault_of_play};
 ghost use Rattle.replay.specs.Outputs.{Writes};
 ghost use Rattle.replay.specs.Statuses.{status_of};
 
-use crate::output::{Output, WriteFailed, put_line};
+use crate::output::{Output, WriteFailed, put_line, put_pair};
+use crate::reason::Reason;
 use itoa::Buffer;
 use lockscript::error::ParseError;
 use lockscript::play_error::PlayError;
@@ -16,10 +18,10 @@ use std::alloc::{AllocError, AllocFailed};
 pub enum Fault<'a> {
     /// The first line of the script or the journal that may not stand there, by its number, from 1.
     BadLine(u64),
-    /// A file, by its path, that can't be read, or that isn't UTF-8.
-    CannotRead(&'a str),
-    /// A file, by its path, that can't be written.
-    CannotWrite(&'a str),
+    /// A file, by its path, that can't be read, or that isn't UTF-8, and why.
+    CannotRead(&'a str, Reason),
+    /// A file, by its path, that can't be written, and why.
+    CannotWrite(&'a str, Reason),
     /// Standard output didn't take all of the text.
     CannotWriteOutput,
     /// A request for memory was refused.
@@ -28,7 +30,8 @@ pub enum Fault<'a> {
     JournalFull,
     /// A run can't go on behind a journal of version 1.
     OldJournal,
-    /// What is wrong in a script that was to be checked, a line for each of its bad lines.
+    /// What is wrong with files that were to be checked: a line for each bad line of a script, the first bad line of a
+    /// journal, and of several files or beside the trial of a journal's also why one can't be read or written.
     Faulty(String),
 }
 
@@ -40,8 +43,8 @@ impl Fault<'_> {
     {
         match self {
             Fault::BadLine(_)
-            | Fault::CannotRead(_)
-            | Fault::CannotWrite(_)
+            | Fault::CannotRead(..)
+            | Fault::CannotWrite(..)
             | Fault::CannotWriteOutput
             | Fault::OldJournal
             | Fault::Faulty(_) => 3,
@@ -59,8 +62,8 @@ impl Fault<'_> {
         let mut digits = Buffer::new();
         match self {
             Fault::BadLine(line) => put_line(err, "bad line ", digits.format(*line)),
-            Fault::CannotRead(path) => put_line(err, "cannot read ", path),
-            Fault::CannotWrite(path) => put_line(err, "cannot write ", path),
+            Fault::CannotRead(path, _) => put_line(err, "cannot read ", path),
+            Fault::CannotWrite(path, _) => put_line(err, "cannot write ", path),
             Fault::CannotWriteOutput => put_line(err, "cannot write standard output", ""),
             Fault::NoMemory => put_line(err, "no memory", ""),
             Fault::JournalFull => put_line(err, "journal full", ""),
@@ -68,6 +71,39 @@ impl Fault<'_> {
             Fault::Faulty(report) => err.put(report.as_bytes()),
         }
     }
+
+    /// Writes the line that tells of it, with the reason behind the path of a file that can't be read or written.
+    ///
+    /// # Errors
+    /// Where the writer fails, which took a beginning of the line.
+    pub fn write_reasoned<E: Output>(&self, err: &mut E) -> Result<(), WriteFailed>
+        ensures { (text : List ℕ) × IsFaultLine self.now text × Writes (E.taken err.old) (E.taken err.new) (E.has_failed err.new) text result }
+    {
+        match self {
+            Fault::CannotRead(path, reason) => put_reason(err, "cannot read ", path, *reason),
+            Fault::CannotWrite(path, reason) => put_reason(err, "cannot write ", path, *reason),
+            _ => self.write_line(err),
+        }
+    }
+}
+
+// Writes why something can't be done with the file of a path.
+fn put_reason<E: Output>(
+    err: &mut E,
+    start: &str,
+    path: &str,
+    reason: Reason,
+) -> Result<(), WriteFailed>
+    ensures { (why : List ℕ) × Writes (E.taken err.old) (E.taken err.new) (E.has_failed err.new) (start.now ++ path.now ++ codes ": " ++ why ++ codes "\n") result }
+{
+    let mut line_room = Buffer::new();
+    let mut column_room = Buffer::new();
+    let words = reason.words(&mut line_room, &mut column_room);
+    put_pair(err, start, path)?;
+    err.put(b": ")?;
+    put_pair(err, words.front, words.line)?;
+    put_pair(err, words.between, words.column)?;
+    err.put(b"\n")
 }
 
 impl From<AllocError> for Fault<'_> {

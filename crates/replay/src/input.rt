@@ -4,8 +4,10 @@ ghost use Rattle.replay.specs.Faults.{IsTextless, IsUnread};
 ghost use Rattle.replay.specs.Stores.{SameFiles};
 
 use crate::fault::Fault;
+use crate::reason::{Reason, not_text_behind};
 use crate::store::{Store, StoreError};
 use std::alloc::Global;
+use std::string::FromUtf8Error;
 
 // The bytes of a file.
 fn bytes_of<'a, S: Store>(alloc: Global, store: &mut S, path: &'a str) -> Result<Vec<u8>, Fault<'a>>
@@ -16,7 +18,7 @@ fn bytes_of<'a, S: Store>(alloc: Global, store: &mut S, path: &'a str) -> Result
     match store.read(alloc, path) {
         Ok(bytes) => Ok(bytes),
         Err(StoreError::NoMemory) => Err(Fault::NoMemory),
-        Err(StoreError::Failed) => Err(Fault::CannotRead(path)),
+        Err(StoreError::Failed(reason)) => Err(Fault::CannotRead(path, reason)),
     }
 }
 
@@ -33,6 +35,12 @@ pub(crate) fn text_of<'a, S: Store>(
     let bytes = bytes_of(alloc, store, path)?;
     match String::from_utf8(bytes) {
         Ok(text) => Ok(text),
-        Err(_) => Err(Fault::CannotRead(path)),
+        Err(error) => Err(Fault::CannotRead(path, not_text_in(&error))),
     }
+}
+
+// Where the bytes are not UTF-8.
+fn not_text_in(error: &FromUtf8Error<Global>) -> Reason {
+    let valid = error.utf8_error().valid_up_to();
+    not_text_behind(error.as_bytes().get(..valid).unwrap_or(&[]))
 }

@@ -1,10 +1,11 @@
 //! Doing what a command line asks for.
-ghost use Rattle.std.specs.Prelude.{◌≡◌, ◌≢◌, ◌≤◌, ◌<◌, None, Some, IfErr, IfOk, OnErr, OnOk};
+ghost use Rattle.std.specs.Prelude.{◌≡◌, ◌≢◌, ◌≤◌, ◌<◌, ◌⊎◌, ℕ, List, None, Some, IfErr, IfOk, OnErr, OnOk};
 ghost use Rattle.std.specs.Option.{option_map};
 ghost use Rattle.std.specs.Io.KnownBytes.{Appends};
 ghost use Rattle.command_line.specs.Tasks.{run, task_of};
 ghost use Rattle.replay.specs.declared.fault.Fault.TheVariants.{CannotWriteOutput};
-ghost use Rattle.replay.specs.Commands.{Does, IsFault, Leaves, SameButJournal, Shows, TellsFault};
+ghost use Rattle.replay.specs.Commands.{Does, IsCheck, IsFault, Leaves, SameButJournal, Shows, TellsFault};
+ghost use Rattle.replay.specs.FaultLines.{IsFaultLine, IsFaultOf, says_why};
 ghost use Rattle.replay.specs.Faults.{fault_line};
 ghost use Rattle.replay.specs.Outputs.{WritesOrFails};
 ghost use Rattle.replay.specs.Showing.{TellsBeside, shown_text};
@@ -37,18 +38,21 @@ use std::time::Clock;
 /// left out (see below), 3 where the input or the output is at fault, 4 where memory or the journal was too small.
 ///
 /// It is 1 where the journal that the line names is none of a run, or has no call of the name. So it is where a run on
-/// threads lacks a receipt in its journal or was ended as stuck, where an outcome breaks what is expected, and where a
-/// part of a recording, or of the picture that is asked for, is left out. The second writer is told the open calls of a
-/// run that was ended as stuck, the notes of a recording, and which entries a picture leaves out.
+/// threads lacks a receipt in its journal or was ended as stuck, where an outcome, or a run that is compared with it,
+/// breaks what is expected, and where a part of a recording, or of the picture that is asked for, is left out. The second
+/// writer is told the open calls of a run that was ended as stuck, what a run that is compared came to otherwise, the
+/// notes of a recording, and which entries a picture leaves out; at 0 it is told the warnings of a check.
 ///
-/// At 3 and 4 one line on the second writer says why (of a script that is checked, a line for each of the first hundred
-/// bad ones, and how many more there are), and the
-/// first has got nothing, but for a beginning of what is shown where it failed. Of a `Write` of std no clause says that
-/// it was flushed, or that it failed where the status says so, since std says neither. Faults are looked for in this
-/// order: the file is read, its bytes are UTF-8, its lines are good, the run or the audit has room, the journal is
-/// written, what is shown is written. No file is changed but that of the journal that a run is asked for, once it
-/// comes to that. Of the lines of a script that is run, the entries of a journal that is audited and the seeds that are
-/// explored the watcher is told each that is done, and of a run on threads now and then how far it is.
+/// At 3 and 4 one line on the second writer says why, and the first has got nothing, but for a beginning of what is
+/// shown where it failed. Of a check there are more lines: for each of the first hundred bad lines of a script one, and
+/// one for how many more there are; and of several files, or where a journal's is tried, each with which something is
+/// wrong is told. Behind the path of a file that can't be read or written stands the reason, but of commands whose
+/// lines are fixed: runs, also on threads, audits and histories. Of a `Write` of std no clause says that it was flushed,
+/// or that it failed where the status says so, since std says neither. Faults are looked for in this order: the file is
+/// read, its bytes are UTF-8, its lines are good, the run or the audit has room, the journal is written, what is shown
+/// is written. No file is changed but that of the journal that a run is asked for, once it comes to that. Of the lines
+/// of a script that is run or checked, the entries of a journal that is audited and the seeds that are explored the
+/// watcher is told each that is done, and of a run on threads now and then how far it is.
 pub fn perform<
     R: Threads + Wait + Clock + Sync,
     S: Store,
@@ -67,17 +71,18 @@ pub fn perform<
     ensures status { IsStatus result }
 
     // Done: what the file comes to is written and has gone on, the journal that a run is asked for is in
-    // its file, and the second writer got nothing, but of a run that was ended as stuck its open calls, of a
-    // recording its notes, and of a picture which entries it leaves out.
+    // its file, and the second writer got nothing, but of a run that was ended as stuck its open calls, of
+    // one that is compared what was expected otherwise, of a recording its notes, of a picture which entries it leaves
+    // out, and of a check its warnings.
     ensures done { result ≤ 1 → Shows (Does (S.holds store.old) (task_of line.now) (S.holds store.new)) (O.taken out.old) (O.taken out.new)
         (TellsBeside E.taken E.has_failed err.old err.new) result }
     ensures flushed { result ≤ 1 → O.is_flushed out.new }
-    ensures quiet { result ≡ 0 → err.new ≡ err.old }
+    ensures quiet { result ≡ 0 → (err.new ≡ err.old) ⊎ IsCheck (task_of line.now) }
 
     // Else the status and a line on the second writer tell of the first fault.
     ensures fault { 1 < result → TellsFault (IsFault (S.holds store.old) (S.ran_short store.new) (S.refuses store.new) (task_of line.now) (S.holds store.new))
         (Leaves (Does (S.holds store.old) (task_of line.now) (S.holds store.new)) O.taken O.has_failed out.old out.new)
-        (λ fault. WritesOrFails (E.taken err.old) (E.taken err.new) (E.has_failed err.new) (fault_line fault)) result }
+        (λ fault. (text : List ℕ) × IsFaultOf (task_of line.now) fault text × WritesOrFails (E.taken err.old) (E.taken err.new) (E.has_failed err.new) text) result }
 
     ensures files { SameButJournal (task_of line.now) (S.holds store.old) (S.holds store.new) }
 {
@@ -86,7 +91,37 @@ pub fn perform<
             shown.tell(err);
             shown.status()
         }
-        Err(fault) => report(&fault, err),
+        Err(fault) => report_of(line, &fault, err),
+    }
+}
+
+// Writes why the line was not done, with the reason where such lines say it, and answers the exit status.
+fn report_of<E: Output>(line: &Line<'_>, fault: &Fault<'_>, err: &mut E) -> u8
+    ensures status { result ≡ status_of fault.now }
+    ensures told { (text : List ℕ) × IsFaultOf (task_of line.now) fault.now text × WritesOrFails (E.taken err.old) (E.taken err.new) (E.has_failed err.new) text }
+{
+    if says_why(line) {
+        report_with_reason(fault, err)
+    } else {
+        report(fault, err)
+    }
+}
+
+// Whether reasons are said of files that can't be read or written.
+fn says_why(line: &Line<'_>) -> bool
+    ensures { result ≡ says_why (task_of line.now) }
+{
+    match line {
+        Line::Run { .. } | Line::Threads { .. } | Line::Audit { .. } | Line::History { .. } => {
+            false
+        }
+        Line::Explain { .. }
+        | Line::Open { .. }
+        | Line::Check { .. }
+        | Line::Picture { .. }
+        | Line::FromStrace { .. }
+        | Line::Explore { .. }
+        | Line::Schedule { .. } => true,
     }
 }
 
@@ -96,6 +131,15 @@ pub(crate) fn report<E: Output>(fault: &Fault<'_>, err: &mut E) -> u8
     ensures told { WritesOrFails (E.taken err.old) (E.taken err.new) (E.has_failed err.new) (fault_line fault.now) }
 {
     let _ = fault.write_line(err);
+    fault.status()
+}
+
+// The same, with the reason behind the path of a file.
+fn report_with_reason<E: Output>(fault: &Fault<'_>, err: &mut E) -> u8
+    ensures status { result ≡ status_of fault.now }
+    ensures told { (text : List ℕ) × IsFaultLine fault.now text × WritesOrFails (E.taken err.old) (E.taken err.new) (E.has_failed err.new) text }
+{
+    let _ = fault.write_reasoned(err);
     fault.status()
 }
 
@@ -134,9 +178,9 @@ fn run_shown<'a, S: Store, V: Watcher>(
     wanted: Wanted,
     watcher: &mut V,
 ) -> Result<Shown, Fault<'a>>
-    ensures done { IfOk result (Does (S.holds store.old) (run script.now (option_map (λ file. file.now) after.entry) (option_map (λ file. file.now) journal.entry) wanted.open wanted.quiet) (S.holds store.new)) }
+    ensures done { IfOk result (Does (S.holds store.old) (run script.now (option_map (λ file. file.now) after.entry) (option_map (λ file. file.now) journal.entry) wanted.expect wanted.open wanted.quiet) (S.holds store.new)) }
     ensures fault { IfErr result (λ fault. (fault ≢ CannotWriteOutput)
-        × IsFault (S.holds store.old) (S.ran_short store.new) (S.refuses store.new) (run script.now (option_map (λ file. file.now) after.entry) (option_map (λ file. file.now) journal.entry) wanted.open wanted.quiet) (S.holds store.new) fault) }
+        × IsFault (S.holds store.old) (S.ran_short store.new) (S.refuses store.new) (run script.now (option_map (λ file. file.now) after.entry) (option_map (λ file. file.now) journal.entry) wanted.expect wanted.open wanted.quiet) (S.holds store.new) fault) }
 {
     match after {
         None => run_alone_shown(alloc, store, script, journal, wanted, watcher),
@@ -153,15 +197,13 @@ fn run_alone_shown<'a, S: Store, V: Watcher>(
     wanted: Wanted,
     watcher: &mut V,
 ) -> Result<Shown, Fault<'a>>
-    ensures done { IfOk result (Does (S.holds store.old) (run script.now None (option_map (λ file. file.now) journal.entry) wanted.open wanted.quiet) (S.holds store.new)) }
+    ensures done { IfOk result (Does (S.holds store.old) (run script.now None (option_map (λ file. file.now) journal.entry) wanted.expect wanted.open wanted.quiet) (S.holds store.new)) }
     ensures fault { IfErr result (λ fault. (fault ≢ CannotWriteOutput)
-        × IsFault (S.holds store.old) (S.ran_short store.new) (S.refuses store.new) (run script.now None (option_map (λ file. file.now) journal.entry) wanted.open wanted.quiet) (S.holds store.new) fault) }
+        × IsFault (S.holds store.old) (S.ran_short store.new) (S.refuses store.new) (run script.now None (option_map (λ file. file.now) journal.entry) wanted.expect wanted.open wanted.quiet) (S.holds store.new) fault) }
 {
     match journal {
-        None => Ok(Shown::Text(run_script(alloc, store, script, wanted, watcher)?)),
-        Some(file) => Ok(Shown::Text(run_with_journal(
-            alloc, store, script, file, wanted, watcher,
-        )?)),
+        None => run_script(alloc, store, script, wanted, watcher),
+        Some(file) => run_with_journal(alloc, store, script, file, wanted, watcher),
     }
 }
 
@@ -175,9 +217,9 @@ fn run_behind_shown<'a, S: Store, V: Watcher>(
     wanted: Wanted,
     watcher: &mut V,
 ) -> Result<Shown, Fault<'a>>
-    ensures done { IfOk result (Does (S.holds store.old) (run script.now (Some after.now) (option_map (λ file. file.now) journal.entry) wanted.open wanted.quiet) (S.holds store.new)) }
+    ensures done { IfOk result (Does (S.holds store.old) (run script.now (Some after.now) (option_map (λ file. file.now) journal.entry) wanted.expect wanted.open wanted.quiet) (S.holds store.new)) }
     ensures fault { IfErr result (λ fault. (fault ≢ CannotWriteOutput)
-        × IsFault (S.holds store.old) (S.ran_short store.new) (S.refuses store.new) (run script.now (Some after.now) (option_map (λ file. file.now) journal.entry) wanted.open wanted.quiet) (S.holds store.new) fault) }
+        × IsFault (S.holds store.old) (S.ran_short store.new) (S.refuses store.new) (run script.now (Some after.now) (option_map (λ file. file.now) journal.entry) wanted.expect wanted.open wanted.quiet) (S.holds store.new) fault) }
 {
     match journal {
         None => run_behind(alloc, store, script, after, wanted, watcher),
@@ -202,10 +244,15 @@ fn shown_of<'a, R: Threads + Wait + Clock + Sync, S: Store, V: Watcher + RunWatc
             script,
             after,
             journal,
+            expect,
             open,
             quiet,
         } => {
-            let wanted = Wanted { open, quiet };
+            let wanted = Wanted {
+                expect,
+                open,
+                quiet,
+            };
             run_shown(alloc, store, script, after, journal, wanted, watcher)
         }
         Line::Threads {
@@ -222,7 +269,10 @@ fn shown_of<'a, R: Threads + Wait + Clock + Sync, S: Store, V: Watcher + RunWatc
         Line::History { journal } => history(alloc, store, journal),
         Line::Explain { journal, call } => explain(alloc, store, journal, call),
         Line::Open { journal } => open_calls(alloc, store, journal),
-        Line::Check { script } => check(alloc, store, script),
+        Line::Check {
+            ref scripts,
+            journal,
+        } => check(alloc, store, scripts.as_slice(), journal, watcher),
         Line::Picture {
             journal,
             around,
@@ -230,7 +280,11 @@ fn shown_of<'a, R: Threads + Wait + Clock + Sync, S: Store, V: Watcher + RunWatc
             to,
             format,
         } => draw(alloc, store, journal, around, &window(from, to), format),
-        Line::FromStrace { recording, nodes } => recorded(alloc, store, recording, nodes),
+        Line::FromStrace {
+            recording,
+            nodes,
+            places,
+        } => recorded(alloc, store, recording, nodes, places),
         Line::Explore {
             script,
             seeds,

@@ -1,48 +1,94 @@
 //! The script of a recording of lock calls.
-ghost use Rattle.std.specs.Prelude.{◌≡◌, ◌≢◌, IfErr, IfOk};
+ghost use Rattle.std.specs.Prelude.{◌≡◌, ◌≢◌, ⊤, false, List, IfErr, IfOk, OnOk};
+ghost use Rattle.std.specs.List.{list_any};
+ghost use Rattle.std.specs.Option.{option_map};
 ghost use Rattle.command_line.specs.Tasks.{from_strace};
-ghost use Rattle.replay.specs.declared.fault.Fault.TheVariants.{CannotWriteOutput, NoMemory};
+ghost use Rattle.replay.specs.declared.fault.Fault.TheVariants.{CannotWriteOutput};
 ghost use Rattle.replay.specs.Commands.{Does, IsFault};
-ghost use Rattle.replay.specs.Recordings.{IsRecorded};
+ghost use Rattle.recordings.specs.Places.{PlacingFields, is_past};
+ghost use Rattle.replay.specs.Recordings.{ArePlaced, IsMade, IsMisplaced, IsRecorded, IsShortOr, LacksNodes};
 
 use crate::fault::Fault;
 use crate::input::text_of;
 use crate::shown::Shown;
 use crate::store::Store;
 use recordings::error::RecordingError;
+use recordings::placing::{Placing, PlacingError, placings_of};
 use recordings::recording::script_of;
 use std::alloc::Global;
 
-// The script of the recording of a file, for so many nodes.
+// What is told of words that write no placings.
+const NO_PLACES: &str =
+    "--place PLACES: expected PID=NODE,.. with PIDs from 1 to 4294967295 and nodes from 1 to 64\n";
+
+// What is told of a node on which a process is placed, and that the cluster hasn't.
+const PAST_NODES: &str = "--place PLACES: expected nodes from 1 to the number of --nodes\n";
+
+// What is told of a number of nodes that no cluster has.
+const NO_NODES: &str = "--nodes N: expected a number from 1 to 64\n";
+
+// The script of the recording of a file, for so many nodes, with processes at the places that the words say, if
+// there are any.
 pub(crate) fn recorded<'a, S: Store>(
     alloc: Global,
     store: &mut S,
     path: &'a str,
     nodes: u8,
+    places: Option<&str>,
 ) -> Result<Shown, Fault<'a>>
-    ensures done { IfOk result (Does (S.holds store.old) (from_strace path.now nodes) (S.holds store.new)) }
+    ensures done { IfOk result (Does (S.holds store.old) (from_strace path.now nodes (option_map (λ words. words.now) places.entry)) (S.holds store.new)) }
     ensures fault { IfErr result (λ fault. (fault ≢ CannotWriteOutput)
-        × IsFault (S.holds store.old) (S.ran_short store.new) (S.refuses store.new) (from_strace path.now nodes) (S.holds store.new) fault) }
+        × IsFault (S.holds store.old) (S.ran_short store.new) (S.refuses store.new) (from_strace path.now nodes (option_map (λ words. words.now) places.entry)) (S.holds store.new) fault) }
 {
     let text = text_of(alloc, store, path)?;
-    recorded_in(alloc, text.as_str(), nodes)
+    recorded_in(alloc, text.as_str(), nodes, places)
 }
 
-// The same of the text of a file. What is left out of the script is told beside.
-fn recorded_in<'a>(alloc: Global, text: &str, nodes: u8) -> Result<Shown, Fault<'a>>
-    ensures done { IfOk result (IsRecorded nodes) }
-    ensures fault { IfErr result (λ fault. fault ≡ NoMemory) }
+// The same of the text of a file.
+fn recorded_in<'a>(
+    alloc: Global,
+    text: &str,
+    nodes: u8,
+    places: Option<&str>,
+) -> Result<Shown, Fault<'a>>
+    ensures done { IfOk result (IsRecorded nodes (option_map (λ words. words.now) places.entry)) }
+    ensures fault { IfErr result (IsShortOr (IsMisplaced nodes (option_map (λ words. words.now) places.entry))) }
 {
-    let made = match script_of(alloc, text, nodes, &[]) {
+    let placings = placings_in(alloc, places)?;
+    made_of(alloc, text, nodes, placings.as_slice())
+}
+
+// The placings that the words write.
+fn placings_in<'a>(alloc: Global, places: Option<&str>) -> Result<Vec<Placing>, Fault<'a>>
+    ensures value { IfOk result (λ placings. ArePlaced (option_map (λ words. words.now) places.entry) placings.items) }
+    ensures fault { IfErr result (IsShortOr ((placings : List PlacingFields) → ArePlaced (option_map (λ words. words.now) places.entry) placings → ⊥)) }
+{
+    let Some(words) = places else {
+        return Ok(Vec::new(alloc));
+    };
+    match placings_of(alloc, words) {
+        Ok(placings) => Ok(placings),
+        Err(PlacingError::NoMemory) => Err(Fault::NoMemory),
+        Err(PlacingError::Form) => Err(told(alloc, NO_PLACES)),
+    }
+}
+
+// The script of the text, for so many nodes, with the processes placed so. What is left out of it is told beside.
+fn made_of<'a>(
+    alloc: Global,
+    text: &str,
+    nodes: u8,
+    placings: &[Placing],
+) -> Result<Shown, Fault<'a>>
+    ensures done { IfOk result (IsMade nodes placings.now) }
+    ensures placed { OnOk result (list_any (is_past nodes) placings.now ≡ false) }
+    ensures fault { IfErr result (IsShortOr (LacksNodes nodes placings.now)) }
+{
+    let made = match script_of(alloc, text, nodes, placings) {
         Ok(made) => made,
-        Err(
-            RecordingError::NoMemory
-            | RecordingError::Nodes
-            | RecordingError::Placed
-            | RecordingError::TooLong,
-        ) => {
-            return Err(Fault::NoMemory);
-        }
+        Err(RecordingError::NoMemory | RecordingError::TooLong) => return Err(Fault::NoMemory),
+        Err(RecordingError::Nodes) => return Err(told(alloc, NO_NODES)),
+        Err(RecordingError::Placed) => return Err(told(alloc, PAST_NODES)),
     };
     if made.notes.is_empty() {
         Ok(Shown::Text(made.script))
@@ -51,5 +97,15 @@ fn recorded_in<'a>(alloc: Global, text: &str, nodes: u8) -> Result<Shown, Fault<
             text: made.script,
             told: made.notes,
         })
+    }
+}
+
+// The fault that this line tells.
+fn told<'a>(alloc: Global, line: &str) -> Fault<'a>
+    ensures { IsShortOr ⊤ result }
+{
+    match String::from_str(alloc, line) {
+        Ok(line) => Fault::Faulty(line),
+        Err(_) => Fault::NoMemory,
     }
 }

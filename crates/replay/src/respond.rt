@@ -5,7 +5,8 @@ ghost use Rattle.command_line.specs.Tasks.{journal_path, Task};
 ghost use Rattle.command_line.specs.Words.{AreWrong, AsksFor, AsksForHelp};
 ghost use Rattle.replay.specs.declared.fault.Fault.{Fault};
 ghost use Rattle.replay.specs.declared.fault.Fault.TheVariants.{CannotWriteOutput, NoMemory};
-ghost use Rattle.replay.specs.Commands.{Does, IsFault, Leaves, Shows, TellsFault};
+ghost use Rattle.replay.specs.Commands.{Does, IsCheck, IsFault, Leaves, Shows, TellsFault};
+ghost use Rattle.replay.specs.FaultLines.{IsFaultLine, IsFaultOf};
 ghost use Rattle.replay.specs.Faults.{fault_line};
 ghost use Rattle.replay.specs.Outputs.{AppendsPart, WritesOrFails};
 ghost use Rattle.replay.specs.Showing.{TellsBeside};
@@ -56,16 +57,16 @@ pub fn respond<
     ensures fault { (task : Task) → AsksFor (map W.text words.now) task
         → 2 < result → TellsFault (IsFault (S.holds store.old) ⊤ (S.refuses store.new) task (S.holds store.new))
         (Leaves (Does (S.holds store.old) task (S.holds store.new)) O.taken O.has_failed out.old out.new)
-        (λ fault. WritesOrFails (E.taken err.old) (E.taken err.new) (E.has_failed err.new) (fault_line fault)) result }
+        (λ fault. (text : List ℕ) × IsFaultOf task fault text × WritesOrFails (E.taken err.old) (E.taken err.new) (E.has_failed err.new) text) result }
 
     // The status tells what the words are, and a fault is told by its line.
     ensures zero { result ≡ 0 → AsksForHelp (map W.text words.now) ⊎ ((task : Task) × AsksFor (map W.text words.now) task) }
     ensures one { result ≡ 1 → (task : Task) × AsksFor (map W.text words.now) task }
     ensures shown { result ≤ 1 → O.is_flushed out.new }
-    ensures quiet { result ≡ 0 → err.new ≡ err.old }
+    ensures quiet { result ≡ 0 → (err.new ≡ err.old) ⊎ ((task : Task) × AsksFor (map W.text words.now) task × IsCheck task) }
     ensures wrong { result ≡ 2 → AreWrong (map W.text words.now) × (out.new ≡ out.old) }
     ensures told { 2 < result → (fault : Fault) × (result ≡ status_of fault)
-        × WritesOrFails (E.taken err.old) (E.taken err.new) (E.has_failed err.new) (fault_line fault) }
+        × ((text : List ℕ) × ((text ≡ fault_line fault) ⊎ IsFaultLine fault text) × WritesOrFails (E.taken err.old) (E.taken err.new) (E.has_failed err.new) text) }
 
     // Words that ask for nothing to be done end so only where the help that they ask for could not be
     // written, or where memory was short for them.

@@ -4,28 +4,25 @@ ghost use Rattle.command_line.specs.Tasks.{run};
 ghost use Rattle.journal_text.specs.Journals.{journal_text};
 ghost use Rattle.journal_text.specs.Readings.{WritesJournal};
 ghost use Rattle.replay.specs.declared.fault.Fault.TheVariants.{CannotWriteOutput};
-ghost use Rattle.replay.specs.declared.shown.Shown.TheVariants.{Text};
 ghost use Rattle.replay.specs.Commands.{Does, IsFault, IsRunText};
-ghost use Rattle.replay.specs.Faults.{IsScriptFault};
 ghost use Rattle.player.specs.Parts.{state_of};
-ghost use Rattle.replay.specs.Scripts.{HasRun, HasScript, IsListingBegun};
-ghost use Rattle.replay.specs.Stores.{Adds, SameFiles};
+ghost use Rattle.replay.specs.Scripts.{IsListingBegun};
+ghost use Rattle.replay.specs.Stores.{Adds};
 ghost use Rattle.replay.specs.Tellings.{open_section};
 
 use crate::draft::Draft;
 use crate::drafted::committed;
 use crate::explain::open_in;
 use crate::fault::Fault;
-use crate::input::text_of;
 use crate::journal_draft::add_journal;
 use crate::listing::{listing_begun, push_history_and_journal, push_history_of};
+use crate::ran::{Ran, run_of, shown_beside};
+use crate::shown::Shown;
 use crate::store::Store;
 use crate::wanted::Wanted;
 use cluster_core::journal::Journal;
 use journal_text::laws::each_journal_is_read;
-use lockscript::script::Script;
 use placement::placed_run::PlacedRun;
-use player::play::play;
 use player::played::Played;
 use player::watcher::Watcher;
 use std::alloc::{AllocError, Global};
@@ -37,13 +34,13 @@ pub(crate) fn run_script<'a, S: Store, V: Watcher>(
     path: &'a str,
     wanted: Wanted,
     watcher: &mut V,
-) -> Result<String, Fault<'a>>
-    ensures done { IfOk result (λ text. Does (S.holds store.old) (run path.now None None wanted.open wanted.quiet) (S.holds store.new) (Text text)) }
+) -> Result<Shown, Fault<'a>>
+    ensures done { IfOk result (Does (S.holds store.old) (run path.now None None wanted.expect wanted.open wanted.quiet) (S.holds store.new)) }
     ensures fault { IfErr result (λ fault. (fault ≢ CannotWriteOutput)
-        × IsFault (S.holds store.old) (S.ran_short store.new) (S.refuses store.new) (run path.now None None wanted.open wanted.quiet) (S.holds store.new) fault) }
+        × IsFault (S.holds store.old) (S.ran_short store.new) (S.refuses store.new) (run path.now None None wanted.expect wanted.open wanted.quiet) (S.holds store.new) fault) }
 {
-    let played = played_of(alloc, store, path, watcher)?;
-    Ok(run_text(alloc, played, wanted)?)
+    let Ran { played, told } = run_of(alloc, store, path, wanted.expect, watcher)?;
+    Ok(shown_beside(run_text(alloc, played, wanted)?, told))
 }
 
 // The same, with the journal of the run written to a file. It is made beside the listing, and takes its place once all
@@ -55,40 +52,15 @@ pub(crate) fn run_with_journal<'a, S: Store, V: Watcher>(
     file: &'a str,
     wanted: Wanted,
     watcher: &mut V,
-) -> Result<String, Fault<'a>>
-    ensures done { IfOk result (λ text. Does (S.holds store.old) (run path.now None (Some file.now) wanted.open wanted.quiet) (S.holds store.new) (Text text)) }
+) -> Result<Shown, Fault<'a>>
+    ensures done { IfOk result (Does (S.holds store.old) (run path.now None (Some file.now) wanted.expect wanted.open wanted.quiet) (S.holds store.new)) }
     ensures fault { IfErr result (λ fault. (fault ≢ CannotWriteOutput)
-        × IsFault (S.holds store.old) (S.ran_short store.new) (S.refuses store.new) (run path.now None (Some file.now) wanted.open wanted.quiet) (S.holds store.new) fault) }
+        × IsFault (S.holds store.old) (S.ran_short store.new) (S.refuses store.new) (run path.now None (Some file.now) wanted.expect wanted.open wanted.quiet) (S.holds store.new) fault) }
 {
-    let played = played_of(alloc, store, path, watcher)?;
+    let Ran { played, told } = run_of(alloc, store, path, wanted.expect, watcher)?;
     let mut draft = store.begin(file);
     let made = text_and_journal(&mut draft, alloc, played, wanted);
-    committed(store, file, draft, made)
-}
-
-// What the script of a file comes to.
-fn played_of<'a, S: Store, V: Watcher>(
-    alloc: Global,
-    store: &mut S,
-    path: &'a str,
-    watcher: &mut V,
-) -> Result<Played, Fault<'a>>
-    ensures run { IfOk result (λ played. HasRun (S.holds store.old path.now) (state_of played)) }
-    ensures fault { IfErr result (IsScriptFault (S.holds store.old path.now) (S.ran_short store.new) path.now) }
-    ensures files { SameFiles (S.holds store.old) (S.holds store.new) }
-{
-    let script = script_of(alloc, store, path)?;
-    Ok(play(alloc, script, watcher)?)
-}
-
-// The script that a file writes.
-fn script_of<'a, S: Store>(alloc: Global, store: &mut S, path: &'a str) -> Result<Script, Fault<'a>>
-    ensures script { IfOk result (HasScript (S.holds store.old path.now)) }
-    ensures fault { IfErr result (IsScriptFault (S.holds store.old path.now) (S.ran_short store.new) path.now) }
-    ensures files { SameFiles (S.holds store.old) (S.holds store.new) }
-{
-    let text = text_of(alloc, store, path)?;
-    Ok(Script::parse(alloc, text.as_str())?)
+    Ok(shown_beside(committed(store, file, draft, made)?, told))
 }
 
 // What is shown of a run.

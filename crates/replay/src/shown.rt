@@ -19,6 +19,8 @@ pub enum Shown {
     /// ended as stuck, a line for each call that is open then; of recorded locks, one for each that is not served; of a
     /// picture, which entries it leaves out, or that there is none where it was asked for.
     Partial { text: String, told: String },
+    /// A text, and what is told of it beside: of scripts that were checked their warnings. Nothing is wanting.
+    Noted { text: String, told: String },
     /// `audit yes`: the entries of the journal are a run.
     Yes,
     /// `audit no K`: the entry at this position, from 1, is the first that is not the next step.
@@ -31,7 +33,7 @@ impl Shown {
         ensures { result ≡ shown_status self.now }
     {
         match self {
-            Shown::Text(_) | Shown::Yes => 0,
+            Shown::Text(_) | Shown::Noted { .. } | Shown::Yes => 0,
             Shown::Wanting(_) | Shown::Partial { .. } | Shown::No(_) => 1,
         }
     }
@@ -49,12 +51,15 @@ impl Shown {
         out.finish()
     }
 
-    /// Tells of what is left out, if anything is. What can't be written is lost.
+    /// Tells of what is left out, or noted, if anything is. What can't be written is lost.
     pub(crate) fn tell<E: Output>(&self, err: &mut E)
         ensures { TellsBeside E.taken E.has_failed err.old err.new self.now }
     {
-        if let Shown::Partial { told, .. } = self {
-            let _ = err.put(told.as_bytes());
+        match self {
+            Shown::Partial { told, .. } | Shown::Noted { told, .. } => {
+                let _ = err.put(told.as_bytes());
+            }
+            Shown::Text(_) | Shown::Wanting(_) | Shown::Yes | Shown::No(_) => {}
         }
     }
 
@@ -63,7 +68,7 @@ impl Shown {
     {
         match self {
             Shown::Text(text) | Shown::Wanting(text) => out.put(text.as_bytes()),
-            Shown::Partial { text, .. } => out.put(text.as_bytes()),
+            Shown::Partial { text, .. } | Shown::Noted { text, .. } => out.put(text.as_bytes()),
             Shown::Yes => put_line(out, "audit yes", ""),
             Shown::No(position) => put_line(out, "audit no ", Buffer::new().format(*position)),
         }

@@ -1,9 +1,11 @@
 //! Files.
 ghost use Rattle.std.specs.Prelude.{◌≡◌, ℕ, List, [], ⊤, IfOk, OnErr, OnOk, Option, Result, Err, None, Some};
 ghost use Rattle.replay.specs.Stores.{SameFiles, SameOthers};
+ghost use Rattle.replay.specs.declared.reason.Reason.{Reason};
 ghost use Rattle.replay.specs.declared.store.StoreError.TheVariants.{Failed, NoMemory};
 
 use crate::draft::Draft;
+use crate::reason::Reason;
 use std::alloc::Global;
 
 /// Why a file was not read, or not written.
@@ -11,8 +13,8 @@ use std::alloc::Global;
 pub enum StoreError {
     /// A request for memory was refused.
     NoMemory,
-    /// The system refused it.
-    Failed,
+    /// The system refused it, for this reason.
+    Failed(Reason),
 }
 
 /// Files by their paths.
@@ -35,7 +37,7 @@ pub trait Store {
     /// `Failed` where the file can't be read; `NoMemory` where a request for memory was refused.
     fn read(&mut self, alloc: Global, path: &str) -> Result<Vec<u8>, StoreError>
         ensures bytes { IfOk result (λ bytes. holds self.old path.now (Some bytes.items)) }
-        ensures failed { result ≡ Err Failed → holds self.old path.now None }
+        ensures failed { (reason : Reason) → result ≡ Err (Failed reason) → holds self.old path.now None }
         ensures short { result ≡ Err NoMemory → ran_short self.new }
 
         // No file changes.
@@ -62,5 +64,16 @@ pub trait Store {
 
     /// Gives up a file that was begun, of which nothing is left.
     fn abandon(&mut self, draft: Self::Draft)
+        ensures files { SameFiles (holds self.old) (holds self.new) };
+
+    /// Tries whether a file could be put in the place of that of a path, and leaves none there.
+    ///
+    /// # Errors
+    /// `Failed` where none could; `NoMemory` where a request for memory was refused.
+    fn try_write(&mut self, path: &str) -> Result<(), StoreError>
+        ensures refused { (reason : Reason) → result ≡ Err (Failed reason) → refuses self.new path.now }
+        ensures short { result ≡ Err NoMemory → ran_short self.new }
+
+        // No file changes.
         ensures files { SameFiles (holds self.old) (holds self.new) };
 }

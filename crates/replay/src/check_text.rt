@@ -1,0 +1,106 @@
+//! What is wrong in the script or the journal of a file.
+ghost use Rattle.std.specs.Prelude.{IfErr, IfOk};
+ghost use Rattle.diagnosis.specs.JournalReports.{BeginsAsJournal};
+ghost use Rattle.lockscript.specs.Scripts.{HasScript, IsScript, ScriptFields};
+ghost use Rattle.replay.specs.Faults.{IsCheckFault, IsCheckTextFault};
+ghost use Rattle.replay.specs.Stores.{HasText, SameFiles};
+ghost use Rattle.replay.specs.Tellings.{IsChecked};
+
+use crate::fault::Fault;
+use crate::input::text_of;
+use crate::shown::Shown;
+use crate::store::Store;
+use crate::warnings::warnings_of;
+use diagnosis::journal_report::{begins_as_journal, journal_report};
+use diagnosis::report::report;
+use diagnosis::verdict::verdict;
+use lockscript::error::ParseError;
+use lockscript::laws::every_text_has_one_reading;
+use lockscript::script::Script;
+use player::watcher::Watcher;
+use std::alloc::{AllocError, Global};
+
+/// That a file writes a script, and whether threads take it, with warnings beside it, or that it writes a journal.
+pub(crate) fn checked_at<'a, S: Store, V: Watcher>(
+    alloc: Global,
+    store: &mut S,
+    path: &'a str,
+    watcher: &mut V,
+) -> Result<Shown, Fault<'a>>
+    ensures done { IfOk result (λ shown. HasText (S.holds store.old path.now) (λ text. IsChecked text shown)) }
+    ensures fault { IfErr result (IsCheckFault (S.holds store.old path.now) (S.ran_short store.new) path.now) }
+    ensures files { SameFiles (S.holds store.old) (S.holds store.new) }
+{
+    let text = text_of(alloc, store, path)?;
+    checked_in(alloc, path, text.as_str(), watcher)
+}
+
+// The same of the text of the file.
+fn checked_in<'a, V: Watcher>(
+    alloc: Global,
+    path: &'a str,
+    text: &str,
+    watcher: &mut V,
+) -> Result<Shown, Fault<'a>>
+    ensures done { IfOk result (IsChecked text.now) }
+    ensures fault { IfErr result (IsCheckTextFault path.now text.now) }
+{
+    if begins_as_journal(text) {
+        journal_checked(alloc, path, text)
+    } else {
+        script_checked(alloc, path, text, watcher)
+    }
+}
+
+// The same of a text that begins as a journal.
+fn journal_checked<'a>(alloc: Global, path: &'a str, text: &str) -> Result<Shown, Fault<'a>>
+    requires { BeginsAsJournal text.now }
+    ensures done { IfOk result (IsChecked text.now) }
+    ensures fault { IfErr result (IsCheckTextFault path.now text.now) }
+{
+    if let Some(report) = journal_report(alloc, path, text)? {
+        return Err(Fault::Faulty(report));
+    }
+    let yes = String::from_str(alloc, "journal yes\n")?;
+    Ok(Shown::Text(yes))
+}
+
+// The same of a text that does not.
+fn script_checked<'a, V: Watcher>(
+    alloc: Global,
+    path: &'a str,
+    text: &str,
+    watcher: &mut V,
+) -> Result<Shown, Fault<'a>>
+    requires { ¬ (BeginsAsJournal text.now) }
+    ensures done { IfOk result (IsChecked text.now) }
+    ensures fault { IfErr result (IsCheckTextFault path.now text.now) }
+{
+    if let Some(report) = report(alloc, path, text)? {
+        return Err(Fault::Faulty(report));
+    }
+    let script = script_in(alloc, text)?;
+    let verdict = verdict(alloc, &script)?;
+    let told = warnings_of(alloc, path, text, script, watcher)?;
+    if told.is_empty() {
+        Ok(Shown::Text(verdict))
+    } else {
+        Ok(Shown::Noted {
+            text: verdict,
+            told,
+        })
+    }
+}
+
+// The script that the text writes.
+fn script_in(alloc: Global, text: &str) -> Result<Script, AllocError>
+    requires { HasScript text.now }
+    ensures { IfOk result (IsScript text.now) }
+{
+    every_text_has_one_reading();
+    match Script::parse(alloc, text) {
+        Ok(script) => Ok(script),
+        Err(ParseError::NoMemory) => Err(AllocError),
+        Err(ParseError::BadLine(_)) => unreachable!(),
+    }
+}

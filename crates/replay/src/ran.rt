@@ -1,0 +1,144 @@
+//! What scripts come to whose replies may be compared with what they expect.
+ghost use Rattle.std.specs.Prelude.{◌≡◌, ◌&&◌, ℕ, List, drop, Bool, string_bytes, IfErr, IfOk};
+ghost use Rattle.std.specs.Option.{option_map};
+ghost use Rattle.explorer.specs.Comparisons.{breaks_behind, IsCompared};
+ghost use Rattle.lockscript.specs.Scripts.{LineFields};
+ghost use Rattle.messages.specs.declared.version.Version.TheVariants.{Second};
+ghost use Rattle.player.specs.Parts.{state_of};
+ghost use Rattle.player.specs.Played.{PlayedState};
+ghost use Rattle.replay.specs.Commands.{IsRunText, ShowsRun};
+ghost use Rattle.replay.specs.Comparing.{HasRan, IsExpecting, WentBehind};
+ghost use Rattle.replay.specs.Faults.{IsBehindFault, IsScriptFault};
+ghost use Rattle.replay.specs.Stores.{SameFiles};
+
+use crate::fault::Fault;
+use crate::input::text_of;
+use crate::shown::Shown;
+use crate::store::Store;
+use cluster_core::journal::Journal;
+use explorer::compared::compared;
+use lockscript::script::Script;
+use lockscript::script_line::ScriptLine;
+use messages::entry::Entry;
+use player::play::{play, play_after};
+use player::played::Played;
+use player::watcher::Watcher;
+use std::alloc::{AllocError, Global};
+
+// What a script came to, and a line for each reply that begins otherwise than the script expects, if the two were
+// compared and there is one.
+#[derive(Drop)]
+pub(crate) struct Ran {
+    pub(crate) played: Played,
+    pub(crate) told: Option<String>,
+}
+
+// What the script of a file comes to, and what is told of it, where its replies are to be compared.
+pub(crate) fn run_of<'a, S: Store, V: Watcher>(
+    alloc: Global,
+    store: &mut S,
+    path: &'a str,
+    compares: bool,
+    watcher: &mut V,
+) -> Result<Ran, Fault<'a>>
+    ensures run { IfOk result (HasRan (S.holds store.old path.now) compares) }
+    ensures fault { IfErr result (IsScriptFault (S.holds store.old path.now) (S.ran_short store.new) path.now) }
+    ensures files { SameFiles (S.holds store.old) (S.holds store.new) }
+{
+    let text = text_of(alloc, store, path)?;
+    let script = Script::parse(alloc, text.as_str())?;
+    let expecting = kept_to_compare(alloc, text, &script, compares)?;
+    let played = play(alloc, script, watcher)?;
+    let told = told_of(alloc, &expecting, &played, 0)?;
+    Ok(Ran { played, told })
+}
+
+// What the script of a file comes to behind the run of a journal, and what is told of it, where its replies are to be
+// compared.
+pub(crate) fn run_behind_of<'a, S: Store, V: Watcher>(
+    alloc: Global,
+    store: &mut S,
+    path: &'a str,
+    journal: Journal,
+    compares: bool,
+    watcher: &mut V,
+) -> Result<Ran, Fault<'a>>
+    requires { journal.shape.version ≡ Second }
+    ensures run { IfOk result (WentBehind (S.holds store.old path.now) journal compares) }
+    ensures fault { IfErr result (IsBehindFault journal (S.holds store.old path.now) (S.ran_short store.new) path.now) }
+    ensures files { SameFiles (S.holds store.old) (S.holds store.new) }
+{
+    let text = text_of(alloc, store, path)?;
+    let script = Script::parse_for_shape(alloc, &journal.shape(), text.as_str())?;
+    let expecting = kept_to_compare(alloc, text, &script, compares)?;
+    let earlier = journal.entries().len();
+    let played = play_after(alloc, script, journal, watcher)?;
+    let told = told_of(alloc, &expecting, &played, earlier)?;
+    Ok(Ran { played, told })
+}
+
+// The text and the lines of a script whose replies are to be compared, which is run.
+#[derive(Drop)]
+pub(crate) struct Expecting {
+    text: String,
+    lines: Vec<ScriptLine>,
+}
+
+// The text and the lines of the script, where they are needed behind its run. Else the text goes.
+fn kept_to_compare(
+    alloc: Global,
+    text: String,
+    script: &Script,
+    compares: bool,
+) -> Result<Option<Expecting>, AllocError>
+    ensures { IfOk result (IsExpecting compares (string_bytes text) script.now.lines) }
+{
+    if !compares {
+        return Ok(None);
+    }
+    let lines = script.lines().to_vec(alloc)?;
+    Ok(Some(Expecting { text, lines }))
+}
+
+// What is told of a run that had so many entries before the script.
+fn told_of(
+    alloc: Global,
+    expecting: &Option<Expecting>,
+    played: &Played,
+    earlier: usize,
+) -> Result<Option<String>, AllocError>
+    ensures { (compares : Bool) (text : List ℕ) (lines : List LineFields) → IsExpecting compares text lines expecting.now
+        → IfOk result (λ told. IsCompared (compares && breaks_behind text lines earlier (state_of played.now)) (option_map (λ t. string_bytes t) told)) }
+{
+    match expecting {
+        None => Ok(None),
+        Some(expecting) => compared(
+            alloc,
+            expecting.text.as_str(),
+            expecting.lines.as_slice(),
+            played.refused(),
+            entries_behind(played.journal().entries(), earlier),
+        ),
+    }
+}
+
+// The entries behind so many.
+fn entries_behind(entries: &[Entry], earlier: usize) -> &[Entry]
+    ensures { result.now ≡ drop earlier entries.now }
+{
+    match entries.get(earlier..) {
+        Some(behind) => behind,
+        None => &[],
+    }
+}
+
+// What is shown of a run of this text.
+pub(crate) fn shown_beside(text: String, told: Option<String>) -> Shown
+    ensures { (played : PlayedState) (breaking with_open quiet : Bool) → IsCompared breaking (option_map (λ t. string_bytes t) told)
+        → IsRunText played with_open quiet (string_bytes text) → ShowsRun played breaking with_open quiet result }
+{
+    match told {
+        None => Shown::Text(text),
+        Some(told) => Shown::Partial { text, told },
+    }
+}

@@ -1,0 +1,121 @@
+//! Several files that are checked together.
+ghost use Rattle.std.specs.Prelude.{◌≡◌, ◌⊎◌, map, IfErr, IfOk};
+ghost use Rattle.replay.specs.Checks.{AreGood, IsSeveralFault};
+ghost use Rattle.replay.specs.Stores.{SameFiles};
+
+use crate::check_reports::{push_fault, push_lines};
+use crate::check_text::checked_at;
+use crate::fault::Fault;
+use crate::shown::Shown;
+use crate::store::Store;
+use player::watcher::Watcher;
+use std::alloc::{AllocError, Global};
+
+// What came of the files so far: what is shown of good ones, their warnings, what is wrong with others, and whether
+// there are any.
+#[derive(Drop)]
+pub(crate) struct Looked {
+    told: String,
+    warnings: String,
+    report: String,
+    is_bad: bool,
+}
+
+impl Looked {
+    ghost use Rattle.std.specs.Prelude.{◌≡◌, ◌≢◌, ◌⊎◌, true, false, IfErr, IfOk, OnOk};
+    ghost use Rattle.replay.specs.declared.fault.Fault.TheVariants.{NoMemory};
+    ghost use Rattle.replay.specs.Checks.{IsAtFault, IsGood, IsReported, IsTextShown, MayRunShort};
+    ghost use Rattle.replay.specs.Stores.{SameFiles};
+
+    fn new(alloc: Global) -> Looked
+        ensures { result.is_bad ≡ false }
+    {
+        Looked {
+            told: String::new(alloc),
+            warnings: String::new(alloc),
+            report: String::new(alloc),
+            is_bad: false,
+        }
+    }
+
+    // Looks at one file more.
+    fn look<'a, S: Store, V: Watcher>(
+        &mut self,
+        alloc: Global,
+        store: &mut S,
+        path: &'a str,
+        watcher: &mut V,
+    ) -> Result<(), Fault<'a>>
+        ensures good { OnOk result (self.new.is_bad ≡ false → (self.old.is_bad ≡ false) × IsGood (S.holds store.old) path.now) }
+        ensures bad { OnOk result (self.new.is_bad ≡ true → (self.old.is_bad ≡ true) ⊎ IsAtFault (S.holds store.old) path.now) }
+        ensures short { IfErr result (λ fault. (fault ≡ NoMemory) × (S.ran_short store.new ⊎ MayRunShort (S.holds store.old) path.now)) }
+        ensures files { SameFiles (S.holds store.old) (S.holds store.new) }
+    {
+        match checked_at(alloc, store, path, watcher) {
+            Ok(shown) => Ok(self.add(path, &shown)?),
+            Err(fault) => Ok(self.add_fault(&fault)?),
+        }
+    }
+
+    // Adds what is shown of a good file. (A check shows a text, with warnings or without.)
+    fn add(&mut self, path: &str, shown: &Shown) -> Result<(), AllocError>
+        ensures { OnOk result (self.new.is_bad ≡ self.old.is_bad) }
+    {
+        match shown {
+            Shown::Noted { text, told } => {
+                push_lines(&mut self.told, path, text)?;
+                self.warnings.push_str(told)
+            }
+            Shown::Text(text) => push_lines(&mut self.told, path, text),
+            Shown::Wanting(_) | Shown::Partial { .. } | Shown::Yes | Shown::No(_) => Ok(()),
+        }
+    }
+
+    // Adds what is wrong with a file. Want of memory is no fault of it.
+    fn add_fault(&mut self, fault: &Fault<'_>) -> Result<(), AllocError>
+        ensures { OnOk result ((self.new.is_bad ≡ true) × (fault.now ≢ NoMemory)) }
+    {
+        match fault {
+            Fault::NoMemory => Err(AllocError),
+            _ => {
+                self.is_bad = true;
+                push_fault(&mut self.report, fault)
+            }
+        }
+    }
+
+    // What is shown of all, or what is wrong.
+    fn into_shown<'a>(self) -> Result<Shown, Fault<'a>>
+        ensures good { IfOk result (λ shown. (self.is_bad ≡ false) × IsTextShown shown) }
+        ensures bad { IfErr result (λ fault. (self.is_bad ≡ true) × IsReported fault) }
+    {
+        if self.is_bad {
+            return Err(Fault::Faulty(self.report));
+        }
+        if self.warnings.is_empty() {
+            return Ok(Shown::Text(self.told));
+        }
+        Ok(Shown::Noted {
+            text: self.told,
+            told: self.warnings,
+        })
+    }
+}
+
+/// What is shown of several files; or what is wrong with those with which something is, one behind the other.
+pub(crate) fn several_checked<'a, S: Store, V: Watcher>(
+    alloc: Global,
+    store: &mut S,
+    paths: &[&'a str],
+    watcher: &mut V,
+) -> Result<Shown, Fault<'a>>
+    ensures done { IfOk result (AreGood (S.holds store.old) (map (λ path. path.now) paths.now)) }
+    ensures fault { IfErr result (IsSeveralFault (S.holds store.old) (S.ran_short store.new) (map (λ path. path.now) paths.now)) }
+    ensures files { SameFiles (S.holds store.old) (S.holds store.new) }
+{
+    let mut looked = Looked::new(alloc);
+    for path in paths {
+        looked.look(alloc, store, *path, watcher)?;
+    }
+    looked.into_shown()
+}
