@@ -1,4 +1,4 @@
-# Read first by tests/program.sh, tests/threads.sh and tests/read-journals.sh: looks for the program, makes a folder and goes there, and makes files
+# Read first by tests/program.sh, tests/threads.sh, tests/read-journals.sh and tests/told-files.sh: looks for the program, makes a folder and goes there, and makes files
 # with which cases begin. Here are the functions by which they try cases.
 program=$(readlink -f -- "${1:?usage: $0 PROGRAM}") || exit 2
 tests=$(readlink -f -- "$(dirname -- "$0")") || exit 2

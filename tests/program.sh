@@ -53,8 +53,8 @@ try_text 'two journals before it' 2 err "'--after <JOURNAL>' cannot be used mult
     run --after new.journal --after other.journal first.lock
 try_text 'a journal before it without its script' 2 err 'Usage: lockreplay' run --after new.journal
 try_text 'the journal before it in the help on run' 0 out '--after JOURNAL' help run
-try_text 'no listing and no journal' 2 err "the argument '--quiet' needs '--journal <FILE>'" run first.lock --quiet
-try_text 'no listing and no journal but the one before' 2 err "the argument '--quiet' needs '--journal <FILE>'" \
+try_text 'no listing and no journal' 2 err "the argument '--quiet' needs '--journal <FILE>' or '--expect'" run first.lock --quiet
+try_text 'no listing and no journal but the one before' 2 err "the argument '--quiet' needs '--journal <FILE>' or '--expect'" \
     run first.lock --after new.journal --open --quiet
 try_text 'no listing, with a value' 2 err '--quiet' run first.lock --journal new.journal --quiet=yes
 try_text 'no listing on threads' 2 err 'Usage: lockreplay threads' threads first.lock --journal new.journal --quiet
@@ -83,11 +83,14 @@ try_text 'no join of a run' 2 err "'--no-join'" run first.lock --no-join
 try_text 'no call for explain' 2 err 'Usage: lockreplay explain' explain new.journal
 try_text 'two calls for explain' 2 err 'Usage: lockreplay explain' explain new.journal 1.1.1 1.1.2
 try_text 'a journal for explain left out' 2 err 'Usage: lockreplay explain' explain
-for command in open check picture; do
+for command in open picture; do
     try_text "no file for $command" 2 err "Usage: lockreplay $command" "$command"
     try_text "two files for $command" 2 err "Usage: lockreplay $command" "$command" first.lock first.lock
     try_text "an option for $command" 2 err "Usage: lockreplay $command" "$command" first.lock --journal=new.journal
 done
+try_text 'no file for check' 2 err 'Usage: lockreplay check' check
+try_text 'an option for check' 2 err 'Usage: lockreplay check' check first.lock --quiet
+try_text 'several files in the usage of check' 0 out 'Usage: lockreplay check [OPTIONS] <SCRIPT>...' help check
 for command in from-strace explore schedule; do
     try_text "no file for $command" 2 err "Usage: lockreplay $command" "$command"
     try_text "two files for $command" 2 err "Usage: lockreplay $command" "$command" first.lock first.lock
@@ -116,6 +119,10 @@ done
 for number in 0 65 -1 many; do
     try_text "so many nodes: $number" 2 err "--nodes" from-strace first.lock --nodes="$number"
 done
+try_text 'places left out' 2 err "a value is required for '--place <PLACES>'" from-strace first.lock --place
+try_text 'places named twice' 2 err "'--place <PLACES>' cannot be used multiple times" from-strace first.lock --place 1=1 --place 2=1
+try_text 'the help on places' 0 out '--place PID=NODE,..' help from-strace
+try_text 'replies that are expected in the help on run' 0 out "Compare the replies with the '# expect' lines of SCRIPT" help run
 for number in -1 4294967296 many; do
     try_text "a first seed that is none: $number" 2 err "--first" explore first.lock --first="$number"
     try_text "a seed of a schedule that is none: $number" 2 err "--seed" schedule first.lock --seed="$number"
@@ -479,11 +486,11 @@ echo 'bad line 5' >no-end
 try 'a story by a journal that was cut' 3 none no-end explain cut.journal 1.1.1
 try 'a picture of a journal that was cut' 3 none no-end picture cut.journal
 try 'open calls by a journal that was cut' 3 none no-end open cut.journal
-echo 'cannot read missing.journal' >no-journal
+echo 'cannot read missing.journal: no such file' >no-journal
 try 'a story by a missing journal' 3 none no-journal explain missing.journal 1.1.1
 try 'a picture of a missing journal' 3 none no-journal picture missing.journal
 try 'open calls by a missing journal' 3 none no-journal open missing.journal
-echo 'cannot read missing.lock' >no-lock
+echo 'cannot read missing.lock: no such file' >no-lock
 for command in from-strace explore schedule; do
     try "$command of a missing file" 3 none no-lock $command missing.lock
 done
