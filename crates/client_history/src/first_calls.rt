@@ -6,8 +6,9 @@ use crate::open_call::OpenCall;
 use lock_table::lock_table::LockTable;
 use std::alloc::{AllocError, Global};
 
-/// Calls of which one comes first in whatever goes on from here up to the end of this call, and which may come next. What the
-/// others that are open do commutes with theirs.
+/// Calls that may come next, of which the search takes one to come first in whatever goes on from here up to the end of
+/// this call, since what the others that are open do commutes with theirs. That it is so is not proved: where it were
+/// not, the search could miss an order.
 ///
 /// # Errors
 /// `AllocError`.
