@@ -4,7 +4,7 @@ use Rattle.std.proofs.lemmas.Bool.{cases_lt}
 use Rattle.std.proofs.lemmas.Option.{none-some}
 use Rattle.model.specs.Locks.{Locks, no_locks}
 use Rattle.client_history.specs.declared.client_call.ClientCall.{ClientCall}
-use Rattle.client_history.specs.Explained.{Leads, IsLegal, IsOnce, Stands, IsAt, EndsBefore, AreInTime, ExitsAreLast, IsExplainedBy}
+use Rattle.client_history.specs.Explained.{Leads, IsOnce, Stands, IsAt, EndsBefore, AreInTime, ExitsAreLast, IsExplainedBy}
 use Rattle.client_history.specs.Prefixes.{Passes, NoneEnded, AreOfOthers}
 use Rattle.client_history.proofs.Fronts.{moves_first}
 use Rattle.client_history.proofs.Orders.{get_one}
@@ -12,17 +12,17 @@ use Rattle.client_history.proofs.Steps.{leads_is_one, leads_split, leads_join}
 
 module _ {X : Type 0} where
   -- what stands in two lists, one behind the other
-  get_split : (xs ys : List X) (k : ℕ) (x : X) → slice_get (xs ++ ys) k ≡ Some x → ((k < length xs) × (slice_get xs k ≡ Some x)) ⊎ ((l : ℕ) × (k ≡ length xs + l) × (slice_get ys l ≡ Some x))
+  pub get_split : (xs ys : List X) (k : ℕ) (x : X) → slice_get (xs ++ ys) k ≡ Some x → ((k < length xs) × (slice_get xs k ≡ Some x)) ⊎ ((l : ℕ) × (k ≡ length xs + l) × (slice_get ys l ≡ Some x))
   get_split [] ys k x at = inr (k, omega arith, at)
   get_split (y ∷ xs) ys zero x at = inl (omega arith, at)
   get_split (y ∷ xs) ys (suc k) x at = ⊎_elim (λ p. let lt = p.0 in inl (omega arith, p.1)) (λ p. let e = p.1 in inr (p.0, omega arith, p.2)) (get_split xs ys k x at)
 
-  get_left : (xs ys : List X) (k : ℕ) (x : X) → slice_get xs k ≡ Some x → slice_get (xs ++ ys) k ≡ Some x
+  pub get_left : (xs ys : List X) (k : ℕ) (x : X) → slice_get xs k ≡ Some x → slice_get (xs ++ ys) k ≡ Some x
   get_left [] ys k x at = absurd (none-some x at)
   get_left (y ∷ xs) ys zero x at = at
   get_left (y ∷ xs) ys (suc k) x at = get_left xs ys k x at
 
-  get_right : (xs ys : List X) (k l : ℕ) (x : X) → k ≡ length xs + l → slice_get ys l ≡ Some x → slice_get (xs ++ ys) k ≡ Some x
+  pub get_right : (xs ys : List X) (k l : ℕ) (x : X) → k ≡ length xs + l → slice_get ys l ≡ Some x → slice_get (xs ++ ys) k ≡ Some x
   get_right [] ys k l x e at = let same : k ≡ l = omega arith in ap (slice_get ys) same ∙ at
   get_right (y ∷ xs) ys zero l x e at = absurd (omega arith)
   get_right (y ∷ xs) ys (suc k) l x e at = get_right xs ys k l x (omega arith) at
@@ -101,12 +101,12 @@ module _ (calls : List ClientCall) (front before behind : List ℕ) (time i : �
       one front before behind i j k was.0 was.2 (subst (λ (n : ℕ). Goes front before behind i n k) same next.2)
 
   -- the locks behind the front lead on
-  leads_on : Leads calls h (before ++ (i ∷ behind)) whole.legal.0
+  pub leads_on : Leads calls h (before ++ (i ∷ behind)) whole.legal.0
   leads_on =
       let parts = leads_split calls no_locks whole.legal.0 front (before ++ (i ∷ behind)) whole.legal.1 in
       subst (λ (m : Locks). Leads calls m (before ++ (i ∷ behind)) whole.legal.0) (leads_is_one calls no_locks parts.0 h front parts.1 leads) parts.2
 
-  module _ (none : NoneEnded calls before call.begin) (others : call.is_last ≡ true → AreOfOthers calls before call.owner) (passes : Passes calls h call before) where
+  module _ (none : NoneEnded calls before call.begin) (others : call.is_last ≡ true → AreOfOthers calls before call.owner) where
     new_in_time : AreInTime calls new
     new_in_time k m a b lt p q ends = ⊎_elim (λ o. whole.in_time o.0 o.1 a b o.2 o.3 o.4 ends) (λ o. none o.1 b o.2 (subst (λ (c : ClientCall). EndsBefore b c.begin) o.0 ends)) (pair k m a b lt p q)
 
@@ -116,13 +116,10 @@ module _ (calls : List ClientCall) (front before behind : List ℕ) (time i : �
         (λ o. others (ap (λ (c : ClientCall). c.is_last) (sym o.0) ∙ last) o.1 b o.2 (sym (ap (λ (c : ClientCall). c.owner) o.0) ∙ sym same))
         (pair k m a b lt p q)
 
-    new_legal : IsLegal calls new
-    new_legal = (whole.legal.0, leads_join calls no_locks h whole.legal.0 front (i ∷ (before ++ behind)) leads (moves_first calls h whole.legal.0 call i before behind there passes leads_on))
-
-    -- the order explains the calls with the call in front, too
-    pub moved_explained : IsExplainedBy time calls new
-    moved_explained = record {
-      legal = new_legal;
+    -- what leads on with the call in front explains the calls, too
+    pub legal_explained : Leads calls h (i ∷ (before ++ behind)) whole.legal.0 → IsExplainedBy time calls new
+    legal_explained legal = record {
+      legal = (whole.legal.0, leads_join calls no_locks h whole.legal.0 front (i ∷ (before ++ behind)) leads legal);
       once = new_once;
       begun = λ k a at. let was = at_of k a at in whole.begun was.0 a was.1;
       answered = λ x a at ended. stays front before behind i x (whole.answered x a at ended);
@@ -130,3 +127,7 @@ module _ (calls : List ClientCall) (front before behind : List ℕ) (time i : �
       last = new_last;
       whole = λ k x a b at last found same some. let was = at_of k a at in stays front before behind i x (whole.whole was.0 x a b was.1 last found same some);
     }
+
+    -- a call that passes others may come before them
+    pub moved_explained : Passes calls h call before → IsExplainedBy time calls new
+    moved_explained passes = legal_explained (moves_first calls h whole.legal.0 call i before behind there passes leads_on)

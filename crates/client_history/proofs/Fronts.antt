@@ -8,6 +8,7 @@ use Rattle.client_history.specs.declared.client_call.ClientCall.{ClientCall}
 use Rattle.client_history.specs.Acts.{ActStep}
 use Rattle.client_history.specs.Explained.{the_file, Leads, IsAt, EndedBy, HaveBegun, AreAnswered, ExitsAreWhole, IsExplainedBy}
 use Rattle.client_history.specs.Prefixes.{AreOrdered, Passes}
+use Rattle.client_history.specs.Verdicts.{AreExplainedBefore}
 use Rattle.client_history.proofs.OwnQuestions.{may_move}
 use Rattle.client_history.proofs.Orders.{get_one, is_at_one, at_within}
 use Rattle.client_history.proofs.Steps.{leads_split}
@@ -133,6 +134,12 @@ pub earlier_explained : (calls : List ClientCall) (order : List ℕ) (early late
 earlier_explained calls order early late sooner ordered whole =
     let cut = enough calls order early in
     (cut.0, front_explains calls order early late sooner ordered whole cut.0 cut.1)
+
+-- fronts of what explains the calls up to a time explain them up to each time before the next
+pub explained_before : (calls : List ClientCall) (order : List ℕ) (time end : ℕ) → end ≤ time + 1 → AreOrdered calls → IsExplainedBy time calls order → AreExplainedBefore end calls
+explained_before calls order time end next ordered whole early lt =
+    let front = earlier_explained calls order early time (omega arith) ordered whole in
+    (take front.0 order, front.1)
 
 -- a call that passes others may come before them
 pub moves_first : (calls : List ClientCall) (h n : Locks) (call : ClientCall) (i : ℕ) (is js : List ℕ) → slice_get calls i ≡ Some call → Passes calls h call is → Leads calls h (is ++ (i ∷ js)) n → Leads calls h (i ∷ (is ++ js)) n

@@ -26,10 +26,10 @@ excludes_both Read Write e = e
 excludes_both Write Read e = e
 excludes_both Write Write e = e
 
-choice_true : {X : Type 0} (b : Bool) (x y : X) → b ≡ true → (if b then x else y) ≡ x
+pub choice_true : {X : Type 0} (b : Bool) (x y : X) → b ≡ true → (if b then x else y) ≡ x
 choice_true b x y e = ap (λ (c : Bool). if c then x else y) e
 
-choice_false : {X : Type 0} (b : Bool) (x y : X) → b ≡ false → (if b then x else y) ≡ y
+pub choice_false : {X : Type 0} (b : Bool) (x y : X) → b ≡ false → (if b then x else y) ≡ y
 choice_false b x y e = ap (λ (c : Bool). if c then x else y) e
 
 choices : {X : Type 0} (b c : Bool) (x y z : X) → (b ≡ true → c ≡ true → ⊥) → (if b then x else (if c then y else z)) ≡ (if c then y else (if b then x else z))
@@ -40,7 +40,7 @@ choices false false x y z never = refl
 
 module _ (h : Locks) (file : ℕ) (p : Owner) (x : ℕ → Option Mode) where
   -- the owner has the bytes
-  own_is : replace h file p x file p ≡ x
+  pub own_is : replace h file p x file p ≡ x
   own_is = choice_true ((eqb file file) && same_owner p p) x (h file p) (and_from (eqb file file) (same_owner p p) (eq-eqb file file refl) (owner_refl p))
 
   -- another has what it had
@@ -88,7 +88,7 @@ taken_clear mode asked had s b clear lets = by (is_in s b) lets
     by false lets = clear
 
 -- bytes of both spans: then they meet
-in_both : (s t : Range) (b : ℕ) → is_in s b ≡ true → t.lo ≤ b → b ≤ t.hi → Meet s t
+pub in_both : (s t : Range) (b : ℕ) → is_in s b ≡ true → t.lo ≤ b → b ≤ t.hi → Meet s t
 in_both s t b within low high =
     let parts = and_parts (nat_le s.lo b) (nat_le b s.hi) within in
     let from = leb-true s.lo b parts.0 in

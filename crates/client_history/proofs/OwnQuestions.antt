@@ -18,11 +18,11 @@ use Rattle.client_history.proofs.MoveLaws.{other_is, moves_before}
 use Rattle.client_history.proofs.Steps.{step_is_one}
 
 -- two owners are one, or two
-one_or_two : (p q : Owner) → (p ≡ q) ⊎ (p ≢ q)
+pub one_or_two : (p q : Owner) → (p ≡ q) ⊎ (p ≢ q)
 one_or_two p q = ⊎_elim (λ same. inl (owner_exact p q same)) (λ differ. inr (λ e. false≢true (sym differ ∙ subst (λ (o : Owner). same_owner p o ≡ true) e (owner_refl p)))) (cases_Bool (same_owner p q))
 
 -- a question changes nothing
-asks_same : (m n : Locks) (q : Owner) (b : Act) → AsksOnly b → ActStep the_file m q b n → n ≡ m
+pub asks_same : (m n : Locks) (q : Owner) (b : Act) → AsksOnly b → ActStep the_file m q b n → n ≡ m
 asks_same m n q (Takes mode span) asks step = absurd asks
 asks_same m n q (IsDenied mode span told) asks step = step.1
 asks_same m n q (FindsFree mode span) asks step = step.1
@@ -30,7 +30,7 @@ asks_same m n q (Frees span) asks step = absurd asks
 asks_same m n q Drops asks step = absurd asks
 
 -- an act leaves another owner its locks
-leaves_other : (m n : Locks) (p q : Owner) (b : Act) → p ≢ q → ActStep the_file m q b n → n the_file p ≡ m the_file p
+pub leaves_other : (m n : Locks) (p q : Owner) (b : Act) → p ≢ q → ActStep the_file m q b n → n the_file p ≡ m the_file p
 leaves_other m n p q (Takes mode span) differ step = ap (λ (l : Locks). l the_file p) step.1 ∙ other_is m the_file q (put (m the_file q) span (Some mode)) p (λ e. differ (sym e))
 leaves_other m n p q (IsDenied mode span told) differ step = ap (λ (l : Locks). l the_file p) step.1
 leaves_other m n p q (FindsFree mode span) differ step = ap (λ (l : Locks). l the_file p) step.1

@@ -25,7 +25,7 @@ release_step Drops is m p = (without_owner m the_file p, refl)
 
 module _ (h m : Locks) (p q : Owner) (same : m the_file p ≡ h the_file p) where
   -- a denial that was none where the owner had the same locks is not by one of these
-  denied_by_other : (mode : Mode) (span : Range) (told : ToldLock) → (IsBlocked h the_file q span mode told → ⊥) → IsBlocked m the_file q span mode told → IsDeniedByOther m p q mode span told
+  pub denied_by_other : (mode : Mode) (span : Range) (told : ToldLock) → (IsBlocked h the_file q span mode told → ⊥) → IsBlocked m the_file q span mode told → IsDeniedByOther m p q mode span told
   denied_by_other mode span told never is = record { lock = is.lock; blocks = is.blocks; named = is.named; other = λ own. never (was own) }
     where
       was : is.lock.owner ≡ p → IsBlocked h the_file q span mode told
@@ -49,7 +49,7 @@ module _ (h m : Locks) (p q : Owner) (same : m the_file p ≡ h the_file p) wher
 
 module _ (calls : List ClientCall) (call : ClientCall) (releases : Releases call.act) (h : Locks) where
   -- a release passes others in locks in which its owner has what it had
-  passes_others : (m : Locks) (is : List ℕ) → m the_file call.owner ≡ h the_file call.owner → OwnAskOnly calls is call.owner → NoneDenied calls is h → Passes calls m call is
+  pub passes_others : (m : Locks) (is : List ℕ) → m the_file call.owner ≡ h the_file call.owner → OwnAskOnly calls is call.owner → NoneDenied calls is h → Passes calls m call is
   passes_others m [] same own none = tt
   passes_others m (i ∷ is) same own none =
       let step = release_step call.act releases m call.owner in (

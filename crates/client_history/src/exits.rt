@@ -1,6 +1,7 @@
-//! Whether nothing of an owner stands behind its exit.
+//! Whether nothing of an owner stands behind its exit, and all that has a reply before it.
 ghost use Rattle.std.specs.Prelude.{◌≡◌, IfOk, IsTrue, ◌↔◌, length};
-ghost use Rattle.client_history.specs.Explained.{AreWithin, ExitsAreLast};
+ghost use Rattle.client_history.specs.Explained.{AreWithin, ExitsAreLast, ExitsAreWhole};
+ghost use Rattle.client_history.specs.Marks.{AreMarks};
 
 use crate::client_call::ClientCall;
 use indexmap::IndexSet;
@@ -26,6 +27,35 @@ pub(crate) fn exits_are_last(
         }
         if call.is_last {
             gone.insert(call.owner)?;
+        }
+    }
+    Ok(true)
+}
+
+/// Whether, where an exit stands in the order, each call of its owner that has a reply does. The marks are those of the
+/// calls that stand.
+///
+/// # Errors
+/// `AllocError`.
+pub(crate) fn exits_are_whole(
+    alloc: Global,
+    calls: &[ClientCall],
+    order: &[usize],
+    marks: &[bool],
+) -> Result<bool, AllocError>
+    requires { AreMarks order.now (length calls.now) marks.now }
+    ensures { IfOk result (λ yes. IsTrue yes ↔ ExitsAreWhole calls.now order.now) }
+{
+    let mut gone = IndexSet::new(alloc);
+    for i in order {
+        let call = &calls[*i];
+        if call.is_last {
+            gone.insert(call.owner)?;
+        }
+    }
+    for (i, call) in calls.iter().enumerate() {
+        if call.end.is_some() && gone.contains(&call.owner) && !marks[i] {
+            return Ok(false);
         }
     }
     Ok(true)

@@ -4,8 +4,8 @@ ghost use Rattle.client_history.specs.Explained.{IsExplainedBy, always};
 
 use crate::answered::are_answered;
 use crate::client_call::ClientCall;
-use crate::exits::exits_are_last;
-use crate::in_time::are_in_time;
+use crate::exits::{exits_are_last, exits_are_whole};
+use crate::in_time::{are_in_time, have_begun};
 use crate::legal::is_legal;
 use crate::marks::marks_of;
 use std::alloc::{AllocError, Global};
@@ -19,16 +19,38 @@ use std::alloc::{AllocError, Global};
 pub fn explains(alloc: Global, calls: &[ClientCall], order: &[usize]) -> Result<bool, AllocError>
     ensures { IfOk result (λ yes. IsTrue yes ↔ IsExplainedBy always calls.now order.now) }
 {
+    explains_by(alloc, calls, order, u64::MAX)
+}
+
+/// Whether the calls in this order explain so what the clients saw up to that time: each that ended by then stands,
+/// none that began later, and with an exit each call of its owner that has a reply.
+///
+/// # Errors
+/// `AllocError`.
+pub fn explains_by(
+    alloc: Global,
+    calls: &[ClientCall],
+    order: &[usize],
+    time: u64,
+) -> Result<bool, AllocError>
+    ensures { IfOk result (λ yes. IsTrue yes ↔ IsExplainedBy time calls.now order.now) }
+{
     let Some(marks) = marks_of(alloc, order, calls.len())? else {
         return Ok(false);
     };
-    if !are_answered(calls, &marks) {
+    if !are_answered(calls, &marks, time) {
+        return Ok(false);
+    }
+    if !have_begun(calls, order, time) {
         return Ok(false);
     }
     if !are_in_time(calls, order) {
         return Ok(false);
     }
     if !exits_are_last(alloc, calls, order)? {
+        return Ok(false);
+    }
+    if !exits_are_whole(alloc, calls, order, &marks)? {
         return Ok(false);
     }
     is_legal(alloc, calls, order)

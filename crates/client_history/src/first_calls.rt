@@ -1,14 +1,23 @@
 //! Which calls may have to come first.
+ghost use Rattle.std.specs.Prelude.{◌≡◌, ℕ, true, List, slice_get, Some, IfOk, IsTrue, ◌↔◌};
+ghost use Rattle.model.specs.Locks.{Locks};
+ghost use Rattle.lock_table.specs.Rows.{held};
+ghost use Rattle.client_history.specs.declared.open_call.OpenCall.{OpenCall as SomeCall};
+ghost use Rattle.client_history.specs.Acts.{ActStep};
+ghost use Rattle.client_history.specs.ClosedSets.{IsGrown, IsClosedSet};
+ghost use Rattle.client_history.specs.Explained.{the_file};
+ghost use Rattle.client_history.specs.FirstCalls.{Changes, IsServed};
+ghost use Rattle.client_history.specs.OpenCalls.{IsLeft, IsIn, IsLeftOf, AreAsked, AreOthersTaken, AreFirst};
+
 use crate::act::Act;
 use crate::follow::is_free;
-use crate::needs::{is_met_by, least_kept, releases};
+use crate::needs::{is_denied, least_kept, needs};
 use crate::open_call::OpenCall;
 use lock_table::lock_table::LockTable;
 use std::alloc::{AllocError, Global};
 
 /// Calls that may come next, of which the search takes one to come first in whatever goes on from here up to the end of
-/// this call, since what the others that are open do commutes with theirs. That it is so is not proved: where it were
-/// not, the search could miss an order.
+/// this call, since what the others that are open do commutes with theirs.
 ///
 /// # Errors
 /// `AllocError`.
@@ -18,47 +27,113 @@ pub(crate) fn first_calls(
     open: &[OpenCall],
     taken: &[usize],
     end: usize,
-) -> Result<Vec<OpenCall>, AllocError> {
+) -> Result<Vec<OpenCall>, AllocError>
+    ensures { IfOk result (λ first. AreFirst (held table.now) «open».now taken.now end first.items) }
+{
+    let set = closed_set(alloc, table, open, taken, end)?;
+    let mut first = Vec::new(alloc);
+    for call in &set {
+        if may_come(table, open, taken, call) {
+            first.push(*call)?;
+        }
+    }
+    Ok(first)
+}
+
+// The call that ends, with all that it needs, and that these need in turn.
+fn closed_set(
+    alloc: Global,
+    table: &LockTable,
+    open: &[OpenCall],
+    taken: &[usize],
+    end: usize,
+) -> Result<Vec<OpenCall>, AllocError>
+    ensures { IfOk result (λ set. IsClosedSet (held table.now) «open».now taken.now end set.items) }
+{
     let mut set = Vec::new(alloc);
     for call in open {
         if call.index == end {
-            set.push(*call)?;
+            add(&mut set, call)?;
         }
     }
-    for place in 0..open.len() {
-        let Some(call) = set.get(place) else {
-            break;
-        };
-        let call = *call;
-        add_needed(&mut set, table, open, taken, &call)?;
+    let mut place = 0;
+    while place < set.len() {
+        let index = set[place].index;
+        serve(&mut set, table, open, taken, index)?;
+        place += 1;
     }
-    set.retain(|call| may_come(table, open, taken, call));
     Ok(set)
 }
 
-// Adds the calls that are left and may have to come before the call, or at once with it in either order.
+// Adds what the call that has the index needs, if it is left.
+fn serve(
+    set: &mut Vec<OpenCall>,
+    table: &LockTable,
+    open: &[OpenCall],
+    taken: &[usize],
+    index: usize,
+) -> Result<(), AllocError>
+    ensures grown { IsGrown «open».now set.old.items set.new.items }
+    ensures served { IfOk result (λ _. AreAsked «open».now taken.now (held table.now) → (k : ℕ) (one : SomeCall) → slice_get «open».now k ≡ Some one → one.index ≡ index → IsLeft one taken.now → IsServed (held table.now) (IsLeftOf «open».now taken.now) (IsIn set.new.items) one.call) }
+{
+    for call in open {
+        if call.index == index && call.is_left(taken) {
+            add_needed(set, table, open, taken, call)?;
+        }
+    }
+    Ok(())
+}
+
+// Adds the calls that are left and that the call needs, which has no need of others where it may be denied here.
 fn add_needed(
     set: &mut Vec<OpenCall>,
     table: &LockTable,
     open: &[OpenCall],
     taken: &[usize],
     call: &OpenCall,
-) -> Result<(), AllocError> {
+) -> Result<(), AllocError>
+    ensures grown { IsGrown «open».now set.old.items set.new.items }
+    ensures served { IfOk result (λ _. AreAsked «open».now taken.now (held table.now) → (k : ℕ) → slice_get «open».now k ≡ Some call.now → IsLeft call.now taken.now → IsServed (held table.now) (IsLeftOf «open».now taken.now) (IsIn set.new.items) call.now.call) }
+{
+    if is_denied(table, call) {
+        return Ok(());
+    }
     let kept = least_kept(table, open, taken, call)?;
     for other in open {
-        let needed = match &kept {
-            Some(lock) => releases(lock, other),
-            None => is_met_by(open, taken, call, other),
-        };
-        if needed && other.is_left(taken) && !set.iter().any(|one| one.index == other.index) {
-            set.push(*other)?;
+        if needs(open, taken, call, &kept, other) && other.is_left(taken) {
+            add(set, other)?;
         }
     }
     Ok(())
 }
 
+// Adds the call, unless one of its index is there.
+fn add(set: &mut Vec<OpenCall>, call: &OpenCall) -> Result<(), AllocError>
+    ensures grown { (running : List SomeCall) (k : ℕ) → slice_get running k ≡ Some call.now → IsGrown running set.old.items set.new.items }
+    ensures there { IfOk result (λ _. IsIn set.new.items call.now.index) }
+{
+    if !has_index(set, call.index) {
+        set.push(*call)?;
+    }
+    Ok(())
+}
+
+// Whether one of the calls has the index.
+fn has_index(calls: &[OpenCall], index: usize) -> bool
+    ensures { IsTrue result ↔ IsIn calls.now index }
+{
+    for call in calls {
+        if call.index == index {
+            return true;
+        }
+    }
+    false
+}
+
 // Whether the call changes locks, and may come next.
-fn may_come(table: &LockTable, open: &[OpenCall], taken: &[usize], call: &OpenCall) -> bool {
+fn may_come(table: &LockTable, open: &[OpenCall], taken: &[usize], call: &OpenCall) -> bool
+    ensures { IsLeft call.now taken.now → Changes call.now.call.act → (next : Locks) → ActStep the_file (held table.now) call.now.call.owner call.now.call.act next → (call.now.call.is_last ≡ true → AreOthersTaken «open».now taken.now call.now) → result ≡ true }
+{
     call.changes()
         && call.is_left(taken)
         && may_end_owner(open, taken, call)
@@ -66,15 +141,24 @@ fn may_come(table: &LockTable, open: &[OpenCall], taken: &[usize], call: &OpenCa
 }
 
 // Whether no other call of its owner has to come before it: each that has a reply does before an exit.
-fn may_end_owner(open: &[OpenCall], taken: &[usize], call: &OpenCall) -> bool {
-    !call.call.is_last
-        || !open.iter().any(|other| other.is_beside(call)
-            && other.call.end.is_some()
-            && !taken.contains(&other.index))
+fn may_end_owner(open: &[OpenCall], taken: &[usize], call: &OpenCall) -> bool
+    ensures { (call.now.call.is_last ≡ true → AreOthersTaken «open».now taken.now call.now) → result ≡ true }
+{
+    if !call.call.is_last {
+        return true;
+    }
+    for other in open {
+        if other.is_beside(call) && other.call.end.is_some() && !taken.contains(&other.index) {
+            return false;
+        }
+    }
+    true
 }
 
 // Whether no lock of another owner is in the way of a call that changes locks.
-fn is_allowed(table: &LockTable, call: &OpenCall) -> bool {
+fn is_allowed(table: &LockTable, call: &OpenCall) -> bool
+    ensures { (next : Locks) → ActStep the_file (held table.now) call.now.call.owner call.now.call.act next → result ≡ true }
+{
     match call.call.act {
         Act::Locks { mode, span } => is_free(table, call.call.owner, span, mode),
         _ => true,

@@ -1,5 +1,10 @@
 //! Tables that the search came to.
-ghost use Rattle.std.specs.Prelude.{◌≡◌};
+ghost use Rattle.std.specs.Prelude.{◌≡◌, ℕ, true, false, [], IfOk, IsTrue, ◌↔◌};
+ghost use Rattle.model.specs.Locks.{Locks, no_locks};
+ghost use Rattle.lock_table.specs.Rows.{held};
+ghost use Rattle.client_history.specs.Acts.{ActStep};
+ghost use Rattle.client_history.specs.Explained.{the_file, Stands};
+ghost use Rattle.client_history.specs.Taken.{IsAlsoTaken};
 
 use crate::follow::follow;
 use crate::open_call::OpenCall;
@@ -18,7 +23,10 @@ pub(crate) struct Front {
 
 impl Front {
     /// No call was taken, and no lock is held.
-    pub(crate) fn new(alloc: Global) -> Self {
+    pub(crate) fn new(alloc: Global) -> Self
+        ensures locks { held result.table ≡ no_locks }
+        ensures taken { result.taken.items ≡ [] }
+    {
         Front {
             table: LockTable::new(alloc, usize::MAX),
             taken: Vec::new(alloc),
@@ -30,7 +38,10 @@ impl Front {
     ///
     /// # Errors
     /// `AllocError`.
-    pub(crate) fn copy(&self) -> Result<Self, AllocError> {
+    pub(crate) fn copy(&self) -> Result<Self, AllocError>
+        ensures locks { IfOk result (λ copy. held copy.table ≡ held self.now.table) }
+        ensures taken { IfOk result (λ copy. copy.taken.items ≡ self.now.taken.items) }
+    {
         Ok(Front {
             table: self.table.copy()?,
             taken: self.taken.clone()?,
@@ -39,7 +50,10 @@ impl Front {
     }
 
     /// Whether both took the same calls and have the same locks.
-    pub(crate) fn same(&self, other: &Self) -> bool {
+    pub(crate) fn same(&self, other: &Self) -> bool
+        ensures locks { IsTrue result → held self.now.table ≡ held other.now.table }
+        ensures taken { IsTrue result → self.now.taken.items ≡ other.now.taken.items }
+    {
         self.taken == other.taken && self.table.same(&other.table)
     }
 
@@ -52,7 +66,12 @@ impl Front {
     ///
     /// # Errors
     /// `AllocError`.
-    pub(crate) fn take(&mut self, open: &OpenCall, paths: &mut Paths) -> Result<bool, AllocError> {
+    pub(crate) fn take(&mut self, open: &OpenCall, paths: &mut Paths) -> Result<bool, AllocError>
+        ensures taken { IfOk result (λ did. did ≡ true → ActStep the_file (held self.old.table) «open».now.call.owner «open».now.call.act (held self.new.table)) }
+        ensures noted { IfOk result (λ did. did ≡ true → IsAlsoTaken «open».now.index self.old.taken.items self.new.taken.items) }
+        ensures never { IfOk result (λ did. did ≡ false → (next : Locks) → ActStep the_file (held self.old.table) «open».now.call.owner «open».now.call.act next → ⊥) }
+        ensures stays { IfOk result (λ did. did ≡ false → (held self.new.table ≡ held self.old.table) × (self.new.taken.items ≡ self.old.taken.items)) }
+    {
         if !follow(&mut self.table, open.call.owner, &open.call.act)? {
             return Ok(false);
         }
@@ -62,34 +81,11 @@ impl Front {
         Ok(true)
     }
 
-    /// Takes the call, if it asks only, is left and may be here.
-    ///
-    /// # Errors
-    /// `AllocError`.
-    pub(crate) fn ask(&mut self, open: &OpenCall, paths: &mut Paths) -> Result<(), AllocError> {
-        if !open.changes() && open.is_left(&self.taken) {
-            self.take(open, paths)?;
-        }
-        Ok(())
-    }
-
-    /// Takes each call that asks only, is left and may be here.
-    ///
-    /// # Errors
-    /// `AllocError`.
-    pub(crate) fn ask_all(
-        &mut self,
-        open: &[OpenCall],
-        paths: &mut Paths,
-    ) -> Result<(), AllocError> {
-        for call in open {
-            self.ask(call, paths)?;
-        }
-        Ok(())
-    }
-
     /// Forgets calls that are over.
-    pub(crate) fn forget(&mut self, over: &[usize]) {
+    pub(crate) fn forget(&mut self, over: &[usize])
+        ensures locks { held self.new.table ≡ held self.old.table }
+        ensures taken { (i : ℕ) → Stands self.new.taken.items i ↔ (Stands self.old.taken.items i × (Stands over.now i → ⊥)) }
+    {
         self.taken.retain(|index| !over.contains(index));
     }
 }

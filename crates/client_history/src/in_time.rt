@@ -1,6 +1,6 @@
 //! Whether calls stand between their begins and their ends.
 ghost use Rattle.std.specs.Prelude.{◌≡◌, ◌<◌, ℕ, IsTrue, ◌↔◌, length, Some};
-ghost use Rattle.client_history.specs.Explained.{AreWithin, AreInTime, EndsBefore};
+ghost use Rattle.client_history.specs.Explained.{AreWithin, AreInTime, EndsBefore, HaveBegun};
 
 use crate::client_call::ClientCall;
 
@@ -27,6 +27,20 @@ pub(crate) fn are_in_time(calls: &[ClientCall], order: &[usize]) -> bool
         }
         if latest < call.begin {
             latest = call.begin;
+        }
+    }
+    true
+}
+
+/// Whether each call of the order began by that time.
+pub(crate) fn have_begun(calls: &[ClientCall], order: &[usize], time: u64) -> bool
+    requires { AreWithin (length calls.now) order.now }
+    ensures { IsTrue result ↔ HaveBegun time calls.now order.now }
+{
+    for i in order {
+        let call = &calls[*i];
+        if time < call.begin {
+            return false;
         }
     }
     true

@@ -1,25 +1,33 @@
 //! Whether one table explains a history.
-ghost use Rattle.std.specs.Prelude.{IfOk};
-ghost use Rattle.client_history.specs.Verdicts.{IsVerdict};
+ghost use Rattle.std.specs.Prelude.{IfOk, IsTrue};
+ghost use Rattle.client_history.specs.Prefixes.{AreOrdered};
+ghost use Rattle.client_history.specs.Search.{AreSound};
+ghost use Rattle.client_history.specs.Verdicts.{AreExplainedBefore, IsUnexplainedFrom, IsVerdict};
 
+use crate::answered::ended_by;
 use crate::client_call::ClientCall;
-use crate::explains::explains;
-use crate::search::order_of;
+use crate::explains::{explains, explains_by};
+use crate::search::look_for_order;
+use crate::sound::are_sound;
 use crate::verdict::Verdict;
 use std::alloc::{AllocError, Global};
 
-/// Searches for an order of the calls by which one table of record locks explains what the clients of a file
-/// saw. `steps` is how many tables the search may look at. Where it finds no order it says how far it went; an
-/// order that it finds is one, by `explains`.
+/// Whether one table of record locks explains what the clients of a file saw. An order that it gives does, by
+/// `explains`; where it says that none does up to the end of a call, none is there, and up to each time before that end
+/// one is, by `explains_by`. `steps` is how many tables it may look at before it gives up.
 ///
 /// # Errors
 /// `AllocError`.
 pub fn judge(alloc: Global, calls: &[ClientCall], steps: u64) -> Result<Verdict, AllocError>
     ensures { IfOk result (λ verdict. IsVerdict calls.now verdict) }
 {
-    match order_of(alloc, calls, steps)? {
-        Ok(order) => checked(alloc, calls, order),
-        Err(call) => Ok(Verdict::Unknown { call }),
+    if !are_sound(calls) {
+        return Ok(Verdict::Unknown { call: calls.len() });
+    }
+    match look_for_order(alloc, calls, steps)? {
+        Verdict::Explained { order } => checked(alloc, calls, order),
+        Verdict::Unexplained { call, ways } => unexplained(alloc, calls, call, ways),
+        Verdict::Unknown { call } => Ok(Verdict::Unknown { call }),
     }
 }
 
@@ -31,4 +39,56 @@ fn checked(alloc: Global, calls: &[ClientCall], order: Vec<usize>) -> Result<Ver
         return Ok(Verdict::Explained { order });
     }
     Ok(Verdict::Unknown { call: calls.len() })
+}
+
+// What is said where the search found that no order explains the calls up to the end of this one, and went these ways
+// before.
+fn unexplained(
+    alloc: Global,
+    calls: &[ClientCall],
+    call: usize,
+    ways: Vec<Vec<usize>>,
+) -> Result<Verdict, AllocError>
+    requires sound { AreSound calls.now }
+    requires from { IsUnexplainedFrom calls.now call }
+    ensures { IfOk result (λ verdict. IsVerdict calls.now verdict) }
+{
+    if let Some(end) = calls[call].end {
+        if are_explained_before(alloc, calls, end, &ways)? {
+            return Ok(Verdict::Unexplained { call, ways });
+        }
+    }
+    Ok(Verdict::Unknown { call })
+}
+
+// Whether the front of some way explains the calls up to each time before that one.
+fn are_explained_before(
+    alloc: Global,
+    calls: &[ClientCall],
+    end: u64,
+    ways: &[Vec<usize>],
+) -> Result<bool, AllocError>
+    requires { AreOrdered calls.now }
+    ensures { IfOk result (λ yes. IsTrue yes → AreExplainedBefore end calls.now) }
+{
+    let Some(time) = end.checked_sub(1) else {
+        return Ok(true);
+    };
+    for way in ways {
+        if explains_by(alloc, calls, front_by(calls, way, time), time)? {
+            return Ok(true);
+        }
+    }
+    Ok(false)
+}
+
+// The front of the way up to its last call that ended by that time.
+fn front_by<'a>(calls: &[ClientCall], way: &'a [usize], time: u64) -> &'a [usize] {
+    let mut count = 0;
+    for (place, i) in way.iter().enumerate() {
+        if calls.get(*i).is_some_and(|call| ended_by(call, time)) {
+            count = place + 1;
+        }
+    }
+    &way[..count]
 }

@@ -3,23 +3,28 @@
 
 pub mod act;
 mod answered;
+mod asked;
 pub mod client_call;
-mod event;
+mod closing;
+mod ending;
 mod exits;
 pub mod explains;
 mod first_calls;
 mod follow;
 mod front;
+mod front_list;
 mod in_time;
 pub mod judge;
 pub mod laws;
 mod legal;
 mod marks;
+mod moment;
 mod needs;
 mod open_call;
 mod owner_calls;
 mod paths;
 mod search;
+mod sound;
 #[cfg(test)]
 mod tests;
 pub mod told_lock;

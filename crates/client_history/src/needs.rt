@@ -1,4 +1,14 @@
 //! What calls need of one another.
+ghost use Rattle.std.specs.Prelude.{◌≡◌, ◌≢◌, ◌⊎◌, Some, None, true, false, IfOk, IsTrue, MatchOption, ◌↔◌};
+ghost use Rattle.model.specs.Locks.{IsInWay};
+ghost use Rattle.lock_table.specs.Rows.{held};
+ghost use Rattle.client_history.specs.Acts.{ActStep};
+ghost use Rattle.client_history.specs.ClosedSets.{FindsNoLock, IsHeldUp, IsNotDenied, IsNeeded};
+ghost use Rattle.client_history.specs.Explained.{the_file};
+ghost use Rattle.client_history.specs.FirstCalls.{LetsGo, HasRival, IsBarred, IsUntold, MayDeny, MayComeBefore};
+ghost use Rattle.client_history.specs.Moves.{AsksOnly, Meet};
+ghost use Rattle.client_history.specs.OpenCalls.{IsLeftOf};
+
 use crate::act::Act;
 use crate::follow::{FILE, is_in_way};
 use crate::open_call::OpenCall;
@@ -7,7 +17,33 @@ use intervals::span::Span;
 use lock_table::lock_table::LockTable;
 use model::lock_info::LockInfo;
 use model::mode::Mode;
+use model::owner::Owner;
 use std::alloc::AllocError;
+
+/// Whether the call may be denied here, where its client was told nothing of the lock.
+pub(crate) fn is_denied(table: &LockTable, call: &OpenCall) -> bool
+    ensures yes { result ≡ true → AsksOnly call.now.call.act × ActStep the_file (held table.now) call.now.call.owner call.now.call.act (held table.now) }
+    ensures no { result ≡ false → IsNotDenied (held table.now) call.now.call.owner call.now.call.act }
+{
+    let Act::IsDenied { mode, span, told } = call.call.act else {
+        return false;
+    };
+    if !is_untold(&told) {
+        return false;
+    }
+    let _ = &span.lo; // tells the proof that the span has a byte
+    match table.blocker(call.call.owner, FILE, span, mode) {
+        Some(_) => true,
+        None => false,
+    }
+}
+
+// Whether a client was told nothing of the lock.
+fn is_untold(told: &ToldLock) -> bool
+    ensures { IsTrue result ↔ IsUntold told.now }
+{
+    told.mode.is_none() && told.span.is_none() && told.owner.is_none()
+}
 
 /// Of the locks in the way of a call that needs its bytes free, the one that the fewest open calls release.
 ///
@@ -18,35 +54,66 @@ pub(crate) fn least_kept(
     open: &[OpenCall],
     taken: &[usize],
     call: &OpenCall,
-) -> Result<Option<LockInfo>, AllocError> {
-    let (mode, span) = match call.call.act {
-        Act::Locks { mode, span } | Act::IsFree { mode, span } => (mode, span),
-        _ => return Ok(None),
+) -> Result<Option<LockInfo>, AllocError>
+    ensures { IfOk result (λ kept. MatchOption kept (FindsNoLock (held table.now) call.now.call.owner call.now.call.act) (IsHeldUp (held table.now) call.now.call.owner call.now.call.act)) }
+{
+    let (Act::Locks { mode, span } | Act::IsFree { mode, span }) = call.call.act else {
+        return Ok(None);
     };
-    let mut least = usize::MAX;
-    let mut kept = None;
+    let _ = &span.lo; // tells the proof that the span has a byte
+    let Some(lowest) = table.blocker(call.call.owner, FILE, span, mode) else {
+        return Ok(None);
+    };
+    let mut kept = lowest;
+    let mut least = count_of(&lowest, open, taken);
     for lock in &table.locks(FILE)? {
-        if lock.owner == call.call.owner || !is_in_way(lock, span, mode) {
+        if !is_in_its_way(lock, call.call.owner, span, mode) {
             continue;
         }
         let count = count_of(lock, open, taken);
-        if kept.is_none() || count < least {
+        if count < least {
             least = count;
-            kept = Some(*lock);
+            kept = *lock;
         }
     }
-    Ok(kept)
+    Ok(Some(kept))
+}
+
+// Whether the lock is of another owner and in the way.
+fn is_in_its_way(lock: &LockInfo, owner: Owner, span: Span, mode: Mode) -> bool
+    ensures { IsTrue result ↔ ((lock.now.owner ≢ owner) × IsInWay span mode lock.now) }
+{
+    lock.owner != owner && is_in_way(lock, span, mode)
 }
 
 // How many of the calls that are left release the lock.
 fn count_of(lock: &LockInfo, open: &[OpenCall], taken: &[usize]) -> usize {
     open.iter()
-        .filter(|call| call.is_left(taken) && releases(lock, call))
+        .filter(|call| releases(lock, call) && call.is_left(taken))
         .count()
 }
 
-/// Whether the call takes bytes of the lock from its owner, or lets others read them.
-pub(crate) fn releases(lock: &LockInfo, call: &OpenCall) -> bool {
+/// Whether the call needs the other one, which releases the lock that is kept in its way, or, where none is, may have
+/// to come before it.
+pub(crate) fn needs(
+    open: &[OpenCall],
+    taken: &[usize],
+    call: &OpenCall,
+    kept: &Option<LockInfo>,
+    other: &OpenCall,
+) -> bool
+    ensures { IsTrue result ↔ IsNeeded (IsLeftOf «open».now taken.now) call.now.call kept.now other.now.index other.now.call }
+{
+    match kept {
+        Some(lock) => releases(lock, other),
+        None => is_met_by(open, taken, call, other),
+    }
+}
+
+// Whether the call takes bytes of the lock from its owner, or lets others read them.
+fn releases(lock: &LockInfo, call: &OpenCall) -> bool
+    ensures { IsTrue result ↔ LetsGo lock.now call.now.call.owner call.now.call.act }
+{
     if call.call.owner != lock.owner {
         return false;
     }
@@ -58,14 +125,11 @@ pub(crate) fn releases(lock: &LockInfo, call: &OpenCall) -> bool {
     }
 }
 
-/// Whether the other call may have to come before the call, where no lock is in its way: one of its owner, one that
-/// its lock would bar, or one that makes the lock by which it is denied.
-pub(crate) fn is_met_by(
-    open: &[OpenCall],
-    taken: &[usize],
-    call: &OpenCall,
-    other: &OpenCall,
-) -> bool {
+// Whether the other call may have to come before the call, where no lock is in its way: one of its owner, one that
+// its lock would bar, or one that makes the lock by which it is denied.
+fn is_met_by(open: &[OpenCall], taken: &[usize], call: &OpenCall, other: &OpenCall) -> bool
+    ensures { IsTrue result ↔ MayComeBefore (IsLeftOf «open».now taken.now) call.now.call other.now.index other.now.call }
+{
     if other.call.owner == call.call.owner {
         return call.changes() && (call.call.is_last || other.changes());
     }
@@ -78,7 +142,9 @@ pub(crate) fn is_met_by(
 
 // Whether the lock would bar the call: a query that found bytes of it free, or a lock of an owner with another
 // change.
-fn is_barred(open: &[OpenCall], taken: &[usize], call: &OpenCall, span: Span, mode: Mode) -> bool {
+fn is_barred(open: &[OpenCall], taken: &[usize], call: &OpenCall, span: Span, mode: Mode) -> bool
+    ensures { IsTrue result ↔ IsBarred (IsLeftOf «open».now taken.now) mode span call.now.index call.now.call.owner call.now.call.act }
+{
     match call.call.act {
         Act::IsFree {
             mode: asked,
@@ -93,12 +159,21 @@ fn is_barred(open: &[OpenCall], taken: &[usize], call: &OpenCall, span: Span, mo
 }
 
 // Whether another change of its owner is left.
-fn has_rival(open: &[OpenCall], taken: &[usize], call: &OpenCall) -> bool {
-    open.iter().any(|other| other.is_beside(call) && other.changes() && other.is_left(taken))
+fn has_rival(open: &[OpenCall], taken: &[usize], call: &OpenCall) -> bool
+    ensures { IsTrue result ↔ HasRival (IsLeftOf «open».now taken.now) call.now.index call.now.call.owner }
+{
+    for other in open {
+        if other.is_beside(call) && other.changes() && other.is_left(taken) {
+            return true;
+        }
+    }
+    false
 }
 
 // Whether the call may make the lock that denied another owner, of which that was told.
-fn may_deny(call: &OpenCall, span: Span, mode: Mode, told: &ToldLock) -> bool {
+fn may_deny(call: &OpenCall, span: Span, mode: Mode, told: &ToldLock) -> bool
+    ensures { IsTrue result ↔ (MayDeny mode span told.now call.now.call.act × ((told.now.owner ≡ None) ⊎ (told.now.owner ≡ Some call.now.call.owner))) }
+{
     if let Some(owner) = told.owner {
         return owner == call.call.owner && call.changes();
     }
@@ -115,6 +190,8 @@ fn may_deny(call: &OpenCall, span: Span, mode: Mode, told: &ToldLock) -> bool {
 }
 
 // Whether the two spans have a byte in common.
-fn meet(one: Span, other: Span) -> bool {
+fn meet(one: Span, other: Span) -> bool
+    ensures { IsTrue result ↔ Meet one other }
+{
     one.lo <= other.hi && other.lo <= one.hi
 }

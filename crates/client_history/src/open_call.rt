@@ -1,4 +1,9 @@
 //! Calls that have begun.
+ghost use Rattle.std.specs.Prelude.{◌≡◌, ◌≢◌, true, false, IsTrue, ◌↔◌};
+ghost use Rattle.client_history.specs.Moves.{AsksOnly};
+ghost use Rattle.client_history.specs.FirstCalls.{Changes};
+ghost use Rattle.client_history.specs.OpenCalls.{IsLeft};
+
 use crate::client_call::ClientCall;
 use crate::owner_calls::changes;
 
@@ -12,12 +17,17 @@ pub(crate) struct OpenCall {
 
 impl OpenCall {
     /// Whether the call changes locks; else it asks only.
-    pub(crate) fn changes(&self) -> bool {
+    pub(crate) fn changes(&self) -> bool
+        ensures changes { IsTrue result ↔ Changes self.now.call.act }
+        ensures asks { result ≡ false → AsksOnly self.now.call.act }
+    {
         changes(&self.call.act)
     }
 
     /// Whether the call is neither taken yet nor barred by its owner's exit.
-    pub(crate) fn is_left(&self, taken: &[usize]) -> bool {
+    pub(crate) fn is_left(&self, taken: &[usize]) -> bool
+        ensures { IsTrue result ↔ IsLeft self.now taken.now }
+    {
         if taken.contains(&self.index) {
             return false;
         }
@@ -28,7 +38,9 @@ impl OpenCall {
     }
 
     /// Whether both are calls of one owner, and not the same one.
-    pub(crate) fn is_beside(&self, other: &OpenCall) -> bool {
+    pub(crate) fn is_beside(&self, other: &OpenCall) -> bool
+        ensures { IsTrue result ↔ ((self.now.index ≢ other.now.index) × (self.now.call.owner ≡ other.now.call.owner)) }
+    {
         self.index != other.index && self.call.owner == other.call.owner
     }
 }

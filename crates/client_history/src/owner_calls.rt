@@ -1,15 +1,21 @@
 //! What is known of the calls of each owner.
+ghost use Rattle.std.specs.Prelude.{◌≡◌, ℕ, ◌≤◌, false, List, slice_get, Some, IfOk, IfSome, IsTrue, OnOk, ◌↔◌};
+ghost use Rattle.client_history.specs.declared.client_call.ClientCall.{ClientCall as SomeCall};
+ghost use Rattle.client_history.specs.FirstCalls.{Changes};
+ghost use Rattle.client_history.specs.Moments.{IsBeginOf};
+ghost use Rattle.client_history.specs.Moves.{AsksOnly};
+ghost use Rattle.client_history.specs.OwnerCalls.{AreOwnerCalls, IsExitOfOwner, IsKnownOf};
+
 use crate::act::Act;
 use crate::client_call::ClientCall;
 use indexmap::IndexMap;
 use model::owner::Owner;
 use std::alloc::{AllocError, Global};
 
-// Of one owner: its exit, by index, and when it ended; and the latest begin of its calls that have a reply.
+// Of one owner: its exit, by index, and the latest begin of its calls that have a reply, or 0.
 #[derive(Clone, Copy)]
 struct Known {
     exit: Option<usize>,
-    end: Option<u64>,
     latest: u64,
 }
 
@@ -24,62 +30,70 @@ impl OwnerCalls {
     ///
     /// # Errors
     /// `AllocError`.
-    pub(crate) fn new(alloc: Global, calls: &[ClientCall]) -> Result<Self, AllocError> {
-        let mut known = IndexMap::new(alloc);
+    pub(crate) fn new(alloc: Global, calls: &[ClientCall]) -> Result<Self, AllocError>
+        ensures { IfOk result (λ owners. AreOwnerCalls calls.now owners) }
+    {
+        let mut owners = OwnerCalls {
+            known: IndexMap::new(alloc),
+        };
         for (index, call) in calls.iter().enumerate() {
-            let before = match known.get(&call.owner) {
-                Some(before) => *before,
-                None => Known {
-                    exit: None,
-                    end: None,
-                    latest: 0,
-                },
-            };
-            known.insert(call.owner, with_call(before, index, call))?;
+            owners.add(index, call)?;
         }
-        Ok(OwnerCalls { known })
+        Ok(owners)
     }
 
-    fn of(&self, owner: Owner) -> Option<Known> {
-        self.known.get(&owner).copied()
+    // One more call is known.
+    fn add(&mut self, index: usize, call: &ClientCall) -> Result<(), AllocError>
+        ensures { OnOk result ((calls : List SomeCall) → slice_get calls index ≡ Some call.now → AreOwnerCalls calls self.old → AreOwnerCalls calls self.new) }
+    {
+        let known = with_call(self.of(call.owner), index, call);
+        self.known.insert(call.owner, known)?;
+        Ok(())
+    }
+
+    // What is known of the owner: nothing where no call of it is known.
+    fn of(&self, owner: Owner) -> Known
+        ensures { (calls : List SomeCall) → AreOwnerCalls calls self.now → IsKnownOf calls owner result }
+    {
+        match self.known.get(&owner) {
+            Some(known) => *known,
+            None => Known {
+                exit: None,
+                latest: 0,
+            },
+        }
     }
 
     /// The owner's exit, by index.
-    pub(crate) fn exit_of(&self, owner: Owner) -> Option<usize> {
-        match self.of(owner) {
-            Some(known) => known.exit,
-            None => None,
-        }
+    pub(crate) fn exit_of(&self, owner: Owner) -> Option<usize>
+        ensures { (calls : List SomeCall) → AreOwnerCalls calls self.now → IfSome result (λ exit. IsExitOfOwner calls exit owner) }
+    {
+        self.of(owner).exit
     }
 
-    /// When the call begins at the earliest: an exit stands behind each call of its owner that has a reply.
-    pub(crate) fn begin_of(&self, call: &ClientCall) -> u64 {
-        match self.of(call.owner) {
-            Some(known) if call.is_last => call.begin.max(known.latest),
-            _ => call.begin,
+    /// When the call is looked at first: when it begins; an exit not before the last call of its owner that has a
+    /// reply, and no later than it ends.
+    pub(crate) fn begin_of(&self, call: &ClientCall) -> u64
+        ensures { (calls : List SomeCall) → AreOwnerCalls calls self.now → ((end : ℕ) → call.now.end ≡ Some end → call.now.begin ≤ end) → IsBeginOf calls call.now result }
+    {
+        if !call.is_last {
+            return call.begin;
         }
-    }
-
-    /// Whether the call has to be looked at: one without a reply that asks only, or that begins behind its
-    /// owner's exit, does not.
-    pub(crate) fn may_stand(&self, call: &ClientCall) -> bool {
-        if call.end.is_some() {
-            return true;
+        let latest = call.begin.max(self.of(call.owner).latest);
+        match call.end {
+            Some(end) => latest.min(end),
+            None => latest,
         }
-        let gone = match self.of(call.owner) {
-            Some(known) => known.end,
-            None => None,
-        };
-        changes(&call.act) && gone.is_none_or(|end| call.begin <= end)
     }
 }
 
 // What is known of an owner with one more call.
-fn with_call(before: Known, index: usize, call: &ClientCall) -> Known {
+fn with_call(before: Known, index: usize, call: &ClientCall) -> Known
+    ensures { (calls : List SomeCall) → slice_get calls index ≡ Some call.now → IsKnownOf calls call.now.owner before → IsKnownOf calls call.now.owner result }
+{
     let mut known = before;
     if call.is_last && known.exit.is_none() {
         known.exit = Some(index);
-        known.end = call.end;
     }
     if call.end.is_some() {
         known.latest = known.latest.max(call.begin);
@@ -88,7 +102,10 @@ fn with_call(before: Known, index: usize, call: &ClientCall) -> Known {
 }
 
 /// Whether the act changes locks; else it asks only.
-pub(crate) fn changes(act: &Act) -> bool {
+pub(crate) fn changes(act: &Act) -> bool
+    ensures changes { IsTrue result ↔ Changes act.now }
+    ensures asks { result ≡ false → AsksOnly act.now }
+{
     match act {
         Act::Locks { .. } | Act::Frees { .. } | Act::Drops => true,
         Act::IsDenied { .. } | Act::IsFree { .. } => false,

@@ -1,190 +1,182 @@
 //! The search for an order.
+ghost use Rattle.std.specs.Prelude.{◌≡◌, ◌<◌, ◌≤◌, ◌++◌, ◌∷◌, [], ℕ, IfOk, List, length, slice_get, Some};
+ghost use Rattle.model.specs.Locks.{no_locks};
+ghost use Rattle.lock_table.specs.Rows.{held};
+ghost use Rattle.client_history.specs.declared.client_call.ClientCall.{ClientCall as SomeCall};
+ghost use Rattle.client_history.specs.declared.front.Front.{Front as SomeFront};
+ghost use Rattle.client_history.specs.declared.moment.Moment.{Moment as SomeMoment};
+ghost use Rattle.client_history.specs.Moments.{AreByTime};
+ghost use Rattle.client_history.specs.OwnerCalls.{AreOwnerCalls};
+ghost use Rattle.client_history.specs.Reached.{GoesTo, GoesPast};
+ghost use Rattle.client_history.specs.Search.{AreSound};
+ghost use Rattle.client_history.specs.Verdicts.{IsSearched};
+
 use crate::client_call::ClientCall;
-use crate::event::events_of;
-use crate::first_calls::first_calls;
+use crate::closing::{forget_each, over_of, without};
+use crate::ending::{Ending, settle};
 use crate::front::Front;
+use crate::front_list::ask_each;
+use crate::moment::{Moment, begins_of, ends_of};
 use crate::open_call::OpenCall;
 use crate::owner_calls::OwnerCalls;
 use crate::paths::Paths;
 use crate::verdict::Verdict;
 use std::alloc::{AllocError, Global};
 
-// The search up to some time: the calls that are open then, and the tables that those before may have led to.
-#[derive(Drop)]
-struct Search {
-    alloc: Global,
+/// The calls of a history, what is known of their owners, and when they begin.
+#[derive(Clone, Copy)]
+pub(crate) struct Begins<'a> {
+    pub calls: &'a [ClientCall],
+    pub owners: &'a OwnerCalls,
+    pub moments: &'a [Moment],
+}
+
+// The calls begin that do so by that time, from the one with that number on: where one asks only, it is taken in each
+// front that allows it. The open calls with these, and how many have begun.
+fn begin_by(
+    begins: &Begins,
+    from: usize,
+    time: u64,
     open: Vec<OpenCall>,
-    fronts: Vec<Front>,
-    paths: Paths,
-}
-
-// Adds the front, unless an equal one is there.
-fn add_front(fronts: &mut Vec<Front>, front: Front) -> Result<(), AllocError> {
-    if fronts.iter().any(|other| other.same(&front)) {
-        return Ok(());
-    }
-    fronts.push(front)?;
-    Ok(())
-}
-
-// Takes out one of the fronts that took the fewest calls, so that equal ones are met before either goes on.
-fn take_shortest(fronts: &mut Vec<Front>) -> Option<Front> {
-    let mut best = 0;
-    let mut least = usize::MAX;
-    for (index, front) in fronts.iter().enumerate() {
-        if front.taken.len() < least {
-            best = index;
-            least = front.taken.len();
+    fronts: &mut [Front],
+    paths: &mut Paths,
+) -> Result<(Vec<OpenCall>, usize), AllocError>
+    requires { AreOwnerCalls begins.now.calls.now begins.now.owners.now }
+    ensures len { length fronts.new ≡ length fronts.old }
+    ensures to { IfOk result (λ r. GoesTo time from «open».items fronts.old r.1 r.0.items fronts.new begins.now.calls.now begins.now.moments.now) }
+    ensures later { IfOk result (λ r. AreByTime begins.now.moments.now → (k : ℕ) (moment : SomeMoment) → r.1 ≤ k → slice_get begins.now.moments.now k ≡ Some moment → time < moment.time) }
+{
+    let mut open = open;
+    let mut next = from;
+    while let Some(moment) = begins.moments.get(next) {
+        if time < moment.time {
+            break;
         }
-    }
-    if best < fronts.len() {
-        Some(fronts.swap_remove(best))
-    } else {
-        None
-    }
-}
-
-// Takes the call in each front in which it asks only, is left and may be.
-fn ask_each(fronts: &mut [Front], call: &OpenCall, paths: &mut Paths) -> Result<(), AllocError> {
-    for front in fronts.iter_mut() {
-        front.ask(call, paths)?;
-    }
-    Ok(())
-}
-
-impl Search {
-    fn new(alloc: Global) -> Result<Self, AllocError> {
-        let mut fronts = Vec::new(alloc);
-        fronts.push(Front::new(alloc))?;
-        Ok(Search {
-            alloc,
-            open: Vec::new(alloc),
-            fronts,
-            paths: Paths::new(alloc),
-        })
-    }
-
-    // The call begins: where it asks only, it is taken in each table that allows it.
-    fn begin(
-        &mut self,
-        index: usize,
-        call: &ClientCall,
-        exit: Option<usize>,
-    ) -> Result<(), AllocError> {
-        let open = OpenCall {
-            index,
-            call: *call,
-            exit,
-        };
-        ask_each(&mut self.fronts, &open, &mut self.paths)?;
-        self.open.push(open)?;
-        Ok(())
-    }
-
-    // Adds the tables to which the first calls lead from this one.
-    fn branch(
-        &mut self,
-        front: Front,
-        end: usize,
-        queue: &mut Vec<Front>,
-    ) -> Result<(), AllocError> {
-        let mut first = first_calls(self.alloc, &front.table, &self.open, &front.taken, end)?;
-        let Some(last) = first.pop() else {
-            return Ok(());
-        };
-        for call in &first {
-            let next = front.copy()?;
-            self.go(next, call, queue)?;
-        }
-        self.go(front, &last, queue)
-    }
-
-    // Adds the table to which the call leads.
-    fn go(
-        &mut self,
-        front: Front,
-        call: &OpenCall,
-        queue: &mut Vec<Front>,
-    ) -> Result<(), AllocError> {
-        let mut next = front;
-        if next.take(call, &mut self.paths)? {
-            next.ask_all(&self.open, &mut self.paths)?;
-            add_front(queue, next)?;
-        }
-        Ok(())
-    }
-
-    // The call ends: each table goes on until it is taken. How many steps of so many are left, or none where they are not enough.
-    fn settle(&mut self, end: usize, steps: u64) -> Result<u64, AllocError> {
-        let mut queue = std::mem::replace(&mut self.fronts, Vec::new(self.alloc));
-        let mut left = steps;
-        while left > 0 {
-            let Some(front) = take_shortest(&mut queue) else {
-                break;
+        if let Some(call) = begins.calls.get(moment.call) {
+            let one = OpenCall {
+                index: moment.call,
+                call: *call,
+                exit: begins.owners.exit_of(call.owner),
             };
-            left -= 1;
-            if front.taken.contains(&end) {
-                add_front(&mut self.fronts, front)?;
-            } else {
-                self.branch(front, end, &mut queue)?;
-            }
+            ask_each(fronts, &one, paths)?;
+            open.push(one)?;
         }
-        Ok(left)
+        next += 1;
     }
-
-    // Forgets the call, and where it is an exit what its owner has left open.
-    fn close(&mut self, end: usize) -> Result<(), AllocError> {
-        let mut over = Vec::new(self.alloc);
-        for call in &self.open {
-            if call.index == end || (call.exit == Some(end) && call.call.end.is_none()) {
-                over.push(call.index)?;
-            }
-        }
-        self.open.retain(|call| !over.contains(&call.index));
-        for front in self.fronts.iter_mut() {
-            front.forget(&over);
-        }
-        Ok(())
-    }
+    Ok((open, next))
 }
 
-// The way of one of the tables that are left, once all calls have ended.
-fn first_order(search: &Search) -> Result<Option<Vec<usize>>, AllocError> {
-    match search.fronts.first() {
-        Some(front) => Ok(Some(search.paths.order_of(front.path())?)),
-        None => Ok(None),
-    }
+// The call ends: each front goes on until it is taken, while steps are left, and what is over is forgotten. The calls
+// that are open still.
+fn end(
+    alloc: Global,
+    end: usize,
+    open: &[OpenCall],
+    fronts: &mut Vec<Front>,
+    paths: &mut Paths,
+    left: &mut u64,
+) -> Result<Vec<OpenCall>, AllocError>
+    ensures { IfOk result (λ still. 0 < left.new → GoesPast end «open».now fronts.old.items still.items fronts.new.items) }
+{
+    let old = std::mem::replace(fronts, Vec::new(alloc));
+    let ending = Ending { alloc, open, end };
+    let mut new = settle(&ending, old, paths, left)?;
+    let over = over_of(alloc, open, end)?;
+    forget_each(&mut new, &over);
+    *fronts = new;
+    let still = without(alloc, open, &over)?;
+    Ok(still)
 }
 
-/// An order of the calls that the search takes for one that explains them, each call by its index; or the
-/// index of the call at whose end it was left with none, or out of steps.
+// The last steps of the ways to the first three fronts.
+fn some_ends(fronts: &[Front]) -> [usize; 3] {
+    let mut ends = [0; 3];
+    for place in 0..3 {
+        if let Some(front) = fronts.get(place) {
+            ends[place] = front.path();
+        }
+    }
+    ends
+}
+
+// The ways with these last steps.
+fn ways_to(alloc: Global, paths: &Paths, ends: [usize; 3]) -> Result<Vec<Vec<usize>>, AllocError> {
+    let mut ways = Vec::new(alloc);
+    for end in &ends {
+        if *end > 0 || ways.is_empty() {
+            ways.push(paths.order_of(*end)?)?;
+        }
+    }
+    Ok(ways)
+}
+
+/// Looks for an order of the calls that explains them, at so many tables at most. An order that it finds is to be
+/// tried by `explains`.
 ///
 /// # Errors
 /// `AllocError`.
-pub(crate) fn order_of(
+pub(crate) fn look_for_order(
     alloc: Global,
     calls: &[ClientCall],
     steps: u64,
-) -> Result<Result<Vec<usize>, usize>, AllocError> {
+) -> Result<Verdict, AllocError>
+    requires { AreSound calls.now }
+    ensures { IfOk result (λ verdict. IsSearched calls.now verdict) }
+{
     let owners = OwnerCalls::new(alloc, calls)?;
-    let mut search = Search::new(alloc)?;
+    let moments = begins_of(alloc, calls, &owners)?;
+    let ends = ends_of(alloc, calls)?;
+    let begins = Begins {
+        calls,
+        owners: &owners,
+        moments: &moments,
+    };
+    let mut open = Vec::new(alloc);
+    let mut fronts = first_fronts(alloc)?;
+    let mut paths = Paths::new(alloc);
     let mut left = steps;
-    for event in &events_of(alloc, calls, &owners)? {
-        let Some(call) = calls.get(event.call) else {
-            continue;
-        };
-        if !event.is_end {
-            search.begin(event.call, call, owners.exit_of(call.owner))?;
-            continue;
+    let mut begun = 0;
+    for end_of in &ends {
+        (open, begun) = begin_by(&begins, begun, end_of.time, open, &mut fronts, &mut paths)?;
+        let before = some_ends(&fronts);
+        open = end(
+            alloc,
+            end_of.call,
+            &open,
+            &mut fronts,
+            &mut paths,
+            &mut left,
+        )?;
+        if left == 0 {
+            return Ok(Verdict::Unknown { call: end_of.call });
         }
-        left = search.settle(event.call, left)?;
-        search.close(event.call)?;
-        if left == 0 || search.fronts.is_empty() {
-            return Ok(Err(event.call));
+        if fronts.is_empty() {
+            return Ok(Verdict::Unexplained {
+                call: end_of.call,
+                ways: ways_to(alloc, &paths, before)?,
+            });
         }
     }
-    match first_order(&search)? {
-        Some(order) => Ok(Ok(order)),
-        None => Ok(Err(calls.len())),
+    order_of(&fronts, &paths, calls.len())
+}
+
+// The one front before all calls.
+fn first_fronts(alloc: Global) -> Result<Vec<Front>, AllocError>
+    ensures { IfOk result (λ fronts. (front : SomeFront) × (fronts.items ≡ front ∷ []) × (held front.table ≡ no_locks) × (front.taken.items ≡ [])) }
+{
+    let mut fronts = Vec::new(alloc);
+    fronts.push(Front::new(alloc))?;
+    Ok(fronts)
+}
+
+// The way to one of the fronts that are left, once all calls have ended.
+fn order_of(fronts: &[Front], paths: &Paths, count: usize) -> Result<Verdict, AllocError>
+    ensures { IfOk result (λ verdict. (calls : List SomeCall) → IsSearched calls verdict) }
+{
+    match fronts.first() {
+        Some(front) => Ok(Verdict::Explained {
+            order: paths.order_of(front.path())?,
+        }),
+        None => Ok(Verdict::Unknown { call: count }),
     }
 }

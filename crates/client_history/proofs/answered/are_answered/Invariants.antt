@@ -1,11 +1,7 @@
 use Rattle.std.proofs.Common.{◌≡◌, ◌<◌, ℕ, true, false, slice_get, get_or, Some}
 use Rattle.client_history.specs.declared.client_call.ClientCall.{ClientCall}
-use Rattle.client_history.specs.Explained.{always, EndedBy}
-use Rattle.client_history.specs.Marks.{IsTimed}
+use Rattle.client_history.specs.Explained.{EndedBy}
 use Rattle.client_history.proofs.answered.are_answered.Given as goal
 
 abbrev pub invariant-loop-i : goal.invariant-loop-i
-invariant-loop-i l = record {
-  marked : (j : ℕ) (call : ClientCall) → j < l.i → slice_get l.calls j ≡ Some call → EndedBy always call → get_or l.marks j false ≡ true;
-  timed : (j : ℕ) (call : ClientCall) → j < l.i → slice_get l.calls j ≡ Some call → IsTimed call;
-}
+invariant-loop-i l = (j : ℕ) (call : ClientCall) → j < l.i → slice_get l.calls j ≡ Some call → EndedBy l.time call → get_or l.marks j false ≡ true

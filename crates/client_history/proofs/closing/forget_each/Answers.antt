@@ -1,0 +1,20 @@
+use Rattle.std.proofs.Common.{length, refl, sym, subst, ◌<◌}
+use Rattle.std.proofs.lemmas.Option.{slice_get_read}
+use Rattle.client_history.specs.declared.front.Front.{Front}
+use Rattle.client_history.specs.Closings.{HasForgotten}
+use Rattle.client_history.proofs.Standing.{each_none, each_more, each_all}
+use Rattle.client_history.proofs.closing.forget_each.Goals as goal
+
+pub loop-front-init : goal.loop-front-init
+loop-front-init c = each_none (HasForgotten c.args.over.now) c.args.fronts.now
+
+pub loop-front-preserved : goal.loop-front-preserved
+loop-front-preserved c =
+    let now = c.loop-front.fronts in
+    let n = c.loop-front.front-index in
+    let within : n < length now = rw c.loop-front.auto.fronts c.loop-front-test.true in
+    let at = slice_get_read now (length now) n c.front-item.result refl within c.front-item.is in
+    each_more (HasForgotten c.args.over.now) c.args.fronts.now now n c.front-item.result c.forget.new.self c.loop-front.invariant within at (subst (λ (f : Front). HasForgotten c.args.over.now f c.forget.new.self) (sym c.front-item.is) (record { locks = c.forget.ensures.locks; taken = c.forget.ensures.taken }))
+
+pub returns-clause-forgot : goal.returns-clause-forgot
+returns-clause-forgot c = each_all (HasForgotten c.args.over.now) c.args.fronts.now c.loop-front.fronts c.loop-front.front-index c.loop-front.invariant c.loop-front-test.false

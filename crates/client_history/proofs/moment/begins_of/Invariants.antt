@@ -1,0 +1,7 @@
+use Rattle.client_history.specs.Moments.{IsBeginOf}
+use Rattle.client_history.specs.Prefixes.{AreOrdered}
+use Rattle.client_history.proofs.MomentLaws.{MomentsTo}
+use Rattle.client_history.proofs.moment.begins_of.Given as goal
+
+abbrev pub invariant-loop-index : goal.invariant-loop-index
+invariant-loop-index l = AreOrdered l.calls → MomentsTo l.calls (IsBeginOf l.calls) l.index l.begins.items

@@ -1,0 +1,17 @@
+-- A call that a front asks.
+use Rattle.std.specs.Prelude.{◌≡◌, ℕ, ◌⊎◌}
+use Rattle.model.specs.Locks.{Locks}
+use Rattle.lock_table.specs.Rows.{held}
+use Rattle.client_history.specs.declared.open_call.OpenCall.{OpenCall}
+use Rattle.client_history.specs.declared.front.Front.{Front}
+use Rattle.client_history.specs.Acts.{ActStep}
+use Rattle.client_history.specs.Explained.{the_file, Stands}
+use Rattle.client_history.specs.Moves.{AsksOnly}
+use Rattle.client_history.specs.OpenCalls.{IsLeft}
+
+-- the front asked the call: where it was taken, it asks only and was left, and the locks stayed; else it may not be
+pub record IsAsked (one : OpenCall) (old new : Front) : Type 0 where
+  pub locks : held new.table ≡ held old.table
+  pub kept : (i : ℕ) → Stands old.taken.items i → Stands new.taken.items i
+  pub added : (i : ℕ) → Stands new.taken.items i → Stands old.taken.items i ⊎ ((one.index ≡ i) × AsksOnly one.call.act × ActStep the_file (held old.table) one.call.owner one.call.act (held old.table))
+  pub asked : IsLeft one new.taken.items → AsksOnly one.call.act → (next : Locks) → ActStep the_file (held old.table) one.call.owner one.call.act next → ⊥

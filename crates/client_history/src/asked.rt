@@ -1,0 +1,37 @@
+//! Calls that ask only, at a front.
+ghost use Rattle.std.specs.Prelude.{IfOk};
+ghost use Rattle.client_history.specs.Asked.{IsAsked};
+ghost use Rattle.client_history.specs.Search.{IsAskedOf};
+
+use crate::front::Front;
+use crate::open_call::OpenCall;
+use crate::paths::Paths;
+use std::alloc::AllocError;
+
+impl Front {
+    /// Takes the call, if it asks only, is left and may be here.
+    ///
+    /// # Errors
+    /// `AllocError`.
+    pub(crate) fn ask(&mut self, open: &OpenCall, paths: &mut Paths) -> Result<(), AllocError>
+        ensures { IfOk result (λ done. IsAsked «open».now self.old self.new) }
+    {
+        if !open.changes() && open.is_left(&self.taken) {
+            self.take(open, paths)?;
+        }
+        Ok(())
+    }
+
+    /// Takes each call that asks only, is left and may be here.
+    ///
+    /// # Errors
+    /// `AllocError`.
+    pub(crate) fn ask_all(&mut self, open: &[OpenCall], paths: &mut Paths) -> Result<(), AllocError>
+        ensures { IfOk result (λ done. IsAskedOf «open».now self.old self.new) }
+    {
+        for call in open {
+            self.ask(call, paths)?;
+        }
+        Ok(())
+    }
+}

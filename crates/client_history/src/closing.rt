@@ -1,0 +1,64 @@
+//! What is over when a call ends.
+ghost use Rattle.std.specs.Prelude.{◌≡◌, IfOk, IsTrue, length, ◌↔◌};
+ghost use Rattle.client_history.specs.Closings.{IsOverWith, AreOver, AreWithout, AreForgotten};
+
+use crate::front::Front;
+use crate::open_call::OpenCall;
+use std::alloc::{AllocError, Global};
+
+// Whether the open call is over with that one: it is that one, or that one is its owner's exit and it has no reply.
+fn is_over_with(end: usize, call: &OpenCall) -> bool
+    ensures { IsTrue result ↔ IsOverWith end call.now }
+{
+    call.index == end || (call.exit == Some(end) && call.call.end.is_none())
+}
+
+/// The open calls, by index, that are over when that one ends.
+///
+/// # Errors
+/// `AllocError`.
+pub(crate) fn over_of(
+    alloc: Global,
+    open: &[OpenCall],
+    end: usize,
+) -> Result<Vec<usize>, AllocError>
+    ensures { IfOk result (λ over. AreOver «open».now end over.items) }
+{
+    let mut over = Vec::new(alloc);
+    for call in open {
+        if is_over_with(end, call) {
+            over.push(call.index)?;
+        }
+    }
+    Ok(over)
+}
+
+/// The open calls without those that are over.
+///
+/// # Errors
+/// `AllocError`.
+pub(crate) fn without(
+    alloc: Global,
+    open: &[OpenCall],
+    over: &[usize],
+) -> Result<Vec<OpenCall>, AllocError>
+    ensures { IfOk result (λ left. AreWithout «open».now over.now left.items) }
+{
+    let mut left = Vec::new(alloc);
+    for call in open {
+        if !over.contains(&call.index) {
+            left.push(*call)?;
+        }
+    }
+    Ok(left)
+}
+
+/// Each front forgets what is over.
+pub(crate) fn forget_each(fronts: &mut [Front], over: &[usize])
+    ensures len { length fronts.new ≡ length fronts.old }
+    ensures forgot { AreForgotten over.now fronts.old fronts.new }
+{
+    for front in fronts.iter_mut() {
+        front.forget(over);
+    }
+}

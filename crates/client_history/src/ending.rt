@@ -1,0 +1,114 @@
+//! How the search goes on at the end of a call.
+ghost use Rattle.std.specs.Prelude.{◌≡◌, ◌<◌, ◌⊎◌, IfOk, length};
+ghost use Rattle.client_history.specs.Steps.{HasAll, HasNext, GoesOn, GoesOnFrom, AreSettled, AreTaken};
+
+use crate::first_calls::first_calls;
+use crate::front::Front;
+use crate::front_list::add_front;
+use crate::open_call::OpenCall;
+use crate::paths::Paths;
+use std::alloc::{AllocError, Global};
+
+/// The calls that are open when one ends, and where the ways go on.
+#[derive(Clone, Copy)]
+pub(crate) struct Ending<'a> {
+    pub alloc: Global,
+    pub open: &'a [OpenCall],
+    pub end: usize,
+}
+
+// Adds the front to which the call leads from this one, if it may be there.
+fn go(
+    ending: &Ending,
+    front: Front,
+    call: &OpenCall,
+    paths: &mut Paths,
+    queue: &mut Vec<Front>,
+) -> Result<(), AllocError>
+    ensures kept { HasAll queue.old.items queue.new.items }
+    ensures goes { IfOk result (λ _. HasNext ending.now.open.now front call.now queue.new.items) }
+{
+    let mut next = front;
+    if next.take(call, paths)? {
+        next.ask_all(ending.open, paths)?;
+        add_front(queue, next)?;
+    }
+    Ok(())
+}
+
+// Adds the fronts to which the first calls lead from this one.
+fn branch(
+    ending: &Ending,
+    front: Front,
+    paths: &mut Paths,
+    queue: &mut Vec<Front>,
+) -> Result<(), AllocError>
+    ensures kept { HasAll queue.old.items queue.new.items }
+    ensures goes { IfOk result (λ _. GoesOnFrom ending.now.open.now front ending.now.end queue.new.items) }
+{
+    let first = first_calls(
+        ending.alloc,
+        &front.table,
+        ending.open,
+        &front.taken,
+        ending.end,
+    )?;
+    let Some((last, others)) = first.split_last() else {
+        return Ok(());
+    };
+    for call in others {
+        let next = front.copy()?;
+        go(ending, next, call, paths, queue)?;
+    }
+    go(ending, front, last, paths, queue)
+}
+
+// Goes on from each front of the layer, while steps are left: one that took the call is done. The fronts that come
+// next.
+fn go_on(
+    ending: &Ending,
+    layer: Vec<Front>,
+    paths: &mut Paths,
+    left: &mut u64,
+    done: &mut Vec<Front>,
+) -> Result<Vec<Front>, AllocError>
+    ensures less { 0 < length layer.items → left.old ≡ 0 ⊎ left.new < left.old }
+    ensures taken { IfOk result (λ _. AreTaken ending.now.end done.old.items → AreTaken ending.now.end done.new.items) }
+    ensures goes { IfOk result (λ next. 0 < left.new → GoesOn ending.now.open.now ending.now.end layer.items done.old.items next.items done.new.items) }
+{
+    let mut layer = layer;
+    let mut next = Vec::new(ending.alloc);
+    while let Some(front) = layer.pop() {
+        if *left == 0 {
+            break;
+        }
+        *left -= 1;
+        if front.taken.contains(&ending.end) {
+            add_front(done, front)?;
+        } else {
+            branch(ending, front, paths, &mut next)?;
+        }
+    }
+    Ok(next)
+}
+
+/// The call ends: each front goes on until it is taken, as long as steps are left, of which one is taken for each
+/// front.
+///
+/// # Errors
+/// `AllocError`.
+pub(crate) fn settle(
+    ending: &Ending,
+    fronts: Vec<Front>,
+    paths: &mut Paths,
+    left: &mut u64,
+) -> Result<Vec<Front>, AllocError>
+    ensures { IfOk result (λ done. 0 < left.new → AreSettled ending.now.open.now ending.now.end fronts.items done.items) }
+{
+    let mut layer = fronts;
+    let mut done = Vec::new(ending.alloc);
+    while *left > 0 && !layer.is_empty() {
+        layer = go_on(ending, layer, paths, left, &mut done)?;
+    }
+    Ok(done)
+}

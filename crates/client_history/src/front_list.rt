@@ -1,0 +1,54 @@
+//! Fronts beside one another.
+ghost use Rattle.std.specs.Prelude.{◌≡◌, IfOk, IsTrue, length};
+ghost use Rattle.client_history.specs.Steps.{HasAll, HasOnly, HasEqual, AreAskedFor};
+
+use crate::front::Front;
+use crate::open_call::OpenCall;
+use crate::paths::Paths;
+use std::alloc::AllocError;
+
+// Whether one of the fronts took the same calls and has the same locks.
+fn has_same(fronts: &[Front], front: &Front) -> bool
+    ensures { IsTrue result → HasEqual fronts.now front.now }
+{
+    for other in fronts {
+        if other.same(front) {
+            return true;
+        }
+    }
+    false
+}
+
+/// Adds the front, unless an equal one is there.
+///
+/// # Errors
+/// `AllocError`.
+pub(crate) fn add_front(fronts: &mut Vec<Front>, front: Front) -> Result<(), AllocError>
+    ensures kept { HasAll fronts.old.items fronts.new.items }
+    ensures only { HasOnly fronts.old.items front fronts.new.items }
+    ensures there { IfOk result (λ _. HasEqual fronts.new.items front) }
+{
+    if has_same(fronts, &front) {
+        return Ok(());
+    }
+    fronts.push(front)?;
+    Ok(())
+}
+
+/// Takes the call in each front in which it asks only, is left and may be.
+///
+/// # Errors
+/// `AllocError`.
+pub(crate) fn ask_each(
+    fronts: &mut [Front],
+    call: &OpenCall,
+    paths: &mut Paths,
+) -> Result<(), AllocError>
+    ensures len { length fronts.new ≡ length fronts.old }
+    ensures asked { IfOk result (λ _. AreAskedFor call.now fronts.old fronts.new) }
+{
+    for front in fronts.iter_mut() {
+        front.ask(call, paths)?;
+    }
+    Ok(())
+}

@@ -1,0 +1,59 @@
+//! When calls begin and end.
+ghost use Rattle.std.specs.Prelude.{IfOk};
+ghost use Rattle.client_history.specs.Moments.{AreBegins, AreEnds};
+ghost use Rattle.client_history.specs.OwnerCalls.{AreOwnerCalls};
+ghost use Rattle.client_history.specs.Prefixes.{AreOrdered};
+
+use crate::client_call::ClientCall;
+use crate::owner_calls::OwnerCalls;
+use std::alloc::{AllocError, Global};
+
+/// A call at a time, when it begins or ends.
+#[derive(Clone, Copy, Debug, PartialEq, Eq)]
+pub(crate) struct Moment {
+    pub time: u64,
+    pub call: usize,
+}
+
+/// When the calls begin, from the first to the last; an exit not before the last call of its owner that has a reply.
+///
+/// # Errors
+/// `AllocError`.
+pub(crate) fn begins_of(
+    alloc: Global,
+    calls: &[ClientCall],
+    owners: &OwnerCalls,
+) -> Result<Vec<Moment>, AllocError>
+    requires { AreOwnerCalls calls.now owners.now }
+    ensures { IfOk result (λ begins. AreOrdered calls.now → AreBegins calls.now begins.items) }
+{
+    let mut begins = Vec::new(alloc);
+    for (index, call) in calls.iter().enumerate() {
+        begins.push(Moment {
+            time: owners.begin_of(call),
+            call: index,
+        })?;
+    }
+    begins.sort_by_key(|moment| moment.time)?;
+    Ok(begins)
+}
+
+/// When the calls end that have a reply, from the first to the last.
+///
+/// # Errors
+/// `AllocError`.
+pub(crate) fn ends_of(alloc: Global, calls: &[ClientCall]) -> Result<Vec<Moment>, AllocError>
+    ensures { IfOk result (λ ends. AreEnds calls.now ends.items) }
+{
+    let mut ends = Vec::new(alloc);
+    for (index, call) in calls.iter().enumerate() {
+        if let Some(end) = call.end {
+            ends.push(Moment {
+                time: end,
+                call: index,
+            })?;
+        }
+    }
+    ends.sort_by_key(|moment| moment.time)?;
+    Ok(ends)
+}
