@@ -1,0 +1,50 @@
+-- Lemmas on the files of a history that are looked at one after the other.
+use Rattle.std.proofs.Common.{◌≡◌, ℕ, ◌+◌, ◌<◌, ◌≤◌, List, length, take, get_or, inl, inr, refl, sym, subst, arith, ◌∙◌}
+use Rattle.std.specs.Prelude.{◌⊎◌, ⊤, All, Any}
+use Rattle.std.proofs.lemmas.List.{take_all}
+use Rattle.std.proofs.lemmas.List.Elements.{All-more, All-nil}
+use Rattle.history_text.specs.declared.file_calls.FileCalls.{FileCalls}
+use Rattle.history_text.specs.declared.history.History.{History}
+use Rattle.judgements.specs.declared.judged.Judged.{Judged}
+use Rattle.judgements.specs.declared.judged.Judged.TheVariants.{Explained, Contradicted, Unknown}
+use Rattle.judgements.specs.declared.outcome.Outcome.{Outcome}
+use Rattle.judgements.specs.declared.outcome.Outcome.TheVariants as outcome
+use Rattle.judgements.specs.Judgements.{HasOneClock, IsContradicted, IsExplained, IsJudged, IsOutcome, outcome_of}
+
+-- so many files were looked at: of a history with one clock each is explained, where that is said, and one isn't, where that is
+pub record SoFar (history : History) (said : Outcome) (count : ℕ) : Type 0 where
+  pub yes : said ≡ outcome.Yes → HasOneClock history → All IsExplained (take count history.files.items)
+  pub no : said ≡ outcome.No → HasOneClock history → Any IsContradicted history.files.items
+
+explained-file : (file : FileCalls) (found : Judged) → outcome_of found ≡ outcome.Yes → IsJudged file found → IsExplained file
+explained-file file (Explained order) word is = (order.items, is)
+explained-file file (Contradicted misfits unknown) word is = absurd (cc)
+explained-file file (Unknown call) word is = absurd (cc)
+
+contradicted-file : (file : FileCalls) (found : Judged) → outcome_of found ≡ outcome.No → IsJudged file found → IsContradicted file
+contradicted-file file (Explained order) word is = absurd (cc)
+contradicted-file file (Contradicted misfits unknown) word is = is
+contradicted-file file (Unknown call) word is = absurd (cc)
+
+pub none-yet : (history : History) → SoFar history outcome.Yes 0
+none-yet history = record { yes = λ word clock. All-nil IsExplained; no = λ word clock. absurd (cc) }
+
+-- one file more
+pub so-far-more : (history : History) (was now said : Outcome) (count : ℕ) (file : FileCalls) (found : Judged) → count < length history.files.items → file ≡ get_or history.files.items count file
+    → (HasOneClock history → IsJudged file found) → now ≡ outcome_of found → (said ≡ outcome.Yes → (was ≡ outcome.Yes) × (now ≡ outcome.Yes)) → (said ≡ outcome.No → (was ≡ outcome.No) ⊎ (now ≡ outcome.No))
+    → SoFar history was count → SoFar history said (count + 1)
+so-far-more history was now said count file found lt at judged is explained contradicted before = record {
+  yes = λ word clock.
+      let both = explained word in
+      All-more IsExplained history.files.items count file lt (before.yes both.0 clock) (subst IsExplained at (explained-file file found (sym is ∙ both.1) (judged clock)));
+  no = λ word clock. elim (contradicted word) [
+    | inl earlier ↦ before.no earlier clock
+    | inr here ↦ (count, file, lt, sym at, contradicted-file file found (sym is ∙ here) (judged clock))
+  ];
+}
+
+-- all of them
+pub so-far-all : (history : History) (said : Outcome) (count : ℕ) → length history.files.items ≤ count → SoFar history said count → IsOutcome history said
+so-far-all history outcome.Yes count whole far = λ clock. subst (All IsExplained) (take_all count history.files.items whole) (far.yes refl clock)
+so-far-all history outcome.Unknown count whole far = tt
+so-far-all history outcome.No count whole far = far.no refl

@@ -1,0 +1,53 @@
+-- What is said of histories of clients.
+use Rattle.std.specs.Prelude.{◌≡◌, ℕ, ⊤, List, All, Any}
+use Rattle.client_history.specs.Explained.{always, IsExplainedBy}
+use Rattle.history_text.specs.declared.file_calls.FileCalls.{FileCalls}
+use Rattle.history_text.specs.declared.history.History.{History}
+use Rattle.history_text.specs.Histories.{IsHistoryOf}
+use Rattle.judgements.specs.declared.judged.Judged.{Judged}
+use Rattle.judgements.specs.declared.judged.Judged.TheVariants.{Explained, Contradicted, Unknown}
+use Rattle.judgements.specs.declared.outcome.Outcome.{Outcome}
+use Rattle.judgements.specs.declared.outcome.Outcome.TheVariants as outcome
+
+-- an order of the calls of the file explains them
+abbrev pub IsExplained : FileCalls → Type 0
+IsExplained file = (order : List ℕ) × IsExplainedBy always file.calls.items order
+
+-- none does
+abbrev pub IsContradicted : FileCalls → Type 0
+IsContradicted file = (order : List ℕ) → IsExplainedBy always file.calls.items order → ⊥
+
+-- what is found of the calls of the file is so
+abbrev pub IsJudged : FileCalls → Judged → Type 0
+IsJudged file (Explained order) = IsExplainedBy always file.calls.items order.items
+IsJudged file (Contradicted misfits unknown) = IsContradicted file
+IsJudged file (Unknown call) = ⊤
+
+-- in a word
+abbrev pub outcome_of : Judged → Outcome
+outcome_of (Explained order) = outcome.Yes
+outcome_of (Contradicted misfits unknown) = outcome.No
+outcome_of (Unknown call) = outcome.Unknown
+
+-- no clock of a machine is off
+abbrev pub HasOneClock : History → Type 0
+HasOneClock history = All (λ machine. machine.skew ≡ 0) history.machines.items
+
+-- what is said of the history is so, where it has one clock: orders explain all its files, or none does one of them
+abbrev pub IsOutcome : History → Outcome → Type 0
+IsOutcome history outcome.Yes = HasOneClock history → All IsExplained history.files.items
+IsOutcome history outcome.Unknown = ⊤
+IsOutcome history outcome.No = HasOneClock history → Any IsContradicted history.files.items
+
+-- what is said of the text is so of a history that it writes
+abbrev pub IsJudgement : List ℕ → Outcome → Type 0
+IsJudgement text said = (history : History) × IsHistoryOf text history × IsOutcome history said
+
+-- what is said by given orders is so: where they explain nothing, others may
+abbrev pub IsOrderedBy : History → Outcome → Type 0
+IsOrderedBy history outcome.Yes = HasOneClock history → All IsExplained history.files.items
+IsOrderedBy history outcome.Unknown = ⊥
+IsOrderedBy history outcome.No = ⊤
+
+abbrev pub IsOrdered : List ℕ → Outcome → Type 0
+IsOrdered text said = (history : History) × IsHistoryOf text history × IsOrderedBy history said

@@ -1,0 +1,139 @@
+//! What there may be before a call that fits nowhere.
+use client_history::act::Act;
+use client_history::client_call::ClientCall;
+use history_text::file_calls::FileCalls;
+use lock_table::lock_table::LockTable;
+use model::lock_info::LockInfo;
+use model::owner::Owner;
+use std::alloc::{AllocError, Global};
+
+// The file whose locks a table has.
+const FILE: u16 = 1;
+
+/// What there may be before a call that fits nowhere: the locks of a table, the one of them that is in the call's way, if one
+/// is, and the lines of the calls that are open, which may or may not be done there.
+#[derive(Drop)]
+pub struct Before {
+    pub locks: Vec<LockInfo>,
+    pub in_way: Option<LockInfo>,
+    pub open: Vec<u64>,
+}
+
+/// What there may be before the call, behind each of these ways, which are orders of calls by their indexes.
+///
+/// # Errors
+/// `AllocError`.
+pub(crate) fn tables_before(
+    alloc: Global,
+    file: &FileCalls,
+    call: usize,
+    ways: &[Vec<usize>],
+) -> Result<Vec<Before>, AllocError> {
+    let mut tables = Vec::new(alloc);
+    for way in ways {
+        if let Some(this) = file.calls.get(call) {
+            tables.push(table_before(alloc, file, this, call, way.as_slice())?)?;
+        }
+    }
+    Ok(tables)
+}
+
+// What there is behind one way.
+fn table_before(
+    alloc: Global,
+    file: &FileCalls,
+    this: &ClientCall,
+    call: usize,
+    way: &[usize],
+) -> Result<Before, AllocError> {
+    let table = table_behind(alloc, file.calls.as_slice(), way)?;
+    Ok(Before {
+        locks: table.locks(FILE)?,
+        in_way: in_way(&table, this),
+        open: open_lines(alloc, file, this, call, way)?,
+    })
+}
+
+// The table to which calls lead in this order.
+fn table_behind(
+    alloc: Global,
+    calls: &[ClientCall],
+    order: &[usize],
+) -> Result<LockTable, AllocError> {
+    let mut table = LockTable::new(alloc, usize::MAX);
+    for index in order {
+        if let Some(call) = calls.get(*index) {
+            follow(&mut table, call)?;
+        }
+    }
+    Ok(table)
+}
+
+// Does to the table what the call did.
+fn follow(table: &mut LockTable, call: &ClientCall) -> Result<(), AllocError> {
+    let done = match call.act {
+        Act::Locks { mode, span } => table.set(call.owner, FILE, span, mode),
+        Act::Frees { span } => table.unlock(call.owner, FILE, span),
+        Act::Drops => {
+            table.drop_owner(call.owner, FILE);
+            Ok(())
+        }
+        Act::IsDenied { .. } | Act::IsFree { .. } => Ok(()),
+    };
+    done.map_err(|_| AllocError)
+}
+
+// The lock that is in the way of the bytes that the call names.
+fn in_way(table: &LockTable, call: &ClientCall) -> Option<LockInfo> {
+    match call.act {
+        Act::Locks { mode, span } | Act::IsFree { mode, span } | Act::IsDenied { mode, span, .. } =>
+            { table.blocker(call.owner, FILE, span, mode) }
+        Act::Frees { .. } | Act::Drops => None,
+    }
+}
+
+// The lines of the calls that have begun by the end of the call and that the way leaves out, but for it and for those whose
+// owner's exit the way has.
+fn open_lines(
+    alloc: Global,
+    file: &FileCalls,
+    this: &ClientCall,
+    call: usize,
+    way: &[usize],
+) -> Result<Vec<u64>, AllocError> {
+    let until = this.end.unwrap_or(u64::MAX);
+    let taken = taken_by(alloc, file.calls.len(), way)?;
+    let gone = exited(alloc, file.calls.as_slice(), way)?;
+    let mut open = Vec::new(alloc);
+    for (index, (other, line)) in file.calls.iter().zip(file.lines.iter()).enumerate() {
+        let is_left = index != call && !taken.get(index).copied().unwrap_or(false);
+        if is_left && other.begin <= until && !gone.contains(&other.owner) {
+            open.push(*line)?;
+        }
+    }
+    Ok(open)
+}
+
+// Of so many calls, whether the way has each.
+fn taken_by(alloc: Global, count: usize, way: &[usize]) -> Result<Vec<bool>, AllocError> {
+    let mut taken = vec![in alloc; false; count]?;
+    for index in way {
+        if let Some(mark) = taken.get_mut(*index) {
+            *mark = true;
+        }
+    }
+    Ok(taken)
+}
+
+// The owners whose exit the way has.
+fn exited(alloc: Global, calls: &[ClientCall], way: &[usize]) -> Result<Vec<Owner>, AllocError> {
+    let mut gone = Vec::new(alloc);
+    for index in way {
+        if let Some(call) = calls.get(*index) {
+            if call.is_last {
+                gone.push(call.owner)?;
+            }
+        }
+    }
+    Ok(gone)
+}

@@ -1,0 +1,54 @@
+//! Times by clocks that are off.
+use client_history::client_call::ClientCall;
+use history_text::file_calls::FileCalls;
+use history_text::history::History;
+use model::owner::Owner;
+use std::alloc::{AllocError, Global};
+use texts::text::split_at_first;
+
+/// The calls of a file of the history, each in all the time in which it may have been made: its own, widened at both ends by as
+/// much as the clock of its owner's machine may be off.
+///
+/// # Errors
+/// `AllocError`.
+pub(crate) fn widened(
+    alloc: Global,
+    history: &History,
+    file: &FileCalls,
+) -> Result<FileCalls, AllocError> {
+    let mut calls = Vec::new(alloc);
+    for call in &file.calls {
+        calls.push(wider(call, skew_of(history, &call.owner)))?;
+    }
+    let lines = file.lines.clone()?;
+    Ok(FileCalls { calls, lines })
+}
+
+// The call in the time that is wider by so much at both ends.
+fn wider(call: &ClientCall, skew: u64) -> ClientCall {
+    let end = match call.end {
+        Some(end) => Some(end.saturating_add(skew)),
+        None => None,
+    };
+    ClientCall {
+        begin: call.begin.saturating_sub(skew),
+        end,
+        ..*call
+    }
+}
+
+// By how much the clock of the owner's machine may be off.
+fn skew_of(history: &History, owner: &Owner) -> u64 {
+    let Some(name) = history.name_of(owner) else {
+        return 0;
+    };
+    let Some((_, machine)) = split_at_first(name, b'@') else {
+        return 0;
+    };
+    for declared in &history.machines {
+        if declared.name.as_str() == machine {
+            return declared.skew;
+        }
+    }
+    0
+}

@@ -1,0 +1,77 @@
+//! The files of a history, judged one by one.
+ghost use Rattle.std.specs.Prelude.{◌≡◌, IfOk};
+ghost use Rattle.judgements.specs.Judgements.{HasOneClock, IsJudged, IsOutcome};
+
+use crate::clocks::widened;
+use crate::judged::{Judged, judge_file};
+use crate::judging::Judging;
+use crate::outcome::Outcome;
+use crate::told::Told;
+use crate::{json, report};
+use history_text::file_calls::FileCalls;
+use history_text::history::History;
+use std::alloc::{AllocError, Global};
+
+/// Judges each file of the history, which the text writes: what is said of all, and what is told of them.
+///
+/// # Errors
+/// `AllocError`.
+pub(crate) fn files_judged(
+    alloc: Global,
+    history: &History,
+    text: &str,
+    judging: Judging,
+    told: &mut Told,
+) -> Result<Outcome, AllocError>
+    ensures { IfOk result (IsOutcome history.now) }
+{
+    let mut outcome = Outcome::Yes;
+    for file in 0..history.files.len() {
+        let found = file_judged(alloc, history, &history.files[file], judging)?;
+        outcome = outcome.with(found.outcome());
+        push_found(alloc, told, history, text, file, &found, judging)?;
+    }
+    Ok(outcome)
+}
+
+// What is found of the calls of a file, in all the time in which they may have been made.
+fn file_judged(
+    alloc: Global,
+    history: &History,
+    file: &FileCalls,
+    judging: Judging,
+) -> Result<Judged, AllocError>
+    ensures { IfOk result (λ found. HasOneClock history.now → IsJudged file.now found) }
+{
+    if history.has_one_clock() {
+        return judge_file(alloc, file, judging.steps, judging.go_on);
+    }
+    let wider = widened(alloc, history, file)?;
+    judge_file(alloc, &wider, judging.steps, judging.go_on)
+}
+
+// Adds what was found of a file.
+fn push_found(
+    alloc: Global,
+    told: &mut Told,
+    history: &History,
+    text: &str,
+    file: usize,
+    found: &Judged,
+    judging: Judging,
+) -> Result<(), AllocError> {
+    if judging.json {
+        let with_order = judging.order;
+        json::push_found(
+            alloc,
+            &mut told.found,
+            history,
+            text,
+            file,
+            found,
+            with_order,
+        )
+    } else {
+        report::push_found(told, history, text, file, found)
+    }
+}

@@ -1,0 +1,195 @@
+//! What is told of a history, as JSON.
+use crate::before::Before;
+use crate::json_parts::{push_numbers, push_string};
+use crate::judged::{Judged, Misfit};
+use crate::lines::line_of;
+use crate::locks::{file_name, owner_name, segment_of};
+use crate::outcome::Outcome;
+use crate::report::line_at;
+use history_text::history::History;
+use model::lock_info::LockInfo;
+use std::alloc::{AllocError, Global};
+use std::fmt::Write;
+use texts::words::Named;
+
+/// Adds what was found of the calls of the file with this index, of a history that the text writes, with their order, if that
+/// is asked for.
+///
+/// # Errors
+/// `AllocError`.
+pub(crate) fn push_found(
+    alloc: Global,
+    out: &mut String,
+    history: &History,
+    text: &str,
+    file: usize,
+    found: &Judged,
+    with_order: bool,
+) -> Result<(), AllocError> {
+    if !out.is_empty() {
+        out.push_str(",")?;
+    }
+    let word = found.outcome().word();
+    out.push_str("{\"file\":")?;
+    push_string(out, file_name(history, file))?;
+    write!(out, ",\"verdict\":\"{word}\"")?;
+    match found {
+        Judged::Explained { order } if with_order => {
+            push_order(alloc, out, history, file, order.as_slice())?;
+        }
+        Judged::Explained { .. } => {}
+        Judged::Contradicted { misfits, unknown } => {
+            push_misfits(out, history, text, misfits.as_slice())?;
+            push_unknown(out, *unknown)?;
+        }
+        Judged::Unknown { call } => push_unknown(out, line_at(history, file, *call))?,
+    }
+    out.push_str("}")
+}
+
+// Adds up to which line an order was found, if that is known.
+fn push_unknown(out: &mut String, line: Option<u64>) -> Result<(), AllocError> {
+    match line {
+        Some(line) => write!(out, ",\"explained_up_to\":{line}"),
+        None => Ok(()),
+    }
+}
+
+// Adds the order of the calls of a file, by their lines.
+fn push_order(
+    alloc: Global,
+    out: &mut String,
+    history: &History,
+    file: usize,
+    order: &[usize],
+) -> Result<(), AllocError> {
+    let mut lines = Vec::new(alloc);
+    for call in order {
+        lines.push(line_at(history, file, *call).unwrap_or(0))?;
+    }
+    out.push_str(",\"order\":")?;
+    push_numbers(out, lines.as_slice())
+}
+
+// Adds the calls that fit nowhere.
+fn push_misfits(
+    out: &mut String,
+    history: &History,
+    text: &str,
+    misfits: &[Misfit],
+) -> Result<(), AllocError> {
+    out.push_str(",\"misfits\":[")?;
+    let mut comma = "";
+    for misfit in misfits {
+        out.push_str(comma)?;
+        push_misfit(out, history, text, misfit)?;
+        comma = ",";
+    }
+    out.push_str("]")
+}
+
+// Adds a call that fits nowhere, and what there may be before it.
+fn push_misfit(
+    out: &mut String,
+    history: &History,
+    text: &str,
+    misfit: &Misfit,
+) -> Result<(), AllocError> {
+    let line = misfit.line;
+    write!(out, "{{\"line\":{line},\"call\":")?;
+    push_string(out, line_of(text, line))?;
+    out.push_str(",\"tables\":[")?;
+    let mut comma = "";
+    for table in &misfit.tables {
+        out.push_str(comma)?;
+        push_table(out, history, table)?;
+        comma = ",";
+    }
+    out.push_str("]}")
+}
+
+// Adds the locks of a table, which of them is in the way, and the calls that are open there.
+fn push_table(out: &mut String, history: &History, table: &Before) -> Result<(), AllocError> {
+    out.push_str("{\"locks\":[")?;
+    let mut comma = "";
+    for lock in &table.locks {
+        out.push_str(comma)?;
+        push_lock(out, history, lock)?;
+        comma = ",";
+    }
+    out.push_str("],\"in_way\":")?;
+    match &table.in_way {
+        Some(lock) => push_lock(out, history, lock)?,
+        None => out.push_str("null")?,
+    }
+    out.push_str(",\"open\":")?;
+    push_numbers(out, table.open.as_slice())?;
+    out.push_str("}")
+}
+
+// Adds a lock.
+fn push_lock(out: &mut String, history: &History, lock: &LockInfo) -> Result<(), AllocError> {
+    let (start, len) = segment_of(lock.span);
+    let mode = lock.mode.word();
+    write!(
+        out,
+        "{{\"mode\":\"{mode}\",\"start\":{start},\"len\":{len},\"owner\":"
+    )?;
+    push_string(out, owner_name(history, &lock.owner))?;
+    out.push_str("}")
+}
+
+/// Adds the beginning of what is told of the history of a path.
+///
+/// # Errors
+/// `AllocError`.
+pub(crate) fn push_head(out: &mut String, path: &str) -> Result<(), AllocError> {
+    out.push_str("{\"history\":")?;
+    push_string(out, path)
+}
+
+/// Adds what is said of a history, and what was found of its files.
+///
+/// # Errors
+/// `AllocError`.
+pub(crate) fn push_outcome(
+    out: &mut String,
+    outcome: Outcome,
+    found: &str,
+) -> Result<(), AllocError> {
+    let word = outcome.word();
+    write!(out, ",\"verdict\":\"{word}\",\"files\":[{found}]")
+}
+
+/// Adds whether orders explain a history, or the first file whose order doesn't.
+///
+/// # Errors
+/// `AllocError`.
+pub(crate) fn push_ordered(
+    out: &mut String,
+    history: &History,
+    unexplained: Option<usize>,
+) -> Result<(), AllocError> {
+    match unexplained {
+        Some(file) => {
+            out.push_str(",\"explains\":\"no\",\"file\":")?;
+            push_string(out, file_name(history, file))
+        }
+        None => out.push_str(",\"explains\":\"yes\""),
+    }
+}
+
+/// Adds how many calls there are, and whose.
+///
+/// # Errors
+/// `AllocError`.
+pub(crate) fn push_stats(out: &mut String, history: &History) -> Result<(), AllocError> {
+    let counts = history.counts;
+    let (calls, exits, silent) = (counts.calls, counts.exits, counts.silent);
+    let (files, owners) = (history.files.len(), history.owners.count());
+    let machines = history.machines.len();
+    write!(
+        out,
+        ",\"stats\":{{\"calls\":{calls},\"exits\":{exits},\"silent\":{silent},\"files\":{files},\"owners\":{owners},\"machines\":{machines}}}"
+    )
+}

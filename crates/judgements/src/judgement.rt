@@ -1,0 +1,156 @@
+//! What is said of a history.
+ghost use Rattle.std.specs.Prelude.{IfOk};
+ghost use Rattle.history_text.specs.Histories.{IsHistoryOf};
+ghost use Rattle.judgements.specs.Judgements.{IsJudgement, IsOrdered};
+
+use crate::error::JudgeError;
+use crate::file_judgement::files_judged;
+use crate::judging::Judging;
+use crate::ordered::first_unexplained;
+use crate::orders::{OrdersError, orders_of};
+use crate::outcome::Outcome;
+use crate::told::Told;
+use crate::{json, report};
+use history_text::error::ReadError;
+use history_text::history::History;
+use history_text::reading::read;
+use std::alloc::{AllocError, Global};
+
+/// What is said of a history: a word, and what is told of it, in lines.
+#[derive(Drop)]
+pub struct Judgement {
+    pub outcome: Outcome,
+    pub text: String,
+}
+
+/// What is said of the history that a text writes, which the file of this path has: whether orders of the calls of each file
+/// explain them. Where the clocks of machines may be off, the time of each call is widened by as much at both ends.
+///
+/// # Errors
+/// `Bad` where it is no history, with the first bad line; `NoMemory`.
+pub fn judge_history(
+    alloc: Global,
+    path: &str,
+    text: &str,
+    judging: Judging,
+) -> Result<Judgement, JudgeError>
+    ensures { IfOk result (λ judgement. IsJudgement text.now judgement.outcome) }
+{
+    let history = history_of(alloc, path, text)?;
+    let mut told = Told::new(alloc);
+    let outcome = files_judged(alloc, &history, text, judging, &mut told)?;
+    let text = outcome_text(alloc, path, &history, outcome, &told, judging)?;
+    Ok(Judgement { outcome, text })
+}
+
+/// Whether orders explain the calls of each file of the history that a text writes. They are what another text writes, as
+/// `judge_history` tells them. The texts are those of the files of these paths.
+///
+/// # Errors
+/// `Bad` where the one is no history or the other writes no orders of it, with the first bad line; `NoMemory`.
+pub fn judge_orders(
+    alloc: Global,
+    path: &str,
+    text: &str,
+    orders_path: &str,
+    orders: &str,
+    judging: Judging,
+) -> Result<Judgement, JudgeError>
+    ensures { IfOk result (λ judgement. IsOrdered text.now judgement.outcome) }
+{
+    let history = history_of(alloc, path, text)?;
+    let orders = orders_in(alloc, &history, orders_path, orders)?;
+    let unexplained = first_unexplained(alloc, &history, orders.as_slice())?;
+    let text = ordered_text(alloc, path, &history, unexplained, judging)?;
+    let outcome = match unexplained {
+        Some(_) => Outcome::No,
+        None => Outcome::Yes,
+    };
+    Ok(Judgement { outcome, text })
+}
+
+// The history that the text writes, which the file of this path has.
+fn history_of(alloc: Global, path: &str, text: &str) -> Result<History, JudgeError>
+    ensures { IfOk result (IsHistoryOf text.now) }
+{
+    match read(alloc, text) {
+        Ok(history) => Ok(history),
+        Err(ReadError::NoMemory) => Err(JudgeError::NoMemory),
+        Err(
+            ReadError::BadLine {
+                line,
+                column,
+                reason,
+            },
+        ) => Err(JudgeError::Bad(format!(in alloc; "{path}:{line}:{column}: {reason}\n")?)),
+    }
+}
+
+// The orders that the text writes, which the file of this path has.
+fn orders_in(
+    alloc: Global,
+    history: &History,
+    path: &str,
+    text: &str,
+) -> Result<Vec<Vec<u64>>, JudgeError> {
+    match orders_of(alloc, history, text) {
+        Ok(orders) => Ok(orders),
+        Err(OrdersError::NoMemory) => Err(JudgeError::NoMemory),
+        Err(OrdersError::BadLine(line)) => Err(JudgeError::Bad(format!(in alloc;
+            "{path}:{line}: expected `order F LINE ..`, once for a file F of the history\n"
+        )?)),
+    }
+}
+
+// What is told of a history, with what is told of its files.
+fn outcome_text(
+    alloc: Global,
+    path: &str,
+    history: &History,
+    outcome: Outcome,
+    told: &Told,
+    judging: Judging,
+) -> Result<String, AllocError> {
+    let mut out = String::new(alloc);
+    if judging.json {
+        json::push_head(&mut out, path)?;
+        json::push_outcome(&mut out, outcome, &told.found)?;
+    } else {
+        report::push_outcome(&mut out, outcome, told, judging.order)?;
+    }
+    push_end(&mut out, history, judging)?;
+    Ok(out)
+}
+
+// What is told of a history whose files orders explain, or all but this one and those behind it.
+fn ordered_text(
+    alloc: Global,
+    path: &str,
+    history: &History,
+    unexplained: Option<usize>,
+    judging: Judging,
+) -> Result<String, AllocError> {
+    let mut out = String::new(alloc);
+    if judging.json {
+        json::push_head(&mut out, path)?;
+        json::push_ordered(&mut out, history, unexplained)?;
+    } else {
+        report::push_ordered(&mut out, history, unexplained)?;
+    }
+    push_end(&mut out, history, judging)?;
+    Ok(out)
+}
+
+// Adds the counts, if they are asked for, and the end of JSON.
+fn push_end(out: &mut String, history: &History, judging: Judging) -> Result<(), AllocError> {
+    if !judging.json {
+        if judging.stats {
+            report::push_stats(out, history)?;
+        }
+        return Ok(());
+    }
+    if judging.stats {
+        json::push_stats(out, history)?;
+    }
+    out.push_str("}\n")
+}

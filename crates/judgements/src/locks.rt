@@ -1,0 +1,24 @@
+//! Locks, owners and files of a history by their names.
+use history_text::history::History;
+use intervals::span::{GREATEST, Span};
+use model::owner::Owner;
+
+/// The first byte of the span, and how many there are, as histories write them: 0 where it goes to the greatest offset.
+pub(crate) fn segment_of(span: Span) -> (u64, u64) {
+    let len = if span.hi == GREATEST {
+        0
+    } else {
+        span.hi - span.lo + 1
+    };
+    (span.lo, len)
+}
+
+/// The name of an owner.
+pub(crate) fn owner_name<'a>(history: &'a History, owner: &Owner) -> &'a str {
+    history.name_of(owner).unwrap_or("?")
+}
+
+/// The name of the file with this index.
+pub(crate) fn file_name(history: &History, file: usize) -> &str {
+    history.names.get(file).unwrap_or("?")
+}

@@ -1,0 +1,52 @@
+//! Whether orders explain the files of a history.
+ghost use Rattle.std.specs.Prelude.{◌≡◌, None, true, All, IfOk};
+ghost use Rattle.judgements.specs.Judgements.{HasOneClock, IsExplained};
+
+use crate::clocks::widened;
+use crate::orders::indexes_of;
+use client_history::explains::explains;
+use history_text::file_calls::FileCalls;
+use history_text::history::History;
+use std::alloc::{AllocError, Global};
+
+/// The first file, by its index, whose calls its order, by their lines, does not explain.
+///
+/// # Errors
+/// `AllocError`.
+pub(crate) fn first_unexplained(
+    alloc: Global,
+    history: &History,
+    orders: &[Vec<u64>],
+) -> Result<Option<usize>, AllocError>
+    ensures { IfOk result (λ file. file ≡ None → HasOneClock history.now → All IsExplained history.now.files.items) }
+{
+    for file in 0..history.files.len() {
+        let order = match orders.get(file) {
+            Some(order) => order.as_slice(),
+            None => &[],
+        };
+        if !is_explained(alloc, history, &history.files[file], order)? {
+            return Ok(Some(file));
+        }
+    }
+    Ok(None)
+}
+
+// Whether the order, by their lines, explains the calls of a file, in all the time in which they may have been made.
+fn is_explained(
+    alloc: Global,
+    history: &History,
+    file: &FileCalls,
+    order: &[u64],
+) -> Result<bool, AllocError>
+    ensures { IfOk result (λ yes. yes ≡ true → HasOneClock history.now → IsExplained file.now) }
+{
+    let Some(order) = indexes_of(alloc, file, order)? else {
+        return Ok(false);
+    };
+    if history.has_one_clock() {
+        return explains(alloc, file.calls.as_slice(), order.as_slice());
+    }
+    let wider = widened(alloc, history, file)?;
+    explains(alloc, wider.calls.as_slice(), order.as_slice())
+}

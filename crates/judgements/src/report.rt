@@ -1,0 +1,199 @@
+//! What is told of a history, in lines.
+use crate::before::Before;
+use crate::judged::{Judged, Misfit};
+use crate::lines::line_of;
+use crate::locks::{file_name, owner_name, segment_of};
+use crate::outcome::Outcome;
+use crate::told::Told;
+use history_text::history::History;
+use model::lock_info::LockInfo;
+use std::alloc::AllocError;
+use std::fmt::Write;
+use texts::words::Named;
+
+// How many locks of a table are told at most, and how many open calls.
+const MOST_TOLD: usize = 20;
+
+/// Adds what was found of the calls of the file with this index, of a history that the text writes.
+///
+/// # Errors
+/// `AllocError`.
+pub(crate) fn push_found(
+    told: &mut Told,
+    history: &History,
+    text: &str,
+    file: usize,
+    found: &Judged,
+) -> Result<(), AllocError> {
+    match found {
+        Judged::Explained { order } => push_order(
+            &mut told.orders,
+            history,
+            file,
+            order.as_slice(),
+        ),
+        Judged::Contradicted { misfits, unknown } => {
+            push_heading(&mut told.found, history, file)?;
+            for misfit in misfits {
+                push_misfit(&mut told.found, history, text, misfit)?;
+            }
+            push_unknown(&mut told.found, *unknown)
+        }
+        Judged::Unknown { call } => {
+            push_heading(&mut told.found, history, file)?;
+            push_unknown(&mut told.found, line_at(history, file, *call))
+        }
+    }
+}
+
+/// The line of the call with this index in the file with that one.
+pub(crate) fn line_at(history: &History, file: usize, call: usize) -> Option<u64> {
+    history.files.get(file)?.lines.get(call).copied()
+}
+
+// Adds which file it is, where the history has several.
+fn push_heading(out: &mut String, history: &History, file: usize) -> Result<(), AllocError> {
+    if history.files.len() < 2 {
+        return Ok(());
+    }
+    let name = file_name(history, file);
+    writeln!(out, "file {name}")
+}
+
+// Adds up to which line an order was found, if that is known.
+fn push_unknown(out: &mut String, line: Option<u64>) -> Result<(), AllocError> {
+    match line {
+        Some(line) => writeln!(out, "explained up to line {line}"),
+        None => Ok(()),
+    }
+}
+
+// Adds the order of the calls of a file, by their lines.
+fn push_order(
+    out: &mut String,
+    history: &History,
+    file: usize,
+    order: &[usize],
+) -> Result<(), AllocError> {
+    let name = file_name(history, file);
+    write!(out, "order {name}")?;
+    for call in order {
+        let line = line_at(history, file, *call).unwrap_or(0);
+        write!(out, " {line}")?;
+    }
+    out.push_str("\n")
+}
+
+// Adds the call that fits nowhere, and what there may be before it.
+fn push_misfit(
+    out: &mut String,
+    history: &History,
+    text: &str,
+    misfit: &Misfit,
+) -> Result<(), AllocError> {
+    let line = misfit.line;
+    let words = line_of(text, line);
+    let count = misfit.tables.len();
+    writeln!(out, "fits nowhere: line {line}: {words}")?;
+    writeln!(out, "possible tables before: {count}")?;
+    let mut number = 0u64;
+    for table in &misfit.tables {
+        number = number.saturating_add(1);
+        writeln!(out, "table {number}")?;
+        push_table(out, history, table)?;
+    }
+    Ok(())
+}
+
+// Adds the locks of a table, which of them is in the way, and the calls that are open there.
+fn push_table(out: &mut String, history: &History, table: &Before) -> Result<(), AllocError> {
+    for lock in table.locks.iter().take(MOST_TOLD) {
+        out.push_str("  ")?;
+        push_lock(out, history, lock)?;
+        out.push_str("\n")?;
+    }
+    push_more(out, "locks", table.locks.len())?;
+    match &table.in_way {
+        Some(lock) => {
+            out.push_str("  in the way: ")?;
+            push_lock(out, history, lock)?;
+            out.push_str("\n")?;
+        }
+        None => out.push_str("  nothing in the way\n")?,
+    }
+    for line in table.open.iter().take(MOST_TOLD) {
+        writeln!(out, "  open: line {line}")?;
+    }
+    push_more(out, "open calls", table.open.len())
+}
+
+// Adds how many there are that are not told.
+fn push_more(out: &mut String, what: &str, count: usize) -> Result<(), AllocError> {
+    if count <= MOST_TOLD {
+        return Ok(());
+    }
+    let more = count - MOST_TOLD;
+    writeln!(out, "  more {what}: {more}")
+}
+
+// Adds the lock, as histories write it.
+fn push_lock(out: &mut String, history: &History, lock: &LockInfo) -> Result<(), AllocError> {
+    let (start, len) = segment_of(lock.span);
+    let (mode, owner) = (lock.mode.word(), owner_name(history, &lock.owner));
+    write!(out, "{mode} {start} {len} {owner}")
+}
+
+/// Adds what is said of a history, behind it what was found of its files, or orders where they explain their calls and are
+/// asked for.
+///
+/// # Errors
+/// `AllocError`.
+pub(crate) fn push_outcome(
+    out: &mut String,
+    outcome: Outcome,
+    told: &Told,
+    with_orders: bool,
+) -> Result<(), AllocError> {
+    let word = outcome.word();
+    writeln!(out, "history {word}")?;
+    if outcome != Outcome::Yes {
+        return out.push_str(&told.found);
+    }
+    if with_orders {
+        out.push_str(&told.orders)?;
+    }
+    Ok(())
+}
+
+/// Adds whether orders explain a history, or the first file whose order doesn't.
+///
+/// # Errors
+/// `AllocError`.
+pub(crate) fn push_ordered(
+    out: &mut String,
+    history: &History,
+    unexplained: Option<usize>,
+) -> Result<(), AllocError> {
+    match unexplained {
+        Some(file) => {
+            let name = file_name(history, file);
+            writeln!(out, "explains no {name}")
+        }
+        None => out.push_str("explains yes\n"),
+    }
+}
+
+/// Adds how many calls there are, and whose.
+///
+/// # Errors
+/// `AllocError`.
+pub(crate) fn push_stats(out: &mut String, history: &History) -> Result<(), AllocError> {
+    let counts = history.counts;
+    let (calls, exits, silent) = (counts.calls, counts.exits, counts.silent);
+    let (files, owners) = (history.files.len(), history.owners.count());
+    let machines = history.machines.len();
+    writeln!(
+        out,
+        "stats calls {calls} exits {exits} silent {silent} files {files} owners {owners} machines {machines}"
+    )
+}
