@@ -2,7 +2,7 @@
 use Rattle.std.proofs.Common.{refl}
 use Rattle.clap.specs.Faults.{defaults_fault}
 use Rattle.clap.proofs.OnLiterals.{clap_on_literals}
-use Rattle.command_line.specs.Program.{audit_app, check_app, explain_app, explore_app, history_app, open_app, picture_app, run_app, schedule_app, strace_app, threads_app}
+use Rattle.command_line.specs.Program.{audit_app, check_app, explain_app, explore_app, history_app, judge_app, open_app, picture_app, run_app, schedule_app, strace_app, threads_app}
 use Rattle.command_line.proofs.CommandWords.{IsCommand}
 
 pub record Commands : Type 0 where
@@ -17,6 +17,7 @@ pub record Commands : Type 0 where
   pub strace : IsCommand strace_app
   pub explore : IsCommand explore_app
   pub schedule : IsCommand schedule_app
+  pub judge : IsCommand judge_app
 
 pub commands : Commands
 unfolding clap_on_literals defaults_fault
@@ -32,4 +33,5 @@ commands = record {
   strace = λ words. refl;
   explore = λ words. refl;
   schedule = λ words. refl;
+  judge = λ words. refl;
 }

@@ -1,61 +1,37 @@
 -- What clap makes of the words of `check`, word by word.
-use Rattle.std.proofs.Common.{refl, ap, codes, false, List, [], ◌∷◌, ◌++◌, ◌≡◌, ◌≢◌, ◌∙◌, Option, Some, None}
-use Rattle.std.specs.Prelude.{⊤}
+use Rattle.std.proofs.Common.{refl, ap, codes, List, [], ◌∷◌, ◌++◌, ◌≡◌, ◌≢◌, ◌∙◌, Option, Some, None}
 use Rattle.std.proofs.lemmas.List.{append_assoc}
-use Rattle.clap.specs.Walk.{positional, Waiting, Walk, idle, option}
+use Rattle.clap.specs.Walk.{positional, Walk, idle, option}
 use Rattle.clap.specs.Words.{Row, Text}
-use Rattle.clap.specs.declared.builder.value_parser.Reading.TheVariants.{AsWritten}
-use Rattle.clap.specs.declared.parser.matches.ValueSource.TheVariants.{CommandLine}
 use Rattle.clap.proofs.OnLiterals.{clap_on_literals}
 use Rattle.command_line.specs.Program.{check_app, check_values_in}
 use Rattle.command_line.specs.Tasks.{check, option_words}
 use Rattle.command_line.specs.Words.{AsksFor}
-use Rattle.command_line.proofs.CommandWords.{asks_after, begin, fault_after, met_after, none_read, read_then, IsPath, MayBePath, Reads, ReadsAll}
+use Rattle.command_line.proofs.CommandWords.{asks_after, begin, behind_words, fault_after, met_after, none_read, read_then, words_row, ArePaths, IsPath, MayBePath, Reads, ReadsAll}
 use Rattle.command_line.proofs.BuiltCommands.{commands}
 
 abbrev values_after : Walk → Option (Text × Option (List Text) × Option Text)
 values_after w = check_values_in (met_after check_app w)
 
--- each word is read as no option
-abbrev pub ArePaths : List Text → Type 0
-ArePaths [] = ⊤
-ArePaths (path ∷ paths) = IsPath path × ArePaths paths
-
 -- the row of scripts
 abbrev scripts_row : List Text → Row
-scripts_row scripts = record {
-  id = codes "SCRIPT";
-  values = scripts;
-  count = None;
-  source = Some CommandLine;
-  reading = AsWritten;
-}
+scripts_row scripts = words_row (codes "SCRIPT") scripts
 
 -- the rows of the scripts before the last
 abbrev rows : List Text → List Row
 rows [] = []
 rows (script ∷ scripts) = scripts_row (script ∷ scripts) ∷ []
 
--- where the walk stands behind some scripts, with these values of an argument to come
-abbrev behind_scripts : List Row → Option (Text × List Text) → Waiting → Walk
-behind_scripts seen pending waiting = record {
-  held = record { rows = seen; pending = pending; skip = 0 };
-  waiting = waiting;
-  position = 1;
-  is_trailing = false;
-  stopped = None;
-}
-
 -- where scripts are read, of which this is the last
 abbrev has_scripts : List Text → Text → Walk
-has_scripts before script = behind_scripts (rows before) (Some (codes "SCRIPT", script ∷ [])) positional
+has_scripts before script = behind_words (rows before) (Some (codes "SCRIPT", script ∷ [])) positional
 
 -- where `--journal` is read behind them, and FILE
 abbrev waits_for_file : List Text → Walk
-waits_for_file scripts = behind_scripts (scripts_row scripts ∷ []) (Some (codes "FILE", [])) (option (codes "FILE"))
+waits_for_file scripts = behind_words (scripts_row scripts ∷ []) (Some (codes "FILE", [])) (option (codes "FILE"))
 
 abbrev has_file : List Text → Text → Walk
-has_file scripts file = behind_scripts (scripts_row scripts ∷ []) (Some (codes "FILE", file ∷ [])) idle
+has_file scripts file = behind_words (scripts_row scripts ∷ []) (Some (codes "FILE", file ∷ [])) idle
 
 first_read : (script : Text) → IsPath script → Reads check_app begin script (has_scripts [] script)
 unfolding clap_on_literals

@@ -3,14 +3,14 @@ use Rattle.std.specs.Prelude.{option_and_then, slice_get, unwrap_or}
 use Rattle.std.specs.Option.{option_map_or}
 use Rattle.std.specs.Str.{bytes_eq}
 use Rattle.std.specs.Str.Parse.{digits_value, without_leading_plus}
-use Rattle.std.proofs.Common.{ℕ, Bool, true, false, cond, refl, sym, subst, ap, codes, inl, inr, List, Option, Some, None, [], ◌∷◌, ◌≡◌, ◌∙◌}
+use Rattle.std.proofs.Common.{ℕ, Bool, true, false, cond, option_map, refl, sym, subst, ap, codes, inl, inr, List, Option, Some, None, [], ◌∷◌, ◌≡◌, ◌∙◌}
 use Rattle.clap.specs.declared.error.Error.{Error}
 use Rattle.clap.specs.Words.{HasKind, IsAmong, kind_of, Kinds, Row, Text, all_of, fault_of, first_of, one_of, subcommand_of}
 use Rattle.clap.specs.declared.error.kind.ErrorKind.{ErrorKind}
 use Rattle.clap.specs.declared.error.kind.ErrorKind.TheVariants.{OutOfMemory, ValueValidation}
 use Rattle.command_line.specs.Kinds.{IsKindOf, IsOfKind}
 use Rattle.command_line.specs.Program.{program_app, flag_text, IsMet, IsNumber}
-use Rattle.command_line.specs.Tasks.{Task, run, threads, audit, history, explain, open_calls, check, picture, from_strace, explore, schedule, format_text, greatest_seed, most_nodes, MayBeQuiet}
+use Rattle.command_line.specs.Tasks.{Task, run, threads, audit, history, explain, open_calls, check, picture, from_strace, explore, schedule, judge, format_text, greatest_seed, most_nodes, MayBeQuiet, MayJudge}
 use Rattle.command_line.specs.Words.{AsksFor, IsRefusal, IsShown}
 use Rattle.command_line.specs.declared.format.Format.{Format}
 use Rattle.command_line.specs.declared.format.Format.TheVariants.{Svg, Mermaid, Trace}
@@ -61,6 +61,10 @@ Values = Text × List (Option Text)
 abbrev Checked : Type 0
 Checked = Text × Option (List Text) × Option Text
 
+-- the name, the histories and the other values of a judgement
+abbrev Judged : Type 0
+Judged = Text × Option (List Text) × List (Option Text)
+
 abbrev value_at : ℕ → Option Values → Option Text
 value_at place met = option_and_then (λ (values : Values). unwrap_or (slice_get values.1 place) None) met
 
@@ -79,6 +83,15 @@ scripts_in met = option_map_or (λ (values : Checked). unwrap_or values.1 []) me
 abbrev file_in : Option Checked → Option Text
 file_in met = option_and_then (λ (values : Checked). values.2) met
 
+abbrev judged_name : Option Judged → Text
+judged_name met = option_map_or (λ (values : Judged). values.0) met []
+
+abbrev histories_at : Option Judged → Option (List Text)
+histories_at met = option_and_then (λ (values : Judged). values.1) met
+
+abbrev others_in : Option Judged → Option Values
+others_in met = option_map (λ (values : Judged). (values.0, values.2)) met
+
 abbrev pub name_of : Task → Text
 name_of (run s a j x o q) = codes "run"
 name_of (threads s n h k j) = codes "threads"
@@ -91,6 +104,7 @@ name_of (picture j c a b f) = codes "picture"
 name_of (from_strace r n w) = codes "from-strace"
 name_of (explore s k n f) = codes "explore"
 name_of (schedule s n f) = codes "schedule"
+name_of (judge hs n e o g s j) = codes "judge"
 
 name_is : (p : Text × List Row) (task : Task) → IsMet (Some p) task → p.0 ≡ name_of task
 name_is p (run s a j x o q) met = ap name_in met.0
@@ -104,6 +118,7 @@ name_is p (picture j c a b f) met = ap name_in met.2
 name_is p (from_strace r n w) met = ap name_in met.1
 name_is p (explore s k n f) met = ap name_in met.2
 name_is p (schedule s n f) met = ap name_in met.1
+name_is p (judge hs n e o g s j) met = ap judged_name met.1
 
 -- the text of a number, that of a flag, and that of a format
 abbrev number_of : Text → ℕ
@@ -148,6 +163,11 @@ check_of rows = check (unwrap_or (all_of (codes "SCRIPT") rows) []) (first_of (c
 abbrev explore_of : List Row → Task
 explore_of rows = explore (path_in (codes "SCRIPT") rows) (number_in (codes "COUNT") rows) (number_in (codes "N") rows) (flag_in (codes "failures") rows)
 
+abbrev judge_of : List Row → Task
+judge_of rows =
+    judge (unwrap_or (all_of (codes "HISTORY") rows) []) (number_in (codes "N") rows) (first_of (codes "FILE") rows)
+    (flag_in (codes "order") rows) (flag_in (codes "go-on") rows) (flag_in (codes "stats") rows) (flag_in (codes "json") rows)
+
 -- the task of the command of this name, with these values
 abbrev task_named : Text → List Row → Task
 task_named name rows =
@@ -161,7 +181,8 @@ task_named name rows =
     (cond (bytes_eq name (codes "picture")) (picture_of rows)
     (cond (bytes_eq name (codes "from-strace")) (from_strace (path_in (codes "RECORDING") rows) (number_in (codes "N") rows) (first_of (codes "PLACES") rows))
     (cond (bytes_eq name (codes "explore")) (explore_of rows)
-    (schedule (path_in (codes "SCRIPT") rows) (number_in (codes "N") rows) (flag_in (codes "failures") rows)))))))))))
+    (cond (bytes_eq name (codes "schedule")) (schedule (path_in (codes "SCRIPT") rows) (number_in (codes "N") rows) (flag_in (codes "failures") rows))
+    (judge_of rows)))))))))))
 
 named : (p : Text × List Row) (task : Task) → IsMet (Some p) task → task_named p.0 p.1 ≡ task_named (name_of task) p.1
 named p task met = ap (λ (name : Text). task_named name p.1) (name_is p task met)
@@ -218,6 +239,16 @@ met_is p (schedule s n f) met =
     let number = number_there 1 _ _ 0 greatest_seed met.0 n met.1 refl met.2 in
     let flag = flag_there 2 _ _ f met.1 refl in
     named p (schedule s n f) met ∙ (λ i. schedule (script i) (number i) (flag i))
+met_is p (judge hs n e o g s j) met =
+    let histories = ap (λ (v : Option Judged). unwrap_or (histories_at v) []) met.1 in
+    let others = ap others_in met.1 in
+    let number = number_there 0 _ _ 1 greatest_seed met.0 n others refl met.2 in
+    let file = ap (value_at 1) others in
+    let order_flag = flag_there 2 _ _ o others refl in
+    let go_on_flag = flag_there 3 _ _ g others refl in
+    let stats_flag = flag_there 4 _ _ s others refl in
+    let json_flag = flag_there 5 _ _ j others refl in
+    named p (judge hs n e o g s j) met ∙ (λ i. judge (histories i) (number i) (file i) (order_flag i) (go_on_flag i) (stats_flag i) (json_flag i))
 
 unmet : {A : Type 0} (values : A) → ◌≡◌ {A = Option A} None (Some values) → ⊥
 unmet values is = cc
@@ -235,6 +266,7 @@ nothing_met (picture j c a b f) is = unmet _ is.2
 nothing_met (from_strace r n w) is = unmet _ is.1
 nothing_met (explore s k n f) is = unmet _ is.2
 nothing_met (schedule s n f) is = unmet _ is.1
+nothing_met (judge hs n e o g s j) is = unmet _ is.1
 
 one_met : (met : Option (Text × List Row)) (one other : Task) → IsMet met one → IsMet met other → one ≡ other
 one_met None one other first second = absurd (nothing_met one first)
@@ -365,3 +397,38 @@ no_scheduled_seed rows none task met =
 
 pub no_scheduled_flag : (rows : List Row) → NoFlag (codes "failures") rows → Unmet (codes "schedule") rows
 no_scheduled_flag rows none task met = none _ (ap (value_at 2) (as_named (codes "schedule") rows task met).1)
+
+pub no_histories : (rows : List Row) → all_of (codes "HISTORY") rows ≡ None → Unmet (codes "judge") rows
+no_histories rows none task met =
+    let some = ap histories_at (as_named (codes "judge") rows task met).1 in
+    unmet _ (sym none ∙ some)
+
+pub no_steps : (rows : List Row) → NoNumber 1 greatest_seed (codes "N") rows → Unmet (codes "judge") rows
+no_steps rows none task met =
+    let is = as_named (codes "judge") rows task met in
+    none is.0 _ (ap (value_at 0) (ap others_in is.1)) is.2
+
+pub no_order_flag : (rows : List Row) → NoFlag (codes "order") rows → Unmet (codes "judge") rows
+no_order_flag rows none task met = none _ (ap (value_at 2) (ap others_in (as_named (codes "judge") rows task met).1))
+
+pub no_go_on_flag : (rows : List Row) → NoFlag (codes "go-on") rows → Unmet (codes "judge") rows
+no_go_on_flag rows none task met = none _ (ap (value_at 3) (ap others_in (as_named (codes "judge") rows task met).1))
+
+pub no_stats_flag : (rows : List Row) → NoFlag (codes "stats") rows → Unmet (codes "judge") rows
+no_stats_flag rows none task met = none _ (ap (value_at 4) (ap others_in (as_named (codes "judge") rows task met).1))
+
+pub no_json_flag : (rows : List Row) → NoFlag (codes "json") rows → Unmet (codes "judge") rows
+no_json_flag rows none task met = none _ (ap (value_at 5) (ap others_in (as_named (codes "judge") rows task met).1))
+
+-- nor where an order is given, and more than it may stand beside
+pub no_judge : (rows : List Row) (histories : List Text) (steps : ℕ) (explains : Option Text) (order go_on : Bool) → all_of (codes "HISTORY") rows ≡ Some histories
+    → ((text : Text) × (one_of (codes "N") rows ≡ Some text) × IsNumber 1 greatest_seed text steps) → first_of (codes "FILE") rows ≡ explains
+    → one_of (codes "order") rows ≡ Some (flag_text order) → one_of (codes "go-on") rows ≡ Some (flag_text go_on) → (MayJudge histories steps explains order go_on → ⊥) → Unmet (codes "judge") rows
+no_judge rows histories steps explains order go_on all number file first last may_not task met =
+    let same = as_named (codes "judge") rows task met in
+    let histories_are = ap (λ (found : Option (List Text)). unwrap_or found []) all in
+    let steps_is : number_in (codes "N") rows ≡ steps = ap (λ (value : Option Text). number_of (unwrap_or value [])) number.1 ∙ sym number.2.value in
+    let order_is : flag_in (codes "order") rows ≡ order = ap (λ (value : Option Text). is_given (unwrap_or value [])) first ∙ given_is order in
+    let go_on_is : flag_in (codes "go-on") rows ≡ go_on = ap (λ (value : Option Text). is_given (unwrap_or value [])) last ∙ given_is go_on in
+    let P : List Text × ℕ × Option Text × Bool × Bool → Type 0 = λ given. MayJudge given.0 given.1 given.2 given.3 given.4 in
+    may_not (subst P (λ i. (histories_are i, steps_is i, file i, order_is i, go_on_is i)) same.3)

@@ -149,6 +149,26 @@ path_row id value = row id value AsWritten
 abbrev pub number_row : Text → Text → Row
 number_row id value = row id value WithoutMinus
 
+-- the row of words of which there may be several
+abbrev pub words_row : Text → List Text → Row
+words_row id words = record {
+  id = id;
+  values = words;
+  count = None;
+  source = Some CommandLine;
+  reading = AsWritten;
+}
+
+-- behind such words, where this was read, with these values of an argument to come
+abbrev pub behind_words : List Row → Option (Text × List Text) → Waiting → Walk
+behind_words rows pending waiting = record {
+  held = record { rows = rows; pending = pending; skip = 0 };
+  waiting = waiting;
+  position = 1;
+  is_trailing = false;
+  stopped = None;
+}
+
 -- behind the first path, where this was read, with these values of an argument to come
 abbrev pub behind_path : List Row → Option (Text × List Text) → Waiting → Walk
 behind_path rows pending waiting = record {
@@ -177,6 +197,11 @@ pub record IsPath (path : Text) : Type 0 where
 abbrev pub MayBePath : Option Text → Type 0
 MayBePath None = ⊤
 MayBePath (Some path) = IsPath path
+
+-- each of these words is
+abbrev pub ArePaths : List Text → Type 0
+ArePaths [] = ⊤
+ArePaths (path ∷ paths) = IsPath path × ArePaths paths
 
 pub is_path : (path : Text) → slice_get path 0 ≢ Some 45 → IsPath path
 is_path [] plain = record { no_minus = refl; no_dashes = refl }

@@ -7,6 +7,7 @@ pub mod Formats
 pub mod Numbers
 pub mod CheckWords
 pub mod ExploreWords
+pub mod JudgeWords
 pub mod PictureWords
 pub mod RunWords
 pub mod ScheduleWords

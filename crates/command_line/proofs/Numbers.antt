@@ -119,6 +119,14 @@ hundred_writes = record {
   within = omega arith;
 }
 
+pub steps_write : IsNumber 1 greatest_seed (codes "10000000") 10000000
+steps_write = record {
+  digits = (omega arith, (omega arith, (omega arith, (omega arith, (omega arith, (omega arith, (omega arith, (omega arith, (omega arith, tt)))))))));
+  value = refl;
+  from_least = omega arith;
+  within = omega arith;
+}
+
 pub greatest_writes : IsNumber 1 greatest_seed (codes "4294967295") greatest_seed
 greatest_writes = record {
   digits = (omega arith, (omega arith, (omega arith, (omega arith, (omega arith, (omega arith, (omega arith, (omega arith, (omega arith, (omega arith, (omega arith, tt)))))))))));

@@ -5,15 +5,16 @@ use Rattle.std.specs.List.{All}
 use Rattle.std.proofs.lemmas.List.Elements.{All-head, All-tail}
 use Rattle.clap.specs.Words.{Text, is_simple, is_simple_and_free}
 use Rattle.clap.proofs.OnLiterals.{clap_on_literals}
-use Rattle.command_line.specs.Program.{audit_app, explain_app, explore_app, history_app, open_app, picture_app, program_app, schedule_app, strace_app, threads_app}
-use Rattle.command_line.specs.Tasks.{Task, run, threads, audit, history, explain, open_calls, check, picture, from_strace, explore, schedule, given, greatest_seed, most_nodes, HasPlainWords, paths_of, plain_words_of}
+use Rattle.command_line.specs.Program.{audit_app, explain_app, explore_app, history_app, judge_app, open_app, picture_app, program_app, schedule_app, strace_app, threads_app}
+use Rattle.command_line.specs.Tasks.{Task, run, threads, audit, history, explain, open_calls, check, picture, from_strace, explore, schedule, judge, default_steps, given, greatest_seed, most_nodes, HasPlainWords, paths_of, plain_words_of}
 use Rattle.command_line.specs.Words.{AsksFor, IsPlain}
 use Rattle.command_line.specs.declared.format.Format.TheVariants.{Svg}
 use Rattle.command_line.proofs.BuiltCommands.{commands}
-use Rattle.command_line.proofs.CommandWords.{asks_by, is_path, IsPath, MayBePath}
-use Rattle.command_line.proofs.CheckWords.{check_asks, ArePaths}
+use Rattle.command_line.proofs.CommandWords.{asks_by, is_path, ArePaths, IsPath, MayBePath}
+use Rattle.command_line.proofs.CheckWords.{check_asks}
 use Rattle.command_line.proofs.ExploreWords.{explore_asks}
-use Rattle.command_line.proofs.Numbers.{greatest_writes, hundred_writes, number_text, one_writes}
+use Rattle.command_line.proofs.JudgeWords.{judge_asks}
+use Rattle.command_line.proofs.Numbers.{greatest_writes, hundred_writes, number_text, one_writes, steps_write}
 use Rattle.command_line.proofs.PictureWords.{around_asks, picture_asks}
 use Rattle.command_line.proofs.RunWords.{run_asks}
 use Rattle.command_line.proofs.ScheduleWords.{schedule_asks}
@@ -67,6 +68,12 @@ module _ (program path : Text) (p : IsPath path) where
   unfolding clap_on_literals
   left_schedule = asks_by schedule_app commands.schedule program (path ∷ []) (schedule path 1 false) (rw (p.no_dashes, p.no_minus, p.no_minus) refl) (codes "1", rw (p.no_dashes, p.no_minus, p.no_minus) refl, one_writes 0 greatest_seed (omega arith) (omega arith))
 
+  left_judge : AsksFor (program ∷ codes "judge" ∷ path ∷ []) (judge (path ∷ []) default_steps None false false false false)
+  unfolding clap_on_literals
+  left_judge =
+      asks_by judge_app commands.judge program (path ∷ []) (judge (path ∷ []) default_steps None false false false false) (rw (p.no_dashes, p.no_minus, p.no_minus) refl)
+      (codes "10000000", rw (p.no_dashes, p.no_minus, p.no_minus) refl, steps_write, λ none. cc)
+
 -- what is asked where no option is given
 module _ (program path : Text) (plain : slice_get path 0 ≢ Some 45) where
   pub bare_threads_asks : AsksFor (program ∷ codes "threads" ∷ path ∷ []) (threads path 1 false false None)
@@ -83,6 +90,9 @@ module _ (program path : Text) (plain : slice_get path 0 ≢ Some 45) where
 
   pub bare_schedule_asks : AsksFor (program ∷ codes "schedule" ∷ path ∷ []) (schedule path 1 false)
   bare_schedule_asks = left_schedule program path (is_path path plain)
+
+  pub bare_judge_asks : AsksFor (program ∷ codes "judge" ∷ path ∷ []) (judge (path ∷ []) default_steps None false false false false)
+  bare_judge_asks = left_judge program path (is_path path plain)
 
 -- `explain JOURNAL CALL`
 explain_asks : (program journal call : Text) → IsPath journal → IsPath call → AsksFor (program ∷ codes "explain" ∷ journal ∷ call ∷ []) (explain journal call)
@@ -144,6 +154,11 @@ plain_task program (explore script seeds first failures) plain within =
     (number_text 1 greatest_seed seeds (omega arith) within.0 within.1) (number_text 0 greatest_seed first (omega arith) (omega arith) within.2) failures
 plain_task program (schedule script seed failures) plain within =
     schedule_asks program script (decimal seed) seed (is_path script (plain 0 [] (omega arith))) (number_text 0 greatest_seed seed (omega arith) (omega arith) within) failures
+plain_task program (judge histories steps None order go_on stats json) plain within =
+    judge_asks (decimal steps) steps (number_text 1 greatest_seed steps (omega arith) within.0 within.1) program histories (are_paths histories [] plain) None tt order go_on stats json within.2
+plain_task program (judge histories steps (Some file) order go_on stats json) plain within =
+    judge_asks (decimal steps) steps (number_text 1 greatest_seed steps (omega arith) within.0 within.1) program histories (are_paths histories (file ∷ []) plain)
+    (Some file) (may_be_path histories (Some file) plain) order go_on stats json within.2
 
 pub plain_asks : (words : List Text) (task : Task) → IsPlain words task → AsksFor words task
 plain_asks words task plain =

@@ -5,7 +5,7 @@ use Rattle.clap.specs.Words.{App, Row, Rule, Text, all_of, first_of, one_of, new
 use Rattle.clap.specs.Simple.{on_top}
 use Rattle.clap.specs.declared.builder.action.ArgAction.TheVariants.{Append, SetTrue}
 use Rattle.clap.specs.declared.builder.value_parser.ValueParser.TheVariants.{Signed}
-use Rattle.command_line.specs.Tasks.{Task, run, threads, audit, history, explain, open_calls, check, picture, from_strace, explore, schedule, format_text, greatest_seed, most_nodes, MayBeQuiet}
+use Rattle.command_line.specs.Tasks.{Task, run, threads, audit, history, explain, open_calls, check, picture, from_strace, explore, schedule, judge, format_text, greatest_seed, most_nodes, MayBeQuiet, MayJudge}
 
 -- a word that must be there: a path, or the name of a call
 abbrev pub path_rule : Text → Rule
@@ -62,6 +62,14 @@ from_rule = number_rule (codes "K") (codes "from") (codes "1") 1 greatest_seed
 abbrev pub to_rule : Rule
 to_rule = number_rule (codes "L") (codes "to") (codes "4294967295") 1 greatest_seed
 
+-- `--steps N`, from 1 on, and 10000000 if it is left out
+abbrev pub steps_rule : Rule
+steps_rule = number_rule (codes "N") (codes "steps") (codes "10000000") 1 greatest_seed
+
+-- `--explains FILE`
+abbrev pub explains_rule : Rule
+explains_rule = option_rule (codes "FILE") (codes "explains")
+
 -- `--nodes N`, from 1 to 64, and 1 if it is left out
 abbrev pub nodes_rule : Rule
 nodes_rule = number_rule (codes "N") (codes "nodes") (codes "1") 1 most_nodes
@@ -99,6 +107,10 @@ explore_app = with_rule (with_rule (with_rule (with_rule (new_app (codes "explor
 abbrev pub schedule_app : App
 schedule_app = with_rule (with_rule (with_rule (new_app (codes "schedule")) (path_rule (codes "SCRIPT"))) (seed_rule (codes "seed"))) (flag_rule (codes "failures"))
 
+abbrev pub judge_app : App
+judge_app =
+    with_rule (with_rule (with_rule (with_rule (with_rule (with_rule (with_rule (new_app (codes "judge")) (paths_rule (codes "HISTORY"))) steps_rule) explains_rule) (flag_rule (codes "order"))) (flag_rule (codes "go-on"))) (flag_rule (codes "stats"))) (flag_rule (codes "json"))
+
 -- no command is no command line
 abbrev pub bare_app : App
 bare_app = on_top (λ s. record s { has_version = true; subcommand_required = true; arg_required_else_help = true }) (new_app (codes "lockreplay"))
@@ -109,7 +121,7 @@ readers_app =
     with_subcommand (with_subcommand (with_subcommand (with_subcommand (with_subcommand (with_subcommand (with_subcommand (with_subcommand bare_app run_app.top) threads_app.top) audit_app.top) history_app.top) explain_app.top) open_app.top) check_app.top) picture_app.top
 
 abbrev pub program_app : App
-program_app = with_subcommand (with_subcommand (with_subcommand readers_app strace_app.top) explore_app.top) schedule_app.top
+program_app = with_subcommand (with_subcommand (with_subcommand (with_subcommand readers_app strace_app.top) explore_app.top) schedule_app.top) judge_app.top
 
 -- the command that is met, with what is read of its arguments
 abbrev pub read_in : List (List Row → Option Text) → Option (Text × List Row) → Option (Text × List (Option Text))
@@ -154,6 +166,11 @@ explore_values_in = read_in (first_of (codes "SCRIPT") ∷ one_of (codes "COUNT"
 abbrev pub schedule_values_in : Option (Text × List Row) → Option (Text × List (Option Text))
 schedule_values_in = read_in (first_of (codes "SCRIPT") ∷ one_of (codes "N") ∷ one_of (codes "failures") ∷ [])
 
+-- the histories of a judgement, and what else it has
+abbrev pub judge_values_in : Option (Text × List Row) → Option (Text × Option (List Text) × List (Option Text))
+judge_values_in =
+    option_map (λ p. (p.0, all_of (codes "HISTORY") p.1, map (λ read. read p.1) (one_of (codes "N") ∷ first_of (codes "FILE") ∷ one_of (codes "order") ∷ one_of (codes "go-on") ∷ one_of (codes "stats") ∷ one_of (codes "json") ∷ [])))
+
 -- it is the command of the task, with its paths, its numbers, its flags, its format, the name of its call and the words that place processes
 abbrev pub IsMet : Option (Text × List Row) → Task → Type 0
 IsMet met (run script after journal expected listed quiet) =
@@ -175,3 +192,6 @@ IsMet met (explore script seeds first failures) =
     × IsNumber 1 greatest_seed count seeds × IsNumber 0 greatest_seed text first
 IsMet met (schedule script seed failures) =
     (text : Text) × (schedule_values_in met ≡ Some (codes "schedule", Some script ∷ Some text ∷ Some (flag_text failures) ∷ [])) × IsNumber 0 greatest_seed text seed
+IsMet met (judge histories steps explains order go_on stats json) =
+    (text : Text) × (judge_values_in met ≡ Some (codes "judge", Some histories, Some text ∷ explains ∷ Some (flag_text order) ∷ Some (flag_text go_on) ∷ Some (flag_text stats) ∷ Some (flag_text json) ∷ []))
+    × IsNumber 1 greatest_seed text steps × MayJudge histories steps explains order go_on

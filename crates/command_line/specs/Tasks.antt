@@ -1,10 +1,10 @@
 -- What a line may ask for.
-use Rattle.std.specs.Prelude.{ℕ, ◌≤◌, ◌≢◌, ⊤, Bool, true, false, List, Option, Some, None, [], ◌∷◌, ◌++◌, codes, decimal, map, option_map}
+use Rattle.std.specs.Prelude.{ℕ, ◌≡◌, ◌≤◌, ◌≢◌, ⊤, Bool, true, false, List, Option, Some, None, [], ◌∷◌, ◌++◌, codes, decimal, length, map, option_map}
 use Rattle.clap.specs.Words.{Text}
 use Rattle.command_line.specs.declared.format.Format.{Format}
 use Rattle.command_line.specs.declared.format.Format.TheVariants.{Svg, Mermaid, Trace}
 use Rattle.command_line.specs.declared.line.Line.{Line}
-use Rattle.command_line.specs.declared.line.Line.TheVariants.{Run, Threads, Audit, History, Explain, Open, Check, Picture, FromStrace, Explore, Schedule}
+use Rattle.command_line.specs.declared.line.Line.TheVariants.{Run, Threads, Audit, History, Explain, Open, Check, Picture, FromStrace, Explore, Schedule, Judge}
 
 -- what is to be done, with the paths of the files that are named, the name of a call, and the words that place processes
 pub data Task : Type 0 where
@@ -30,6 +30,8 @@ pub data Task : Type 0 where
   explore : Text → ℕ → ℕ → Bool → Task
   -- to print the script of the schedule of this seed, with failures, if they are asked for
   schedule : Text → ℕ → Bool → Task
+  -- to judge the histories of these paths, looking at so many tables for each file at most, or by the order that the other path names, if there is one; to print orders, to go on behind what fits nowhere, and to print counts, if that is asked for; as JSON, if that is
+  judge : List Text → ℕ → Option Text → Bool → Bool → Bool → Bool → Task
 
 abbrev pub task_of : Line → Task
 task_of (Run script after journal expected listed quiet) = run script.now (option_map (λ file. file.now) after) (option_map (λ file. file.now) journal) expected listed quiet
@@ -43,6 +45,7 @@ task_of (Picture journal call first last format) = picture journal.now (option_m
 task_of (FromStrace recording nodes places) = from_strace recording.now nodes (option_map (λ words. words.now) places)
 task_of (Explore script seeds first failures) = explore script.now seeds first failures
 task_of (Schedule script seed failures) = schedule script.now seed failures
+task_of (Judge histories steps explains order go_on stats json) = judge (map (λ history. history.now) histories.items) steps (option_map (λ file. file.now) explains) order go_on stats json
 
 abbrev pub given : Option Text → List Text
 given None = []
@@ -61,6 +64,7 @@ paths_of (picture journal call first last format) = journal ∷ given call
 paths_of (from_strace recording nodes places) = recording ∷ given places
 paths_of (explore script seeds first failures) = script ∷ []
 paths_of (schedule script seed failures) = script ∷ []
+paths_of (judge histories steps explains order go_on stats json) = histories ++ given explains
 
 -- the path of the file to which the journal of a run is written; of a check none is
 abbrev pub journal_path : Task → Option Text
@@ -75,6 +79,7 @@ journal_path (picture journal call first last format) = None
 journal_path (from_strace recording nodes places) = None
 journal_path (explore script seeds first failures) = None
 journal_path (schedule script seed failures) = None
+journal_path (judge histories steps explains order go_on stats json) = None
 
 -- an option with its value, a number among them, and a flag, as words
 abbrev pub option_words : Text → Option Text → List Text
@@ -110,6 +115,8 @@ plain_words_of (picture journal call first last format) =
 plain_words_of (from_strace recording nodes places) = codes "from-strace" ∷ recording ∷ number_words (codes "--nodes") nodes ++ option_words (codes "--place") places
 plain_words_of (explore script seeds first failures) = codes "explore" ∷ script ∷ number_words (codes "--seeds") seeds ++ number_words (codes "--first") first ++ flag_words (codes "--failures") failures
 plain_words_of (schedule script seed failures) = codes "schedule" ∷ script ∷ number_words (codes "--seed") seed ++ flag_words (codes "--failures") failures
+plain_words_of (judge histories steps explains order go_on stats json) =
+    codes "judge" ∷ histories ++ (number_words (codes "--steps") steps ++ option_words (codes "--explains") explains ++ flag_words (codes "--order") order ++ flag_words (codes "--go-on") go_on ++ flag_words (codes "--stats") stats ++ flag_words (codes "--json") json)
 
 -- the greatest seed, which has 32 bits; of entries and of seeds that are counted there are no more
 abbrev pub greatest_seed : ℕ
@@ -126,7 +133,16 @@ MayBeQuiet None false true = ⊥
 MayBeQuiet None true true = ⊤
 MayBeQuiet (Some path) expected true = ⊤
 
--- the words are those of numbers in their range, a run that leaves its listing away keeps its journal or compares its replies, and a check has a script
+-- how many tables of a file are looked at where that is left out
+abbrev pub default_steps : ℕ
+default_steps = 10000000
+
+-- a history is judged by an order alone: nothing is searched
+abbrev pub MayJudge : List Text → ℕ → Option Text → Bool → Bool → Type 0
+MayJudge histories steps None order go_on = histories ≢ []
+MayJudge histories steps (Some file) order go_on = (length histories ≡ 1) × (steps ≡ default_steps) × (order ≡ false) × (go_on ≡ false)
+
+-- the words are those of numbers in their range, a run that leaves its listing away keeps its journal or compares its replies, a check has a script, a judgement a history, and one by an order no more and no words of a search
 abbrev pub HasPlainWords : Task → Type 0
 HasPlainWords (run script after journal expected listed quiet) = MayBeQuiet journal expected quiet
 HasPlainWords (threads script seed stop no_join journal) = seed ≤ greatest_seed
@@ -139,3 +155,4 @@ HasPlainWords (picture journal call first last format) = (1 ≤ first) × (first
 HasPlainWords (from_strace recording nodes places) = (1 ≤ nodes) × (nodes ≤ most_nodes)
 HasPlainWords (explore script seeds first failures) = (1 ≤ seeds) × (seeds ≤ greatest_seed) × (first ≤ greatest_seed)
 HasPlainWords (schedule script seed failures) = seed ≤ greatest_seed
+HasPlainWords (judge histories steps explains order go_on stats json) = (1 ≤ steps) × (steps ≤ greatest_seed) × MayJudge histories steps explains order go_on

@@ -1,12 +1,12 @@
 //! The commands of the program.
 ghost use Rattle.std.specs.Prelude.{◌≡◌, fold, IfOk};
 ghost use Rattle.clap.specs.Words.{app_of};
-ghost use Rattle.command_line.specs.Program.{audit_app, bare_app, check_app, explain_app, explore_app, history_app, open_app, picture_app, program_app, run_app, schedule_app, strace_app, threads_app};
+ghost use Rattle.command_line.specs.Program.{audit_app, bare_app, check_app, explain_app, explore_app, history_app, judge_app, open_app, picture_app, program_app, run_app, schedule_app, strace_app, threads_app};
 ghost use Rattle.command_line.specs.Table.{app_given, with_given};
 
 use crate::argument::Argument;
 use crate::notes::{
-    AUDIT_NOTES, CHECK_NOTES, EXPLAIN_NOTES, EXPLORE_NOTES, HISTORY_NOTES, OPEN_NOTES,
+    AUDIT_NOTES, CHECK_NOTES, EXPLAIN_NOTES, EXPLORE_NOTES, HISTORY_NOTES, JUDGE_NOTES, OPEN_NOTES,
     PICTURE_NOTES, PROGRAM_NOTES, RUN_NOTES, SCHEDULE_NOTES, STRACE_NOTES, THREADS_NOTES, VERSION,
 };
 use crate::subcommand::{Subcommand, bare_command};
@@ -186,6 +186,42 @@ const SCHEDULE: &[Argument<'static>] = &[
     FAILURES,
 ];
 
+const JUDGE: &[Argument<'static>] = &[
+    Argument::Words {
+        id: "HISTORY",
+        help: "The history: a file of lines, or - for standard input",
+    },
+    Argument::Number {
+        id: "N",
+        long: "steps",
+        default: "10000000",
+        least: 1,
+        greatest: GREATEST_SEED,
+        help: "How many tables of a file are looked at, up to 4294967295",
+    },
+    Argument::Value {
+        id: "FILE",
+        long: "explains",
+        help: "Say whether the order in FILE explains HISTORY",
+    },
+    Argument::Flag {
+        name: "order",
+        help: "Print an order of the calls that explains them",
+    },
+    Argument::Flag {
+        name: "go-on",
+        help: "Leave out what fits nowhere, and go on behind it",
+    },
+    Argument::Flag {
+        name: "stats",
+        help: "Print counts of calls and of tables",
+    },
+    Argument::Flag {
+        name: "json",
+        help: "Print the text as JSON",
+    },
+];
+
 /// The program's command line.
 pub(crate) fn program<'a>(alloc: Global) -> Result<Command<'a>, AllocError>
     ensures { IfOk result (λ command. app_of command ≡ program_app) }
@@ -202,6 +238,7 @@ pub(crate) fn program<'a>(alloc: Global) -> Result<Command<'a>, AllocError>
         strace_command(),
         explore_command(),
         schedule_command(),
+        judge_command(),
     ];
     with_commands(alloc, bare_program(alloc), &commands)
 }
@@ -365,5 +402,16 @@ fn schedule_command<'a>() -> Subcommand<'a>
         about: "Print the script of a schedule",
         notes: SCHEDULE_NOTES,
         arguments: SCHEDULE,
+    }
+}
+
+fn judge_command<'a>() -> Subcommand<'a>
+    ensures { app_given result ≡ judge_app }
+{
+    Subcommand {
+        name: "judge",
+        about: "Judge what clients of a lock manager saw",
+        notes: JUDGE_NOTES,
+        arguments: JUDGE,
     }
 }

@@ -1,17 +1,17 @@
 //! The lines that words may ask for.
 ghost use Rattle.std.specs.Prelude.{◌≡◌, ◌⊎◌, codes, false, true, List, map, IfErr, IfOk, Some};
 ghost use Rattle.std.specs.Option.{option_map};
-ghost use Rattle.clap.specs.Words.{app_of, found_of, kind_of, rows_of, subcommand_rows_of};
+ghost use Rattle.clap.specs.Words.{all_of, app_of, found_of, kind_of, rows_of, subcommand_rows_of};
 ghost use Rattle.clap.specs.declared.error.kind.ErrorKind.TheVariants.{OutOfMemory, ValueValidation};
 ghost use Rattle.command_line.specs.Kinds.{IsKindOf, IsLineOf};
 ghost use Rattle.command_line.specs.Program.{program_app};
-ghost use Rattle.command_line.specs.Tasks.{task_of, MayBeQuiet};
+ghost use Rattle.command_line.specs.Tasks.{task_of, MayBeQuiet, MayJudge};
 ghost use Rattle.command_line.specs.Words.{AsksFor, IsRefusal};
 
 use crate::commands::program;
 use crate::format::{Format, format_in};
 use crate::refusal::Refusal;
-use crate::values::{GREATEST_SEED, MOST_NODES, flag_in, number_in};
+use crate::values::{DEFAULT_STEPS, GREATEST_SEED, MOST_NODES, flag_in, number_in};
 use clap::error::ErrorKind;
 use clap::{ArgMatches, Command, Error};
 use std::alloc::{AllocError, Global};
@@ -102,6 +102,20 @@ pub enum Line<'a> {
         seed: u32,
         failures: bool,
     },
+    /// `judge HISTORY.. [--steps N] [--explains FILE] [--order] [--go-on] [--stats] [--json]`: to say of each
+    /// history, of which there is at least one, whether one table explains it, looking at N tables for each file at
+    /// most, or at 10000000; or whether the order in FILE explains the one history, where nothing is searched. To
+    /// print the order that was found, to leave out what fits nowhere and go on behind it, and to print counts, if
+    /// that is asked for; as JSON, if that is.
+    Judge {
+        histories: Vec<&'a str>,
+        steps: u32,
+        explains: Option<&'a str>,
+        order: bool,
+        go_on: bool,
+        stats: bool,
+        json: bool,
+    },
 }
 
 impl<'a> Line<'a> {
@@ -163,6 +177,8 @@ fn complaint(matches: &ArgMatches<'_>) -> &'static str {
         Some(("picture", _)) =>
             "invalid value for '--format <FORMAT>': it is svg, mermaid or trace",
         Some(("run", _)) => "the argument '--quiet' needs '--journal <FILE>' or '--expect'",
+        Some(("judge", _)) =>
+            "the argument '--explains <FILE>' takes one HISTORY, and no '--steps', '--order' or '--go-on'",
         _ => "no command is given",
     }
 }
@@ -186,6 +202,7 @@ fn line_of<'a>(alloc: Global, matches: &ArgMatches<'a>) -> Result<Option<Line<'a
         "from-strace" => Ok(strace_in(values)),
         "explore" => Ok(explore_in(values)),
         "schedule" => Ok(schedule_in(values)),
+        "judge" => judge_in(alloc, values),
         _ => Ok(None),
     }
 }
@@ -337,4 +354,57 @@ fn schedule_in<'a>(values: &ArgMatches<'a>) -> Option<Line<'a>>
         seed,
         failures,
     })
+}
+
+fn judge_in<'a>(alloc: Global, values: &ArgMatches<'a>) -> Result<Option<Line<'a>>, AllocError>
+    ensures { IfOk result (IsLineOf (Some (codes "judge", rows_of (found_of values.now)))) }
+{
+    let Some(paths) = values.get_strs("HISTORY") else {
+        return Ok(None);
+    };
+    let mut histories = Vec::new(alloc);
+    histories.extend_from_slice(paths)?;
+    Ok(judge_of(values, histories))
+}
+
+// The line of these histories.
+fn judge_of<'a>(values: &ArgMatches<'a>, histories: Vec<&'a str>) -> Option<Line<'a>>
+    requires { all_of (codes "HISTORY") (rows_of (found_of values.now)) ≡ Some (map (λ path. path.now) histories.items) }
+    ensures { IsLineOf (Some (codes "judge", rows_of (found_of values.now))) result }
+{
+    let steps = number_in(values, "N", 1, GREATEST_SEED)?;
+    let explains = values.get_str("FILE");
+    let order = flag_in(values, "order")?;
+    let go_on = flag_in(values, "go-on")?;
+    let stats = flag_in(values, "stats")?;
+    let json = flag_in(values, "json")?;
+    if !may_judge(histories.as_slice(), steps, explains, order, go_on) {
+        return None;
+    }
+    Some(Line::Judge {
+        histories,
+        steps,
+        explains,
+        order,
+        go_on,
+        stats,
+        json,
+    })
+}
+
+// Whether there is a history, and of a judgement by an order no more and no words of a search.
+fn may_judge(
+    histories: &[&str],
+    steps: u32,
+    explains: Option<&str>,
+    order: bool,
+    go_on: bool,
+) -> bool
+    ensures may { result ≡ true → MayJudge (map (λ path. path.now) histories.now) steps (option_map (λ file. file.now) explains.entry) order go_on }
+    ensures may_not { result ≡ false → MayJudge (map (λ path. path.now) histories.now) steps (option_map (λ file. file.now) explains.entry) order go_on → ⊥ }
+{
+    match explains {
+        None => !histories.is_empty(),
+        Some(_) => histories.len() == 1 && steps == DEFAULT_STEPS && !order && !go_on,
+    }
 }

@@ -11,12 +11,13 @@ Exit status:
      explain, picture: it has no such call; picture: entries that were asked for are
      not drawn; threads: it lacks a receipt, or the run was stopped as stuck; explore and
      run --expect: an outcome is not as expected; from-strace: a part of the recording is
-     not served
+     not served; judge: a history, or an order of one, is contradicted
   2  the words of the command line are refused
-  3  SCRIPT or JOURNAL has a bad line, that or RECORDING can't be read, JOURNAL is too
-     old to go on from, PLACES places no process, or FILE or the text can't be written;
-     check: a file has bad lines
+  3  SCRIPT, JOURNAL or HISTORY has a bad line, that or RECORDING can't be read, JOURNAL
+     is too old to go on from, PLACES places no process, or FILE or the text can't be
+     written; check: a file has bad lines
   4  no memory, or more entries than a journal may have (1048576)
+  5  judge: whether a history is contradicted is not known
 Standard error says which, of 2 to 4: at 3 and 4 in one line, but of check in one for each
 of the first hundred bad lines of a script, and one for how many more there are. Where run
 or threads says 'bad line L', 'lockreplay check SCRIPT' tells why, and where audit or
@@ -48,6 +49,8 @@ To make a script of what programs did, which strace recorded to a file:
 To see what is wrong in scripts, and whether each reply of a run is as its script expects:
   lockreplay check SCRIPT SCRIPT
   lockreplay run SCRIPT --expect --quiet
+To see whether what clients of any lock manager saw contradicts itself:
+  lockreplay judge HISTORY
 
 'lockreplay help run' tells how a script is written and what the listing shows.";
 
@@ -280,3 +283,38 @@ status 3); FILE stays as it is.
 Standard error also warns of a '# expect' line that counts for nothing, and of a line that
 'lockreplay run' would refuse with 13 or 14, for which a good script is run. That changes
 no exit status.";
+
+/// What stands under the options of `judge`.
+pub(crate) const JUDGE_NOTES: &str = "\
+HISTORY tells what clients of a lock manager saw, one line for a call, with when it was
+made, when its reply came, and its owner:
+  history 1 clock ns
+  call 1200 1900 p1 set F write 0 100 -> done
+  call 2000 2500 p2 set F write 50 10 -> again write 0 100 p1
+  call 2600 - p2 wait F write 50 10
+  call 2700 2800 p1 exit
+F names a file. docs/FORMATS.md, 'Histories of clients', has all lines. The files are
+judged one by one: in which order, each call between its times, would one table of locks
+give each reply? The text is one of these:
+  history yes        such an order was found for each file (exit status 0)
+  history no         for one of them there is none (exit status 1)
+  history unknown    none was found among N tables of a file (exit status 5)
+Here yes means that no contradiction was observed, and no more. Behind 'no' stands for
+each such file the first call that fits nowhere, by its line, and for up to three tables
+that there may have been before it what they hold, what of it is in its way and which
+calls are open. Behind 'unknown' stands up to which line an order was found.
+
+With --go-on the call that fits nowhere is left out, and the search goes on behind it; the
+text tells each. With --order the order is printed, behind 'yes' a line for each file:
+  order F LINE LINE ..
+With --explains FILE such lines are read from FILE and nothing is searched. The text is
+'explains yes' where the orders explain the calls (exit status 0), else 'explains no F'
+with the first file whose order doesn't (exit status 1). With --stats counts are printed
+too, with --json all of it as JSON.
+
+Of several histories each line of the text begins with 'HISTORY: '. The exit status is 1
+where one is contradicted, else 5 where one is unknown.
+
+A test shows what clients look at. Log an exit of each owner, also of one that is killed
+or fenced; have many owners lock few bytes; and let an observer query these all the time:
+a lost lock is found only where somebody looks.";

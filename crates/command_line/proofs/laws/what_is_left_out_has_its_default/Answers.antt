@@ -1,4 +1,4 @@
-use Rattle.command_line.proofs.PlainWords.{bare_explore_asks, bare_picture_asks, bare_schedule_asks, bare_strace_asks}
+use Rattle.command_line.proofs.PlainWords.{bare_explore_asks, bare_judge_asks, bare_picture_asks, bare_schedule_asks, bare_strace_asks}
 use Rattle.command_line.proofs.laws.what_is_left_out_has_its_default.Goals as goal
 
 pub returns-clause-picture : goal.returns-clause-picture
@@ -12,3 +12,6 @@ returns-clause-explore c = bare_explore_asks
 
 pub returns-clause-schedule : goal.returns-clause-schedule
 returns-clause-schedule c = bare_schedule_asks
+
+pub returns-clause-judge : goal.returns-clause-judge
+returns-clause-judge c = bare_judge_asks

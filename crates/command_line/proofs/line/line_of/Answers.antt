@@ -23,6 +23,9 @@ returns-in-open c = line_met _ _ _ c.in-Some.name.now _ _ c.open_in.result c.in-
 pub returns-in-check : goal.returns-in-check
 returns-in-check c = IfOk-weaker c.check_in.result _ _ (λ line met. line_met _ _ _ c.in-Some.name.now _ _ line c.in-Some.ensures.name c.in-Some.ensures.rows c.in-check.is met) c.check_in.ensures
 
+pub returns-in-judge : goal.returns-in-judge
+returns-in-judge c = IfOk-weaker c.judge_in.result _ _ (λ line met. line_met _ _ _ c.in-Some.name.now _ _ line c.in-Some.ensures.name c.in-Some.ensures.rows c.in-judge.is met) c.judge_in.ensures
+
 pub returns-in-picture : goal.returns-in-picture
 returns-in-picture c = line_met _ _ _ c.in-Some.name.now _ _ c.picture_in.result c.in-Some.ensures.name c.in-Some.ensures.rows c.in-picture.is c.picture_in.ensures
 

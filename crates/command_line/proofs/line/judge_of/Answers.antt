@@ -1,0 +1,52 @@
+use Rattle.std.proofs.Common.{rules, codes, map, sym, subst, option_map, Bor, List, None, Some, [], ◌∷◌, ◌≡◌}
+use Rattle.clap.specs.Words.{Text, found_of, rows_of}
+use Rattle.command_line.specs.Tasks.{MayJudge}
+use Rattle.command_line.proofs.CommandLine.{no_go_on_flag, no_json_flag, no_judge, no_order_flag, no_stats_flag, no_steps}
+use Rattle.command_line.proofs.Tables.{same_value}
+use Rattle.command_line.proofs.line.judge_of.Goals as goal
+
+pub returns-in_err-steps : goal.returns-in_err-steps
+returns-in_err-steps c =
+    let none : c.from_residual.result ≡ None = search rules in
+    rw none (no_steps (rows_of (found_of c.args.values.now)) c.in_err-steps.ensures)
+
+pub returns-in_err-order : goal.returns-in_err-order
+returns-in_err-order c =
+    let none : c.from_residual-in_err-order.result ≡ None = search rules in
+    rw none (no_order_flag (rows_of (found_of c.args.values.now)) c.in_err-order.ensures)
+
+pub returns-in_err-go_on : goal.returns-in_err-go_on
+returns-in_err-go_on c =
+    let none : c.from_residual-in_err-go_on.result ≡ None = search rules in
+    rw none (no_go_on_flag (rows_of (found_of c.args.values.now)) c.in_err-go_on.ensures)
+
+pub returns-in_err-stats : goal.returns-in_err-stats
+returns-in_err-stats c =
+    let none : c.from_residual-in_err-stats.result ≡ None = search rules in
+    rw none (no_stats_flag (rows_of (found_of c.args.values.now)) c.in_err-stats.ensures)
+
+pub returns-in_err-json : goal.returns-in_err-json
+returns-in_err-json c =
+    let none : c.from_residual-in_err-json.result ≡ None = search rules in
+    rw none (no_json_flag (rows_of (found_of c.args.values.now)) c.in_err-json.ensures)
+
+pub returns-then-not-may_judge : goal.returns-then-not-may_judge
+returns-then-not-may_judge c =
+    let found = found_of c.args.values.now in
+    let file = same_value found (codes "FILE") c.get_str-explains.result c.get_str-explains.ensures in
+    let P : List (Bor Text) → Type 0 = λ paths. MayJudge (map (λ path. path.now) paths) c.in_ok-steps.steps (option_map (λ path. path.now) c.get_str-explains.result) c.in_ok-order.order c.in_ok-go_on.go_on in
+    let slice : c.as_slice.result.now ≡ c.args.histories.items = search rules in
+    no_judge (rows_of found) _ c.in_ok-steps.steps _ c.in_ok-order.order c.in_ok-go_on.go_on c.requires c.in_ok-steps.ensures file c.in_ok-order.ensures c.in_ok-go_on.ensures (λ judged. c.may_judge.ensures.may_not (search rules) (subst P (sym slice) judged))
+
+pub returns : goal.returns
+returns c =
+    let found = found_of c.args.values.now in
+    let file = same_value found (codes "FILE") c.get_str-explains.result c.get_str-explains.ensures in
+    let steps = c.in_ok-steps.ensures in
+    let order = c.in_ok-order.ensures in
+    let go_on = c.in_ok-go_on.ensures in
+    let stats = c.in_ok-stats.ensures in
+    let json = c.in_ok-json.ensures in
+    let P : List (Bor Text) → Type 0 = λ paths. MayJudge (map (λ path. path.now) paths) c.in_ok-steps.steps (option_map (λ path. path.now) c.get_str-explains.result) c.in_ok-order.order c.in_ok-go_on.go_on in
+    let slice : c.as_slice.result.now ≡ c.args.histories.items = search rules in
+    (steps.0, (λ i. Some (codes "judge", c.requires i, steps.1 i ∷ file i ∷ order i ∷ go_on i ∷ stats i ∷ json i ∷ [])), steps.2, subst P slice (c.may_judge.ensures.may (search rules)))
