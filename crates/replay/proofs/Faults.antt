@@ -1,13 +1,14 @@
 -- Lemmas on faults of commands.
 use Rattle.std.proofs.Common.{ℕ, List, [], ◌∷◌, Option, Some, None, inl, inr}
 use Rattle.std.specs.Prelude.{⊤}
-use Rattle.command_line.specs.Tasks.{Task, run, threads, audit, history, explain, open_calls, check, picture, from_strace, explore, schedule}
+use Rattle.command_line.specs.Tasks.{Task, run, threads, audit, history, explain, open_calls, check, picture, from_strace, explore, schedule, judge}
 use Rattle.replay.specs.declared.fault.Fault.{Fault}
 use Rattle.replay.specs.declared.fault.Fault.TheVariants.{BadLine, CannotRead, CannotWrite, CannotWriteOutput, NoMemory, JournalFull, OldJournal, Faulty}
 use Rattle.replay.specs.Checks.{AreCheckFault, IsSeveralFault, IsTrialFault}
 use Rattle.replay.specs.Commands.{IsFault, IsGoingFault, IsInputFault}
 use Rattle.replay.specs.Explorations.{ExploreFault}
 use Rattle.replay.specs.Faults.{BehindFault, CheckFault, IsFileFault, JournalFault, OldFault, ScriptFault, ThreadsFault}
+use Rattle.replay.specs.Judging.{IsJudgeFault}
 use Rattle.replay.specs.Recordings.{RecordingFault}
 use Rattle.replay.specs.Stores.{Files}
 
@@ -51,6 +52,16 @@ going-weaker : (old : Files) (RanShort : Type 0) (script after : List ℕ) (faul
 going-weaker old RanShort script after fault (inl is) = inl (file-weaker (old after) RanShort after (OldFault (old after)) fault is)
 going-weaker old RanShort script after fault (inr is) = inr (is.0, is.1, is.2, file-weaker (old script) RanShort script (BehindFault is.0 (old script)) fault is.3)
 
+judge-weaker : (old : Files) (RanShort : Type 0) (paths : List (List ℕ)) (orders : Option (List ℕ)) (fault : Fault) → IsJudgeFault old RanShort paths orders fault → IsJudgeFault old ⊤ paths orders fault
+judge-weaker old RanShort paths orders (BadLine line) is = is
+judge-weaker old RanShort paths orders (CannotRead named reason) is = is
+judge-weaker old RanShort paths orders (CannotWrite named reason) is = is
+judge-weaker old RanShort paths orders CannotWriteOutput is = is
+judge-weaker old RanShort paths orders NoMemory is = inl tt
+judge-weaker old RanShort paths orders JournalFull is = is
+judge-weaker old RanShort paths orders OldJournal is = is
+judge-weaker old RanShort paths orders (Faulty report) is = is
+
 input-weaker : (old : Files) (RanShort : Type 0) (Refuses : List ℕ → Type 0) (task : Task) (fault : Fault) → IsInputFault old RanShort Refuses task fault → IsInputFault old ⊤ Refuses task fault
 input-weaker old RanShort Refuses (run script None to compares with_open quiet) fault is = file-weaker (old script) RanShort script (ScriptFault (old script)) fault is
 input-weaker old RanShort Refuses (run script (Some after) to compares with_open quiet) fault is = going-weaker old RanShort script after fault is
@@ -65,6 +76,7 @@ input-weaker old RanShort Refuses (picture journal name from to format) fault is
 input-weaker old RanShort Refuses (from_strace recording nodes places) fault is = file-weaker (old recording) RanShort recording (RecordingFault (old recording) nodes places) fault is
 input-weaker old RanShort Refuses (explore script seeds first failures) fault is = file-weaker (old script) RanShort script (ExploreFault failures (old script)) fault is
 input-weaker old RanShort Refuses (schedule script seed failures) fault is = file-weaker (old script) RanShort script (ExploreFault failures (old script)) fault is
+input-weaker old RanShort Refuses (judge paths steps orders with_order go_on stats json) fault is = judge-weaker old RanShort paths orders fault is
 
 -- memory may be short before
 pub fault-weaker : (old new : Files) (RanShort : Type 0) (Refuses : List ℕ → Type 0) (task : Task) (fault : Fault) → IsFault old RanShort Refuses task new fault → IsFault old ⊤ Refuses task new fault
@@ -96,3 +108,4 @@ short-memory old Refuses (picture journal name from to format) = inl tt
 short-memory old Refuses (from_strace recording nodes places) = inl tt
 short-memory old Refuses (explore script seeds first failures) = inl tt
 short-memory old Refuses (schedule script seed failures) = inl tt
+short-memory old Refuses (judge paths steps orders with_order go_on stats json) = inl tt

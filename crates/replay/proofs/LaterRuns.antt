@@ -17,7 +17,7 @@ use Rattle.replay.specs.declared.fault.Fault.TheVariants.{BadLine, CannotRead, C
 use Rattle.cluster_core.specs.Runs.{IsRun}
 use Rattle.replay.specs.Audits.{HasNewJournal}
 use Rattle.replay.specs.declared.shown.Shown.{Shown}
-use Rattle.replay.specs.declared.shown.Shown.TheVariants.{Text, Wanting, Partial, Noted, Yes, No}
+use Rattle.replay.specs.declared.shown.Shown.TheVariants.{Text, Wanting, Partial, Noted, Undecided, Yes, No}
 use Rattle.replay.specs.Commands.{GoesOn, IsGoingFault, WentOn}
 use Rattle.replay.specs.Faults.{IsBehindFault, IsOldFault, IsTextFault, fault_of_parse, fault_of_play}
 use Rattle.player.specs.Played.{FillsBehind, PlayedState}
@@ -95,5 +95,6 @@ goes-on old new script j to compares with_open quiet (Text text) run went = (run
 goes-on old new script j to compares with_open quiet (Partial text told) run went = (run, went)
 goes-on old new script j to compares with_open quiet (Wanting text) run went = absurd went.3
 goes-on old new script j to compares with_open quiet (Noted text told) run went = absurd went.3
+goes-on old new script j to compares with_open quiet (Undecided text) run went = absurd went.3
 goes-on old new script j to compares with_open quiet Yes run went = absurd went.3
 goes-on old new script j to compares with_open quiet (No position) run went = absurd went.3

@@ -1,11 +1,11 @@
 -- Which files a command leaves as they were.
 use Rattle.std.proofs.Common.{ℕ, Bool, List, Option, Some, None, subst}
 use Rattle.cluster_core.specs.Journals.{JournalFields}
-use Rattle.command_line.specs.Tasks.{Task, run, threads, audit, history, explain, open_calls, check, picture, from_strace, explore, schedule}
+use Rattle.command_line.specs.Tasks.{Task, run, threads, audit, history, explain, open_calls, check, picture, from_strace, explore, schedule, judge}
 use Rattle.replay.specs.declared.fault.Fault.{Fault}
 use Rattle.replay.specs.declared.fault.Fault.TheVariants.{BadLine, CannotRead, CannotWrite, CannotWriteOutput, NoMemory, JournalFull, OldJournal, Faulty}
 use Rattle.replay.specs.declared.shown.Shown.{Shown}
-use Rattle.replay.specs.declared.shown.Shown.TheVariants.{Text, Wanting, Partial, Noted, Yes, No}
+use Rattle.replay.specs.declared.shown.Shown.TheVariants.{Text, Wanting, Partial, Noted, Undecided, Yes, No}
 use Rattle.replay.specs.Commands.{Does, GoesOn, HasJournalFor, IsFault, KeepsJournal, SameButJournal}
 use Rattle.replay.specs.Stores.{Files, SameFiles, SameOthers}
 
@@ -24,6 +24,7 @@ same-but old new (picture path name from to format) same = same
 same-but old new (from_strace path nodes places) same = same
 same-but old new (explore path seeds first failures) same = same
 same-but old new (schedule path seed failures) same = same
+same-but old new (judge paths steps orders with_order go_on stats json) same = same
 
 -- where the journal was kept
 kept-run : (old new : Files) (script : List ℕ) (after to : Option (List ℕ)) (compares with_open quiet : Bool) (text : List ℕ) → KeepsJournal old to text new → SameButJournal (run script after to compares with_open quiet) old new
@@ -35,6 +36,7 @@ gone-on old new script after to compares with_open quiet j (Text text) is = kept
 gone-on old new script after to compares with_open quiet j (Wanting text) is = absurd is.1.3
 gone-on old new script after to compares with_open quiet j (Partial text told) is = kept-run old new script (Some after) to compares with_open quiet _ is.1.4
 gone-on old new script after to compares with_open quiet j (Noted text told) is = absurd is.1.3
+gone-on old new script after to compares with_open quiet j (Undecided text) is = absurd is.1.3
 gone-on old new script after to compares with_open quiet j Yes is = absurd is.1.3
 gone-on old new script after to compares with_open quiet j (No position) is = same-but old new (run script (Some after) to compares with_open quiet) is.1
 
@@ -53,6 +55,7 @@ done-files old new (picture path name from to format) shown is = is.3
 done-files old new (from_strace path nodes places) shown is = is.1
 done-files old new (explore path seeds first failures) shown is = is.1
 done-files old new (schedule path seed failures) shown is = is.1
+done-files old new (judge paths steps orders with_order go_on stats json) shown is = is.1
 
 -- where the journal could not be written
 unwritten : (old new : Files) (task : Task) (named : List ℕ) → HasJournalFor old task named → SameOthers old new named → SameButJournal task old new
@@ -71,6 +74,7 @@ unwritten old new (picture path name from to format) named has others = absurd h
 unwritten old new (from_strace path nodes places) named has others = absurd has
 unwritten old new (explore path seeds first failures) named has others = absurd has
 unwritten old new (schedule path seed failures) named has others = absurd has
+unwritten old new (judge paths steps orders with_order go_on stats json) named has others = absurd has
 
 -- where there is a fault
 pub fault-files : (old new : Files) (RanShort : Type 0) (Refuses : List ℕ → Type 0) (task : Task) (fault : Fault) → IsFault old RanShort Refuses task new fault → SameButJournal task old new

@@ -13,4 +13,5 @@ pub mod Tellings
 pub mod Explorations
 pub mod LeftFiles
 pub mod Checks
+pub mod Judging
 pub mod FaultLines

@@ -1,7 +1,7 @@
 -- Lemmas on what stores hold.
 use Rattle.std.proofs.Common.{◌≢◌, ℕ, List, Option, Some, None, sym, ap, inl, inr}
 use Rattle.std.specs.Prelude.{◌↔◌}
-use Rattle.command_line.specs.Tasks.{Task, run, threads, audit, history, explain, open_calls, check, picture, from_strace, explore, schedule, journal_path}
+use Rattle.command_line.specs.Tasks.{Task, run, threads, audit, history, explain, open_calls, check, picture, from_strace, explore, schedule, judge, journal_path}
 use Rattle.replay.specs.Commands.{SameButJournal}
 use Rattle.replay.specs.Stores.{Files, HasNoText, HasText, SameFiles, SameOthers}
 
@@ -46,3 +46,4 @@ same-unless old new (picture journal name from to format) path file kept owing_n
 same-unless old new (from_strace recording nodes places) path file kept owing_nothing = kept path file
 same-unless old new (explore script seeds first failures) path file kept owing_nothing = kept path file
 same-unless old new (schedule script seed failures) path file kept owing_nothing = kept path file
+same-unless old new (judge histories steps orders with_order go_on stats json) path file kept owing_nothing = kept path file

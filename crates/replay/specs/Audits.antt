@@ -13,7 +13,7 @@ use Rattle.lockscript.specs.Listing.{history_text}
 use Rattle.replay.specs.declared.audit.Audited.{Audited}
 use Rattle.replay.specs.declared.audit.Audited.TheVariants.{Run, Wrong}
 use Rattle.replay.specs.declared.shown.Shown.{Shown}
-use Rattle.replay.specs.declared.shown.Shown.TheVariants.{Text, Wanting, Partial, Noted, Yes, No}
+use Rattle.replay.specs.declared.shown.Shown.TheVariants.{Text, Wanting, Partial, Noted, Undecided, Yes, No}
 use Rattle.replay.specs.Stores.{HasText}
 
 -- the file writes a journal of these entries, whether they are a run or not
@@ -63,6 +63,7 @@ IsAudit j (Text text) = ⊥
 IsAudit j (Wanting text) = ⊥
 IsAudit j (Partial text told) = ⊥
 IsAudit j (Noted text told) = ⊥
+IsAudit j (Undecided text) = ⊥
 
 -- the text is the one history of the run
 abbrev pub IsHistoryText : JournalFields → List ℕ → Type 0
@@ -74,5 +75,6 @@ IsHistory j Yes = ⊥
 IsHistory j (Wanting text) = ⊥
 IsHistory j (Partial text told) = ⊥
 IsHistory j (Noted text told) = ⊥
+IsHistory j (Undecided text) = ⊥
 IsHistory j (No position) = IsFirstWrong j.shape j.entries position
 IsHistory j (Text text) = IsRun j.shape j.entries × IsHistoryText j (string_bytes text)

@@ -4,7 +4,7 @@ use Rattle.std.specs.Global.{Global}
 use Rattle.replay.specs.declared.fault.Fault.{Fault}
 use Rattle.replay.specs.declared.fault.Fault.TheVariants.{NoMemory, Faulty}
 use Rattle.replay.specs.declared.shown.Shown.{Shown}
-use Rattle.replay.specs.declared.shown.Shown.TheVariants.{Text, Wanting, Partial, Noted, Yes, No}
+use Rattle.replay.specs.declared.shown.Shown.TheVariants.{Text, Wanting, Partial, Noted, Undecided, Yes, No}
 use Rattle.replay.specs.Faults.{IsCheckFault, IsFaulty}
 use Rattle.replay.specs.Stores.{Files, HasNoText, HasText}
 use Rattle.replay.specs.Tellings.{IsChecked}
@@ -19,6 +19,7 @@ IsTextShown (Text text) = ⊤
 IsTextShown (Noted text told) = ⊤
 IsTextShown (Wanting text) = ⊥
 IsTextShown (Partial text told) = ⊥
+IsTextShown (Undecided text) = ⊥
 IsTextShown Yes = ⊥
 IsTextShown (No position) = ⊥
 

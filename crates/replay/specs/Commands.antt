@@ -3,17 +3,18 @@ use Rattle.std.specs.Prelude.{◌≡◌, ℕ, ⊤, ◌⊎◌, Bool, true, false,
 use Rattle.std.specs.Io.KnownBytes.{Appends}
 use Rattle.cluster_core.specs.Journals.{JournalFields, IsFirstWrong}
 use Rattle.cluster_core.specs.Runs.{IsRun}
-use Rattle.command_line.specs.Tasks.{Task, run, threads, audit, history, explain, open_calls, check, picture, from_strace, explore, schedule}
+use Rattle.command_line.specs.Tasks.{Task, run, threads, audit, history, explain, open_calls, check, picture, from_strace, explore, schedule, judge}
 use Rattle.journal_text.specs.Journals.{journal_text}
 use Rattle.journal_text.specs.Readings.{WritesJournal}
 use Rattle.replay.specs.declared.fault.Fault.{Fault}
 use Rattle.replay.specs.declared.fault.Fault.TheVariants.{CannotWrite, CannotWriteOutput}
 use Rattle.replay.specs.declared.shown.Shown.{Shown}
-use Rattle.replay.specs.declared.shown.Shown.TheVariants.{Text, Wanting, Partial, Noted, Yes, No}
+use Rattle.replay.specs.declared.shown.Shown.TheVariants.{Text, Wanting, Partial, Noted, Undecided, Yes, No}
 use Rattle.replay.specs.Audits.{HasJournal, HasNewJournal, IsAudit, IsHistory}
 use Rattle.replay.specs.Checks.{AreChecked, IsChecksFault}
 use Rattle.replay.specs.Faults.{IsBehindFault, IsJournalFault, IsOldFault, IsScriptFault, IsThreadsFault}
 use Rattle.replay.specs.Explorations.{IsExploreFault, IsExplored, IsScheduled}
+use Rattle.replay.specs.Judging.{AreJudged, IsJudgeFault}
 use Rattle.replay.specs.Outputs.{AppendsPart}
 use Rattle.player.specs.Played.{PlayedState}
 use Rattle.replay.specs.Recordings.{IsRecorded, IsRecordingFault}
@@ -48,6 +49,7 @@ abbrev pub ShowsRun : PlayedState → Bool → Bool → Bool → Shown → Type 
 ShowsRun played breaking with_open quiet (Wanting text) = ⊥
 ShowsRun played breaking with_open quiet (Partial text told) = (breaking ≡ true) × IsRunText played with_open quiet (string_bytes text)
 ShowsRun played breaking with_open quiet (Noted text told) = ⊥
+ShowsRun played breaking with_open quiet (Undecided text) = ⊥
 ShowsRun played breaking with_open quiet Yes = ⊥
 ShowsRun played breaking with_open quiet (No position) = ⊥
 ShowsRun played breaking with_open quiet (Text text) = (breaking ≡ false) × IsRunText played with_open quiet (string_bytes text)
@@ -76,6 +78,7 @@ Does old (picture path name from to format) new shown = (j : JournalFields) × H
 Does old (from_strace path nodes places) new shown = HasText (old path) (λ text. IsRecorded nodes places shown) × SameFiles old new
 Does old (explore path seeds first failures) new shown = HasText (old path) (λ text. IsExplored failures first seeds text shown) × SameFiles old new
 Does old (schedule path seed failures) new shown = HasText (old path) (λ text. IsScheduled failures text shown) × SameFiles old new
+Does old (judge paths steps orders with_order go_on stats json) new shown = AreJudged old paths orders shown × SameFiles old new
 
 -- it is shown behind what a writer took, with its status, and told so beside
 abbrev pub Shows : (Shown → Type 0) → Option (List ℕ) → Option (List ℕ) → (Shown → Type 0) → ℕ → Type 0
@@ -106,6 +109,7 @@ IsInputFault old RanShort Refuses (picture path name from to format) fault = IsJ
 IsInputFault old RanShort Refuses (from_strace path nodes places) fault = IsRecordingFault (old path) RanShort path nodes places fault
 IsInputFault old RanShort Refuses (explore path seeds first failures) fault = IsExploreFault failures (old path) RanShort path fault
 IsInputFault old RanShort Refuses (schedule path seed failures) fault = IsExploreFault failures (old path) RanShort path fault
+IsInputFault old RanShort Refuses (judge paths steps orders with_order go_on stats json) fault = IsJudgeFault old RanShort paths orders fault
 
 -- a run has a journal for the file of this path
 abbrev pub HasJournalFor : Files → Task → List ℕ → Type 0
@@ -142,3 +146,19 @@ IsCheck (picture path name from to format) = ⊥
 IsCheck (from_strace path nodes places) = ⊥
 IsCheck (explore path seeds first failures) = ⊥
 IsCheck (schedule path seed failures) = ⊥
+IsCheck (judge paths steps orders with_order go_on stats json) = ⊥
+
+-- the task is a judgement, which may not know what was asked
+abbrev pub IsJudge : Task → Type 0
+IsJudge (run script after to compares with_open quiet) = ⊥
+IsJudge (threads script seed may_stop no_join to) = ⊥
+IsJudge (audit path) = ⊥
+IsJudge (history path) = ⊥
+IsJudge (explain path name) = ⊥
+IsJudge (open_calls path) = ⊥
+IsJudge (check scripts journal) = ⊥
+IsJudge (picture path name from to format) = ⊥
+IsJudge (from_strace path nodes places) = ⊥
+IsJudge (explore path seeds first failures) = ⊥
+IsJudge (schedule path seed failures) = ⊥
+IsJudge (judge paths steps orders with_order go_on stats json) = ⊤

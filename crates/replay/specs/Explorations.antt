@@ -12,7 +12,7 @@ use Rattle.player.specs.Played.{ComesTo, PlayedState}
 use Rattle.replay.specs.declared.fault.Fault.{Fault}
 use Rattle.replay.specs.declared.fault.Fault.TheVariants.{BadLine, NoMemory, JournalFull}
 use Rattle.replay.specs.declared.shown.Shown.{Shown}
-use Rattle.replay.specs.declared.shown.Shown.TheVariants.{Text, Wanting, Partial, Noted, Yes, No}
+use Rattle.replay.specs.declared.shown.Shown.TheVariants.{Text, Wanting, Partial, Noted, Undecided, Yes, No}
 use Rattle.replay.specs.Faults.{IsFileFault}
 use Rattle.replay.specs.Stores.{HasText}
 use Rattle.replay.specs.Threads.{IsTaken}
@@ -28,6 +28,7 @@ IsScheduled failures text (Text shown) = (s : ScriptFields) × IsForThreads text
 IsScheduled failures text (Wanting shown) = ⊥
 IsScheduled failures text (Partial shown told) = ⊥
 IsScheduled failures text (Noted shown told) = ⊥
+IsScheduled failures text (Undecided shown) = ⊥
 IsScheduled failures text Yes = ⊥
 IsScheduled failures text (No position) = ⊥
 
@@ -41,6 +42,7 @@ IsExplored failures first seeds text (Text shown) = ShowsOutcomes failures first
 IsExplored failures first seeds text (Wanting shown) = ShowsOutcomes failures first seeds text true (string_bytes shown)
 IsExplored failures first seeds text (Partial shown told) = ⊥
 IsExplored failures first seeds text (Noted shown told) = ⊥
+IsExplored failures first seeds text (Undecided shown) = ⊥
 IsExplored failures first seeds text Yes = ⊥
 IsExplored failures first seeds text (No position) = ⊥
 

@@ -1,6 +1,6 @@
 -- The lines that tell of faults: commands whose lines are fixed leave reasons away.
 use Rattle.std.specs.Prelude.{◌≡◌, ℕ, Bool, true, false, List, ◌++◌, codes}
-use Rattle.command_line.specs.Tasks.{Task, run, threads, audit, history, explain, open_calls, check, picture, from_strace, explore, schedule}
+use Rattle.command_line.specs.Tasks.{Task, run, threads, audit, history, explain, open_calls, check, picture, from_strace, explore, schedule, judge}
 use Rattle.replay.specs.declared.fault.Fault.{Fault}
 use Rattle.replay.specs.declared.fault.Fault.TheVariants.{CannotRead, CannotWrite}
 use Rattle.replay.specs.Faults.{fault_line}
@@ -24,6 +24,7 @@ says_why (picture path name from to format) = true
 says_why (from_strace path nodes places) = true
 says_why (explore path seeds first failures) = true
 says_why (schedule path seed failures) = true
+says_why (judge paths steps explains order go_on stats json) = true
 
 -- the line of a fault of a command that says reasons, or that does not
 abbrev pub IsToldWith : Bool → Fault → List ℕ → Type 0

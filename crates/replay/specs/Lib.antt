@@ -13,6 +13,7 @@ pub mod Faults
 pub mod FaultLines
 pub mod Tellings
 pub mod Checks
+pub mod Judging
 pub mod LaterRuns
 pub mod Commands
 pub mod Comparing

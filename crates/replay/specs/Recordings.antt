@@ -9,7 +9,7 @@ use Rattle.recordings.specs.Texts.{IsOfEvents}
 use Rattle.replay.specs.declared.fault.Fault.{Fault}
 use Rattle.replay.specs.declared.fault.Fault.TheVariants.{NoMemory, Faulty}
 use Rattle.replay.specs.declared.shown.Shown.{Shown}
-use Rattle.replay.specs.declared.shown.Shown.TheVariants.{Text, Wanting, Partial, Noted, Yes, No}
+use Rattle.replay.specs.declared.shown.Shown.TheVariants.{Text, Wanting, Partial, Noted, Undecided, Yes, No}
 use Rattle.replay.specs.Faults.{IsFileFault}
 use Rattle.replay.specs.Stores.{HasText}
 
@@ -24,6 +24,7 @@ IsMade nodes placings (Text text) = HasScript (string_bytes text) × IsOfEvents 
 IsMade nodes placings (Partial text told) = HasScript (string_bytes text) × IsOfEvents nodes placings (string_bytes text) (string_bytes told) × (string_bytes told ≢ [])
 IsMade nodes placings (Wanting text) = ⊥
 IsMade nodes placings (Noted text told) = ⊥
+IsMade nodes placings (Undecided text) = ⊥
 IsMade nodes placings Yes = ⊥
 IsMade nodes placings (No position) = ⊥
 

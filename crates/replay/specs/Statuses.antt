@@ -14,6 +14,6 @@ status_of (Faulty report) = 3
 status_of NoMemory = 4
 status_of JournalFull = 4
 
--- a status of a command whose words were taken
+-- a status of a command whose words were taken; with 5 it is not known what was asked
 abbrev pub IsStatus : ℕ → Type 0
-IsStatus status = (status ≡ 0) ⊎ ((status ≡ 1) ⊎ ((status ≡ 3) ⊎ (status ≡ 4)))
+IsStatus status = (status ≡ 0) ⊎ ((status ≡ 1) ⊎ ((status ≡ 3) ⊎ ((status ≡ 4) ⊎ (status ≡ 5))))

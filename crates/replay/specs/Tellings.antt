@@ -21,7 +21,7 @@ use Rattle.pictures.specs.Pictures.{picture_text}
 use Rattle.stories.specs.OpenCalls.{open_text}
 use Rattle.stories.specs.Stories.{is_made, story_text}
 use Rattle.replay.specs.declared.shown.Shown.{Shown}
-use Rattle.replay.specs.declared.shown.Shown.TheVariants.{Text, Wanting, Partial, Noted, Yes, No}
+use Rattle.replay.specs.declared.shown.Shown.TheVariants.{Text, Wanting, Partial, Noted, Undecided, Yes, No}
 
 -- the text is the story of the call of this name, which an entry makes, with its place in the one history of the run
 abbrev pub IsStoryOf : JournalFields → List ℕ → List ℕ → Type 0
@@ -45,6 +45,7 @@ IsExplained j name (Wanting text) = IsRun j.shape j.entries × HasNoCall j name 
 IsExplained j name (No position) = IsFirstWrong j.shape j.entries position
 IsExplained j name (Partial text told) = ⊥
 IsExplained j name (Noted text told) = ⊥
+IsExplained j name (Undecided text) = ⊥
 IsExplained j name Yes = ⊥
 
 -- what is shown of the calls without a reply: they, where the entries are a run, or the first wrong entry
@@ -54,6 +55,7 @@ IsOpenTold j (No position) = IsFirstWrong j.shape j.entries position
 IsOpenTold j (Wanting text) = ⊥
 IsOpenTold j (Partial text told) = ⊥
 IsOpenTold j (Noted text told) = ⊥
+IsOpenTold j (Undecided text) = ⊥
 IsOpenTold j Yes = ⊥
 
 -- what is shown of a script: that it is one, and whether threads take it; what is noted beside it is not said
@@ -62,6 +64,7 @@ IsScriptTold script (Text text) = string_bytes text ≡ verdict_text script.line
 IsScriptTold script (Noted text told) = string_bytes text ≡ verdict_text script.lines
 IsScriptTold script (Wanting text) = ⊥
 IsScriptTold script (Partial text told) = ⊥
+IsScriptTold script (Undecided text) = ⊥
 IsScriptTold script Yes = ⊥
 IsScriptTold script (No position) = ⊥
 
@@ -71,6 +74,7 @@ IsJournalTold (Text text) = string_bytes text ≡ codes "journal yes\n"
 IsJournalTold (Wanting text) = ⊥
 IsJournalTold (Partial text told) = ⊥
 IsJournalTold (Noted text told) = ⊥
+IsJournalTold (Undecided text) = ⊥
 IsJournalTold Yes = ⊥
 IsJournalTold (No position) = ⊥
 
@@ -162,4 +166,5 @@ IsDrawn j name from to format (Partial text told) =
 IsDrawn j name from to format (Wanting text) = IsRun j.shape j.entries × HasNoWindow j name × (string_bytes text ≡ no_call_text name)
 IsDrawn j name from to format (No position) = IsFirstWrong j.shape j.entries position
 IsDrawn j name from to format (Noted text told) = ⊥
+IsDrawn j name from to format (Undecided text) = ⊥
 IsDrawn j name from to format Yes = ⊥

@@ -18,6 +18,8 @@ mod explored;
 pub mod fault;
 mod input;
 mod journal_draft;
+mod judge;
+mod judge_text;
 mod listing;
 pub mod meter;
 mod on_threads;

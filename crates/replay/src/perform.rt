@@ -4,7 +4,7 @@ ghost use Rattle.std.specs.Option.{option_map};
 ghost use Rattle.std.specs.Io.KnownBytes.{Appends};
 ghost use Rattle.command_line.specs.Tasks.{run, task_of};
 ghost use Rattle.replay.specs.declared.fault.Fault.TheVariants.{CannotWriteOutput};
-ghost use Rattle.replay.specs.Commands.{Does, IsCheck, IsFault, Leaves, SameButJournal, Shows, TellsFault};
+ghost use Rattle.replay.specs.Commands.{Does, IsCheck, IsFault, IsJudge, Leaves, SameButJournal, Shows, TellsFault};
 ghost use Rattle.replay.specs.FaultLines.{IsFaultLine, IsFaultOf, says_why};
 ghost use Rattle.replay.specs.Faults.{fault_line};
 ghost use Rattle.replay.specs.Outputs.{WritesOrFails};
@@ -18,6 +18,7 @@ use crate::draw::{draw, window};
 use crate::explain::{explain, open_calls};
 use crate::explored::{explored, scheduled};
 use crate::fault::Fault;
+use crate::judge::judge;
 use crate::output::Output;
 use crate::recorded::recorded;
 use crate::run::{run_script, run_with_journal};
@@ -28,6 +29,7 @@ use crate::wanted::Wanted;
 use actors::manner::Manner;
 use actors::run_watcher::RunWatcher;
 use command_line::line::Line;
+use judgements::judging::Judging;
 use player::watcher::Watcher;
 use std::alloc::Global;
 use std::sync::Wait;
@@ -35,11 +37,13 @@ use std::thread::Threads;
 use std::time::Clock;
 
 /// Does what the line asks for, and answers the exit status. It is 0 where all was done, 1 where something is wrong or
-/// left out (see below), 3 where the input or the output is at fault, 4 where memory or the journal was too small.
+/// left out (see below), 3 where the input or the output is at fault, 4 where memory or the journal was too small, 5 where
+/// it is not known whether histories are contradicted.
 ///
 /// It is 1 where the journal that the line names is none of a run, or has no call of the name. So it is where a run on
 /// threads lacks a receipt in its journal or was ended as stuck, where an outcome, or a run that is compared with it,
-/// breaks what is expected, and where a part of a recording, or of the picture that is asked for, is left out. The second
+/// breaks what is expected, where a part of a recording, or of the picture that is asked for, is left out, and where a
+/// history is contradicted, or is not explained by the orders that are given. The second
 /// writer is told the open calls of a run that was ended as stuck, what a run that is compared came to otherwise, the
 /// notes of a recording, and which entries a picture leaves out; at 0 it is told the warnings of a check.
 ///
@@ -77,10 +81,14 @@ pub fn perform<
     ensures done { result ≤ 1 → Shows (Does (S.holds store.old) (task_of line.now) (S.holds store.new)) (O.taken out.old) (O.taken out.new)
         (TellsBeside E.taken E.has_failed err.old err.new) result }
     ensures flushed { result ≤ 1 → O.is_flushed out.new }
+
+    // So is what a judgement comes to that doesn't know; no other command ends so.
+    ensures undecided { result ≡ 5 → IsJudge (task_of line.now) × O.is_flushed out.new × Shows (Does (S.holds store.old) (task_of line.now) (S.holds store.new)) (O.taken out.old) (O.taken out.new)
+        (TellsBeside E.taken E.has_failed err.old err.new) result }
     ensures quiet { result ≡ 0 → (err.new ≡ err.old) ⊎ IsCheck (task_of line.now) }
 
     // Else the status and a line on the second writer tell of the first fault.
-    ensures fault { 1 < result → TellsFault (IsFault (S.holds store.old) (S.ran_short store.new) (S.refuses store.new) (task_of line.now) (S.holds store.new))
+    ensures fault { 1 < result → result ≢ 5 → TellsFault (IsFault (S.holds store.old) (S.ran_short store.new) (S.refuses store.new) (task_of line.now) (S.holds store.new))
         (Leaves (Does (S.holds store.old) (task_of line.now) (S.holds store.new)) O.taken O.has_failed out.old out.new)
         (λ fault. (text : List ℕ) × IsFaultOf (task_of line.now) fault text × WritesOrFails (E.taken err.old) (E.taken err.new) (E.has_failed err.new) text) result }
 
@@ -121,7 +129,8 @@ fn says_why(line: &Line<'_>) -> bool
         | Line::Picture { .. }
         | Line::FromStrace { .. }
         | Line::Explore { .. }
-        | Line::Schedule { .. } => true,
+        | Line::Schedule { .. }
+        | Line::Judge { .. } => true,
     }
 }
 
@@ -296,5 +305,23 @@ fn shown_of<'a, R: Threads + Wait + Clock + Sync, S: Store, V: Watcher + RunWatc
             seed,
             failures,
         } => scheduled(alloc, store, script, seed, failures),
+        Line::Judge {
+            ref histories,
+            steps,
+            explains,
+            order,
+            go_on,
+            stats,
+            json,
+        } => {
+            let judging = Judging {
+                steps: u64::from(steps),
+                order,
+                go_on,
+                stats,
+                json,
+            };
+            judge(alloc, store, histories.as_slice(), explains, judging)
+        }
     }
 }

@@ -67,7 +67,11 @@ impl Looked {
                 self.warnings.push_str(told)
             }
             Shown::Text(text) => push_lines(&mut self.told, path, text),
-            Shown::Wanting(_) | Shown::Partial { .. } | Shown::Yes | Shown::No(_) => Ok(()),
+            Shown::Wanting(_)
+            | Shown::Partial { .. }
+            | Shown::Undecided(_)
+            | Shown::Yes
+            | Shown::No(_) => Ok(()),
         }
     }
 

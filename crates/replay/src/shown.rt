@@ -21,6 +21,8 @@ pub enum Shown {
     Partial { text: String, told: String },
     /// A text, and what is told of it beside: of scripts that were checked their warnings. Nothing is wanting.
     Noted { text: String, told: String },
+    /// A text that says that what was asked is not known, as of histories that were judged.
+    Undecided(String),
     /// `audit yes`: the entries of the journal are a run.
     Yes,
     /// `audit no K`: the entry at this position, from 1, is the first that is not the next step.
@@ -28,13 +30,14 @@ pub enum Shown {
 }
 
 impl Shown {
-    /// The exit status: 1 where a journal is none of a run, or something is wanting or left out; else 0.
+    /// The exit status: 1 where a journal is none of a run, or something is wanting or left out; 5 where it is not known; else 0.
     pub fn status(&self) -> u8
         ensures { result ≡ shown_status self.now }
     {
         match self {
             Shown::Text(_) | Shown::Noted { .. } | Shown::Yes => 0,
             Shown::Wanting(_) | Shown::Partial { .. } | Shown::No(_) => 1,
+            Shown::Undecided(_) => 5,
         }
     }
 
@@ -59,7 +62,8 @@ impl Shown {
             Shown::Partial { told, .. } | Shown::Noted { told, .. } => {
                 let _ = err.put(told.as_bytes());
             }
-            Shown::Text(_) | Shown::Wanting(_) | Shown::Yes | Shown::No(_) => {}
+            Shown::Text(_) | Shown::Wanting(_) | Shown::Undecided(_) | Shown::Yes | Shown::No(_) =>
+                {}
         }
     }
 
@@ -67,7 +71,9 @@ impl Shown {
         ensures { Writes (O.taken out.old) (O.taken out.new) (O.has_failed out.new) (shown_text self.now) result }
     {
         match self {
-            Shown::Text(text) | Shown::Wanting(text) => out.put(text.as_bytes()),
+            Shown::Text(text) | Shown::Wanting(text) | Shown::Undecided(text) => {
+                out.put(text.as_bytes())
+            }
             Shown::Partial { text, .. } | Shown::Noted { text, .. } => out.put(text.as_bytes()),
             Shown::Yes => put_line(out, "audit yes", ""),
             Shown::No(position) => put_line(out, "audit no ", Buffer::new().format(*position)),

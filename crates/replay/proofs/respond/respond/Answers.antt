@@ -25,7 +25,7 @@ returns-in-Ok-clause-done g c = λ task asks done.
     subst P (asks_one words (task_of c.in-Ok.line) task c.in-Ok.ensures.asked asks) (c.perform.ensures.done done)
 
 pub returns-in-Ok-clause-fault : goal.returns-in-Ok-clause-fault
-returns-in-Ok-clause-fault g c = λ task asks failed.
+returns-in-Ok-clause-fault g c = λ task asks failed known.
     let words = map g.W.AsStr.text c.args.words.now in
     let old = g.S.Store.holds c.args.store.now in
     let new = g.S.Store.holds c.perform.new.store in
@@ -33,7 +33,7 @@ returns-in-Ok-clause-fault g c = λ task asks failed.
     let Told : Task → Fault → Type 0 = λ t fault. (text : List ℕ) × IsFaultOf t fault text × WritesOrFails (g.E.Output.taken c.args.err.now) (g.E.Output.taken c.perform.new.err) (g.E.Output.has_failed c.perform.new.err) text in
     let P : Task → Type 0 = λ t. TellsFault (IsFault old ⊤ Refuses t new) (Leaves (Does old t new) g.O.Output.taken g.O.Output.has_failed c.args.out.now c.perform.new.out) (Told t) c.perform.result in
     let fails : 1 < c.perform.result = omega (arith, failed) in
-    let told = c.perform.ensures.fault fails in
+    let told = c.perform.ensures.fault fails known in
     let asked = task_of c.in-Ok.line in
     subst P (asks_one words asked task c.in-Ok.ensures.asked asks) (told.0, fault-weaker old new (g.S.Store.ran_short c.perform.new.store) Refuses asked told.0 told.1, told.2, told.3, told.4)
 
@@ -44,7 +44,7 @@ returns-in-Ok-clause-files g c = λ path file owing_nothing.
     (owing_nothing (task_of c.in-Ok.line) c.in-Ok.ensures.asked)
 
 pub returns-in-Err-clause-fault : goal.returns-in-Err-clause-fault
-returns-in-Err-clause-fault g c = λ task asks failed.
+returns-in-Err-clause-fault g c = λ task asks failed known.
     let words = map g.W.AsStr.text c.args.words.now in
     let old = g.S.Store.holds c.args.store.now in
     let Refuses = g.S.Store.refuses c.args.store.now in
@@ -61,7 +61,7 @@ returns-in-Ok-clause-short g c = λ four.
     let old = g.S.Store.holds c.args.store.now in
     let new = g.S.Store.holds c.perform.new.store in
     let asked = task_of c.in-Ok.line in
-    let told = c.perform.ensures.fault (omega (arith, four)) in
+    let told = c.perform.ensures.fault (omega (arith, four)) (λ five. omega (arith, four, five)) in
     (short-leaves (Does old asked new) g.O.Output.taken g.O.Output.has_failed c.args.out.now c.perform.new.out told.0 (sym told.4 ∙ four) told.2, inl (asked, c.in-Ok.ensures.asked))
 
 pub returns-in-Err-clause-unshown : goal.returns-in-Err-clause-unshown
@@ -82,7 +82,7 @@ returns-in-Err-clause-short g c = λ four.
     (told.0, inr told.1)
 
 pub returns-in-Err-clause-told : goal.returns-in-Err-clause-told
-returns-in-Err-clause-told g c = λ more.
+returns-in-Err-clause-told g c = λ more known.
     let taken = g.O.Output.taken in
     let text = refusal_text c.in-Err.refusal in
     let T : List ℕ → Type 0 = λ t. WritesOrFails (g.E.Output.taken c.args.err.now) (g.E.Output.taken c.refuse.new.err) (g.E.Output.has_failed c.refuse.new.err) t in
@@ -90,9 +90,9 @@ returns-in-Err-clause-told g c = λ more.
     (said.0, said.1, (fault_line said.0, inl refl, said.2))
 
 pub returns-in-Ok-clause-told : goal.returns-in-Ok-clause-told
-returns-in-Ok-clause-told g c = λ more.
+returns-in-Ok-clause-told g c = λ more known.
     let fails : 1 < c.perform.result = omega (arith, more) in
-    let told = c.perform.ensures.fault fails in
+    let told = c.perform.ensures.fault fails known in
     (told.0, told.4, (told.3.0, either-line (says_why (task_of c.in-Ok.line)) told.0 told.3.0 told.3.1, told.3.2))
 
 pub returns-in-Ok-clause-quiet : goal.returns-in-Ok-clause-quiet
@@ -100,3 +100,8 @@ returns-in-Ok-clause-quiet g c = λ zero. elim (c.perform.ensures.quiet zero) [
   | inl same ↦ inl same
   | inr is ↦ inr (task_of c.in-Ok.line, c.in-Ok.ensures.asked, is)
 ]
+
+pub returns-in-Ok-clause-undecided : goal.returns-in-Ok-clause-undecided
+returns-in-Ok-clause-undecided g c = λ five.
+    let is = c.perform.ensures.undecided five in
+    (task_of c.in-Ok.line, c.in-Ok.ensures.asked, is.0, is.1, is.2)

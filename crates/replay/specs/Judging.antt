@@ -1,0 +1,69 @@
+-- What is said of histories of files, and why nothing is.
+use Rattle.std.specs.Prelude.{◌≡◌, ◌⊎◌, ⊤, ℕ, List, All, Any, Option, Some, None, String}
+use Rattle.std.specs.Global.{Global}
+use Rattle.history_text.specs.declared.history.History.{History}
+use Rattle.history_text.specs.Histories.{IsHistoryOf}
+use Rattle.judgements.specs.declared.outcome.Outcome.{Outcome}
+use Rattle.judgements.specs.declared.outcome.Outcome.TheVariants as outcome
+use Rattle.judgements.specs.Judgements.{IsJudgement, IsOrdered}
+use Rattle.replay.specs.declared.fault.Fault.{Fault}
+use Rattle.replay.specs.declared.fault.Fault.TheVariants.{CannotRead, NoMemory, Faulty}
+use Rattle.replay.specs.declared.shown.Shown.{Shown}
+use Rattle.replay.specs.declared.shown.Shown.TheVariants.{Text, Wanting, Partial, Noted, Undecided, Yes, No}
+use Rattle.replay.specs.Stores.{Files, HasNoText, HasText}
+
+-- this holds of the path, if there is one
+abbrev pub HoldsOf : (List ℕ → Type 0) → Option (List ℕ) → Type 0
+HoldsOf Is None = ⊥
+HoldsOf Is (Some path) = Is path
+
+-- the file has a history
+abbrev pub HasHistoryAt : Files → List ℕ → Type 0
+HasHistoryAt old path = HasText (old path) (λ text. (history : History) × IsHistoryOf text history)
+
+-- the file has any text
+abbrev pub HasTextAt : Files → List ℕ → Type 0
+HasTextAt old path = HasText (old path) (λ text. ⊤)
+
+-- this is said of the history that a text writes, and is so; where a file of orders is given, it is said by these
+abbrev pub IsSaidIn : Option (List ℕ) → List ℕ → Outcome → Type 0
+IsSaidIn None text said = IsJudgement text said
+IsSaidIn (Some orders) text said = IsOrdered text said
+
+-- of the history of a file
+abbrev pub IsSaidOf : Option (List ℕ) → Files → Outcome → List ℕ → Type 0
+IsSaidOf orders old said path = HasText (old path) (λ text. IsSaidIn orders text said)
+
+-- what is shown where this is said of all histories
+abbrev pub shown_of : Outcome → String Global → Shown
+shown_of outcome.Yes text = Text text
+shown_of outcome.Unknown text = Undecided text
+shown_of outcome.No text = Wanting text
+
+-- what is shown of histories: each is explained; or one is not; or of neither it is known
+abbrev pub AreJudged : Files → List (List ℕ) → Option (List ℕ) → Shown → Type 0
+AreJudged old paths orders (Text text) = All (IsSaidOf orders old outcome.Yes) paths
+AreJudged old paths orders (Wanting text) = All (HasHistoryAt old) paths × Any (IsSaidOf orders old outcome.No) paths
+AreJudged old paths orders (Undecided text) = All (HasHistoryAt old) paths
+AreJudged old paths orders (Partial text told) = ⊥
+AreJudged old paths orders (Noted text told) = ⊥
+AreJudged old paths orders Yes = ⊥
+AreJudged old paths orders (No position) = ⊥
+
+-- the file of this path has no text, and is the one that is named
+abbrev pub IsUnreadAs : Files → List ℕ → List ℕ → Type 0
+IsUnreadAs old named path = (named ≡ path) × HasNoText (old path)
+
+-- why the history of a file is not judged
+abbrev pub IsNotJudged : Files → Type 0 → List ℕ → Fault → Type 0
+IsNotJudged old RanShort path (CannotRead named reason) = IsUnreadAs old named.now path
+IsNotJudged old RanShort path NoMemory = RanShort ⊎ HasTextAt old path
+IsNotJudged old RanShort path (Faulty report) = HasTextAt old path
+IsNotJudged old RanShort path fault = ⊥
+
+-- why histories are not judged: one of them, or the file of orders, has no text; the text of one is no history, or the orders are none of it, which is reported; or memory is short, where `RanShort` says it or for what one holds
+abbrev pub IsJudgeFault : Files → Type 0 → List (List ℕ) → Option (List ℕ) → Fault → Type 0
+IsJudgeFault old RanShort paths orders (CannotRead named reason) = Any (IsUnreadAs old named.now) paths ⊎ HoldsOf (IsUnreadAs old named.now) orders
+IsJudgeFault old RanShort paths orders NoMemory = RanShort ⊎ Any (HasTextAt old) paths
+IsJudgeFault old RanShort paths orders (Faulty report) = Any (HasTextAt old) paths
+IsJudgeFault old RanShort paths orders fault = ⊥
