@@ -13,7 +13,7 @@ read_file() {
     esac
 }
 fixed='run threads audit history'
-reasoned='explain open picture from-strace explore schedule check'
+reasoned='explain open picture from-strace explore schedule check judge'
 
 # Tries both kinds of commands on a file that can't be read: its path, and the reason.
 try_unread() {
