@@ -8,7 +8,7 @@ use Rattle.client_history.specs.declared.open_call.OpenCall.{OpenCall}
 use Rattle.client_history.specs.Acts.{ActStep}
 use Rattle.client_history.specs.Explained.{the_file, Leads, Stands, IsExplainedBy}
 use Rattle.client_history.specs.Moves.{AsksOnly}
-use Rattle.client_history.specs.Prefixes.{NoneEnded, AreOfOthers}
+use Rattle.client_history.specs.Prefixes.{NoneEnded, FollowsNone, AreOfOthers}
 use Rattle.client_history.specs.FirstCalls.{Changes}
 use Rattle.client_history.specs.Search.{AreSound, IsDropped, AreOpenCalls, IsWay}
 use Rattle.client_history.proofs.Exchange.{leads_on, legal_explained}
@@ -76,8 +76,11 @@ module _ (calls : List ClientCall) (begun over : List ℕ) (running : List OpenC
         none_own : call.is_last ≡ true → AreOfOthers calls one call.owner
         none_own last = absurd (subst (λ (a : Act). AsksOnly a) ((sound r call there).drop last) asked.4)
 
+        follows_none : FollowsNone one call
+        follows_none first follows = absurd (asks_or_changes call.act asked.4 ((sound r call there).follows first follows).changes)
+
         moved : IsExplainedBy time calls (way ++ (r ∷ (one ++ two)))
-        moved = legal_explained calls way one two time r h call there is.explains is.leads none_ended none_own
+        moved = legal_explained calls way one two time r h call there is.explains is.leads none_ended follows_none none_own
             (call, h, there, asked.5, without_question calls h is.explains.legal.0 one two r call there asked.4 (leads_on calls way one two time r h call there is.explains is.leads))
 
         -- one of more leads the way on

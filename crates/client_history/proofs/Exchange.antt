@@ -4,8 +4,8 @@ use Rattle.std.proofs.lemmas.Bool.{cases_lt}
 use Rattle.std.proofs.lemmas.Option.{none-some}
 use Rattle.model.specs.Locks.{Locks, no_locks}
 use Rattle.client_history.specs.declared.client_call.ClientCall.{ClientCall}
-use Rattle.client_history.specs.Explained.{Leads, IsOnce, Stands, IsAt, EndsBefore, AreInTime, ExitsAreLast, IsExplainedBy}
-use Rattle.client_history.specs.Prefixes.{Passes, NoneEnded, AreOfOthers}
+use Rattle.client_history.specs.Explained.{Leads, IsOnce, Stands, IsAt, EndsBefore, AreInTime, ExitsAreLast, AreBehindTheirFirst, IsExplainedBy}
+use Rattle.client_history.specs.Prefixes.{Passes, NoneEnded, FollowsNone, AreOfOthers}
 use Rattle.client_history.proofs.Fronts.{moves_first}
 use Rattle.client_history.proofs.Orders.{get_one}
 use Rattle.client_history.proofs.Steps.{leads_is_one, leads_split, leads_join}
@@ -61,6 +61,10 @@ module _ (front before behind : List ℕ) (i : ℕ) where
   later : (j k m n : ℕ) → Goes j k → Goes n m → k < m → (j < n) ⊎ ((k ≡ length front) × (length front ≤ n) × (n < length front + length before))
   later j k m n p q lt = ⊎_elim (λ low. inl low) (λ past. inr (omega arith, omega arith, omega arith)) (cases_lt j n)
 
+  -- and what came first comes first, or is passed by the call
+  sooner : (j k m n : ℕ) → Goes j k → Goes n m → n < j → (m < k) ⊎ ((k ≡ length front) × (length front ≤ n) × (n < length front + length before))
+  sooner j k m n p q lt = ⊎_elim (λ low. inl low) (λ past. inr (omega arith, omega arith, omega arith)) (cases_lt m k)
+
   one : (j k n : ℕ) → Goes n j → Goes n k → j ≡ k
   one j k n p q = omega arith
 
@@ -106,7 +110,22 @@ module _ (calls : List ClientCall) (front before behind : List ℕ) (time i : �
       let parts = leads_split calls no_locks whole.legal.0 front (before ++ (i ∷ behind)) whole.legal.1 in
       subst (λ (m : Locks). Leads calls m (before ++ (i ∷ behind)) whole.legal.0) (leads_is_one calls no_locks parts.0 h front parts.1 leads) parts.2
 
-  module _ (none : NoneEnded calls before call.begin) (others : call.is_last ≡ true → AreOfOthers calls before call.owner) where
+  -- a call that follows none of those before it follows one in the front
+  pub first_in_front : FollowsNone before call → (first : ℕ) → call.follows ≡ Some first → Stands front first
+  first_in_front none first follows =
+      let place = length front + length before in
+      let at : IsAt calls old place call = record { index = i; at = get_right front (before ++ (i ∷ behind)) place (length before) i refl (get_right before (i ∷ behind) (length before) 0 i (omega arith) refl); there = there } in
+      let stood = whole.behind place first call at follows in
+      let lt = stood.1 in
+      ⊎_elim
+      (λ low. (stood.0, at_front stood.0 low stood.2))
+      (λ past. absurd (none first follows (passed front before behind i stood.0 first stood.2 past lt)))
+      (cases_lt stood.0 (length front))
+    where
+      at_front : (n : ℕ) → n < length front → slice_get old n ≡ Some first → slice_get front n ≡ Some first
+      at_front n low at = ⊎_elim (λ p. p.1) (λ p. let e = p.1 in absurd (omega arith)) (get_split front (before ++ (i ∷ behind)) n first at)
+
+  module _ (none : NoneEnded calls before call.begin) (follows_none : FollowsNone before call) (others : call.is_last ≡ true → AreOfOthers calls before call.owner) where
     new_in_time : AreInTime calls new
     new_in_time k m a b lt p q ends = ⊎_elim (λ o. whole.in_time o.0 o.1 a b o.2 o.3 o.4 ends) (λ o. none o.1 b o.2 (subst (λ (c : ClientCall). EndsBefore b c.begin) o.0 ends)) (pair k m a b lt p q)
 
@@ -115,6 +134,18 @@ module _ (calls : List ClientCall) (front before behind : List ℕ) (time i : �
         (λ o. whole.last o.0 o.1 a b o.2 o.3 o.4 last same)
         (λ o. others (ap (λ (c : ClientCall). c.is_last) (sym o.0) ∙ last) o.1 b o.2 (sym (ap (λ (c : ClientCall). c.owner) o.0) ∙ sym same))
         (pair k m a b lt p q)
+
+    new_behind : AreBehindTheirFirst calls new
+    new_behind k first a at follows =
+        let was = at_of k a at in
+        let stood = whole.behind was.0 first a was.1 follows in
+        let stands = stays front before behind i first (stood.0, stood.2) in
+        let place = from front before behind i stands.0 first stands.1 in
+        let goes = subst (λ (n : ℕ). Goes front before behind i n stands.0) (whole.once place.0 stood.0 first place.1 stood.2) place.2 in
+        ⊎_elim
+        (λ low. (stands.0, low, stands.1))
+        (λ over. absurd (follows_none first (ap (λ (c : ClientCall). c.follows) (sym (is_call k a over.0 at)) ∙ follows) (passed front before behind i stood.0 first stood.2 over.1 over.2)))
+        (sooner front before behind i was.0 k stands.0 stood.0 was.2 goes stood.1)
 
     -- what leads on with the call in front explains the calls, too
     pub legal_explained : Leads calls h (i ∷ (before ++ behind)) whole.legal.0 → IsExplainedBy time calls new
@@ -126,6 +157,7 @@ module _ (calls : List ClientCall) (front before behind : List ℕ) (time i : �
       in_time = new_in_time;
       last = new_last;
       whole = λ k x a b at last found same some. let was = at_of k a at in stays front before behind i x (whole.whole was.0 x a b was.1 last found same some);
+      behind = new_behind;
     }
 
     -- a call that passes others may come before them

@@ -9,9 +9,9 @@ use Rattle.client_history.specs.Explained.{the_file, Leads, IsOnce, Stands, IsAt
 use Rattle.client_history.specs.FirstCalls.{Calls, IsServed, AreOpen, ComesFirst, ClosedSetsComeFirst}
 use Rattle.client_history.specs.Moves.{AsksOnly}
 use Rattle.client_history.specs.Prefixes.{AreOfOthers}
-use Rattle.client_history.proofs.Exchange.{get_split, get_left, get_right, leads_on, moved_explained}
+use Rattle.client_history.proofs.Exchange.{get_split, get_left, get_right, leads_on, first_in_front, moved_explained}
 use Rattle.client_history.proofs.Firsts.{first_of}
-use Rattle.client_history.proofs.MetCalls.{met_step, met_passes, none_ended, of_others}
+use Rattle.client_history.proofs.MetCalls.{met_step, met_passes, none_ended, follows_none, of_others}
 use Rattle.client_history.proofs.Orders.{get_one}
 use Rattle.client_history.proofs.Passed.{ArePassed, kept_is_not_done}
 use Rattle.client_history.proofs.Steps.{leads_split}
@@ -72,6 +72,7 @@ module _ (calls : List ClientCall) (front earlier later : List ℕ) (time z : �
         (λ kept. absurd (kept_is_not_done calls h reached.mid reached.next Left Set earlier call passed reached.way kept reached.step))
         (λ met.
         let first = met_step calls h reached.mid reached.next Left Set earlier call passed reached.way met reached.step unasked in
+        let follows = follows_none calls h reached.mid reached.next Left Set earlier call passed reached.way met reached.step first.1 are_open z left in
         let others = of_others calls h reached.mid reached.next Left Set earlier call passed reached.way met reached.step first.1 in
         record {
           index = z;
@@ -82,9 +83,11 @@ module _ (calls : List ClientCall) (front earlier later : List ℕ) (time z : �
           next = first.0;
           step = first.2;
           ended = λ last. ended_in_front (others last) last;
+          stood = first_in_front calls front earlier later time z h call there whole leads follows;
           behind = earlier ++ later;
           explains = moved_explained calls front earlier later time z h call there whole leads
               (none_ended calls h reached.mid reached.next Left Set earlier call passed reached.way met reached.step are_open z left)
+              follows
               others
               (met_passes calls h reached.mid reached.next Left Set earlier call passed reached.way met reached.step first.1 earlier_once);
           kept = stands_with;

@@ -8,7 +8,7 @@ use Rattle.client_history.specs.Acts.{ActStep}
 use Rattle.client_history.specs.Explained.{the_file, EndedBy, Stands, IsAt, IsExplainedBy}
 use Rattle.client_history.specs.Moves.{AsksOnly}
 use Rattle.client_history.specs.FirstCalls.{Calls, Changes, AreOpen, ComesFirst, ClosedSetsComeFirst}
-use Rattle.client_history.specs.OpenCalls.{IsLeft, IsIn, IsLeftOf, AreAsked, AreOthersTaken, AreFirst}
+use Rattle.client_history.specs.OpenCalls.{IsLeft, IsIn, IsLeftOf, AreAsked, AreOthersTaken, IsFirstTaken, AreFirst}
 use Rattle.client_history.specs.Search.{AreSound, IsExitOf, AreOpenCalls, IsWay}
 use Rattle.client_history.proofs.Exchange.{get_left, get_right}
 use Rattle.client_history.proofs.Orders.{get_one}
@@ -42,6 +42,10 @@ module _ (calls : List ClientCall) (begun over : List ℕ) (running : List OpenC
         (call_is q.0 j q.1 q.2 q.3 ∙ ap Some q.4)
         (λ past. (are.opened q.0 q.1 q.2).1 (subst (λ (n : ℕ). Stands over n) (sym q.3) past))
         ends;
+    halves = λ i j a b p q follows.
+        let may = (sound i a (call_is p.0 i p.1 p.2 p.3 ∙ ap Some p.4)).follows j follows in
+        let same = get_one calls j j may.before b refl may.there (call_is q.0 j q.1 q.2 q.3 ∙ ap Some q.4) in
+        (ap (λ (c : ClientCall). c.owner) (sym same) ∙ may.own, subst (λ (c : ClientCall). Changes c.act) same may.changed);
   }
 
   -- an open call that may stand behind the way is left
@@ -145,11 +149,31 @@ module _ (calls : List ClientCall) (begun over : List ℕ) (running : List OpenC
               let s = f.ended (ap (λ (c : ClientCall). c.is_last) (sym same) ∙ is_last) other.index other.call (are.there j other at) (own ∙ ap (λ (c : ClientCall). c.owner) same) some (λ e. differ (e ∙ sym f.chosen.3)) in
               ⊎_elim (λ was. was) (λ gone. ⊎_elim (λ past. absurd ((are.opened j other at).1 past)) (λ d. absurd (some d.silent)) gone) (is.noted other.index other.call s (are.there j other at))
 
+          first_taken : IsFirstTaken running taken one
+          first_taken i follows there =
+              let other = there.1 in
+              let index = there.3 in
+              let is_other = call_is there.0 i other there.2 index in
+              let s = f.stood i (ap (λ (c : ClientCall). c.follows) (sym same) ∙ follows) in
+              ⊎_elim
+              (λ was. was)
+              (λ gone. ⊎_elim
+              (λ past. absurd ((are.opened there.0 other there.2).1 (subst (λ (n : ℕ). Stands over n) (sym index) past)))
+              (λ d. absurd (none_past d.exit d.ends.last (is.ended d.exit d.is_over) d.ends.there d.ends.is_last (own_of i other.call follows is_other ∙ sym d.ends.own)))
+              gone)
+              (is.noted i other.call s is_other)
+            where
+              own_of : (i : ℕ) (first : ClientCall) → one.call.follows ≡ Some i → slice_get calls i ≡ Some first → one.call.owner ≡ first.owner
+              own_of i first follows there =
+                  let may = (sound one.index one.call (are.there place.0 one place.1)).follows i follows in
+                  sym may.own ∙ ap (λ (c : ClientCall). c.owner) (get_one calls i i may.before first refl may.there there)
+
           given_first : (n : ℕ) × (slice_get first n ≡ Some one)
           given_first = are_first.given f.chosen.0 one f.next f.chosen.2 one_left
               (subst (λ (c : ClientCall). Changes c.act) (sym same) f.changes)
               (subst (λ (c : ClientCall). ActStep the_file h c.owner c.act f.next) (sym same) f.step)
               others_taken
+              first_taken
 
         module _ (hyp : ClosedSetsComeFirst) where
           one_first : ComesFirst calls way rest time h Left Set

@@ -6,7 +6,7 @@ use Rattle.std.proofs.lemmas.Option.{none-some, same_Some}
 use Rattle.model.specs.Locks.{Locks, no_locks}
 use Rattle.client_history.specs.declared.client_call.ClientCall.{ClientCall}
 use Rattle.client_history.specs.Acts.{ActStep}
-use Rattle.client_history.specs.Explained.{the_file, Leads, IsAt, EndedBy, HaveBegun, AreAnswered, ExitsAreWhole, IsExplainedBy}
+use Rattle.client_history.specs.Explained.{the_file, Leads, IsAt, EndedBy, HaveBegun, AreAnswered, ExitsAreWhole, AreBehindTheirFirst, IsExplainedBy}
 use Rattle.client_history.specs.Prefixes.{AreOrdered, Passes}
 use Rattle.client_history.specs.Verdicts.{AreExplainedBefore}
 use Rattle.client_history.proofs.OwnQuestions.{may_move}
@@ -116,6 +116,14 @@ module _ (calls : List ClientCall) (order : List ℕ) (early : ℕ) where
         let lt : stands.0 < n = ⊎_elim (λ past. absurd (whole.last k stands.0 a b past front.1 (record { index = i; at = stands.1; there = there }) last same)) (λ low. let within = front.0 in omega arith) (cases_lt k stands.0) in
         (stands.0, take_get order n stands.0 i lt stands.1)
 
+    front_behind : AreBehindTheirFirst calls (take n order)
+    front_behind k first call at follows =
+        let front = at_of k call at in
+        let within = front.0 in
+        let stood = whole.behind k first call front.1 follows in
+        let lt = stood.1 in
+        (stood.0, stood.1, take_get order n stood.0 first (omega arith) stood.2)
+
     front_explains : IsExplainedBy early calls (take n order)
     front_explains =
         let parts = leads_split calls no_locks whole.legal.0 (take n order) (drop n order) (subst (λ (xs : List ℕ). Leads calls no_locks xs whole.legal.0) (sym (take-append-drop n order)) whole.legal.1) in
@@ -127,6 +135,7 @@ module _ (calls : List ClientCall) (order : List ℕ) (early : ℕ) where
           in_time = λ j k a b lt p q. whole.in_time j k a b lt (at_of j a p).1 (at_of k b q).1;
           last = λ j k a b lt p q. whole.last j k a b lt (at_of j a p).1 (at_of k b q).1;
           whole = front_whole;
+          behind = front_behind;
         }
 
 -- the front explains the calls up to an earlier time

@@ -13,6 +13,7 @@ pub mod FirstOfWay
 pub mod Firsts
 pub mod Fronts
 pub mod Goings
+pub mod HalfLaws
 pub mod KnownCalls
 pub mod MarkLaws
 pub mod MetCalls

@@ -12,9 +12,10 @@ use Rattle.client_history.specs.Acts.{ActStep}
 use Rattle.client_history.specs.Explained.{the_file, Leads, IsOnce, IsAt}
 use Rattle.client_history.specs.FirstCalls.{Calls, Changes, MeetsOther, MayComeBefore, IsUnbarred, IsMet, AreOpen}
 use Rattle.client_history.specs.Moves.{AsksOnly, Releases, IsDeniedIn}
-use Rattle.client_history.specs.Prefixes.{Passes, NoneEnded, AreOfOthers, OwnAskOnly, NoneDenied}
+use Rattle.client_history.specs.Prefixes.{Passes, NoneEnded, FollowsNone, AreOfOthers, OwnAskOnly, NoneDenied}
 use Rattle.client_history.proofs.Denials.{some_denies}
 use Rattle.client_history.proofs.Passed.{ArePassed}
+use Rattle.client_history.proofs.Places.{call_of}
 use Rattle.client_history.proofs.Releases.{passes_others}
 use Rattle.client_history.proofs.TakenFirst.{passes_all}
 use Rattle.client_history.proofs.OwnBytes.{asks_or_changes}
@@ -70,6 +71,14 @@ module _ (calls : List ClientCall) (h m u : Locks) (Left : Calls) (Set : ℕ →
     -- where it is an exit none of them is of its owner
     pub of_others : call.is_last ≡ true → AreOfOthers calls order call.owner
     of_others last k other at same = never_before k other at (inl (sym same, changes, inl last))
+
+    -- none of them is the one that it follows
+    pub follows_none : AreOpen calls Left → (i : ℕ) → Left i call → FollowsNone order call
+    follows_none are_open i left first follows stands =
+        let there = call_of calls h m order stands.0 first way stands.1 in
+        let at : IsAt calls order stands.0 there.0 = record { index = first; at = stands.1; there = there.1 } in
+        let half = are_open.halves i first call there.0 left (passed.left stands.0 there.0 at) follows in
+        never_before stands.0 there.0 at (inl (half.0, changes, inr half.1))
 
     own_ask_only : OwnAskOnly calls order call.owner
     own_ask_only k other at same = ⊎_elim

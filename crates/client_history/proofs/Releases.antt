@@ -11,7 +11,7 @@ use Rattle.client_history.specs.declared.client_call.ClientCall.{ClientCall}
 use Rattle.client_history.specs.Acts.{ActStep, IsBlocked}
 use Rattle.client_history.specs.Explained.{the_file, Leads, IsAt, IsExplainedBy}
 use Rattle.client_history.specs.Moves.{Releases, IsDeniedIn, IsDeniedByOther, LetsBefore}
-use Rattle.client_history.specs.Prefixes.{Passes, NoneEnded, AreOfOthers, OwnAskOnly, NoneDenied}
+use Rattle.client_history.specs.Prefixes.{Passes, NoneEnded, FollowsNone, AreOfOthers, OwnAskOnly, NoneDenied}
 use Rattle.client_history.proofs.Exchange.{moved_explained}
 use Rattle.client_history.proofs.OwnQuestions.{leaves_same, blocked_still}
 
@@ -68,7 +68,7 @@ module _ (calls : List ClientCall) (call : ClientCall) (releases : Releases call
 
 -- a release may come first
 pub release_first : (calls : List ClientCall) (front before behind : List ℕ) (time i : ℕ) (h : Locks) (call : ClientCall)
-    → slice_get calls i ≡ Some call → Releases call.act → IsExplainedBy time calls (front ++ (before ++ (i ∷ behind))) → Leads calls no_locks front h → NoneEnded calls before call.begin
+    → slice_get calls i ≡ Some call → Releases call.act → IsExplainedBy time calls (front ++ (before ++ (i ∷ behind))) → Leads calls no_locks front h → NoneEnded calls before call.begin → FollowsNone before call
     → (call.is_last ≡ true → AreOfOthers calls before call.owner) → OwnAskOnly calls before call.owner → NoneDenied calls before h → IsExplainedBy time calls (front ++ (i ∷ (before ++ behind)))
-release_first calls front before behind time i h call there releases whole leads none others own denied =
-    moved_explained calls front before behind time i h call there whole leads none others (passes_others calls call releases h h before refl own denied)
+release_first calls front before behind time i h call there releases whole leads none follows others own denied =
+    moved_explained calls front before behind time i h call there whole leads none follows others (passes_others calls call releases h h before refl own denied)

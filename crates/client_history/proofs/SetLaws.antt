@@ -14,7 +14,7 @@ use Rattle.client_history.specs.Acts.{ActStep}
 use Rattle.client_history.specs.ClosedSets.{AreOf, AreOnce, IsGrown, FindsNoLock, IsHeldUp, IsNotDenied, IsNeeded}
 use Rattle.client_history.specs.Explained.{the_file}
 use Rattle.client_history.specs.FirstCalls.{Changes, Calls, HasRival, LetsGo, MayComeBefore, IsUnbarred, IsServed, IsClosed}
-use Rattle.client_history.specs.OpenCalls.{IsLeft, IsIn, IsLeftOf, AreOthersTaken}
+use Rattle.client_history.specs.OpenCalls.{IsLeft, IsIn, IsLeftOf, AreOthersTaken, IsFirstTaken}
 use Rattle.client_history.proofs.Exchange.{get_left}
 use Rattle.client_history.proofs.Orders.{last_place, get_one}
 use Rattle.client_history.proofs.Standing.{has_last}
@@ -217,4 +217,4 @@ closed_all h running taken set all = record {
 
 -- where the call is left and a change that may come next, it is one of the first
 abbrev pub MayBeFirst : Locks → List OpenCall → List ℕ → List OpenCall → OpenCall → Type 0
-MayBeFirst h running taken first one = IsLeft one taken → Changes one.call.act → (next : Locks) → ActStep the_file h one.call.owner one.call.act next → (one.call.is_last ≡ true → AreOthersTaken running taken one) → (n : ℕ) × (slice_get first n ≡ Some one)
+MayBeFirst h running taken first one = IsLeft one taken → Changes one.call.act → (next : Locks) → ActStep the_file h one.call.owner one.call.act next → (one.call.is_last ≡ true → AreOthersTaken running taken one) → IsFirstTaken running taken one → (n : ℕ) × (slice_get first n ≡ Some one)

@@ -63,7 +63,11 @@ ExitsAreLast calls order = (j k : ℕ) (a b : ClientCall) → j < k → IsAt cal
 abbrev pub ExitsAreWhole : List ClientCall → List ℕ → Type 0
 ExitsAreWhole calls order = (k i : ℕ) (a b : ClientCall) → IsAt calls order k a → a.is_last ≡ true → slice_get calls i ≡ Some b → b.owner ≡ a.owner → b.end ≢ None → Stands order i
 
--- up to a time: each call that ended by then happened, some of those that began by then may have, no call twice, each between its begin and its end, nothing of an owner behind its exit, and each reply is what one table of record locks gives there, which has no lock at first
+-- each call that follows another stands behind it
+abbrev pub AreBehindTheirFirst : List ClientCall → List ℕ → Type 0
+AreBehindTheirFirst calls order = (k first : ℕ) (call : ClientCall) → IsAt calls order k call → call.follows ≡ Some first → (j : ℕ) × (j < k) × (slice_get order j ≡ Some first)
+
+-- up to a time: each call that ended by then happened, some of those that began by then may have, no call twice, each between its begin and its end, nothing of an owner behind its exit, each call behind the one that it follows, and each reply is what one table of record locks gives there, which has no lock at first
 pub record IsExplainedBy (time : ℕ) (calls : List ClientCall) (order : List ℕ) : Type 0 where
   pub legal : IsLegal calls order
   pub once : IsOnce order
@@ -72,6 +76,7 @@ pub record IsExplainedBy (time : ℕ) (calls : List ClientCall) (order : List �
   pub in_time : AreInTime calls order
   pub last : ExitsAreLast calls order
   pub whole : ExitsAreWhole calls order
+  pub behind : AreBehindTheirFirst calls order
 
 -- a time behind every end: the greatest that a call can have
 abbrev pub always : ℕ

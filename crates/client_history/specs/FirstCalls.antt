@@ -103,17 +103,18 @@ pub record IsMet (h : Locks) (Left : Calls) (Set : ℕ → Type 0) (call : Clien
 abbrev pub IsServed : Locks → Calls → (ℕ → Type 0) → ClientCall → Type 0
 IsServed h Left Set call = IsKept h Left Set call ⊎ IsMet h Left Set call
 
--- the calls that are left: each is one of the history, and none ended before another began
+-- the calls that are left: each is one of the history, none ended before another began, and what one of them follows is a change of its owner
 pub record AreOpen (calls : List ClientCall) (Left : Calls) : Type 0 where
   pub there : (i : ℕ) (call : ClientCall) → Left i call → slice_get calls i ≡ Some call
   pub beside : (i j : ℕ) (a b : ClientCall) → Left i a → Left j b → (end : ℕ) → b.end ≡ Some end → a.begin ≤ end
+  pub halves : (i j : ℕ) (a b : ClientCall) → Left i a → Left j b → a.follows ≡ Some j → (b.owner ≡ a.owner) × Changes b.act
 
 -- a set of calls that are left is closed, and no question among them may be asked here
 pub record IsClosed (h : Locks) (Left : Calls) (Set : ℕ → Type 0) : Type 0 where
   pub decided : (i : ℕ) → Set i ⊎ (Set i → ⊥)
   pub served : (i : ℕ) (call : ClientCall) → Set i → Left i call → IsServed h Left Set call
 
--- one of the set may come first behind the front: a change that may be done there, what is left is explained behind it, and where it is an exit each call of its owner that has a reply stands in the front
+-- one of the set may come first behind the front: a change that may be done there, what is left is explained behind it, where it is an exit each call of its owner that has a reply stands in the front, and so does the call that it follows
 pub record ComesFirst (calls : List ClientCall) (front rest : List ℕ) (time : ℕ) (h : Locks) (Left : Calls) (Set : ℕ → Type 0) : Type 0 where
   pub index : ℕ
   pub call : ClientCall
@@ -123,6 +124,7 @@ pub record ComesFirst (calls : List ClientCall) (front rest : List ℕ) (time : 
   pub next : Locks
   pub step : ActStep the_file h call.owner call.act next
   pub ended : call.is_last ≡ true → (i : ℕ) (other : ClientCall) → slice_get calls i ≡ Some other → other.owner ≡ call.owner → other.end ≢ None → i ≢ index → Stands front i
+  pub stood : (first : ℕ) → call.follows ≡ Some first → Stands front first
   pub behind : List ℕ
   pub explains : IsExplainedBy time calls (front ++ (index ∷ behind))
   pub kept : (i : ℕ) → Stands behind i → Stands rest i

@@ -29,10 +29,14 @@ AreAsked running taken h = (k : ℕ) (one : OpenCall) → slice_get running k �
 abbrev pub AreOthersTaken : List OpenCall → List ℕ → OpenCall → Type 0
 AreOthersTaken running taken one = (j : ℕ) (other : OpenCall) → slice_get running j ≡ Some other → other.index ≢ one.index → other.call.owner ≡ one.call.owner → other.call.end ≢ None → Stands taken other.index
 
+-- the call that it follows, if that is open, was taken
+abbrev pub IsFirstTaken : List OpenCall → List ℕ → OpenCall → Type 0
+IsFirstTaken running taken one = (first : ℕ) → one.call.follows ≡ Some first → IsIn running first → Stands taken first
+
 -- of a closed set of open calls, which has the one that ends, these are the changes that may be done in these locks
 pub record AreFirst (h : Locks) (running : List OpenCall) (taken : List ℕ) (end : ℕ) (first : List OpenCall) : Type 0 where
   pub set : List OpenCall
   pub has_end : (call : ClientCall) → IsLeftOf running taken end call → IsIn set end
   pub closed : AreAsked running taken h → IsClosed h (IsLeftOf running taken) (IsIn set)
-  pub given : (k : ℕ) (one : OpenCall) (next : Locks) → slice_get set k ≡ Some one → IsLeft one taken → Changes one.call.act → ActStep the_file h one.call.owner one.call.act next → (one.call.is_last ≡ true → AreOthersTaken running taken one) → (n : ℕ) × (slice_get first n ≡ Some one)
+  pub given : (k : ℕ) (one : OpenCall) (next : Locks) → slice_get set k ≡ Some one → IsLeft one taken → Changes one.call.act → ActStep the_file h one.call.owner one.call.act next → (one.call.is_last ≡ true → AreOthersTaken running taken one) → IsFirstTaken running taken one → (n : ℕ) × (slice_get first n ≡ Some one)
   pub members : (k : ℕ) (one : OpenCall) → slice_get set k ≡ Some one → (n : ℕ) × (slice_get running n ≡ Some one)

@@ -4,7 +4,7 @@ use Rattle.model.specs.declared.owner.Owner.{Owner}
 use Rattle.model.specs.Locks.{Locks, no_locks}
 use Rattle.client_history.specs.declared.client_call.ClientCall.{ClientCall}
 use Rattle.client_history.specs.Acts.{ActStep}
-use Rattle.client_history.specs.Explained.{the_file, Leads, EndsBefore, IsAt, IsExplainedBy}
+use Rattle.client_history.specs.Explained.{the_file, Leads, EndsBefore, Stands, IsAt, IsExplainedBy}
 use Rattle.client_history.specs.Moves.{AsksOnly, Releases, IsDeniedIn, MayPass}
 
 -- no call ends before it begins
@@ -40,11 +40,15 @@ PassingCallsMoveFirst =
 abbrev pub NoneEnded : List ClientCall → List ℕ → ℕ → Type 0
 NoneEnded calls order time = (k : ℕ) (call : ClientCall) → IsAt calls order k call → EndsBefore call time → ⊥
 
+-- the call follows none of these
+abbrev pub FollowsNone : List ℕ → ClientCall → Type 0
+FollowsNone order call = (first : ℕ) → call.follows ≡ Some first → Stands order first → ⊥
+
 -- none of these calls is of the owner
 abbrev pub AreOfOthers : List ClientCall → List ℕ → Owner → Type 0
 AreOfOthers calls order owner = (k : ℕ) (call : ClientCall) → IsAt calls order k call → owner ≢ call.owner
 
--- in an order that explains the calls up to a time, a call may come before those between a front and itself, if none of them ended before it began, if none is of its owner where it is an exit, and if it passes them in the locks to which the front leads: the order explains the calls still
+-- in an order that explains the calls up to a time, a call may come before those between a front and itself, if none of them ended before it began, if it follows none of them, if none is of its owner where it is an exit, and if it passes them in the locks to which the front leads: the order explains the calls still
 abbrev pub MovedIsExplained : Type 0
 MovedIsExplained =
     (calls : List ClientCall) (front before behind : List ℕ) (time i : ℕ) (h : Locks) (call : ClientCall)
@@ -52,6 +56,7 @@ MovedIsExplained =
     → IsExplainedBy time calls (front ++ (before ++ (i ∷ behind)))
     → Leads calls no_locks front h
     → NoneEnded calls before call.begin
+    → FollowsNone before call
     → (call.is_last ≡ true → AreOfOthers calls before call.owner)
     → Passes calls h call before
     → IsExplainedBy time calls (front ++ (i ∷ (before ++ behind)))
@@ -64,7 +69,7 @@ OwnAskOnly calls order owner = (k : ℕ) (call : ClientCall) → IsAt calls orde
 abbrev pub NoneDenied : List ClientCall → List ℕ → Locks → Type 0
 NoneDenied calls order h = (k : ℕ) (call : ClientCall) → IsAt calls order k call → IsDeniedIn h call.owner call.act → ⊥
 
--- in an order that explains the calls up to a time, an unlock or a drop may come before those between a front and itself, if none of them ended before it began, those of its owner ask only (where it is an exit none is of its owner), and none is a denial that the locks to which the front leads explain already
+-- in an order that explains the calls up to a time, an unlock or a drop may come before those between a front and itself, if none of them ended before it began, it follows none of them, those of its owner ask only (where it is an exit none is of its owner), and none is a denial that the locks to which the front leads explain already
 abbrev pub ReleasesComeFirst : Type 0
 ReleasesComeFirst =
     (calls : List ClientCall) (front before behind : List ℕ) (time i : ℕ) (h : Locks) (call : ClientCall)
@@ -73,6 +78,7 @@ ReleasesComeFirst =
     → IsExplainedBy time calls (front ++ (before ++ (i ∷ behind)))
     → Leads calls no_locks front h
     → NoneEnded calls before call.begin
+    → FollowsNone before call
     → (call.is_last ≡ true → AreOfOthers calls before call.owner)
     → OwnAskOnly calls before call.owner
     → NoneDenied calls before h

@@ -13,15 +13,24 @@ use Rattle.client_history.specs.FirstCalls.{Changes}
 use Rattle.client_history.specs.OwnerCalls.{IsExitOfOwner}
 use Rattle.client_history.specs.OpenCalls.{IsIn, AreAsked}
 
--- the call ends at a time that a call can have, not before it begins, and where it is an exit it drops its owner's locks
-pub record IsSound (call : ClientCall) : Type 0 where
+-- the call and the one with that index, which is a call of its owner, change locks
+pub record MayFollow (calls : List ClientCall) (first : ℕ) (call : ClientCall) : Type 0 where
+  pub changes : Changes call.act
+  pub before : ClientCall
+  pub there : slice_get calls first ≡ Some before
+  pub own : before.owner ≡ call.owner
+  pub changed : Changes before.act
+
+-- the call ends at a time that a call can have, not before it begins, where it is an exit it drops its owner's locks, and it follows none but a call of its owner, where both change locks
+pub record IsSound (calls : List ClientCall) (call : ClientCall) : Type 0 where
   pub timed : (end : ℕ) → call.end ≡ Some end → end ≤ always
   pub ordered : (end : ℕ) → call.end ≡ Some end → call.begin ≤ end
   pub drop : call.is_last ≡ true → call.act ≡ Drops
+  pub follows : (first : ℕ) → call.follows ≡ Some first → MayFollow calls first call
 
 -- so is each call
 abbrev pub AreSound : List ClientCall → Type 0
-AreSound calls = (i : ℕ) (call : ClientCall) → slice_get calls i ≡ Some call → IsSound call
+AreSound calls = (i : ℕ) (call : ClientCall) → slice_get calls i ≡ Some call → IsSound calls call
 
 -- an exit of the call's owner
 abbrev pub IsExitOf : List ClientCall → ℕ → ClientCall → Type 0

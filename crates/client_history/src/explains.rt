@@ -5,6 +5,7 @@ ghost use Rattle.client_history.specs.Explained.{IsExplainedBy, always};
 use crate::answered::are_answered;
 use crate::client_call::ClientCall;
 use crate::exits::{exits_are_last, exits_are_whole};
+use crate::halves::are_behind_their_first;
 use crate::in_time::{are_in_time, have_begun};
 use crate::legal::is_legal;
 use crate::marks::marks_of;
@@ -12,7 +13,8 @@ use std::alloc::{AllocError, Global};
 
 /// Whether the calls in this order, each by its index, explain what the clients of a file saw: one table of
 /// record locks, which has no lock at first, gives each reply where its call stands; each call stands once at
-/// most and between its begin and its end, each with a reply does, and nothing of an owner behind its exit.
+/// most and between its begin and its end, each with a reply does, nothing of an owner behind its exit, and each
+/// call that follows another behind that one.
 ///
 /// # Errors
 /// `AllocError`.
@@ -51,6 +53,9 @@ pub fn explains_by(
         return Ok(false);
     }
     if !exits_are_whole(alloc, calls, order, &marks)? {
+        return Ok(false);
+    }
+    if !are_behind_their_first(alloc, calls, order)? {
         return Ok(false);
     }
     is_legal(alloc, calls, order)

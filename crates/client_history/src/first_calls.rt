@@ -7,7 +7,7 @@ ghost use Rattle.client_history.specs.Acts.{ActStep};
 ghost use Rattle.client_history.specs.ClosedSets.{IsGrown, IsClosedSet};
 ghost use Rattle.client_history.specs.Explained.{the_file};
 ghost use Rattle.client_history.specs.FirstCalls.{Changes, IsServed};
-ghost use Rattle.client_history.specs.OpenCalls.{IsLeft, IsIn, IsLeftOf, AreAsked, AreOthersTaken, AreFirst};
+ghost use Rattle.client_history.specs.OpenCalls.{IsLeft, IsIn, IsLeftOf, AreAsked, AreOthersTaken, IsFirstTaken, AreFirst};
 
 use crate::act::Act;
 use crate::follow::is_free;
@@ -132,11 +132,12 @@ fn has_index(calls: &[OpenCall], index: usize) -> bool
 
 // Whether the call changes locks, and may come next.
 fn may_come(table: &LockTable, open: &[OpenCall], taken: &[usize], call: &OpenCall) -> bool
-    ensures { IsLeft call.now taken.now → Changes call.now.call.act → (next : Locks) → ActStep the_file (held table.now) call.now.call.owner call.now.call.act next → (call.now.call.is_last ≡ true → AreOthersTaken «open».now taken.now call.now) → result ≡ true }
+    ensures { IsLeft call.now taken.now → Changes call.now.call.act → (next : Locks) → ActStep the_file (held table.now) call.now.call.owner call.now.call.act next → (call.now.call.is_last ≡ true → AreOthersTaken «open».now taken.now call.now) → IsFirstTaken «open».now taken.now call.now → result ≡ true }
 {
     call.changes()
         && call.is_left(taken)
         && may_end_owner(open, taken, call)
+        && is_first_taken(open, taken, call)
         && is_allowed(table, call)
 }
 
@@ -153,6 +154,16 @@ fn may_end_owner(open: &[OpenCall], taken: &[usize], call: &OpenCall) -> bool
         }
     }
     true
+}
+
+// Whether the call that it follows, if that is open, was taken.
+fn is_first_taken(open: &[OpenCall], taken: &[usize], call: &OpenCall) -> bool
+    ensures { IsFirstTaken «open».now taken.now call.now → result ≡ true }
+{
+    match call.call.follows {
+        Some(first) => taken.contains(&first) || !has_index(open, first),
+        None => true,
+    }
 }
 
 // Whether no lock of another owner is in the way of a call that changes locks.

@@ -13,6 +13,7 @@ mod first_calls;
 mod follow;
 mod front;
 mod front_list;
+mod halves;
 mod in_time;
 pub mod judge;
 pub mod laws;

@@ -1,16 +1,20 @@
 //! Which histories are searched.
-ghost use Rattle.std.specs.Prelude.{IsTrue};
-ghost use Rattle.client_history.specs.Search.{AreSound, IsSound};
+ghost use Rattle.std.specs.Prelude.{◌≡◌, ◌≤◌, ℕ, true, IsTrue, Some};
+ghost use Rattle.client_history.specs.declared.act.Act.TheVariants.{Drops};
+ghost use Rattle.client_history.specs.Explained.{always};
+ghost use Rattle.client_history.specs.Search.{AreSound, IsSound, MayFollow};
 
 use crate::act::Act;
 use crate::client_call::ClientCall;
+use crate::owner_calls::changes;
 
-/// Whether no call ends before it begins, and each exit drops its owner's locks.
+/// Whether no call ends before it begins, each exit drops its owner's locks, and each call that follows another does so
+/// to one of its owner, where both change locks.
 pub(crate) fn are_sound(calls: &[ClientCall]) -> bool
     ensures { IsTrue result → AreSound calls.now }
 {
     for call in calls {
-        if !is_sound(call) {
+        if !is_sound(calls, call) {
             return false;
         }
     }
@@ -18,12 +22,39 @@ pub(crate) fn are_sound(calls: &[ClientCall]) -> bool
 }
 
 // Whether that is so of the call.
-fn is_sound(call: &ClientCall) -> bool
-    ensures { IsTrue result → IsSound call.now }
+fn is_sound(calls: &[ClientCall], call: &ClientCall) -> bool
+    ensures { IsTrue result → IsSound calls.now call.now }
 {
-    let ordered = match call.end {
+    is_ordered(call) && drops_as_last(call) && may_follow(calls, call)
+}
+
+// Whether the call ends no earlier than it begins, if it does.
+fn is_ordered(call: &ClientCall) -> bool
+    ensures timed { (end : ℕ) → call.now.end ≡ Some end → end ≤ always }
+    ensures ordered { IsTrue result → (end : ℕ) → call.now.end ≡ Some end → call.now.begin ≤ end }
+{
+    match call.end {
         Some(end) => call.begin <= end,
         None => true,
+    }
+}
+
+// Whether the call, where it is an exit, drops its owner's locks.
+fn drops_as_last(call: &ClientCall) -> bool
+    ensures { IsTrue result → call.now.is_last ≡ true → call.now.act ≡ Drops }
+{
+    !call.is_last || call.act == Act::Drops
+}
+
+// Whether the call that it follows, if there is one, is a call of its owner, and both change locks.
+fn may_follow(calls: &[ClientCall], call: &ClientCall) -> bool
+    ensures { IsTrue result → (first : ℕ) → call.now.follows ≡ Some first → MayFollow calls.now first call.now }
+{
+    let Some(first) = call.follows else {
+        return true;
     };
-    ordered && (!call.is_last || call.act == Act::Drops)
+    let Some(before) = calls.get(first) else {
+        return false;
+    };
+    before.owner == call.owner && changes(&before.act) && changes(&call.act)
 }

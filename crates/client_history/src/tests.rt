@@ -43,6 +43,7 @@ fn call(owner: Owner, begin: u64, end: u64, act: Act) -> ClientCall {
         end: Some(end),
         act,
         is_last: false,
+        follows: None,
     }
 }
 
@@ -73,6 +74,28 @@ fn handover() -> [ClientCall; 4] {
         call(first(), 3, 8, Act::Frees { span: BYTE }),
         call(second(), 1, 2, is_denied()),
         call(first(), 0, 5, writes()),
+    ]
+}
+
+// A set in two steps: the owner gives back what it has of the byte, and then gets it.
+fn in_two_steps() -> [ClientCall; 2] {
+    [
+        call(first(), 1, 4, Act::Frees { span: BYTE }),
+        ClientCall {
+            follows: Some(0),
+            ..call(first(), 1, 4, writes())
+        },
+    ]
+}
+
+// A call that follows one of another owner.
+fn behind_another_owner() -> [ClientCall; 2] {
+    [
+        call(second(), 1, 4, Act::Frees { span: BYTE }),
+        ClientCall {
+            follows: Some(0),
+            ..call(first(), 1, 4, writes())
+        },
     ]
 }
 
@@ -131,6 +154,36 @@ fn takes_the_order_of_a_handover(rt: HostRuntime) -> Result<(), Fail> {
     let does = explains_again(rt.alloc(), &calls, &[3, 2, 1, 0])?;
     let late = explains_again(rt.alloc(), &calls, &[3, 1, 2, 0])?;
     assert!(rt; does && !late);
+    Ok(())
+}
+
+#[test]
+fn finds_the_second_step_behind_the_first(rt: HostRuntime) -> Result<(), Fail> {
+    let found = match judged(rt.alloc(), &in_two_steps(), STEPS)? {
+        Verdict::Explained { order } => order.as_slice() == [0, 1].as_slice(),
+        Verdict::Unexplained { .. } | Verdict::Unknown { .. } => false,
+    };
+    assert!(rt; found);
+    Ok(())
+}
+
+#[test]
+fn takes_the_second_step_behind_the_first(rt: HostRuntime) -> Result<(), Fail> {
+    let calls = in_two_steps();
+    let does = explains_again(rt.alloc(), &calls, &[0, 1])?;
+    let before = explains_again(rt.alloc(), &calls, &[1, 0])?;
+    assert!(rt; does && !before);
+    Ok(())
+}
+
+#[test]
+fn does_not_begin_where_a_call_follows_another_owner(rt: HostRuntime) -> Result<(), Fail> {
+    let calls = behind_another_owner();
+    let unknown = match judged(rt.alloc(), &calls, STEPS)? {
+        Verdict::Unknown { call } => call == calls.len(),
+        Verdict::Explained { .. } | Verdict::Unexplained { .. } => false,
+    };
+    assert!(rt; unknown);
     Ok(())
 }
 

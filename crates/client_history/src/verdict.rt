@@ -11,7 +11,7 @@ pub enum Verdict {
     Unexplained { call: usize, ways: Vec<Vec<usize>> },
     /// It is not known whether one table explains it. The search took all its steps before the end of the call with
     /// this index, or found no order up to that end by ways of which none explains the calls up to the times before. Or
-    /// it did not begin, with the number of calls as the index, since some call ends before it begins or some exit is no
-    /// drop.
+    /// it did not begin, with the number of calls as the index, since some call ends before it begins, some exit is no
+    /// drop, or some call follows none of the calls, one of another owner, or one with which it does not change locks.
     Unknown { call: usize },
 }

@@ -28,6 +28,9 @@ returns-then-not-branch c = (λ no. absurd (false≢true no), λ all. absurd (fa
 pub returns-then-not-branch-2 : goal.returns-then-not-branch-2
 returns-then-not-branch-2 c = (λ no. absurd (false≢true no), λ all. absurd (false≢true (sym c.if-not-branch-2.true ∙ (c.in_ok-exits_are_whole.ensures {u = tt}).1 all.whole)))
 
+pub returns-then-not-branch-3 : goal.returns-then-not-branch-3
+returns-then-not-branch-3 c = (λ no. absurd (false≢true no), λ all. absurd (false≢true (sym c.if-not-branch-3.true ∙ (c.in_ok-are_behind_their_first.ensures {u = tt}).1 all.behind)))
+
 pub returns : goal.returns
 returns c =
     let calls = c.args.calls.now in
@@ -45,6 +48,7 @@ returns c =
         in_time = c.are_in_time.ensures.0 c.if-not-are_in_time.false;
         last = (c.in_ok-exits_are_last.ensures {u = tt}).0 c.if-not-branch.false;
         whole = (c.in_ok-exits_are_whole.ensures {u = tt}).0 c.if-not-branch-2.false;
+        behind = (c.in_ok-are_behind_their_first.ensures {u = tt}).0 c.if-not-branch-3.false;
       },
       λ all. legal.1 all.legal,
     ))

@@ -18,12 +18,12 @@ loop-call-preserved c =
     elim c.if-may_come.branch [
       | then-may_come+in_ok-push w ↦ rw w.first-is (rw (w.in_ok-push.ensures {u = tt}).items
           (below_more (MayBeFirst (held c.args.table.now) c.args.«open».now c.args.taken.now (old ++ it ∷ [])) set n it
-          (λ k x lt there left changes next step others. has_left old (it ∷ []) x (c.loop-call.invariant k x lt there left changes next step others))
+          (λ k x lt there left changes next step others first. has_left old (it ∷ []) x (c.loop-call.invariant k x lt there left changes next step others first))
           at
-          (λ left changes next step others. has_last old it)))
+          (λ left changes next step others first. has_last old it)))
       | else-may_come w ↦ rw w.first-is
           (below_more (MayBeFirst (held c.args.table.now) c.args.«open».now c.args.taken.now old) set n it c.loop-call.invariant at
-          (λ left changes next step others. absurd (false≢true (sym w.if-may_come.false ∙ c.may_come.ensures left changes next step others))))
+          (λ left changes next step others first. absurd (false≢true (sym w.if-may_come.false ∙ c.may_come.ensures left changes next step others first))))
     ]
 
 pub returns : goal.returns
@@ -35,8 +35,8 @@ returns c =
       set = c.in_ok-set.set.items;
       has_end = closed.has_end;
       closed = closed.closed;
-      given = λ k one next there left changes step others.
+      given = λ k one next there left changes step others first.
           below_all (MayBeFirst (held c.args.table.now) c.args.«open».now c.args.taken.now c.loop-call.first.items) set c.loop-call.call-index c.loop-call.invariant c.loop-call-test.false k one
-          (subst (λ (xs : List OpenCall). slice_get xs k ≡ Some one) (sym same) there) left changes next step others;
+          (subst (λ (xs : List OpenCall). slice_get xs k ≡ Some one) (sym same) there) left changes next step others first;
       members = closed.members;
     }

@@ -4,4 +4,4 @@ use Rattle.client_history.specs.Search.{IsSound}
 use Rattle.client_history.proofs.sound.are_sound.Given as goal
 
 abbrev pub invariant-loop-call : goal.invariant-loop-call
-invariant-loop-call l = (k : ℕ) (call : ClientCall) → k < l.call-index → slice_get l.calls k ≡ Some call → IsSound call
+invariant-loop-call l = (k : ℕ) (call : ClientCall) → k < l.call-index → slice_get l.calls k ≡ Some call → IsSound l.calls call
