@@ -1,19 +1,16 @@
 -- Calls of files stay calls of them.
-use Rattle.std.proofs.Common.{◌≡◌, ℕ, ◌≤◌, ◌+◌, Bool, true, not, cond, List, [], ◌∷◌, ◌++◌, length, count_by, refl, sym, ap, subst, ◌∙◌, add-zero, arith, length-append}
+use Rattle.std.proofs.Common.{◌≡◌, ℕ, ◌<◌, ◌≤◌, ◌+◌, List, [], ◌∷◌, ◌++◌, length, set, get_or, sum_by, sym, ap, subst, ◌∙◌, arith, length-append}
 use Rattle.std.specs.List.{All}
-use Rattle.std.proofs.lemmas.List.Elements.{All-push, All-weaker}
-use Rattle.std.proofs.lemmas.List.Sums.{sum_by_push}
+use Rattle.std.proofs.lemmas.List.Elements.{All-push, All-set, All-weaker}
+use Rattle.std.proofs.lemmas.List.Sums.{sum_by-set}
 use Rattle.texts.specs.Reads.{IsWithin}
-use Rattle.model.specs.declared.owner.Owner.{Owner}
-use Rattle.client_history.specs.declared.act.Act.TheVariants.{Drops}
 use Rattle.client_history.specs.declared.client_call.ClientCall.{ClientCall}
 use Rattle.history_text.specs.declared.file_calls.FileCalls.{FileCalls}
-use Rattle.history_text.specs.declared.life.Exit.{Exit}
 use Rattle.history_text.specs.declared.life.Life.{Life}
-use Rattle.history_text.specs.Files.{AreFilesOf, IsCallOf, IsFileOf, calls_in}
-use Rattle.history_text.specs.Lives.{AreLives, Extends, HasExit, IsLife}
-use Rattle.history_text.proofs.LifeLaws.{exit_is, timed_earlier}
-use Rattle.history_text.proofs.Lists.{of_all}
+use Rattle.history_text.specs.Files.{AreBefore, AreFilesOf, IsAlone, IsCallOf, IsFileOf, lines_in, runs}
+use Rattle.history_text.specs.Lives.{Extends}
+use Rattle.history_text.specs.Seconds.{second_step}
+use Rattle.history_text.proofs.Runs.{runs_push, runs_twice}
 
 call_extends : (first last : List Life) → Extends first last → (call : ClientCall) → IsCallOf first call → IsCallOf last call
 call_extends first last extends call c =
@@ -27,7 +24,7 @@ call_extends first last extends call c =
       owner = c.owner;
       begun = omega arith;
       timed = c.timed;
-      last = λ is. let exit = c.last is in (exit.0, next.2.exit exit.0 exit.1, exit.2);
+      goes_on = c.goes_on;
     }
 
 file_extends : (first last : List Life) (m n : ℕ) → Extends first last → m ≤ n → (file : FileCalls) → IsFileOf first m file → IsFileOf last n file
@@ -51,27 +48,50 @@ file_push lives lines line call old new calls numbers within is f = record {
   within = subst (All (IsWithin 1 lines)) (sym numbers) (All-push (IsWithin 1 lines) old.lines.items line f.within within);
 }
 
--- an exit is not counted, and another call is
-pub calls_push : (call : ClientCall) (old new : FileCalls) → new.calls.items ≡ old.calls.items ++ call ∷ [] → calls_in new ≡ calls_in old + cond (not call.is_last) 1 0
-calls_push call old new calls = ap (count_by (λ (c : ClientCall). not c.is_last)) calls ∙ sum_by_push (λ (c : ClientCall). cond (not c.is_last) 1 0) old.calls.items call
+-- the second step of a call is one as well
+pub second_is : (lives : List Life) (first : ℕ) (call : ClientCall) → IsCallOf lives call → IsCallOf lives (second_step first call)
+second_is lives first call c = record { number = c.number; life = c.life; known = c.known; owner = c.owner; begun = c.begun; timed = c.timed; goes_on = c.goes_on }
 
--- so an exit leaves the count
-pub exit_push : (call : ClientCall) (old new : FileCalls) → call.is_last ≡ true → new.calls.items ≡ old.calls.items ++ call ∷ [] → calls_in new ≡ calls_in old
-exit_push call old new last calls = calls_push call old new calls ∙ ap (λ (b : Bool). calls_in old + cond (not b) 1 0) last ∙ add-zero (calls_in old)
+-- where two do
+pub file_push_two : (lives : List Life) (lines line : ℕ) (first second : ClientCall) (old new : FileCalls)
+    → new.calls.items ≡ old.calls.items ++ first ∷ [] ++ second ∷ [] → new.lines.items ≡ old.lines.items ++ line ∷ [] ++ line ∷ []
+    → IsWithin 1 lines line → IsCallOf lives first → IsCallOf lives second → IsFileOf lives lines old → IsFileOf lives lines new
+file_push_two lives lines line first second old new calls numbers within one two f = record {
+  calls = subst (All (IsCallOf lives)) (sym calls) (All-push (IsCallOf lives) (old.calls.items ++ first ∷ []) second (All-push (IsCallOf lives) old.calls.items first f.calls one) two);
+  paired = omega (arith, ap length numbers, length-append (old.lines.items ++ line ∷ []) (line ∷ []), length-append old.lines.items (line ∷ []), f.paired, ap length calls, length-append (old.calls.items ++ first ∷ []) (second ∷ []), length-append old.calls.items (first ∷ []));
+  within = subst (All (IsWithin 1 lines)) (sym numbers) (All-push (IsWithin 1 lines) (old.lines.items ++ line ∷ []) line (All-push (IsWithin 1 lines) old.lines.items line f.within within) within);
+}
 
--- an owner's exit as a call
-pub exit_call : (lives : List Life) (lines : ℕ) (owner : Owner) (exit : Exit) (call : ClientCall) → call ≡ record { owner = owner; begin = exit.begin; end = exit.end; act = Drops; is_last = true }
-    → HasExit lives owner exit → AreLives lines lives → IsWithin 1 lines exit.line × IsCallOf lives call
-exit_call lives lines owner exit call made has are =
-    let is = exit_is lines has.1 exit (of_all lives (IsLife lines) has.0 has.1 are has.2) has.4 in (
-      is.line,
-      subst (IsCallOf lives) (sym made) (record {
-        number = has.0;
-        life = has.1;
-        known = has.2;
-        owner = has.3;
-        begun = is.begun;
-        timed = timed_earlier exit.begin has.1.latest exit.end is.begun is.last;
-        last = λ last. (exit, has.4, refl);
-      }),
-    )
+-- the lines that were read are before the next one
+pub files_before : (lives : List Life) (lines : ℕ) (files : List FileCalls) → AreFilesOf lives lines files → AreBefore (lines + 1) files
+files_before lives lines files all =
+    All-weaker (IsFileOf lives lines) (λ (file : FileCalls). All (λ n. n < lines + 1) file.lines.items)
+    (λ file f. All-weaker (IsWithin 1 lines) (λ n. n < lines + 1) (λ n w. let le : n ≤ lines = w.1 in omega arith) file.lines.items f.within)
+    files all
+
+-- where a line behind all is written to a file
+module _ (files : List FileCalls) (i line : ℕ) (old new : FileCalls) (lt : i < length files) (at : old ≡ get_or files i old) (before : AreBefore line files) where
+  old_before : All (λ n. n < line) old.lines.items
+  old_before = subst (λ (file : FileCalls). All (λ n. n < line) file.lines.items) (sym at) (before i old lt)
+
+  lines_set : lines_in new ≡ lines_in old + 1 → sum_by lines_in (set files i new) ≡ sum_by lines_in files + 1
+  lines_set more = omega (arith, sum_by-set lines_in files i new old lt, ap lines_in at, more)
+
+  module _ (lines : new.lines.items ≡ old.lines.items ++ line ∷ []) where
+    one : lines_in new ≡ lines_in old + 1
+    one = ap runs lines ∙ runs_push old.lines.items line old_before
+
+    -- it is one more
+    pub one_more : sum_by lines_in (set files i new) ≡ sum_by lines_in files + 1
+    one_more = lines_set one
+
+    alone : IsAlone old → IsAlone new
+    alone was = omega (arith, one, was, ap length lines, length-append old.lines.items (line ∷ []))
+
+    -- for one call
+    pub stay_alone : All IsAlone files → All IsAlone (set files i new)
+    stay_alone all = All-set IsAlone files i new (alone (subst IsAlone (sym at) (all i old lt))) all
+
+  -- for two steps of a call
+  pub one_more_for_two : new.lines.items ≡ old.lines.items ++ line ∷ [] ++ line ∷ [] → sum_by lines_in (set files i new) ≡ sum_by lines_in files + 1
+  one_more_for_two lines = lines_set (ap runs lines ∙ runs_twice old.lines.items line ∙ runs_push old.lines.items line old_before)

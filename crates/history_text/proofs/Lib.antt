@@ -1,3 +1,5 @@
+mod DropLaws
+mod EndLaws
 mod FileLaws
 mod HistoryLaws
 mod LifeLaws
@@ -5,3 +7,5 @@ mod Lines
 mod Lists
 mod NameLaws
 mod OwnerLaws
+mod ReadLaws
+mod Runs

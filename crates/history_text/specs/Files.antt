@@ -1,14 +1,19 @@
 -- The calls of files, as far as lines were read.
-use Rattle.std.specs.Prelude.{◌≡◌, ℕ, ◌≤◌, true, not, List, slice_get, length, count_by, Some, All}
+use Rattle.std.specs.Prelude.{◌≡◌, ℕ, ◌+◌, ◌≤◌, ◌<◌, false, nat_eq, if◌then◌else◌, List, [], ◌∷◌, slice_get, length, take, Some, All}
 use Rattle.texts.specs.Reads.{IsWithin}
 use Rattle.client_history.specs.declared.client_call.ClientCall.{ClientCall}
 use Rattle.history_text.specs.declared.file_calls.FileCalls.{FileCalls}
-use Rattle.history_text.specs.declared.life.Exit.{Exit}
 use Rattle.history_text.specs.declared.life.Life.{Life}
 use Rattle.history_text.specs.Times.{IsTimed}
 use Rattle.history_text.specs.Owners.{owner_numbered}
 
--- a call of an owner that is known; if it is an exit, it is the owner's
+-- how many lines these are, each of which stands there once or more, one after the other
+abbrev pub runs : List ℕ → ℕ
+runs [] = 0
+runs (line ∷ []) = 1
+runs (line ∷ (next ∷ lines)) = (if nat_eq line next then 0 else 1) + runs (next ∷ lines)
+
+-- a call of an owner that is known, which is no exit
 pub record IsCallOf (lives : List Life) (call : ClientCall) : Type 0 where
   pub number : ℕ
   pub life : Life
@@ -16,7 +21,7 @@ pub record IsCallOf (lives : List Life) (call : ClientCall) : Type 0 where
   pub owner : call.owner ≡ owner_numbered number
   pub begun : call.begin ≤ life.latest
   pub timed : IsTimed call.begin call.end
-  pub last : call.is_last ≡ true → (exit : Exit) × (life.exit ≡ Some exit) × (call.end ≡ exit.end)
+  pub goes_on : call.is_last ≡ false
 
 -- calls of one file, each with the number of its line, of so many lines
 pub record IsFileOf (lives : List Life) (lines : ℕ) (file : FileCalls) : Type 0 where
@@ -27,6 +32,18 @@ pub record IsFileOf (lives : List Life) (lines : ℕ) (file : FileCalls) : Type 
 abbrev pub AreFilesOf : List Life → ℕ → List FileCalls → Type 0
 AreFilesOf lives lines files = All (IsFileOf lives lines) files
 
--- how many calls of the file are no exits
+-- how many lines of calls of the file were read
+abbrev pub lines_in : FileCalls → ℕ
+lines_in file = runs file.lines.items
+
+-- each call has a line of its own
+abbrev pub IsAlone : FileCalls → Type 0
+IsAlone file = runs file.lines.items ≡ length file.lines.items
+
+-- no line of a call is that one, or one behind it
+abbrev pub AreBefore : ℕ → List FileCalls → Type 0
+AreBefore line files = All (λ (file : FileCalls). All (λ n. n < line) file.lines.items) files
+
+-- how many lines of calls the file has, which is read to its end
 abbrev pub calls_in : FileCalls → ℕ
-calls_in file = count_by (λ (call : ClientCall). not call.is_last) file.calls.items
+calls_in file = runs (take file.told file.lines.items)

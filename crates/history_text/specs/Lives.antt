@@ -38,6 +38,10 @@ Extends old new = (k : ℕ) (life : Life) → slice_get old k ≡ Some life → 
 abbrev pub HasBegun : List Life → ℕ → ℕ → Type 0
 HasBegun lives number begin = (life : Life) × (slice_get lives number ≡ Some life) × (begin ≤ life.latest)
 
+-- the owner lived so
+abbrev pub HasLife : List Life → Owner → Life → Type 0
+HasLife lives owner life = (k : ℕ) × (slice_get lives k ≡ Some life) × (owner ≡ owner_numbered k)
+
 -- the owner has this exit
 abbrev pub HasExit : List Life → Owner → Exit → Type 0
-HasExit lives owner exit = (k : ℕ) × (life : Life) × (slice_get lives k ≡ Some life) × (owner ≡ owner_numbered k) × (life.exit ≡ Some exit)
+HasExit lives owner exit = (life : Life) × HasLife lives owner life × (life.exit ≡ Some exit)

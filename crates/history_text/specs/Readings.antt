@@ -1,14 +1,16 @@
 -- A history as far as its lines were read.
-use Rattle.std.specs.Prelude.{◌≡◌, ℕ, ◌≤◌, ◌+◌, ◌++◌, max, List, flat_map, length, count_by, sum_by, All}
+use Rattle.std.specs.Prelude.{◌≡◌, ℕ, ◌≤◌, ◌+◌, ◌++◌, max, false, List, flat_map, length, count_by, sum_by, All}
 use Rattle.texts.specs.LineFeeds.{line_feed}
 use Rattle.texts.specs.Reads.{IsWithin, Lacks}
 use Rattle.history_text.specs.declared.call_line.Deed.{Deed}
 use Rattle.history_text.specs.declared.call_line.Deed.TheVariants.{Exits, Asks}
 use Rattle.history_text.specs.declared.known.Known.{Known}
 use Rattle.history_text.specs.declared.reader.Reader.{Reader}
+use Rattle.history_text.specs.declared.rule.Allowed.{Allowed}
 use Rattle.history_text.specs.Calls.{counted, is_call, with_feed}
-use Rattle.history_text.specs.Files.{AreFilesOf, calls_in}
+use Rattle.history_text.specs.Files.{AreFilesOf, IsAlone, lines_in}
 use Rattle.history_text.specs.Lives.{AreLives, AreOwners, Extends}
+use Rattle.history_text.specs.Losses.{AreLosses, ArePaired}
 use Rattle.history_text.specs.Owners.{AreDistinct}
 
 -- owners and files are told apart by name
@@ -25,25 +27,28 @@ pub record Learns (line : ℕ) (old new : Known) : Type 0 where
 -- of so many files as before, and now, a call is about one that was there before, or about one more
 abbrev pub NamesOf : Deed → ℕ → ℕ → Type 0
 NamesOf Exits before after = after ≡ before
-NamesOf (Asks file act) before after = (file ≤ before) × (after ≡ max before (file + 1))
+NamesOf (Asks file asked) before after = (file ≤ before) × (after ≡ max before (file + 1))
 
--- so many lines were read
-pub record IsRead (lines : ℕ) (reader : Reader) : Type 0 where
+-- so many lines were read, where these rules are allowed
+pub record IsRead (allowed : Allowed) (lines : ℕ) (reader : Reader) : Type 0 where
   pub sound : IsSound reader.known
   pub lives : AreLives lines reader.known.owners.lives.items
   pub files : AreFilesOf reader.known.owners.lives.items lines reader.files.items
-  pub calls : sum_by calls_in reader.files.items ≡ reader.counts.calls
+  pub calls : sum_by lines_in reader.files.items ≡ reader.counts.calls
+  pub alone : allowed.wait_drops ≡ false → All IsAlone reader.files.items
+  pub losses : AreLosses allowed lines reader.losses
 
--- each name of a file is that of one
-abbrev pub IsPaired : Reader → Type 0
-IsPaired reader = length reader.files.items ≡ length reader.known.files
+-- each name of a file is that of one, also where losses name it
+pub record IsPaired (reader : Reader) : Type 0 where
+  pub files : length reader.files.items ≡ length reader.known.files
+  pub losses : ArePaired reader.losses
 
 -- so many lines of the text were read, and this is left
-pub record HasRead (text rest : List ℕ) (count : ℕ) (reader : Reader) : Type 0 where
+pub record HasRead (allowed : Allowed) (text rest : List ℕ) (count : ℕ) (reader : Reader) : Type 0 where
   pub lines : List (List ℕ)
   pub parts : text ≡ flat_map with_feed lines ++ rest
   pub single : All (Lacks line_feed) lines
   pub count_is : count ≡ length lines
-  pub read : IsRead count reader
+  pub read : IsRead allowed count reader
   pub paired : IsPaired reader
   pub counted_is : counted reader.counts ≡ count_by is_call lines

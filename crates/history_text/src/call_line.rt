@@ -1,13 +1,13 @@
 //! Lines of calls.
-use client_history::act::Act;
+use crate::asked::Asked;
 
 /// What a call is about.
 #[derive(Clone, Copy)]
 pub(crate) enum Deed {
     /// The exit of its owner.
     Exits,
-    /// The file of this number, and what was done to its locks, if the call says that.
-    Asks { file: usize, act: Option<Act> },
+    /// The file of this number, and what was asked for of it.
+    Asks { file: usize, asked: Asked },
 }
 
 /// A call as a line says it: the number of its owner, when it began, and when it had ended, if that is known.

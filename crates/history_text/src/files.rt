@@ -1,12 +1,17 @@
 //! The files of a history.
-ghost use Rattle.std.specs.Prelude.{◌≡◌, ◌≤◌, ◌<◌, ◌+◌, ℕ, List, length, max, sum_by, false, OnOk};
+ghost use Rattle.std.specs.Prelude.{◌≡◌, ◌≤◌, ◌<◌, ◌+◌, ℕ, List, All, length, max, sum_by, OnOk};
 ghost use Rattle.texts.specs.Reads.{IsWithin};
 ghost use Rattle.history_text.specs.declared.life.Life.{Life};
-ghost use Rattle.history_text.specs.Files.{AreFilesOf, IsCallOf, calls_in};
+ghost use Rattle.history_text.specs.declared.rule.Allowed.{Allowed as Rules};
+ghost use Rattle.history_text.specs.Drops.{AreEndedOf};
+ghost use Rattle.history_text.specs.Files.{AreBefore, AreFilesOf, IsAlone, IsCallOf, lines_in};
 ghost use Rattle.history_text.specs.Lives.{AreLives};
+ghost use Rattle.history_text.specs.Losses.{AreLosses, ArePaired};
 
-use crate::exits::add_exits;
+use crate::drops::add_drops;
 use crate::file_calls::FileCalls;
+use crate::losses::Losses;
+use crate::names::Names;
 use crate::owners::Owners;
 use client_history::client_call::ClientCall;
 use std::alloc::{AllocError, Global};
@@ -23,7 +28,9 @@ pub(crate) fn add_file(
     requires { file ≤ length files.old.items }
     ensures count { OnOk result (length files.new.items ≡ max (length files.old.items) (file + 1)) }
     ensures files { OnOk result ((lives : List Life) (lines : ℕ) → AreFilesOf lives lines files.old.items → AreFilesOf lives lines files.new.items) }
-    ensures calls { OnOk result (sum_by calls_in files.new.items ≡ sum_by calls_in files.old.items) }
+    ensures lines { OnOk result (sum_by lines_in files.new.items ≡ sum_by lines_in files.old.items) }
+    ensures before { OnOk result ((line : ℕ) → AreBefore line files.old.items → AreBefore line files.new.items) }
+    ensures alone { OnOk result (All IsAlone files.old.items → All IsAlone files.new.items) }
 {
     if file == files.len() {
         files.push(FileCalls::new(alloc))?;
@@ -31,7 +38,7 @@ pub(crate) fn add_file(
     Ok(())
 }
 
-/// The call, which is no exit and stands in this line, comes last in the file.
+/// The call, which is that of this line, comes last in the file. No line of a call before is that one.
 ///
 /// # Errors
 /// `AllocError`.
@@ -42,29 +49,55 @@ pub(crate) fn push_call(
     call: &ClientCall,
 ) -> Result<(), AllocError>
     requires within { file < length files.old.items }
-    requires call { call.now.is_last ≡ false }
+    requires before { AreBefore line files.old.items }
     ensures count { OnOk result (length files.new.items ≡ length files.old.items) }
     ensures files { OnOk result ((lives : List Life) (lines : ℕ) → IsWithin 1 lines line → IsCallOf lives call.now → AreFilesOf lives lines files.old.items → AreFilesOf lives lines files.new.items) }
-    ensures calls { OnOk result (sum_by calls_in files.new.items ≡ sum_by calls_in files.old.items + 1) }
+    ensures lines { OnOk result (sum_by lines_in files.new.items ≡ sum_by lines_in files.old.items + 1) }
+    ensures alone { OnOk result (All IsAlone files.old.items → All IsAlone files.new.items) }
 {
-    files[file].push(line, call)
+    files[file].push(line, call)?;
+    Ok(())
 }
 
-/// The exits of owners come last in each file in which they have a call.
+/// The two calls, which are the steps of the call of this line, come last in the file. No line of a call before is that one.
 ///
 /// # Errors
 /// `AllocError`.
-pub(crate) fn add_all_exits(
+pub(crate) fn push_steps(
+    files: &mut Vec<FileCalls>,
+    file: usize,
+    line: u64,
+    first: &ClientCall,
+    second: &ClientCall,
+) -> Result<(), AllocError>
+    requires within { file < length files.old.items }
+    requires before { AreBefore line files.old.items }
+    ensures count { OnOk result (length files.new.items ≡ length files.old.items) }
+    ensures files { OnOk result ((lives : List Life) (lines : ℕ) → IsWithin 1 lines line → IsCallOf lives first.now → IsCallOf lives second.now → AreFilesOf lives lines files.old.items → AreFilesOf lives lines files.new.items) }
+    ensures lines { OnOk result (sum_by lines_in files.new.items ≡ sum_by lines_in files.old.items + 1) }
+{
+    files[file].push_steps(line, first, second)?;
+    Ok(())
+}
+
+/// Behind the calls of each file, which has its name at the same place, come what its owners lost there and their exits.
+///
+/// # Errors
+/// `AllocError`.
+pub(crate) fn end_files(
     alloc: Global,
     files: &mut Vec<FileCalls>,
+    names: &Names,
     owners: &Owners,
+    losses: &Losses,
 ) -> Result<(), AllocError>
+    requires { ArePaired losses.now }
     ensures count { OnOk result (length files.new.items ≡ length files.old.items) }
-    ensures files { OnOk result ((lines : ℕ) → AreLives lines owners.now.lives.items → AreFilesOf owners.now.lives.items lines files.old.items → AreFilesOf owners.now.lives.items lines files.new.items) }
-    ensures calls { OnOk result (sum_by calls_in files.new.items ≡ sum_by calls_in files.old.items) }
+    ensures ended { OnOk result ((allowed : Rules) (lines : ℕ) → AreLives lines owners.now.lives.items → AreLosses allowed lines losses.now → AreFilesOf owners.now.lives.items lines files.old.items → AreEndedOf allowed owners.now.lives.items lines files.old.items files.new.items) }
 {
     for i in 0..files.len() {
-        add_exits(alloc, &mut files[i], owners)?;
+        let of_file = losses.of_file(names.get(i).unwrap_or(""));
+        add_drops(alloc, &mut files[i], owners, of_file)?;
     }
     Ok(())
 }

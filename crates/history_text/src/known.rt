@@ -4,6 +4,7 @@ ghost use Rattle.history_text.specs.Times.{IsTimed};
 ghost use Rattle.history_text.specs.Lives.{HasBegun};
 ghost use Rattle.history_text.specs.Readings.{IsSound, Learns, NamesOf};
 
+use crate::asked::Asked;
 use crate::call_line::{CallLine, Deed};
 use crate::life::Exit;
 use crate::line_error::{Fault, LineError};
@@ -15,9 +16,8 @@ use crate::owner_names::check_owner;
 use crate::owner_numbers::owner_of;
 use crate::owners::Owners;
 use crate::reason::Reason;
-use crate::reply::{Answer, act_of, next_reply};
+use crate::reply::{Answer, next_reply};
 use crate::words::{Word, Words};
-use client_history::act::Act;
 use client_history::told_lock::ToldLock;
 use model::owner::Owner;
 use std::alloc::Global;
@@ -161,19 +161,19 @@ impl Known {
         let name = words.next_word()?;
         let file = self.files.number_of(alloc, name.text)?;
         let operation = Operation::next(verb, words)?;
-        let act = self.next_act(alloc, &operation, has_end, words)?;
+        let asked = self.next_answer(alloc, operation, has_end, words)?;
         words.end()?;
-        Ok(Deed::Asks { file, act })
+        Ok(Deed::Asks { file, asked })
     }
 
-    // Takes the reply to an operation, if there is one: what was done, if that says it.
-    fn next_act(
+    // Takes the reply to an operation, if there is one.
+    fn next_answer(
         &mut self,
         alloc: Global,
-        operation: &Operation,
+        operation: Operation,
         has_end: bool,
         words: &mut Words<'_>,
-    ) -> Result<Option<Act>, LineError>
+    ) -> Result<Asked, LineError>
         requires { IsSound self.old }
         ensures learns { OnOk result ((line : ℕ) → Learns line self.old self.new) }
         ensures files { self.new.files ≡ self.old.files }
@@ -182,14 +182,22 @@ impl Known {
             if has_end {
                 return Err(LineError::Bad(words.fault(Reason::NoReply)));
             }
-            return Ok(act_of(operation, None, untold()));
+            return Ok(Asked {
+                operation,
+                answer: None,
+                told: untold(),
+            });
         };
         let answer = Answer::of(&word)?;
-        if !answer.goes_with(operation) {
+        if !answer.goes_with(&operation) {
             return Err(LineError::Bad(word.fault(Reason::WrongReply)));
         }
         let told = self.next_told(alloc, answer, words)?;
-        Ok(act_of(operation, Some(answer), told))
+        Ok(Asked {
+            operation,
+            answer: Some(answer),
+            told,
+        })
     }
 
     // Takes what stands behind the first word of a reply: what it tells of a lock.

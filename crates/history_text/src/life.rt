@@ -73,8 +73,8 @@ impl Life {
     }
 }
 
-// Whether a call of an owner with this exit, if it has one, may begin then.
-fn may_begin(exit: Option<Exit>, begin: u64) -> bool
+/// Whether a call of an owner with this exit, if it has one, may begin then.
+pub(crate) fn may_begin(exit: Option<Exit>, begin: u64) -> bool
     ensures { IsTrue result ↔ IfSome exit (λ exit. IsTimed begin exit.end) }
 {
     match exit {

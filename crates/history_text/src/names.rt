@@ -1,5 +1,5 @@
 //! Names in order.
-ghost use Rattle.std.specs.Prelude.{◌≡◌, ◌≤◌, ◌+◌, [], length, max, slice_get, Some, IfOk, MatchOption, OnOk};
+ghost use Rattle.std.specs.Prelude.{◌≡◌, ◌≤◌, ◌<◌, ◌+◌, [], length, max, slice_get, Some, IfOk, IfSome, MatchOption, OnOk};
 
 use indexmap::IndexSet;
 use std::alloc::{AllocError, Global};
@@ -51,6 +51,13 @@ impl Names {
             Some(name) => Some(name.as_str()),
             None => None,
         }
+    }
+
+    /// The number of the name, if it is one of them.
+    pub(crate) fn find(&self, name: &str) -> Option<usize>
+        ensures { IfSome result (λ number. number < length self.now) }
+    {
+        self.names.get_index_of(name)
     }
 
     /// The number of the name, which comes last where it is a new one.

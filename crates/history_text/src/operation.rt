@@ -13,7 +13,8 @@ pub(crate) enum Operation {
     Wait { mode: Mode, span: Span },
     Unlock { span: Span },
     Query { mode: Mode, span: Span },
-    Close,
+    /// Of a descriptor by which its owner never set, waited for or gave back a lock, if it is unused.
+    Close { is_unused: bool },
 }
 
 /// The word of an operation of a file.
@@ -69,7 +70,9 @@ impl Operation {
                 let span = next_span(words)?;
                 Ok(Operation::Query { mode, span })
             }
-            Verb::Close => Ok(Operation::Close),
+            Verb::Close => Ok(Operation::Close {
+                is_unused: words.skip_word("unused"),
+            }),
         }
     }
 }

@@ -1,7 +1,7 @@
 //! Owners of a history.
 ghost use Rattle.std.specs.Prelude.{◌≡◌, ◌<◌, ◌+◌, ℕ, [], length, IfOk, IfSome, OnOk};
 ghost use Rattle.texts.specs.Reads.{IsWithin};
-ghost use Rattle.history_text.specs.Lives.{AreLives, AreOwners, Extends, HasBegun, HasExit};
+ghost use Rattle.history_text.specs.Lives.{AreLives, AreOwners, Extends, HasBegun, HasExit, HasLife};
 
 use crate::life::{Exit, Life};
 use crate::line_error::LineError;
@@ -85,15 +85,19 @@ impl Owners {
         Ok(())
     }
 
+    /// When the owner lived, if it is one of them.
+    pub(crate) fn life_of(&self, owner: &Owner) -> Option<Life>
+        ensures { IfSome result (HasLife self.now.lives.items owner.now) }
+    {
+        let number = number_of(owner)?;
+        self.lives.get(number).copied()
+    }
+
     /// The owner's exit, if there is one.
     pub(crate) fn exit_of(&self, owner: &Owner) -> Option<Exit>
         ensures { IfSome result (HasExit self.now.lives.items owner.now) }
     {
-        let number = number_of(owner)?;
-        match self.lives.get(number) {
-            Some(life) => life.exit,
-            None => None,
-        }
+        self.life_of(owner)?.exit
     }
 }
 

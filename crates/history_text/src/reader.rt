@@ -1,19 +1,28 @@
 //! A history as far as its lines were read.
-ghost use Rattle.std.specs.Prelude.{◌≡◌, ◌≤◌, ◌<◌, ◌+◌, if◌then◌else◌, false, OnOk};
+ghost use Rattle.std.specs.Prelude.{◌≡◌, ◌≤◌, ◌<◌, ◌+◌, if◌then◌else◌, false, None, OnOk};
+ghost use Rattle.texts.specs.Reads.{IsWithin};
 ghost use Rattle.history_text.specs.Calls.{counted, is_call};
+ghost use Rattle.history_text.specs.Files.{AreBefore, AreFilesOf, IsAlone, IsCallOf, lines_in};
+ghost use Rattle.history_text.specs.Lives.{HasBegun};
+ghost use Rattle.history_text.specs.Losses.{AreLosses, ArePaired};
 ghost use Rattle.history_text.specs.Owners.{most_owners, owner_numbered};
 ghost use Rattle.history_text.specs.Readings.{IsRead, IsPaired};
 
+use crate::asked::Asked;
 use crate::call_line::{CallLine, Deed};
 use crate::counts::Counts;
 use crate::file_calls::FileCalls;
-use crate::files::{add_file, push_call};
+use crate::files::{add_file, push_call, push_steps};
 use crate::known::Known;
 use crate::line_error::{Fault, LineError};
+use crate::losses::{Losses, next_loss};
 use crate::machine::{Machine, is_declared};
 use crate::numbers::time_of;
+use crate::operation::Operation;
 use crate::owner_numbers::owner_of;
 use crate::reason::Reason;
+use crate::rule::Allowed;
+use crate::steps::{Steps, steps_of};
 use crate::unit::Unit;
 use crate::words::{Word, Words};
 use client_history::act::Act;
@@ -22,19 +31,20 @@ use std::alloc::{AllocError, Global};
 use texts::text::after;
 
 /// What the lines of a history told that were read: the unit, behind the first of them that is not passed; machines, owners and
-/// files; the calls of each file; how many calls.
+/// files; the calls of each file; losses of locks, where they count; how many calls.
 #[derive(Drop)]
 pub(crate) struct Reader {
     pub(crate) unit: Option<Unit>,
     pub(crate) known: Known,
     pub(crate) files: Vec<FileCalls>,
+    pub(crate) losses: Losses,
     pub(crate) counts: Counts,
 }
 
 impl Reader {
     /// No line was read.
     pub(crate) fn new(alloc: Global) -> Reader
-        ensures read { IsRead 0 result }
+        ensures read { (allowed : Allowed) → IsRead allowed 0 result }
         ensures paired { IsPaired result }
         ensures counted { counted result.counts ≡ 0 }
     {
@@ -42,6 +52,7 @@ impl Reader {
             unit: None,
             known: Known::new(alloc),
             files: Vec::new(alloc),
+            losses: Losses::new(alloc),
             counts: Counts {
                 calls: 0,
                 exits: 0,
@@ -50,21 +61,28 @@ impl Reader {
         }
     }
 
-    /// Takes the line of this number.
+    /// Takes the line of this number, where these rules are allowed.
     ///
     /// # Errors
     /// `NoMemory`, and `Bad` with the first word of the line that may not stand there.
-    pub(crate) fn take(&mut self, alloc: Global, line: u64, text: &str) -> Result<(), LineError>
-        requires read { IsRead line self.old }
+    pub(crate) fn take(
+        &mut self,
+        alloc: Global,
+        allowed: Allowed,
+        line: u64,
+        text: &str,
+    ) -> Result<(), LineError>
+        requires read { IsRead allowed line self.old }
         requires paired { IsPaired self.old }
+        requires before { AreBefore line self.old.files.items }
         requires line { 1 ≤ line }
         requires counted { counted self.old.counts < line }
-        ensures read { OnOk result (IsRead line self.new) }
+        ensures read { OnOk result (IsRead allowed line self.new) }
         ensures paired { OnOk result (IsPaired self.new) }
         ensures counted { OnOk result (counted self.new.counts ≡ counted self.old.counts + (if is_call text.now then 1 else 0)) }
     {
         let Some(rest) = after(text, "call ") else {
-            return self.take_other(alloc, text);
+            return self.take_other(alloc, allowed, line, text);
         };
         if self.unit.is_none() {
             return Err(LineError::Bad(Fault {
@@ -72,15 +90,25 @@ impl Reader {
                 reason: Reason::NoHead,
             }));
         }
-        self.take_call(alloc, line, &mut Words::of(rest))
+        self.take_call(alloc, allowed, line, &mut Words::of(rest))
     }
 
     // Takes a line that is not one of a call.
-    fn take_other(&mut self, alloc: Global, text: &str) -> Result<(), LineError>
+    fn take_other(
+        &mut self,
+        alloc: Global,
+        allowed: Allowed,
+        line: u64,
+        text: &str,
+    ) -> Result<(), LineError>
+        requires line { 1 ≤ line }
+        requires paired { ArePaired self.old.losses }
         ensures known { self.new.known.owners ≡ self.old.known.owners }
         ensures names { self.new.known.files ≡ self.old.known.files }
         ensures files { self.new.files ≡ self.old.files }
         ensures counts { self.new.counts ≡ self.old.counts }
+        ensures paired { OnOk result (ArePaired self.new.losses) }
+        ensures losses { OnOk result (AreLosses allowed line self.old.losses → AreLosses allowed line self.new.losses) }
     {
         if text.is_empty() || text.starts_with('#') {
             return Ok(());
@@ -92,6 +120,7 @@ impl Reader {
         }
         match word.text {
             "note" => Ok(()),
+            "lost" => self.take_loss(alloc, allowed, line, &mut words),
             "machine" => self.take_machine(alloc, &word, &mut words),
             "history" => Err(LineError::Bad(word.fault(Reason::SecondHead))),
             "call" => Err(LineError::Bad(words.fault(Reason::Missing))),
@@ -99,11 +128,37 @@ impl Reader {
         }
     }
 
+    // Takes what stands behind the word `lost` in the line of this number.
+    fn take_loss(
+        &mut self,
+        alloc: Global,
+        allowed: Allowed,
+        line: u64,
+        words: &mut Words<'_>,
+    ) -> Result<(), LineError>
+        requires line { 1 ≤ line }
+        requires paired { ArePaired self.old.losses }
+        ensures known { self.new.known ≡ self.old.known }
+        ensures files { self.new.files ≡ self.old.files }
+        ensures counts { self.new.counts ≡ self.old.counts }
+        ensures paired { OnOk result (ArePaired self.new.losses) }
+        ensures losses { OnOk result (AreLosses allowed line self.old.losses → AreLosses allowed line self.new.losses) }
+    {
+        let loss = next_loss(line, words)?;
+        let file = words.next_word()?;
+        words.end()?;
+        if allowed.lost_at {
+            self.losses.push(alloc, file.text, loss)?;
+        }
+        Ok(())
+    }
+
     // Takes the line `history 1 clock UNIT`, of which this is the first word.
     fn take_head(&mut self, word: &Word<'_>, words: &mut Words<'_>) -> Result<(), LineError>
         ensures known { self.new.known ≡ self.old.known }
         ensures files { self.new.files ≡ self.old.files }
         ensures counts { self.new.counts ≡ self.old.counts }
+        ensures losses { self.new.losses ≡ self.old.losses }
     {
         if word.text != "history" {
             return Err(LineError::Bad(word.fault(Reason::NoHead)));
@@ -130,6 +185,7 @@ impl Reader {
         ensures names { self.new.known.files ≡ self.old.known.files }
         ensures files { self.new.files ≡ self.old.files }
         ensures counts { self.new.counts ≡ self.old.counts }
+        ensures losses { self.new.losses ≡ self.old.losses }
     {
         if has_calls(&self.counts) {
             return Err(LineError::Bad(word.fault(Reason::LateMachine)));
@@ -150,14 +206,16 @@ impl Reader {
     fn take_call(
         &mut self,
         alloc: Global,
+        allowed: Allowed,
         line: u64,
         words: &mut Words<'_>,
     ) -> Result<(), LineError>
-        requires read { IsRead line self.old }
+        requires read { IsRead allowed line self.old }
         requires paired { IsPaired self.old }
+        requires before { AreBefore line self.old.files.items }
         requires line { 1 ≤ line }
         requires counted { counted self.old.counts < line }
-        ensures read { OnOk result (IsRead line self.new) }
+        ensures read { OnOk result (IsRead allowed line self.new) }
         ensures paired { OnOk result (IsPaired self.new) }
         ensures counted { OnOk result (counted self.new.counts ≡ counted self.old.counts + 1) }
     {
@@ -169,28 +227,33 @@ impl Reader {
         } = self.known.next_call(alloc, line, words)?;
         match deed {
             Deed::Exits => self.counts.exits += 1,
-            Deed::Asks { file, act: None } => {
+            Deed::Asks { file, asked } => {
+                let operation: Operation = asked.operation; // tells the proof of a type that a call has
                 add_file(alloc, &mut self.files, file)?;
-                self.counts.silent += 1;
-            }
-            Deed::Asks {
-                file,
-                act: Some(act),
-            } => {
-                add_file(alloc, &mut self.files, file)?;
-                let call = call_of(owner, begin, end, act);
-                push_call(&mut self.files, file, line, &call)?;
-                self.counts.calls += 1;
+                match steps_of(&Asked { operation, ..asked }, allowed) {
+                    Steps::None => self.counts.silent += 1,
+                    Steps::One(act) => {
+                        let call = call_of(owner, begin, end, act);
+                        push_call(&mut self.files, file, line, &call)?;
+                        self.counts.calls += 1;
+                    }
+                    Steps::Two(first, second) => {
+                        let first = call_of(owner, begin, end, first);
+                        let second = call_of(owner, begin, end, second);
+                        push_steps(&mut self.files, file, line, &first, &second)?;
+                        self.counts.calls += 1;
+                    }
+                }
             }
         }
         Ok(())
     }
 }
 
-// The call of the owner of this number.
+// The call of the owner of this number, or one step of it.
 fn call_of(owner: usize, begin: u64, end: Option<u64>, act: Act) -> ClientCall
     requires { owner < most_owners }
-    ensures { result ≡ record { owner = owner_numbered owner; begin = begin; end = end; act = act; is_last = false } }
+    ensures { result ≡ record { owner = owner_numbered owner; begin = begin; end = end; act = act; is_last = false; follows = None } }
 {
     ClientCall {
         owner: owner_of(owner),
@@ -198,6 +261,7 @@ fn call_of(owner: usize, begin: u64, end: Option<u64>, act: Act) -> ClientCall
         end,
         act,
         is_last: false,
+        follows: None,
     }
 }
 

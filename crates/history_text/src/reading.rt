@@ -4,12 +4,13 @@ ghost use Rattle.history_text.specs.Histories.{IsHistoryOf};
 ghost use Rattle.history_text.specs.Readings.{HasRead};
 
 use crate::error::ReadError;
-use crate::files::add_all_exits;
+use crate::files::end_files;
 use crate::history::History;
 use crate::known::Known;
 use crate::line_error::{Fault, LineError};
 use crate::reader::Reader;
 use crate::reason::Reason;
+use crate::rule::Allowed;
 use std::alloc::Global;
 use texts::text::split_at_first;
 
@@ -19,38 +20,52 @@ use texts::text::split_at_first;
 ///
 /// - `machine NAME skew S`, before the first call;
 /// - `note ..`, which is passed;
+/// - `lost BEGIN END F`: between BEGIN and END the locks of F were lost, as where its server began again;
 /// - `call BEGIN END OWNER OP -> REPLY`, or without `-> REPLY` where END is `-`, which says that no reply is known. OP is
-///   `set F MODE START LEN`, `wait F MODE START LEN`, `unlock F START LEN`, `query F MODE START LEN`, `close F` or `exit`. REPLY
-///   is `done`, `again`, `again LOCK`, `free`, `blocked`, `blocked LOCK`, `interrupted` or `refused WORD`, as it goes with the call; an
-///   `exit` with an end needs none. LOCK is `MODE START LEN OWNER`, with `?` for an OWNER that is not told.
+///   `set F MODE START LEN`, `wait F MODE START LEN`, `unlock F START LEN`, `query F MODE START LEN`, `close F`, `close F unused` or
+///   `exit`. REPLY is `done`, `again`, `again LOCK`, `free`, `blocked`, `blocked LOCK`, `interrupted` or `refused WORD`, as it goes with
+///   the call; an `exit` with an end needs none. LOCK is `MODE START LEN OWNER`, with `?` for an OWNER that is not told.
 ///
 /// BEGIN, END and S are whole numbers below 2 to the power of 63, and END is not below BEGIN; START and LEN are as in
 /// `struct flock`. OWNER, F, NAME and WORD are words; where machines are declared, OWNER is one with `@` and the name of such a machine
 /// behind it. An owner has one `exit` at most, and no call that begins behind its end. There are at most 1,073,725,440 owners.
 ///
 /// A set or a wait without a reply is kept as one that is done, without an end; so are an unlock, a close and an exit. A query without
-/// a reply, and calls that were interrupted or refused, are only counted. An exit stands in each file in which its owner has a call.
+/// a reply, and calls that were interrupted or refused, are only counted. A `close F unused` is the close of a descriptor by which its
+/// owner never set, waited for or gave back a lock; it is as `close F`. An exit stands in each file in which its owner has a call. A
+/// line `lost` is passed.
+///
+/// The rules that are allowed change that so:
+///
+/// - `wait_drops`: a wait that is done is an unlock of its bytes and a set behind it, two calls with the time of the wait; one that is
+///   interrupted is an unlock of its bytes; one without a reply is an unlock and a set, both without an end, in any order.
+/// - `close_own_descriptor`: a `close F unused` is only counted.
+/// - `no_query`: queries are only counted.
+/// - `stale_read_denial`: a set of a read lock with `again` and a query for one with `blocked` are only counted.
+/// - `lost_at`: of a line `lost BEGIN END F` each owner with a call in F, but one whose exit ends before BEGIN, has a call there that
+///   drops all it has, with that BEGIN and END.
 ///
 /// Contracts say of a history what holds of every one. That it has the calls of the text is tested.
 ///
 /// # Errors
 /// `BadLine` with the first line that may not stand there; where all may and the first one is missing, with the line after the
 /// last. `NoMemory` where a request for memory was refused before a bad line was seen.
-pub fn read(alloc: Global, text: &str) -> Result<History, ReadError>
-    ensures { IfOk result (IsHistoryOf text.now) }
+pub fn read(alloc: Global, text: &str, allowed: Allowed) -> Result<History, ReadError>
+    ensures { IfOk result (IsHistoryOf allowed text.now) }
 {
     let mut reader = Reader::new(alloc);
-    let count = read_lines(alloc, &mut reader, text)?;
+    let count = read_lines(alloc, &mut reader, text, allowed)?;
     let Reader {
         unit,
         known,
         mut files,
+        losses,
         counts,
     } = reader;
     let Some(unit) = unit else {
         return Err(no_head(count));
     };
-    add_all_exits(alloc, &mut files, &known.owners)?;
+    end_files(alloc, &mut files, &known.files, &known.owners, &losses)?;
     let Known {
         machines,
         owners,
@@ -67,9 +82,14 @@ pub fn read(alloc: Global, text: &str) -> Result<History, ReadError>
 }
 
 // Takes all lines of the text: how many there are.
-fn read_lines(alloc: Global, reader: &mut Reader, text: &str) -> Result<u64, ReadError>
-    requires { HasRead text.now text.now 0 reader.old }
-    ensures { IfOk result (λ count. HasRead text.now [] count reader.new) }
+fn read_lines(
+    alloc: Global,
+    reader: &mut Reader,
+    text: &str,
+    allowed: Allowed,
+) -> Result<u64, ReadError>
+    requires { HasRead allowed text.now text.now 0 reader.old }
+    ensures { IfOk result (λ count. HasRead allowed text.now [] count reader.new) }
 {
     let mut rest = text;
     let mut count = 0;
@@ -78,7 +98,7 @@ fn read_lines(alloc: Global, reader: &mut Reader, text: &str) -> Result<u64, Rea
         let Some((line, behind)) = split_at_first(rest, b'\n') else {
             return Err(unfinished(number, rest));
         };
-        match reader.take(alloc, number, line) {
+        match reader.take(alloc, allowed, number, line) {
             Ok(()) => {}
             Err(error) => return Err(error.at(number, line)),
         }

@@ -15,7 +15,7 @@ pub enum Reason {
     #[error("the line `history` stands once, before all others")]
     SecondHead,
     /// The word begins no line.
-    #[error("expected `call`, `machine` or `note`")]
+    #[error("expected `call`, `machine`, `note` or `lost`")]
     UnknownLine,
     /// The word names no unit.
     #[error("expected `ns`, `us` or `order`")]
@@ -54,6 +54,9 @@ pub enum Reason {
     /// The call ends before it begins.
     #[error("the call ends before it begins")]
     EndsBeforeBegin,
+    /// The loss ends before it begins.
+    #[error("the loss ends before it begins")]
+    LossEndsBeforeBegin,
     /// The word is no name of an owner.
     #[error("expected an owner")]
     NoOwner,

@@ -3,8 +3,6 @@ use crate::line_error::Fault;
 use crate::operation::Operation;
 use crate::reason::Reason;
 use crate::words::{Word, Words};
-use client_history::act::Act;
-use client_history::told_lock::ToldLock;
 
 /// The first word of a reply.
 #[derive(Clone, Copy, PartialEq, Eq)]
@@ -57,7 +55,7 @@ impl Answer {
                 Answer::Free | Answer::Blocked | Answer::Refused => true,
                 Answer::Done | Answer::Again | Answer::Interrupted => false,
             },
-            Operation::Unlock { .. } | Operation::Close => match self {
+            Operation::Unlock { .. } | Operation::Close { .. } => match self {
                 Answer::Done | Answer::Refused => true,
                 Answer::Again | Answer::Free | Answer::Blocked | Answer::Interrupted => false,
             },
@@ -85,28 +83,4 @@ pub(crate) fn next_reply<'a>(
     }
     let reply = words.next_word()?;
     Ok(Some(reply))
-}
-
-/// What the call did, as far as its answer says; none is as one that is done, where the call may have changed something.
-pub(crate) fn act_of(operation: &Operation, answer: Option<Answer>, told: ToldLock) -> Option<Act> {
-    match *operation {
-        Operation::Set { mode, span } | Operation::Wait { mode, span } => match answer {
-            None | Some(Answer::Done) => Some(Act::Locks { mode, span }),
-            Some(Answer::Again) => Some(Act::IsDenied { mode, span, told }),
-            _ => None,
-        },
-        Operation::Query { mode, span } => match answer {
-            Some(Answer::Free) => Some(Act::IsFree { mode, span }),
-            Some(Answer::Blocked) => Some(Act::IsDenied { mode, span, told }),
-            _ => None,
-        },
-        Operation::Unlock { span } => match answer {
-            None | Some(Answer::Done) => Some(Act::Frees { span }),
-            _ => None,
-        },
-        Operation::Close => match answer {
-            None | Some(Answer::Done) => Some(Act::Drops),
-            _ => None,
-        },
-    }
 }

@@ -75,6 +75,24 @@ impl<'a> Words<'a> {
         }
     }
 
+    /// Takes the next word if it is this one: whether it was.
+    pub(crate) fn skip_word(&mut self, expected: &str) -> bool {
+        let Some(line) = self.rest else {
+            return false;
+        };
+        if line == expected {
+            self.rest = None;
+            return true;
+        }
+        match split_field(line) {
+            Some((text, rest)) if text == expected => {
+                self.rest = Some(rest);
+                true
+            }
+            _ => false,
+        }
+    }
+
     /// That there is no next word.
     ///
     /// # Errors

@@ -5,7 +5,7 @@ use Rattle.history_text.specs.Readings.{HasRead}
 use Rattle.history_text.proofs.reading.read_lines.Given as goal
 
 abbrev pub invariant-loop-rest : goal.invariant-loop-rest
-invariant-loop-rest l = shadow (Utf8 l.rest) × HasRead l.text l.rest l.count l.reader
+invariant-loop-rest l = shadow (Utf8 l.rest) × HasRead l.allowed l.text l.rest l.count l.reader
 
 abbrev pub decreases-loop-rest : goal.decreases-loop-rest
 decreases-loop-rest l = length l.rest

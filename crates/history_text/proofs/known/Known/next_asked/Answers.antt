@@ -12,4 +12,4 @@ returns-clause-learns c = λ line.
       extends = extends_none old.owners.lives.items;
       lives = λ lines within all. all;
     } in
-    learns_both line old mid c.next_act.new.self first (c.in_ok-act.ensures.learns line)
+    learns_both line old mid c.next_answer.new.self first (c.in_ok-asked.ensures.learns line)

@@ -1,0 +1,8 @@
+use Rattle.std.proofs.Common.{ℕ}
+use Rattle.history_text.specs.declared.rule.Allowed.{Allowed}
+use Rattle.history_text.specs.Drops.{Adds}
+use Rattle.history_text.specs.Losses.{IsLoss}
+use Rattle.history_text.proofs.drops.add_loss.Given as goal
+
+abbrev pub invariant-loop-owner : goal.invariant-loop-owner
+invariant-loop-owner l = (allowed : Allowed) (lines : ℕ) → IsLoss allowed lines l.loss → Adds allowed l.owners.lives.items lines l.fn.file l.file

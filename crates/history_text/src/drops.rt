@@ -1,0 +1,107 @@
+//! Calls that drop what owners have in a file: losses and exits.
+ghost use Rattle.std.specs.Prelude.{◌≡◌, ℕ, true, None, All, IfSome, OnOk};
+ghost use Rattle.client_history.specs.declared.act.Act.TheVariants.{Drops};
+ghost use Rattle.history_text.specs.declared.rule.Allowed.{Allowed as Rules};
+ghost use Rattle.history_text.specs.Drops.{Adds, IsLossOf, with_told};
+ghost use Rattle.history_text.specs.Lives.{AreLives};
+ghost use Rattle.history_text.specs.Losses.{IsLoss};
+
+use crate::file_calls::FileCalls;
+use crate::life::{Exit, may_begin};
+use crate::losses::Loss;
+use crate::owners::Owners;
+use client_history::act::Act;
+use client_history::client_call::ClientCall;
+use indexmap::IndexSet;
+use model::owner::Owner;
+use std::alloc::{AllocError, Global};
+
+/// Behind the calls of the file come what their owners lost there and the exits of their owners.
+///
+/// # Errors
+/// `AllocError`.
+pub(crate) fn add_drops(
+    alloc: Global,
+    file: &mut FileCalls,
+    owners: &Owners,
+    losses: &[Loss],
+) -> Result<(), AllocError>
+    ensures { OnOk result ((allowed : Rules) (lines : ℕ) → AreLives lines owners.now.lives.items → All (IsLoss allowed lines) losses.now → Adds allowed owners.now.lives.items lines (with_told file.old) file.new) }
+{
+    let there = owners_in(alloc, file.calls.as_slice())?;
+    file.told = file.lines.len();
+    for loss in losses {
+        add_loss(file, owners, there.as_slice(), *loss)?;
+    }
+    add_exits(file, owners, there.as_slice())
+}
+
+// The owners of the calls, each once.
+fn owners_in(alloc: Global, calls: &[ClientCall]) -> Result<IndexSet<Owner>, AllocError> {
+    let mut owners = IndexSet::new(alloc);
+    for call in calls {
+        owners.insert(call.owner)?;
+    }
+    Ok(owners)
+}
+
+// What each of these owners lost comes last.
+fn add_loss(
+    file: &mut FileCalls,
+    owners: &Owners,
+    there: &[Owner],
+    loss: Loss,
+) -> Result<(), AllocError>
+    ensures { OnOk result ((allowed : Rules) (lines : ℕ) → IsLoss allowed lines loss → Adds allowed owners.now.lives.items lines file.old file.new) }
+{
+    for owner in there {
+        if let Some(call) = loss_of(owners, *owner, loss) {
+            file.push(loss.line, &call)?;
+        }
+    }
+    Ok(())
+}
+
+// The exit of each of these owners comes last.
+fn add_exits(file: &mut FileCalls, owners: &Owners, there: &[Owner]) -> Result<(), AllocError>
+    ensures { OnOk result ((allowed : Rules) (lines : ℕ) → AreLives lines owners.now.lives.items → Adds allowed owners.now.lives.items lines file.old file.new) }
+{
+    for owner in there {
+        if let Some(exit) = owners.exit_of(owner) {
+            file.push(exit.line, &call_of(*owner, &exit))?;
+        }
+    }
+    Ok(())
+}
+
+// What the owner lost, as a call, unless its exit had ended before.
+fn loss_of(owners: &Owners, owner: Owner, loss: Loss) -> Option<ClientCall>
+    ensures { IfSome result (IsLossOf owners.now.lives.items loss) }
+{
+    let life = owners.life_of(&owner)?;
+    if !may_begin(life.exit, loss.begin) {
+        return None;
+    }
+    Some(ClientCall {
+        owner,
+        begin: loss.begin,
+        end: Some(loss.end),
+        act: Act::Drops,
+        is_last: false,
+        follows: None,
+    })
+}
+
+// The exit of the owner, as a call about a file.
+fn call_of(owner: Owner, exit: &Exit) -> ClientCall
+    ensures { result ≡ record { owner = owner; begin = exit.now.begin; end = exit.now.end; act = Drops; is_last = true; follows = None } }
+{
+    ClientCall {
+        owner,
+        begin: exit.begin,
+        end: exit.end,
+        act: Act::Drops,
+        is_last: true,
+        follows: None,
+    }
+}

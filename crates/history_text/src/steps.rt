@@ -1,0 +1,90 @@
+//! What calls did to locks, where a lock manager may differ from one table.
+ghost use Rattle.std.specs.Prelude.{◌≡◌, false};
+ghost use Rattle.history_text.specs.Steps.{IsWhole};
+
+use crate::asked::Asked;
+use crate::operation::Operation;
+use crate::reply::Answer;
+use crate::rule::Allowed;
+use client_history::act::Act;
+use intervals::span::Span;
+use model::mode::Mode;
+
+/// What a call did to the locks of its file, as far as it says that: in how many steps, and what each did.
+#[derive(Clone, Copy)]
+pub(crate) enum Steps {
+    None,
+    One(Act),
+    Two(Act, Act),
+}
+
+/// What the call did to the locks of its file where these rules are allowed.
+pub(crate) fn steps_of(asked: &Asked, allowed: Allowed) -> Steps
+    ensures { allowed.wait_drops ≡ false → IsWhole result }
+{
+    if is_silenced(asked, allowed) {
+        return Steps::None;
+    }
+    match asked.operation {
+        Operation::Wait { mode, span } if allowed.wait_drops => {
+            steps_of_wait(asked.answer, mode, span)
+        }
+        _ => match act_of(asked) {
+            Some(act) => Steps::One(act),
+            None => Steps::None,
+        },
+    }
+}
+
+// Whether a rule takes from the call what it says.
+fn is_silenced(asked: &Asked, allowed: Allowed) -> bool {
+    match asked.operation {
+        Operation::Set { mode, .. } => allowed.stale_read_denial && is_denied_read(asked, mode),
+        Operation::Query { mode, .. } => {
+            allowed.no_query || allowed.stale_read_denial && is_denied_read(asked, mode)
+        }
+        Operation::Close { is_unused } => allowed.close_own_descriptor && is_unused,
+        Operation::Wait { .. } | Operation::Unlock { .. } => false,
+    }
+}
+
+// Whether the call, which asks for this mode, is a read that is denied.
+fn is_denied_read(asked: &Asked, mode: Mode) -> bool {
+    mode == Mode::Read && asked.answer.is_some_and(|answer| answer.tells_lock())
+}
+
+// What a wait did that first gives back the caller's own locks on its span. What is interrupted gave them back; where there is no
+// reply it may have done that and may have got the lock.
+fn steps_of_wait(answer: Option<Answer>, mode: Mode, span: Span) -> Steps {
+    match answer {
+        None | Some(Answer::Done) => Steps::Two(Act::Frees { span }, Act::Locks { mode, span }),
+        Some(Answer::Interrupted) => Steps::One(Act::Frees { span }),
+        Some(Answer::Again | Answer::Free | Answer::Blocked | Answer::Refused) => Steps::None,
+    }
+}
+
+// What the call did by one table, as far as its answer says that; none is as one that is done, where the call may have changed
+// something.
+fn act_of(asked: &Asked) -> Option<Act> {
+    let (answer, told) = (asked.answer, asked.told);
+    match asked.operation {
+        Operation::Set { mode, span } | Operation::Wait { mode, span } => match answer {
+            None | Some(Answer::Done) => Some(Act::Locks { mode, span }),
+            Some(Answer::Again) => Some(Act::IsDenied { mode, span, told }),
+            _ => None,
+        },
+        Operation::Query { mode, span } => match answer {
+            Some(Answer::Free) => Some(Act::IsFree { mode, span }),
+            Some(Answer::Blocked) => Some(Act::IsDenied { mode, span, told }),
+            _ => None,
+        },
+        Operation::Unlock { span } => match answer {
+            None | Some(Answer::Done) => Some(Act::Frees { span }),
+            _ => None,
+        },
+        Operation::Close { .. } => match answer {
+            None | Some(Answer::Done) => Some(Act::Drops),
+            _ => None,
+        },
+    }
+}
