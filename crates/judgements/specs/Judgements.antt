@@ -3,6 +3,7 @@ use Rattle.std.specs.Prelude.{◌≡◌, ℕ, ⊤, List, All, Any}
 use Rattle.client_history.specs.Explained.{always, IsExplainedBy}
 use Rattle.history_text.specs.declared.file_calls.FileCalls.{FileCalls}
 use Rattle.history_text.specs.declared.history.History.{History}
+use Rattle.history_text.specs.declared.rule.Allowed.{Allowed}
 use Rattle.history_text.specs.Histories.{IsHistoryOf}
 use Rattle.judgements.specs.declared.judged.Judged.{Judged}
 use Rattle.judgements.specs.declared.judged.Judged.TheVariants.{Explained, Contradicted, Unknown}
@@ -39,9 +40,9 @@ IsOutcome history outcome.Yes = HasOneClock history → All IsExplained history.
 IsOutcome history outcome.Unknown = ⊤
 IsOutcome history outcome.No = HasOneClock history → Any IsContradicted history.files.items
 
--- what is said of the text is so of a history that it writes
-abbrev pub IsJudgement : List ℕ → Outcome → Type 0
-IsJudgement text said = (history : History) × IsHistoryOf text history × IsOutcome history said
+-- what is said of the text is so of a history that it writes, where these rules are allowed
+abbrev pub IsJudgement : Allowed → List ℕ → Outcome → Type 0
+IsJudgement allowed text said = (history : History) × IsHistoryOf allowed text history × IsOutcome history said
 
 -- what is said by given orders is so: where they explain nothing, others may
 abbrev pub IsOrderedBy : History → Outcome → Type 0
@@ -49,5 +50,5 @@ IsOrderedBy history outcome.Yes = HasOneClock history → All IsExplained histor
 IsOrderedBy history outcome.Unknown = ⊥
 IsOrderedBy history outcome.No = ⊤
 
-abbrev pub IsOrdered : List ℕ → Outcome → Type 0
-IsOrdered text said = (history : History) × IsHistoryOf text history × IsOrderedBy history said
+abbrev pub IsOrdered : Allowed → List ℕ → Outcome → Type 0
+IsOrdered allowed text said = (history : History) × IsHistoryOf allowed text history × IsOrderedBy history said

@@ -107,7 +107,8 @@ fn open_lines(
     let mut open = Vec::new(alloc);
     for (index, (other, line)) in file.calls.iter().zip(file.lines.iter()).enumerate() {
         let is_left = index != call && !taken.get(index).copied().unwrap_or(false);
-        if is_left && other.begin <= until && !gone.contains(&other.owner) {
+        let is_new = open.last().copied() != Some(*line);
+        if is_left && is_new && other.begin <= until && !gone.contains(&other.owner) {
             open.push(*line)?;
         }
     }

@@ -2,6 +2,7 @@
 use client_history::client_call::ClientCall;
 use history_text::file_calls::FileCalls;
 use history_text::history::History;
+use indexmap::IndexMap;
 use model::owner::Owner;
 use std::alloc::{AllocError, Global};
 use texts::text::split_at_first;
@@ -16,12 +17,17 @@ pub(crate) fn widened(
     history: &History,
     file: &FileCalls,
 ) -> Result<FileCalls, AllocError> {
+    let skews = skews_of(alloc, history)?;
     let mut calls = Vec::new(alloc);
     for call in &file.calls {
-        calls.push(wider(call, skew_of(history, &call.owner)))?;
+        calls.push(wider(call, skew_of(history, &skews, &call.owner)))?;
     }
     let lines = file.lines.clone()?;
-    Ok(FileCalls { calls, lines })
+    Ok(FileCalls {
+        calls,
+        lines,
+        told: file.told,
+    })
 }
 
 // The call in the time that is wider by so much at both ends.
@@ -37,18 +43,22 @@ fn wider(call: &ClientCall, skew: u64) -> ClientCall {
     }
 }
 
+// By how much the clocks of the machines may be off, by their names.
+fn skews_of<'a>(alloc: Global, history: &'a History) -> Result<IndexMap<&'a str, u64>, AllocError> {
+    let mut skews = IndexMap::new(alloc);
+    for machine in &history.machines {
+        skews.insert(machine.name.as_str(), machine.skew)?;
+    }
+    Ok(skews)
+}
+
 // By how much the clock of the owner's machine may be off.
-fn skew_of(history: &History, owner: &Owner) -> u64 {
+fn skew_of(history: &History, skews: &IndexMap<&str, u64>, owner: &Owner) -> u64 {
     let Some(name) = history.name_of(owner) else {
         return 0;
     };
     let Some((_, machine)) = split_at_first(name, b'@') else {
         return 0;
     };
-    for declared in &history.machines {
-        if declared.name.as_str() == machine {
-            return declared.skew;
-        }
-    }
-    0
+    skews.get(&machine).copied().unwrap_or(0)
 }

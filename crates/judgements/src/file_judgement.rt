@@ -3,6 +3,7 @@ ghost use Rattle.std.specs.Prelude.{◌≡◌, IfOk};
 ghost use Rattle.judgements.specs.Judgements.{HasOneClock, IsJudged, IsOutcome};
 
 use crate::clocks::widened;
+use crate::draw::drawn;
 use crate::judged::{Judged, judge_file};
 use crate::judging::Judging;
 use crate::outcome::Outcome;
@@ -60,6 +61,9 @@ fn push_found(
     found: &Judged,
     judging: Judging,
 ) -> Result<(), AllocError> {
+    if judging.picture && told.picture.is_none() {
+        told.picture = drawn(alloc, history, text, file, found)?;
+    }
     if judging.json {
         let with_order = judging.order;
         json::push_found(
@@ -72,6 +76,6 @@ fn push_found(
             with_order,
         )
     } else {
-        report::push_found(told, history, text, file, found)
+        report::push_found(alloc, told, history, text, file, found)
     }
 }

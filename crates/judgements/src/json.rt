@@ -4,9 +4,15 @@ use crate::json_parts::{push_numbers, push_string};
 use crate::judged::{Judged, Misfit};
 use crate::lines::line_of;
 use crate::locks::{file_name, owner_name, segment_of};
+use crate::observed::Observed;
+use crate::orders::mentions_of;
 use crate::outcome::Outcome;
+use crate::places::Mention;
 use crate::report::line_at;
+use crate::stats::{FileStats, Stats};
+use history_text::counts::Counts;
 use history_text::history::History;
+use history_text::rule::{Allowed, RULES};
 use model::lock_info::LockInfo;
 use std::alloc::{AllocError, Global};
 use std::fmt::Write;
@@ -55,7 +61,7 @@ fn push_unknown(out: &mut String, line: Option<u64>) -> Result<(), AllocError> {
     }
 }
 
-// Adds the order of the calls of a file, by their lines.
+// Adds the order of the calls of the file with this index, by their lines.
 fn push_order(
     alloc: Global,
     out: &mut String,
@@ -63,12 +69,28 @@ fn push_order(
     file: usize,
     order: &[usize],
 ) -> Result<(), AllocError> {
-    let mut lines = Vec::new(alloc);
-    for call in order {
-        lines.push(line_at(history, file, *call).unwrap_or(0))?;
+    let Some(of_file) = history.files.get(file) else {
+        return Ok(());
+    };
+    let mentions = mentions_of(alloc, of_file, order)?;
+    out.push_str(",\"order\":[")?;
+    let mut comma = "";
+    for mention in &mentions {
+        out.push_str(comma)?;
+        push_mention(out, mention)?;
+        comma = ",";
     }
-    out.push_str(",\"order\":")?;
-    push_numbers(out, lines.as_slice())
+    out.push_str("]")
+}
+
+// Adds what names a call: a number where its line does, and else a string.
+fn push_mention(out: &mut String, mention: &Mention) -> Result<(), AllocError> {
+    if mention.part.is_none() {
+        return mention.push(out);
+    }
+    out.push_str("\"")?;
+    mention.push(out)?;
+    out.push_str("\"")
 }
 
 // Adds the calls that fit nowhere.
@@ -179,17 +201,56 @@ pub(crate) fn push_ordered(
     }
 }
 
-/// Adds how many calls there are, and whose.
+/// Adds the rules that are allowed, if one is.
 ///
 /// # Errors
 /// `AllocError`.
-pub(crate) fn push_stats(out: &mut String, history: &History) -> Result<(), AllocError> {
-    let counts = history.counts;
-    let (calls, exits, silent) = (counts.calls, counts.exits, counts.silent);
-    let (files, owners) = (history.files.len(), history.owners.count());
-    let machines = history.machines.len();
+pub(crate) fn push_allowed(out: &mut String, allowed: Allowed) -> Result<(), AllocError> {
+    let mut front = ",\"allowed\":[";
+    let mut end = "";
+    for rule in RULES {
+        if allowed.has(rule) {
+            let word = rule.word();
+            write!(out, "{front}\"{word}\"")?;
+            front = ",";
+            end = "]";
+        }
+    }
+    out.push_str(end)
+}
+
+/// Adds the counts.
+///
+/// # Errors
+/// `AllocError`.
+pub(crate) fn push_stats(out: &mut String, stats: &Stats<'_>) -> Result<(), AllocError> {
+    let Counts {
+        calls,
+        exits,
+        silent,
+    } = stats.counts;
+    let (files, owners, machines) = (stats.files.len(), stats.owners, stats.machines);
     write!(
         out,
-        ",\"stats\":{{\"calls\":{calls},\"exits\":{exits},\"silent\":{silent},\"files\":{files},\"owners\":{owners},\"machines\":{machines}}}"
+        ",\"stats\":{{\"calls\":{calls},\"exits\":{exits},\"silent\":{silent},\"files\":{files},\"owners\":{owners},\"machines\":{machines},\"locks\":["
+    )?;
+    let mut comma = "";
+    for file in &stats.files {
+        out.push_str(comma)?;
+        push_observed(out, file)?;
+        comma = ",";
+    }
+    out.push_str("]}")
+}
+
+// Adds how many locks of a file were got, and of how many another owner saw something.
+fn push_observed(out: &mut String, file: &FileStats<'_>) -> Result<(), AllocError> {
+    let Observed { locks, observed } = file.observed;
+    out.push_str("{\"file\":")?;
+    push_string(out, file.name)?;
+    let never = locks.saturating_sub(observed);
+    write!(
+        out,
+        ",\"locks\":{locks},\"observed\":{observed},\"never_observed\":{never}}}"
     )
 }

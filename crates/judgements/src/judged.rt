@@ -4,6 +4,7 @@ ghost use Rattle.judgements.specs.Judgements.{IsContradicted, IsJudged, outcome_
 
 use crate::before::{Before, tables_before};
 use crate::outcome::Outcome;
+use client_history::client_call::ClientCall;
 use client_history::judge::judge;
 use client_history::verdict::Verdict;
 use history_text::file_calls::FileCalls;
@@ -127,15 +128,33 @@ fn misfit_of(
     })
 }
 
-// The calls of a file but this one.
+// The calls of a file but those of the line of this one.
 fn without(alloc: Global, file: &FileCalls, call: usize) -> Result<FileCalls, AllocError> {
+    let without = file.lines.get(call).copied().unwrap_or(0);
+    let mut places = Vec::new(alloc);
     let mut calls = Vec::new(alloc);
     let mut lines = Vec::new(alloc);
+    let mut told = 0;
     for (index, (other, line)) in file.calls.iter().zip(file.lines.iter()).enumerate() {
-        if index != call {
-            calls.push(*other)?;
-            lines.push(*line)?;
+        if *line == without {
+            places.push(None)?;
+            continue;
+        }
+        places.push(Some(calls.len()))?;
+        calls.push(moved(other, places.as_slice()))?;
+        lines.push(*line)?;
+        if index < file.told {
+            told = calls.len();
         }
     }
-    Ok(FileCalls { calls, lines })
+    Ok(FileCalls { calls, lines, told })
+}
+
+// The call, where those before it have these places, as far as they are left.
+fn moved(call: &ClientCall, places: &[Option<usize>]) -> ClientCall {
+    let follows = match call.follows {
+        Some(first) => places.get(first).copied().unwrap_or(None),
+        None => None,
+    };
+    ClientCall { follows, ..*call }
 }

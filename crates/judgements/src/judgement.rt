@@ -9,14 +9,17 @@ use crate::judging::Judging;
 use crate::ordered::first_unexplained;
 use crate::orders::{OrdersError, orders_of};
 use crate::outcome::Outcome;
+use crate::places::Mention;
+use crate::stats::Stats;
 use crate::told::Told;
 use crate::{json, report};
 use history_text::error::ReadError;
 use history_text::history::History;
 use history_text::reading::read;
+use history_text::rule::Allowed;
 use std::alloc::{AllocError, Global};
 
-/// What is said of a history: a word, and what is told of it, in lines.
+/// What is said of a history: a word, and what is told of it, in lines or as a picture.
 #[derive(Drop)]
 pub struct Judgement {
     pub outcome: Outcome,
@@ -34,12 +37,15 @@ pub fn judge_history(
     text: &str,
     judging: Judging,
 ) -> Result<Judgement, JudgeError>
-    ensures { IfOk result (λ judgement. IsJudgement text.now judgement.outcome) }
+    ensures { IfOk result (λ judgement. IsJudgement judging.allowed text.now judgement.outcome) }
 {
-    let history = history_of(alloc, path, text)?;
+    let history = history_of(alloc, path, text, judging.allowed)?;
     let mut told = Told::new(alloc);
     let outcome = files_judged(alloc, &history, text, judging, &mut told)?;
-    let text = outcome_text(alloc, path, &history, outcome, &told, judging)?;
+    let text = match told.picture.take() {
+        Some(picture) => picture,
+        None => outcome_text(alloc, path, &history, outcome, &told, judging)?,
+    };
     Ok(Judgement { outcome, text })
 }
 
@@ -56,9 +62,9 @@ pub fn judge_orders(
     orders: &str,
     judging: Judging,
 ) -> Result<Judgement, JudgeError>
-    ensures { IfOk result (λ judgement. IsOrdered text.now judgement.outcome) }
+    ensures { IfOk result (λ judgement. IsOrdered judging.allowed text.now judgement.outcome) }
 {
-    let history = history_of(alloc, path, text)?;
+    let history = history_of(alloc, path, text, judging.allowed)?;
     let orders = orders_in(alloc, &history, orders_path, orders)?;
     let unexplained = first_unexplained(alloc, &history, orders.as_slice())?;
     let text = ordered_text(alloc, path, &history, unexplained, judging)?;
@@ -70,10 +76,15 @@ pub fn judge_orders(
 }
 
 // The history that the text writes, which the file of this path has.
-fn history_of(alloc: Global, path: &str, text: &str) -> Result<History, JudgeError>
-    ensures { IfOk result (IsHistoryOf text.now) }
+fn history_of(
+    alloc: Global,
+    path: &str,
+    text: &str,
+    allowed: Allowed,
+) -> Result<History, JudgeError>
+    ensures { IfOk result (IsHistoryOf allowed text.now) }
 {
-    match read(alloc, text) {
+    match read(alloc, text, allowed) {
         Ok(history) => Ok(history),
         Err(ReadError::NoMemory) => Err(JudgeError::NoMemory),
         Err(
@@ -92,7 +103,7 @@ fn orders_in(
     history: &History,
     path: &str,
     text: &str,
-) -> Result<Vec<Vec<u64>>, JudgeError> {
+) -> Result<Vec<Vec<Mention>>, JudgeError> {
     match orders_of(alloc, history, text) {
         Ok(orders) => Ok(orders),
         Err(OrdersError::NoMemory) => Err(JudgeError::NoMemory),
@@ -116,9 +127,9 @@ fn outcome_text(
         json::push_head(&mut out, path)?;
         json::push_outcome(&mut out, outcome, &told.found)?;
     } else {
-        report::push_outcome(&mut out, outcome, told, judging.order)?;
+        report::push_outcome(&mut out, outcome, told, judging)?;
     }
-    push_end(&mut out, history, judging)?;
+    push_end(alloc, &mut out, history, judging)?;
     Ok(out)
 }
 
@@ -135,22 +146,32 @@ fn ordered_text(
         json::push_head(&mut out, path)?;
         json::push_ordered(&mut out, history, unexplained)?;
     } else {
-        report::push_ordered(&mut out, history, unexplained)?;
+        report::push_ordered(&mut out, history, unexplained, judging.allowed)?;
     }
-    push_end(&mut out, history, judging)?;
+    push_end(alloc, &mut out, history, judging)?;
     Ok(out)
 }
 
 // Adds the counts, if they are asked for, and the end of JSON.
-fn push_end(out: &mut String, history: &History, judging: Judging) -> Result<(), AllocError> {
-    if !judging.json {
-        if judging.stats {
-            report::push_stats(out, history)?;
-        }
-        return Ok(());
+fn push_end(
+    alloc: Global,
+    out: &mut String,
+    history: &History,
+    judging: Judging,
+) -> Result<(), AllocError> {
+    if judging.json {
+        json::push_allowed(out, judging.allowed)?;
     }
     if judging.stats {
-        json::push_stats(out, history)?;
+        let stats = Stats::of(alloc, history)?;
+        if judging.json {
+            json::push_stats(out, &stats)?;
+        } else {
+            report::push_stats(out, &stats)?;
+        }
     }
-    out.push_str("}\n")
+    if judging.json {
+        out.push_str("}\n")?;
+    }
+    Ok(())
 }

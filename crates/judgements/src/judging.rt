@@ -1,4 +1,5 @@
 //! How histories are judged.
+use history_text::rule::Allowed;
 
 /// How histories are judged, and what is told of them.
 #[derive(Clone, Copy)]
@@ -13,4 +14,8 @@ pub struct Judging {
     pub stats: bool,
     /// Whether all is told as JSON.
     pub json: bool,
+    /// The ways in which the lock manager may differ from one table.
+    pub allowed: Allowed,
+    /// Whether a picture of the first call that fits nowhere is told in place of all else, if there is such a call.
+    pub picture: bool,
 }

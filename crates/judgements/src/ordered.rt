@@ -4,19 +4,20 @@ ghost use Rattle.judgements.specs.Judgements.{HasOneClock, IsExplained};
 
 use crate::clocks::widened;
 use crate::orders::indexes_of;
+use crate::places::Mention;
 use client_history::explains::explains;
 use history_text::file_calls::FileCalls;
 use history_text::history::History;
 use std::alloc::{AllocError, Global};
 
-/// The first file, by its index, whose calls its order, by their lines, does not explain.
+/// The first file, by its index, whose calls its order does not explain.
 ///
 /// # Errors
 /// `AllocError`.
 pub(crate) fn first_unexplained(
     alloc: Global,
     history: &History,
-    orders: &[Vec<u64>],
+    orders: &[Vec<Mention>],
 ) -> Result<Option<usize>, AllocError>
     ensures { IfOk result (λ file. file ≡ None → HasOneClock history.now → All IsExplained history.now.files.items) }
 {
@@ -32,12 +33,12 @@ pub(crate) fn first_unexplained(
     Ok(None)
 }
 
-// Whether the order, by their lines, explains the calls of a file, in all the time in which they may have been made.
+// Whether the order explains the calls of a file, in all the time in which they may have been made.
 fn is_explained(
     alloc: Global,
     history: &History,
     file: &FileCalls,
-    order: &[u64],
+    order: &[Mention],
 ) -> Result<bool, AllocError>
     ensures { IfOk result (λ yes. yes ≡ true → HasOneClock history.now → IsExplained file.now) }
 {

@@ -1,8 +1,9 @@
 //! Orders of calls, as `judge --order` tells them.
+use crate::places::{Mention, Places};
 use history_text::file_calls::FileCalls;
 use history_text::history::History;
+use indexmap::IndexMap;
 use std::alloc::{AllocError, Global};
-use texts::number::number_of;
 use texts::text::{after, split_field};
 
 /// Why a text is none of orders.
@@ -20,7 +21,7 @@ impl From<AllocError> for OrdersError {
     }
 }
 
-/// The orders that the text writes, of each file of the history one, by the lines of its calls; an empty one where none stands
+/// The orders that the text writes, of each file of the history one, by how its calls are named; an empty one where none stands
 /// there. Each stands in a line `order F LINE ..`. Empty lines are passed, and those that begin with `#`, `history ` and `stats `.
 ///
 /// # Errors
@@ -29,20 +30,35 @@ pub(crate) fn orders_of(
     alloc: Global,
     history: &History,
     text: &str,
-) -> Result<Vec<Vec<u64>>, OrdersError> {
+) -> Result<Vec<Vec<Mention>>, OrdersError> {
+    let files = files_by_name(alloc, history)?;
     let mut orders = no_orders(alloc, history)?;
     let mut number = 0u64;
     for line in text.lines() {
         number = number.saturating_add(1);
-        if !is_passed(line) && !take_order(history, &mut orders, line)? {
+        if !is_passed(line) && !take_order(&files, &mut orders, line)? {
             return Err(OrdersError::BadLine(number));
         }
     }
     Ok(orders)
 }
 
+// The files of the history by their names.
+fn files_by_name<'a>(
+    alloc: Global,
+    history: &'a History,
+) -> Result<IndexMap<&'a str, usize>, AllocError> {
+    let mut files = IndexMap::new(alloc);
+    for file in 0..history.names.count() {
+        if let Some(name) = history.names.get(file) {
+            files.insert(name, file)?;
+        }
+    }
+    Ok(files)
+}
+
 // An empty order of each file.
-fn no_orders(alloc: Global, history: &History) -> Result<Vec<Vec<u64>>, AllocError> {
+fn no_orders(alloc: Global, history: &History) -> Result<Vec<Vec<Mention>>, AllocError> {
     let mut orders = Vec::new(alloc);
     for _ in &history.files {
         orders.push(Vec::new(alloc))?;
@@ -60,77 +76,74 @@ fn is_passed(line: &str) -> bool {
 
 // Takes the order that the line writes, if it may stand there.
 fn take_order(
-    history: &History,
-    orders: &mut Vec<Vec<u64>>,
+    files: &IndexMap<&str, usize>,
+    orders: &mut Vec<Vec<Mention>>,
     line: &str,
 ) -> Result<bool, AllocError> {
     let Some(rest) = after(line, "order ") else {
         return Ok(false);
     };
-    let (name, lines) = split_field(rest).unwrap_or((rest, ""));
-    let Some(order) = order_named(history, orders, name) else {
+    let (name, words) = split_field(rest).unwrap_or((rest, ""));
+    let Some(file) = files.get(&name) else {
+        return Ok(false);
+    };
+    let Some(order) = orders.get_mut(*file) else {
         return Ok(false);
     };
     if !order.is_empty() {
         return Ok(false);
     }
-    push_lines(order, lines)
+    push_mentions(order, words)
 }
 
-// The order of the file of this name.
-fn order_named<'a>(
-    history: &History,
-    orders: &'a mut Vec<Vec<u64>>,
-    name: &str,
-) -> Option<&'a mut Vec<u64>> {
-    for file in 0..history.names.count() {
-        if history.names.get(file) == Some(name) {
-            return orders.get_mut(file);
-        }
-    }
-    None
-}
-
-// Adds the numbers of lines that the words write, if they all are.
-fn push_lines(order: &mut Vec<u64>, words: &str) -> Result<bool, AllocError> {
+// Adds the calls that the words name, if they all do.
+fn push_mentions(order: &mut Vec<Mention>, words: &str) -> Result<bool, AllocError> {
     if words.is_empty() {
         return Ok(true);
     }
     for word in words.split(' ') {
-        match number_of(word, 1, u64::MAX) {
-            Some(line) => order.push(line)?,
+        match Mention::of_word(word) {
+            Some(mention) => order.push(mention)?,
             None => return Ok(false),
         }
     }
     Ok(true)
 }
 
-/// The order of the calls of a file by their indexes, which this is by their lines; none where a line has no call of it.
+/// The order of the calls of a file by their indexes, which this is by how they are named; none where a name is that of no
+/// call of it.
 ///
 /// # Errors
 /// `AllocError`.
 pub(crate) fn indexes_of(
     alloc: Global,
     file: &FileCalls,
-    order: &[u64],
+    order: &[Mention],
 ) -> Result<Option<Vec<usize>>, AllocError> {
-    let places = places_of(alloc, file)?;
+    let mut places = Places::new(alloc, file)?;
     let mut indexes = Vec::new(alloc);
-    for line in order {
-        match places.binary_search_by(|place| place.0.cmp(line)) {
-            Ok(found) => indexes.push(places[found].1)?,
-            Err(_) => return Ok(None),
+    for mention in order {
+        match places.next_index(*mention) {
+            Some(index) => indexes.push(index)?,
+            None => return Ok(None),
         }
     }
     Ok(Some(indexes))
 }
 
-// The lines of the calls of a file, each with the call's index, by their numbers.
-fn places_of(alloc: Global, file: &FileCalls) -> Result<Vec<(u64, usize)>, AllocError> {
-    let mut places = Vec::new(alloc);
-    for (index, line) in file.lines.iter().enumerate() {
-        places.push((*line, index))?;
+/// How the calls of a file are named in this order, which has their indexes.
+///
+/// # Errors
+/// `AllocError`.
+pub(crate) fn mentions_of(
+    alloc: Global,
+    file: &FileCalls,
+    order: &[usize],
+) -> Result<Vec<Mention>, AllocError> {
+    let mut places = Places::new(alloc, file)?;
+    let mut mentions = Vec::new(alloc);
+    for index in order {
+        mentions.push(places.next_mention(*index))?;
     }
-    places.sort_unstable_by(|one, other| one.0.cmp(&other.0));
-    Ok(places)
+    Ok(mentions)
 }

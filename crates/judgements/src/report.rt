@@ -1,24 +1,31 @@
 //! What is told of a history, in lines.
 use crate::before::Before;
 use crate::judged::{Judged, Misfit};
+use crate::judging::Judging;
 use crate::lines::line_of;
 use crate::locks::{file_name, owner_name, segment_of};
+use crate::observed::Observed;
+use crate::orders::mentions_of;
 use crate::outcome::Outcome;
+use crate::stats::Stats;
 use crate::told::Told;
+use history_text::counts::Counts;
 use history_text::history::History;
+use history_text::rule::{Allowed, RULES};
 use model::lock_info::LockInfo;
-use std::alloc::AllocError;
+use std::alloc::{AllocError, Global};
 use std::fmt::Write;
 use texts::words::Named;
 
-// How many locks of a table are told at most, and how many open calls.
-const MOST_TOLD: usize = 20;
+/// How many locks of a table are told at most, and how many open calls.
+pub(crate) const MOST_TOLD: usize = 20;
 
 /// Adds what was found of the calls of the file with this index, of a history that the text writes.
 ///
 /// # Errors
 /// `AllocError`.
 pub(crate) fn push_found(
+    alloc: Global,
     told: &mut Told,
     history: &History,
     text: &str,
@@ -27,6 +34,7 @@ pub(crate) fn push_found(
 ) -> Result<(), AllocError> {
     match found {
         Judged::Explained { order } => push_order(
+            alloc,
             &mut told.orders,
             history,
             file,
@@ -68,8 +76,9 @@ fn push_unknown(out: &mut String, line: Option<u64>) -> Result<(), AllocError> {
     }
 }
 
-// Adds the order of the calls of a file, by their lines.
+// Adds the order of the calls of the file with this index, by their lines.
 fn push_order(
+    alloc: Global,
     out: &mut String,
     history: &History,
     file: usize,
@@ -77,9 +86,12 @@ fn push_order(
 ) -> Result<(), AllocError> {
     let name = file_name(history, file);
     write!(out, "order {name}")?;
-    for call in order {
-        let line = line_at(history, file, *call).unwrap_or(0);
-        write!(out, " {line}")?;
+    let Some(of_file) = history.files.get(file) else {
+        return out.push_str("\n");
+    };
+    for mention in mentions_of(alloc, of_file, order)? {
+        out.push_str(" ")?;
+        mention.push(out)?;
     }
     out.push_str("\n")
 }
@@ -136,8 +148,15 @@ fn push_more(out: &mut String, what: &str, count: usize) -> Result<(), AllocErro
     writeln!(out, "  more {what}: {more}")
 }
 
-// Adds the lock, as histories write it.
-fn push_lock(out: &mut String, history: &History, lock: &LockInfo) -> Result<(), AllocError> {
+/// Adds the lock, as histories write it.
+///
+/// # Errors
+/// `AllocError`.
+pub(crate) fn push_lock(
+    out: &mut String,
+    history: &History,
+    lock: &LockInfo,
+) -> Result<(), AllocError> {
     let (start, len) = segment_of(lock.span);
     let (mode, owner) = (lock.mode.word(), owner_name(history, &lock.owner));
     write!(out, "{mode} {start} {len} {owner}")
@@ -152,20 +171,35 @@ pub(crate) fn push_outcome(
     out: &mut String,
     outcome: Outcome,
     told: &Told,
-    with_orders: bool,
+    judging: Judging,
 ) -> Result<(), AllocError> {
     let word = outcome.word();
-    writeln!(out, "history {word}")?;
+    write!(out, "history {word}")?;
+    push_allowed(out, judging.allowed)?;
+    out.push_str("\n")?;
     if outcome != Outcome::Yes {
         return out.push_str(&told.found);
     }
-    if with_orders {
+    if judging.order {
         out.push_str(&told.orders)?;
     }
     Ok(())
 }
 
-/// Adds whether orders explain a history, or the first file whose order doesn't.
+// Adds the rules that are allowed, if one is.
+fn push_allowed(out: &mut String, allowed: Allowed) -> Result<(), AllocError> {
+    let mut front = ", but for ";
+    for rule in RULES {
+        if allowed.has(rule) {
+            out.push_str(front)?;
+            out.push_str(rule.word())?;
+            front = ", ";
+        }
+    }
+    Ok(())
+}
+
+/// Adds whether orders explain a history where these rules are allowed, or the first file whose order doesn't.
 ///
 /// # Errors
 /// `AllocError`.
@@ -173,27 +207,44 @@ pub(crate) fn push_ordered(
     out: &mut String,
     history: &History,
     unexplained: Option<usize>,
+    allowed: Allowed,
 ) -> Result<(), AllocError> {
     match unexplained {
         Some(file) => {
             let name = file_name(history, file);
             writeln!(out, "explains no {name}")
         }
-        None => out.push_str("explains yes\n"),
+        None => {
+            out.push_str("explains yes")?;
+            push_allowed(out, allowed)?;
+            out.push_str("\n")
+        }
     }
 }
 
-/// Adds how many calls there are, and whose.
+/// Adds the counts: in the first line how many calls there are, and whose, and then of each file how many locks were got, and of
+/// how many another owner saw something.
 ///
 /// # Errors
 /// `AllocError`.
-pub(crate) fn push_stats(out: &mut String, history: &History) -> Result<(), AllocError> {
-    let counts = history.counts;
-    let (calls, exits, silent) = (counts.calls, counts.exits, counts.silent);
-    let (files, owners) = (history.files.len(), history.owners.count());
-    let machines = history.machines.len();
+pub(crate) fn push_stats(out: &mut String, stats: &Stats<'_>) -> Result<(), AllocError> {
+    let Counts {
+        calls,
+        exits,
+        silent,
+    } = stats.counts;
+    let (files, owners, machines) = (stats.files.len(), stats.owners, stats.machines);
     writeln!(
         out,
         "stats calls {calls} exits {exits} silent {silent} files {files} owners {owners} machines {machines}"
-    )
+    )?;
+    for file in &stats.files {
+        let Observed { locks, observed } = file.observed;
+        let (name, never) = (file.name, locks.saturating_sub(observed));
+        writeln!(
+            out,
+            "stats of {name} locks {locks} observed {observed} never observed {never}"
+        )?;
+    }
+    Ok(())
 }

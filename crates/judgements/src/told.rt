@@ -1,11 +1,13 @@
 //! What is told of the files of a history.
 use std::alloc::Global;
 
-/// What is told of the files of a history so far: what was found of them, and orders of their calls.
+/// What is told of the files of a history so far: what was found of them, orders of their calls, and a picture of the first call that
+/// fits nowhere, if there is one and it is asked for.
 #[derive(Drop)]
 pub(crate) struct Told {
     pub(crate) found: String,
     pub(crate) orders: String,
+    pub(crate) picture: Option<String>,
 }
 
 impl Told {
@@ -14,6 +16,7 @@ impl Told {
         Told {
             found: String::new(alloc),
             orders: String::new(alloc),
+            picture: None,
         }
     }
 }

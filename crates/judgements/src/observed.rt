@@ -1,0 +1,89 @@
+//! Locks that other owners saw.
+use crate::held::{Held, calls_by_begin, held_in, meet};
+use client_history::act::Act;
+use client_history::client_call::ClientCall;
+use history_text::file_calls::FileCalls;
+use std::alloc::{AllocError, Global};
+
+/// How many locks of a file were got, and how many of them were observed.
+#[derive(Clone, Copy)]
+pub(crate) struct Observed {
+    pub(crate) locks: u64,
+    pub(crate) observed: u64,
+}
+
+/// How many locks of a file were got, by sets and waits that are done, and how many of them were observed. A lock is observed where
+/// a call of another owner is denied in a mode that it excludes, for bytes of which one at least is its own, and the time from the
+/// begin to the end of that call meets the time in which the lock may be held (`held_in`). A denial that tells an owner observes
+/// locks of that one alone.
+///
+/// It looks at each denial once at each lock that is not observed yet and may be held then.
+///
+/// # Errors
+/// `AllocError`.
+pub(crate) fn observed_in(alloc: Global, file: &FileCalls) -> Result<Observed, AllocError> {
+    let calls = file.calls.as_slice();
+    let held = held_in(alloc, calls)?;
+    let mut unseen = Vec::new(alloc);
+    let mut taken = 0;
+    let mut observed = 0u64;
+    for call in calls_by_begin(alloc, calls)? {
+        if !is_denied(&call) {
+            continue;
+        }
+        taken = take_begun(&held, taken, call.end.unwrap_or(u64::MAX), &mut unseen)?;
+        unseen.retain(|lock: &Held| lock.until >= call.begin);
+        let before = unseen.len();
+        unseen.retain(|lock: &Held| !sees(&call, lock));
+        observed = observed.saturating_add(before.saturating_sub(unseen.len()) as u64);
+    }
+    Ok(Observed {
+        locks: held.len() as u64,
+        observed,
+    })
+}
+
+// Adds the locks from this index on that begin by that time: the index of the next one.
+fn take_begun(
+    held: &[Held],
+    from: usize,
+    time: u64,
+    unseen: &mut Vec<Held>,
+) -> Result<usize, AllocError> {
+    let mut taken = from;
+    for lock in held.iter().skip(from) {
+        if lock.begin > time {
+            break;
+        }
+        unseen.push(*lock)?;
+        taken = taken.saturating_add(1);
+    }
+    Ok(taken)
+}
+
+// Whether the call is denied.
+fn is_denied(call: &ClientCall) -> bool {
+    match call.act {
+        Act::IsDenied { .. } => true,
+        Act::Locks { .. } | Act::IsFree { .. } | Act::Frees { .. } | Act::Drops => false,
+    }
+}
+
+// Whether the call, which is denied, is so by this lock, as far as it tells that.
+fn sees(call: &ClientCall, lock: &Held) -> bool {
+    match call.act {
+        Act::IsDenied { mode, span, told } => {
+            let is_told = match told.owner {
+                Some(owner) => owner == lock.owner,
+                None => true,
+            };
+            let is_begun = call.end.is_none_or(|end| lock.begin <= end);
+            is_told
+                && is_begun
+                && call.owner != lock.owner
+                && meet(span, lock.span)
+                && lock.mode.excludes(mode)
+        }
+        Act::Locks { .. } | Act::IsFree { .. } | Act::Frees { .. } | Act::Drops => false,
+    }
+}

@@ -1,0 +1,121 @@
+//! Calls of a file by the lines that tell them.
+use history_text::file_calls::FileCalls;
+use std::alloc::{AllocError, Global};
+use std::fmt::Write;
+use texts::number::number_of;
+use texts::text::split_at_first;
+
+/// How an order names a call: by its line, and where that has several calls by which of them it is, from 1; without that
+/// it is the one behind the call of the line that the order names before, or the first one.
+#[derive(Clone, Copy)]
+pub(crate) struct Mention {
+    pub(crate) line: u64,
+    pub(crate) part: Option<u64>,
+}
+
+impl Mention {
+    /// The one that the word writes, as `7` or `7.2`, if it writes one.
+    pub(crate) fn of_word(word: &str) -> Option<Mention> {
+        match split_at_first(word, b'.') {
+            Some((line, part)) => Some(Mention {
+                line: number_of(line, 1, u64::MAX)?,
+                part: Some(number_of(part, 1, u64::MAX)?),
+            }),
+            None => Some(Mention {
+                line: number_of(word, 1, u64::MAX)?,
+                part: None,
+            }),
+        }
+    }
+
+    /// Adds its word.
+    ///
+    /// # Errors
+    /// `AllocError`.
+    pub(crate) fn push(&self, out: &mut String) -> Result<(), AllocError> {
+        let line = self.line;
+        match self.part {
+            Some(part) => write!(out, "{line}.{part}"),
+            None => write!(out, "{line}"),
+        }
+    }
+}
+
+/// The calls of one line: where the first one stands, and which of them was named last, from 1; 0 where none was.
+#[derive(Clone, Copy)]
+struct Place {
+    line: u64,
+    first: usize,
+    named: u64,
+}
+
+/// The lines of the calls of a file, in the order of their numbers, as an order names one call after the other.
+#[derive(Drop)]
+pub(crate) struct Places<'a> {
+    lines: &'a [u64],
+    places: Vec<Place>,
+}
+
+impl<'a> Places<'a> {
+    /// Where none was named. The calls of a line stand one behind the other.
+    ///
+    /// # Errors
+    /// `AllocError`.
+    pub(crate) fn new(alloc: Global, file: &'a FileCalls) -> Result<Places<'a>, AllocError> {
+        let mut places = Vec::new(alloc);
+        let mut before = 0;
+        for (first, line) in file.lines.iter().enumerate() {
+            if *line != before {
+                places.push(Place {
+                    line: *line,
+                    first,
+                    named: 0,
+                })?;
+            }
+            before = *line;
+        }
+        places.sort_unstable_by(|one, other| one.line.cmp(&other.line));
+        Ok(Places {
+            lines: file.lines.as_slice(),
+            places,
+        })
+    }
+
+    /// The index of the call that is named next so, if there is one.
+    pub(crate) fn next_index(&mut self, mention: Mention) -> Option<usize> {
+        let place = self.place_of(mention.line)?;
+        let part = mention.part.unwrap_or(place.named.saturating_add(1));
+        place.named = part;
+        let index = place
+            .first
+            .checked_add(usize::try_from(part.checked_sub(1)?).ok()?)?;
+        if self.lines.get(index).copied() == Some(mention.line) {
+            Some(index)
+        } else {
+            None
+        }
+    }
+
+    /// How the call of this index is named next.
+    pub(crate) fn next_mention(&mut self, index: usize) -> Mention {
+        let line = self.lines.get(index).copied().unwrap_or(0);
+        let Some(place) = self.place_of(line) else {
+            return Mention { line, part: None };
+        };
+        let part = (index.saturating_sub(place.first) as u64).saturating_add(1);
+        let is_next = part == place.named.saturating_add(1);
+        place.named = part;
+        Mention {
+            line,
+            part: if is_next { None } else { Some(part) },
+        }
+    }
+
+    // The calls of the line.
+    fn place_of(&mut self, line: u64) -> Option<&mut Place> {
+        match self.places.binary_search_by(|place| place.line.cmp(&line)) {
+            Ok(found) => self.places.get_mut(found),
+            Err(_) => None,
+        }
+    }
+}

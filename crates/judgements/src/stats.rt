@@ -1,0 +1,44 @@
+//! Counts of a history.
+use crate::locks::file_name;
+use crate::observed::{Observed, observed_in};
+use history_text::counts::Counts;
+use history_text::history::History;
+use std::alloc::{AllocError, Global};
+
+/// What is counted of a history: its calls, how many owners and machines it names, and the locks of its files.
+#[derive(Drop)]
+pub(crate) struct Stats<'a> {
+    pub(crate) counts: Counts,
+    pub(crate) owners: usize,
+    pub(crate) machines: usize,
+    pub(crate) files: Vec<FileStats<'a>>,
+}
+
+/// What is counted of a file, with its name.
+#[derive(Clone, Copy)]
+pub(crate) struct FileStats<'a> {
+    pub(crate) name: &'a str,
+    pub(crate) observed: Observed,
+}
+
+impl<'a> Stats<'a> {
+    /// Those of the history.
+    ///
+    /// # Errors
+    /// `AllocError`.
+    pub(crate) fn of(alloc: Global, history: &'a History) -> Result<Stats<'a>, AllocError> {
+        let mut files = Vec::new(alloc);
+        for (file, of_file) in history.files.iter().enumerate() {
+            files.push(FileStats {
+                name: file_name(history, file),
+                observed: observed_in(alloc, of_file)?,
+            })?;
+        }
+        Ok(Stats {
+            counts: history.counts,
+            owners: history.owners.count(),
+            machines: history.machines.len(),
+            files,
+        })
+    }
+}

@@ -1,0 +1,6 @@
+//! Elements of SVG.
+#![tactic(auto)]
+
+pub mod elements;
+pub mod escapes;
+pub mod point;
