@@ -1,7 +1,7 @@
 //! Calls as `strace` writes them.
 use crate::answer::Answer;
 use crate::asked::{Asked, Wish};
-use crate::described::bracketed;
+use crate::described::{Described, bracketed};
 use crate::reason::Reason;
 use crate::recorded::Happening;
 use model::access::Access;
@@ -17,12 +17,19 @@ pub(crate) enum Command {
     Asks(Kind),
     /// A descriptor is duplicated.
     Duplicates,
+    /// Whether a descriptor closes where a program is executed is set.
+    Marks,
     /// Another one.
     Other,
 }
 
-/// The call that the word names.
-pub(crate) fn command_of(word: &str) -> Command {
+/// The command of an `fcntl` call on this descriptor.
+pub(crate) fn command_in(file: &Described<'_>) -> Command {
+    command_of(argument(file.rest, 1).unwrap_or(""))
+}
+
+// The call that the word names.
+fn command_of(word: &str) -> Command {
     let kind = if word.starts_with("F_OFD_") {
         Kind::OfDescription
     } else {
@@ -33,6 +40,7 @@ pub(crate) fn command_of(word: &str) -> Command {
         "F_SETLKW" | "F_OFD_SETLKW" => Command::Sets { kind, waits: true },
         "F_GETLK" | "F_OFD_GETLK" => Command::Asks(kind),
         "F_DUPFD" | "F_DUPFD_CLOEXEC" => Command::Duplicates,
+        "F_SETFD" => Command::Marks,
         _ => Command::Other,
     }
 }
@@ -45,8 +53,8 @@ pub(crate) fn number_in(text: &str) -> Option<u32> {
     text.get(..end)?.parse().ok()
 }
 
-/// The argument of this place, from 0, of arguments with commas between them.
-pub(crate) fn argument(arguments: &str, place: usize) -> Option<&str> {
+// The argument of this place, from 0, of arguments with commas between them.
+fn argument(arguments: &str, place: usize) -> Option<&str> {
     arguments.split(", ").nth(place)
 }
 
@@ -156,6 +164,27 @@ pub(crate) fn found_of(asked: &Asked, structure: &str) -> Result<Answer, Reason>
     }
 }
 
+/// The PID of the process that F_GETLK says has the lock, where it says one.
+pub(crate) fn holder_of(structure: &str) -> Option<u32> {
+    number_in(field(structure, "l_pid=")?).filter(|pid| *pid > 0)
+}
+
+/// Whether the descriptors that a call is for close where a program is executed from then on, where the call sets that.
+pub(crate) fn flag_in(name: &str, arguments: &str) -> Option<bool> {
+    match name {
+        "fcntl" | "fcntl64" => {
+            let behind = Described::of(arguments)?.rest;
+            if argument(behind, 1)? != "F_SETFD" {
+                return None;
+            }
+            Some(argument(behind, 2)?.starts_with("FD_CLOEXEC"))
+        }
+        "ioctl" if arguments.contains(", FIOCLEX") => Some(true),
+        "ioctl" if arguments.contains(", FIONCLEX") => Some(false),
+        _ => None,
+    }
+}
+
 // The first and the last byte of the segment of a lock.
 fn span_of(asked: &Asked) -> Option<(u64, u64)> {
     let first = u64::try_from(asked.start).ok()?;
@@ -187,8 +216,17 @@ pub(crate) fn close_range_of(arguments: &str) -> Happening {
     }
 }
 
-// The first descriptor and the last of a `close_range`.
-fn range_of(arguments: &str) -> Option<(u32, u32)> {
+/// Whether the descriptor that a call with these arguments gives closes where a program is executed.
+pub(crate) fn gives_closing(arguments: &str) -> bool {
+    let flags = match arguments.rsplit_once('"') {
+        Some((_, flags)) => flags,
+        None => Described::of(arguments).map_or("", |file| file.rest),
+    };
+    flags.contains("_CLOEXEC")
+}
+
+/// The first descriptor and the last of a `close_range`.
+pub(crate) fn range_of(arguments: &str) -> Option<(u32, u32)> {
     let first = number_in(arguments)?;
     let last = number_in(argument(arguments, 1)?)?;
     Some((first, last))

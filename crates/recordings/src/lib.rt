@@ -1,17 +1,27 @@
-//! Lock scripts from recordings of system calls, as `strace` writes them.
+//! Lock scripts and histories of clients from recordings of system calls, as `strace` writes them.
 #![tactic(auto)]
 
 pub mod answer;
 pub mod asked;
 mod calls;
+mod client_call;
+pub mod client_history;
+mod client_process;
+mod client_processes;
+mod client_writing;
+mod clients;
 mod described;
+mod description;
 pub mod error;
 mod held;
+pub mod history_error;
 mod known;
 mod line;
 mod lists;
 mod note;
 mod numbered_file;
+mod outcome;
+mod passed;
 mod pending;
 mod place;
 pub mod placing;
@@ -24,6 +34,7 @@ mod said;
 mod start;
 mod strace_line;
 mod thread;
+mod times;
 mod trace;
 mod turn;
 mod writing;

@@ -1,10 +1,11 @@
 //! The events of a recording.
 use crate::asked::{Asked, Wish};
 use crate::calls::{
-    Command, answer_of, argument, close_of, close_range_of, command_of, error_in, found_of,
+    Command, answer_of, close_of, close_range_of, command_in, error_in, flag_in, found_of,
     number_in, open_of, query_of, set_of,
 };
 use crate::described::Described;
+use crate::passed::Passed;
 use crate::pending::Pending;
 use crate::reason::Reason;
 use crate::recorded::Happening;
@@ -66,10 +67,7 @@ impl<'a> Reader<'a> {
     fn hear(&mut self, line: u64, pid: u32, said: StraceLine<'a>) -> Result<(), AllocError> {
         match said {
             StraceLine::Aside => Ok(()),
-            StraceLine::Gone => {
-                self.take_pending(pid);
-                self.push(line, pid, Happening::Exits { whole: false })
-            }
+            StraceLine::Gone { how } => self.leave(line, pid, how),
             StraceLine::Superseded { thread } => self.supersede(line, pid, thread),
             StraceLine::Begun { name, arguments } => {
                 let call = self.begin(line, pid, name, arguments)?;
@@ -99,6 +97,16 @@ impl<'a> Reader<'a> {
         let call = self.pending.iter().find(|call| call.pid == pid).copied();
         self.pending.retain(|call| call.pid != pid);
         call
+    }
+
+    // The process or thread is gone.
+    fn leave(&mut self, line: u64, pid: u32, how: &'a str) -> Result<(), AllocError> {
+        self.take_pending(pid);
+        let index = self
+            .trace
+            .push(line, pid, Happening::Exits { whole: false })?;
+        self.trace.pass(index, ended_so(line, how));
+        Ok(())
     }
 
     // The thread is gone, and its call goes on as one of its process, which has this PID.
@@ -156,13 +164,17 @@ impl<'a> Reader<'a> {
         name: &'a str,
         arguments: &'a str,
     ) -> Result<Pending<'a>, AllocError> {
+        let first = self.trace.events().len();
         let start = self.start_of(line, pid, name, arguments)?;
-        Ok(Pending {
+        let call = Pending {
+            line,
             pid,
             name,
             arguments,
             start,
-        })
+        };
+        self.trace.pass_from(first, begun(&call));
+        Ok(call)
     }
 
     // What becomes of a call when it begins.
@@ -204,8 +216,7 @@ impl<'a> Reader<'a> {
         pid: u32,
         happening: Happening,
     ) -> Result<Start, AllocError> {
-        self.push(line, pid, happening)?;
-        Ok(Start::Told)
+        Ok(Start::Told(self.trace.push(line, pid, happening)?))
     }
 
     // Takes the beginning of an `fcntl` call.
@@ -269,8 +280,31 @@ impl<'a> Reader<'a> {
         more: &'a str,
         gave: &'a str,
     ) -> Result<(), AllocError> {
+        let first = self.trace.events().len();
+        self.tell_end(line, call, more, gave)?;
+        let how = Passed {
+            more,
+            gave,
+            end: Some(line),
+            ..begun(call)
+        };
+        if let Some(index) = call.start.index() {
+            self.trace.pass(index, how);
+        }
+        self.trace.pass_from(first, how);
+        Ok(())
+    }
+
+    // The events tell of the end of a call, with these more arguments.
+    fn tell_end(
+        &mut self,
+        line: u64,
+        call: &Pending<'a>,
+        more: &'a str,
+        gave: &'a str,
+    ) -> Result<(), AllocError> {
         match call.start {
-            Start::Told => Ok(()),
+            Start::Told(_) => Ok(()),
             Start::Asked { fd, asked, index } => {
                 self.place_asked(line, call.pid, fd, asked, index, gave)?;
                 self.end_asked(line, call.pid, fd, asked, gave)
@@ -351,6 +385,9 @@ impl<'a> Reader<'a> {
                 None => self.push(line, pid, Happening::Unserved(Reason::NotUnderstood)),
             },
             "fcntl" | "fcntl64" => self.end_fcntl(line, call, more, number),
+            "ioctl" if flag_in(call.name, call.arguments).is_some() => {
+                self.push(line, pid, Happening::Nothing)
+            }
             _ => Ok(()),
         }
     }
@@ -375,6 +412,7 @@ impl<'a> Reader<'a> {
                 let structure = if more.is_empty() { file.rest } else { more };
                 self.end_query(line, call.pid, file, kind, structure)
             }
+            Command::Marks => self.push(line, call.pid, Happening::Nothing),
             _ => Ok(()),
         }
     }
@@ -420,15 +458,34 @@ impl<'a> Reader<'a> {
     }
 }
 
+// How a call passed that did not return yet.
+fn begun<'a>(call: &Pending<'a>) -> Passed<'a> {
+    Passed {
+        name: call.name,
+        arguments: call.arguments,
+        more: "",
+        gave: "",
+        begin: call.line,
+        end: None,
+    }
+}
+
+// How the end of a process or thread passed.
+fn ended_so(line: u64, how: &str) -> Passed<'_> {
+    Passed {
+        name: "",
+        arguments: "",
+        more: "",
+        gave: how,
+        begin: line,
+        end: Some(line),
+    }
+}
+
 // Whether a wait that returned this ended without its lock.
 fn is_given_up(gave: &str) -> bool {
     match error_in(gave) {
         Some(error) => error == "EINTR" || error == "EDEADLK" || error.starts_with("ERESTART"),
         None => false,
     }
-}
-
-// The command of an `fcntl` call on this descriptor.
-fn command_in(file: &Described<'_>) -> Command {
-    command_of(argument(file.rest, 1).unwrap_or(""))
 }

@@ -12,6 +12,19 @@ pub(crate) enum Start {
     Made(usize),
     /// It does what the event at this index tells of, unless it fails.
     Tried(usize),
-    /// It is among the events, or it isn't served.
-    Told,
+    /// It is the event at this index, or it isn't served, which that one tells.
+    Told(usize),
+}
+
+impl Start {
+    /// Where the event is that the call made when it began.
+    pub(crate) fn index(self) -> Option<usize> {
+        match self {
+            Start::Nothing => None,
+            Start::Asked { index, .. }
+            | Start::Made(index)
+            | Start::Tried(index)
+            | Start::Told(index) => Some(index),
+        }
+    }
 }

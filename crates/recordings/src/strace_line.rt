@@ -21,8 +21,10 @@ pub(crate) enum StraceLine<'a> {
         arguments: &'a str,
         gave: &'a str,
     },
-    /// That the process or thread is gone.
-    Gone,
+    /// That the process or thread is gone, and how, as `exited with 0 +++`.
+    Gone {
+        how: &'a str,
+    },
     /// That this thread of the process is gone, since it executes a program, and goes on as the process.
     Superseded {
         thread: u32,
@@ -37,8 +39,8 @@ pub(crate) fn line_of(text: &str) -> Option<StraceLine<'_>> {
         let thread = number_in(thread)?;
         return Some(StraceLine::Superseded { thread });
     }
-    if is_end(text) {
-        return Some(StraceLine::Gone);
+    if let Some(how) = end_in(text) {
+        return Some(StraceLine::Gone { how });
     }
     if is_aside(text) {
         return Some(StraceLine::Aside);
@@ -80,9 +82,19 @@ fn unfinished(text: &str) -> Option<&str> {
     number_in(process).map(|_| arguments)
 }
 
-// Whether a line says that the process or thread is gone.
-fn is_end(text: &str) -> bool {
-    text.starts_with("+++ exited with ") || text.starts_with("+++ killed by ")
+// How the process or thread ended, where the line says that.
+fn end_in(text: &str) -> Option<&str> {
+    let how = text.strip_prefix("+++ ")?;
+    if how.starts_with("exited with ") || is_kill(how) {
+        Some(how)
+    } else {
+        None
+    }
+}
+
+/// Whether a process or thread that ended so was killed.
+pub(crate) fn is_kill(how: &str) -> bool {
+    how.starts_with("killed by ")
 }
 
 /// Whether a line or what it says is nothing that a process does.
@@ -118,6 +130,12 @@ fn is_name(text: &str) -> bool {
 
 /// The PID before a line, `PID ` or `[pid PID] `, and what stands behind it and behind the time.
 pub(crate) fn pid_of(line: &str) -> Option<(u32, &str)> {
+    let (pid, rest) = timed_of(line)?;
+    Some((pid, behind_time(rest)))
+}
+
+/// The PID before a line, and what stands behind it, with the time where there is one.
+pub(crate) fn timed_of(line: &str) -> Option<(u32, &str)> {
     let (process, rest) = match line.strip_prefix("[pid ") {
         Some(inside) => {
             let process = Described::of(inside.trim_start())?;
@@ -129,7 +147,7 @@ pub(crate) fn pid_of(line: &str) -> Option<(u32, &str)> {
         }
     };
     let rest = rest.strip_prefix(' ')?;
-    Some((process.number, behind_time(rest.trim_start())))
+    Some((process.number, rest.trim_start()))
 }
 
 /// What stands behind the time with which a text begins, as `strace -t`, `-tt`, `-ttt` and `-r` write it, if it does.

@@ -1,12 +1,14 @@
 //! What is read of a recording.
+use crate::passed::Passed;
 use crate::recorded::{Happening, Recorded};
 use std::alloc::{AllocError, Global};
 use std::collections::HashMap;
 
-/// The events of a recording, and the paths in them, by their numbers.
+/// The events of a recording, how the calls passed that they are of, and the paths in them, by their numbers.
 #[derive(Drop)]
 pub(crate) struct Trace<'a> {
     events: Vec<Recorded>,
+    passed: Vec<Passed<'a>>,
     paths: Vec<&'a str>,
     numbers: HashMap<&'a str, u32>,
 }
@@ -16,6 +18,7 @@ impl<'a> Trace<'a> {
     pub(crate) fn new(alloc: Global) -> Self {
         Trace {
             events: Vec::new(alloc),
+            passed: Vec::new(alloc),
             paths: Vec::new(alloc),
             numbers: HashMap::new(alloc),
         }
@@ -24,6 +27,11 @@ impl<'a> Trace<'a> {
     /// The events, in order.
     pub(crate) fn events(&self) -> &[Recorded] {
         self.events.as_slice()
+    }
+
+    /// How the calls of the events passed, in the same order.
+    pub(crate) fn passed(&self) -> &[Passed<'a>] {
+        self.passed.as_slice()
     }
 
     /// The paths.
@@ -47,7 +55,29 @@ impl<'a> Trace<'a> {
             pid,
             happening,
         })?;
+        self.passed.push(Passed {
+            name: "",
+            arguments: "",
+            more: "",
+            gave: "",
+            begin: line,
+            end: None,
+        })?;
         Ok(index)
+    }
+
+    /// The event at this index is of a call that passed so.
+    pub(crate) fn pass(&mut self, index: usize, how: Passed<'a>) {
+        if let Some(passed) = self.passed.get_mut(index) {
+            *passed = how;
+        }
+    }
+
+    /// So are the events from this index on.
+    pub(crate) fn pass_from(&mut self, index: usize, how: Passed<'a>) {
+        for place in index..self.passed.len() {
+            self.pass(place, how);
+        }
     }
 
     /// The event at this index tells of this.
