@@ -32,8 +32,11 @@ pub fn legal(alloc: Global, history: &History) -> Result<bool, AllocError>
     Ok(true)
 }
 
-// The item leads the table on, if it may.
-fn follow(table: &mut FcntlTable, item: &Item) -> Result<bool, AllocError>
+/// The item leads the table on, if it may.
+///
+/// # Errors
+/// `AllocError` where a request for memory was refused.
+pub fn follow(table: &mut FcntlTable, item: &Item) -> Result<bool, AllocError>
     ensures leads { IfOk result (λ yes. yes ≡ true → ItemStep (table_of table.old) item.now (table_of table.new)) }
     ensures stuck { IfOk result (λ yes. yes ≡ false → (new : Table) → ItemStep (table_of table.old) item.now new → ⊥) }
 {

@@ -1,0 +1,275 @@
+-- Calls of processes: what they do leads from the locks before to those after, and no lock outlives its descriptors.
+use Rattle.std.proofs.Common.{◌≡◌, ℕ, ◌<◌, Bool, true, false, if◌then◌else◌, ◌&&◌, ◌==◌, inl, inr, refl, sym, ◌∙◌, ap, subst, arith, ℤ, nat_le, nat_lt, Option, Some, None, Result, Ok, Err}
+use Rattle.std.proofs.lemmas.Bool.{and_parts, and_from, eqb-true, eq-eqb, cases_Bool, both_ways}
+use Rattle.std.proofs.lemmas.Bool.Decides.{nat_tests}
+use Rattle.std.proofs.lemmas.Option.{none-some}
+use Rattle.intervals.specs.Segment.{seg}
+use Rattle.model.specs.declared.mode.Mode.{Mode}
+use Rattle.model.specs.declared.owner.Kind.{Kind}
+use Rattle.model.specs.declared.owner.Kind.TheVariants.{OfProcess, OfDescription}
+use Rattle.model.specs.declared.owner.Owner.{Owner}
+use Rattle.model.specs.declared.access.Access.{Access}
+use Rattle.model.specs.declared.opened.Opened.{Opened}
+use Rattle.model.specs.declared.process.Process.{Process}
+use Rattle.model.specs.declared.op.Op.{Op}
+use Rattle.model.specs.declared.op.Op.TheVariants.{Spawn, Fork, Open, Dup, Close, Exit, Set, Wait, Unlock, Query}
+use Rattle.model.specs.declared.reply.Reply.{Reply}
+use Rattle.model.specs.declared.reply.Reply.TheVariants.{Done, Fd, Again, NoLocks, Free, Blocked, Interrupted, NoProcess, Exists, TooManyFiles}
+use Rattle.model.specs.Limits.{IsHost, IsNumber, most_processes, most_descriptors}
+use Rattle.model.specs.Owners.{same_owner}
+use Rattle.model.specs.Locks.{no_locks}
+use Rattle.model.specs.Descriptors.{Processes, no_processes, with_process, with_descriptor, lowest_fd, lowest_description, on_lowest_fd, again_on, after_spawn, after_fork, after_open, after_dup}
+use Rattle.model.specs.Table.{Table, LockTarget, around, beside, descriptor, is_running, with_processes, target, target_at, owner_of, locked, regions_with, after_unlock, closed_at, exited}
+use Rattle.model.specs.Step.{Is, AfterTests, SetStep, WaitStep, QueryStep, Step}
+use Rattle.model.specs.Anchors.{Hangs, AreAnchored as AreAnchoredOn, IsAnchored, IsOwn}
+use Rattle.model.proofs.OwnerLaws.{owner_exact}
+use Rattle.model.proofs.DescriptorLaws.{lowest_fd-free}
+use Rattle.model.proofs.Hanging.{hangs_on, itself, target_hangs}
+use Rattle.model.proofs.NodeTables.{spawn_follows, fork_follows, open_follows, dup_follows}
+use Rattle.model.proofs.Refusals.{if_then}
+use Rattle.model.proofs.Targets.{passes_at}
+use Rattle.run_clients.specs.Anchored.{AreAnchored}
+use Rattle.run_clients.specs.Deeds.{DeedsLead, call_deeds, closing, exit_deeds}
+use Rattle.run_clients.proofs.Drops.{close_leads, exit_leads}
+use Rattle.run_clients.proofs.Kept.{step_keeps, closed_keeps, exit_keeps}
+use Rattle.run_clients.proofs.LockDeeds.{same_locks, sets, set_tested, wait_tested, query_tested, unlock_tested}
+
+-- calls about processes and descriptors leave the locks
+beside_same : (t u : Table) (p : Process) (r : Result (Processes × Reply) Reply) (reply : Reply) → Is (beside t p r) reply u → t.locks ≡ u.locks
+beside_same t u p (Ok a) reply h = ap (λ (x : Table). x.locks) (sym h.1)
+beside_same t u p (Err refusal) reply h = same_locks t u h.1
+
+module _ (t u : Table) (p : Process) (a : IsAnchored t p.node p.incarnation) where
+  closes_if : (fd : ℕ) (reply : Reply) (b : Bool) (x : Option Opened) → descriptor t p fd ≡ x → Is (if b then closed_at t p fd x else (t, NoProcess)) reply u → DeedsLead t.locks (call_deeds t p (Close fd) reply) u.locks
+  closes_if fd reply false x is h = subst (λ (r : Reply). DeedsLead t.locks (call_deeds t p (Close fd) r) u.locks) (sym h.0) (same_locks t u h.1)
+  closes_if fd reply true None is h = subst (λ (r : Reply). DeedsLead t.locks (call_deeds t p (Close fd) r) u.locks) (sym h.0) (same_locks t u h.1)
+  closes_if fd reply true (Some o) is h =
+      subst (λ (r : Reply). DeedsLead t.locks (call_deeds t p (Close fd) r) u.locks) (sym h.0)
+      (subst (λ (x : Option Opened). DeedsLead t.locks (closing t p fd x) u.locks) (sym is)
+      (subst (λ (x : Table). DeedsLead t.locks (closing t p fd (Some o)) x.locks) (sym h.1) (close_leads t p fd o a is)))
+
+  exits_if : (reply : Reply) (b : Bool) → Is (if b then (exited t p, Done) else (t, NoProcess)) reply u → DeedsLead t.locks (call_deeds t p Exit reply) u.locks
+  exits_if reply false h = subst (λ (r : Reply). DeedsLead t.locks (call_deeds t p Exit r) u.locks) (sym h.0) (same_locks t u h.1)
+  exits_if reply true h =
+      subst (λ (r : Reply). DeedsLead t.locks (call_deeds t p Exit r) u.locks) (sym h.0)
+      (subst (λ (x : Table). DeedsLead t.locks (exit_deeds t p) x.locks) (sym h.1) (exit_leads p.node p.incarnation p.pid t a).leads)
+
+  pub step_leads : (op : Op) (reply : Reply) → Step t p op reply u → DeedsLead t.locks (call_deeds t p op reply) u.locks
+  step_leads Spawn reply h = beside_same t u p (after_spawn (around t p) p.pid) reply h
+  step_leads (Fork child) reply h = beside_same t u p (after_fork (around t p) p.pid child) reply h.1
+  step_leads (Open file access) reply h = beside_same t u p (after_open (around t p) p.pid file access) reply h
+  step_leads (Dup fd) reply h = beside_same t u p (after_dup (around t p) p.pid fd) reply h
+  step_leads (Close fd) reply h = closes_if fd reply (is_running t p) (descriptor t p fd) refl h
+  step_leads Exit reply h = exits_if reply (is_running t p) h
+  step_leads (Set fd kind mode start len) reply h = set_tested t u mode reply (target t p (Some mode) fd kind start len) h
+  step_leads (Wait fd kind mode start len) reply h = wait_tested t u mode reply (target t p (Some mode) fd kind start len) h
+  step_leads (Unlock fd kind start len) reply h = unlock_tested t u reply (target t p None fd kind start len) h
+  step_leads (Query fd kind mode start len) reply h = query_tested t u mode reply (target t p None fd kind start len) h
+
+-- each descriptor stays
+abbrev Extends : Processes → Result (Processes × Reply) Reply → Type 0
+Extends ps (Err refusal) = Unit {0}
+Extends ps (Ok x) = (q fd : ℕ) (o : Opened) → ps.opened q fd ≡ Some o → x.0.opened q fd ≡ Some o
+
+-- a table of these processes alone
+abbrev alone : Processes → ℕ → ℕ → Table
+alone ps n i = record { limit = 0; on = λ m k. if (m == n) && (k == i) then ps else no_processes; locks = no_locks }
+
+module _ (t : Table) (p : Process) (host : IsHost p.node p.incarnation) (a : AreAnchored t) where
+  abbrev ps : Processes
+  ps = around t p
+
+  abbrev its : Table
+  its = alone ps p.node p.incarnation
+
+  abbrev anchored : IsAnchored t p.node p.incarnation
+  anchored = a.anchored p.node p.incarnation
+
+  here : its.on p.node p.incarnation ≡ ps
+  here = rw (itself p.node p.incarnation) refl
+
+  is_own : IsOwn its p.node p.incarnation
+  is_own = record {
+    others = λ m k h. rw h refl;
+    descriptions = λ pid fd o h. a.descriptions p.node p.incarnation pid fd o (ap (λ (x : Processes). x.opened pid fd) (sym here) ∙ h);
+    locks = λ file. record { is_own = λ o b mode h. absurd (none-some mode h); ends = λ o b h. refl };
+    anchored = subst (λ (x : Processes). AreAnchoredOn x no_locks p.node p.incarnation) (sym here) (record {
+      numbers = anchored.numbers;
+      descriptors = anchored.descriptors;
+      agree = anchored.agree;
+      locks = λ file owner b mode node incarnation held. absurd (none-some mode held);
+    });
+  }
+
+  -- a call about processes and descriptors
+  beside_keeps : (u : Table) (r : Result (Processes × Reply) Reply) (reply : Reply) → IsOwn (beside its p r).0 p.node p.incarnation → Extends ps r → Is (beside t p r) reply u → AreAnchored u
+  beside_keeps u (Err refusal) reply own stays h = subst AreAnchored (sym h.1) a
+  beside_keeps u (Ok x) reply own stays h =
+      let v = with_processes t p x.0 in
+      let on_v : v.on p.node p.incarnation ≡ x.0 = rw (itself p.node p.incarnation) refl in
+      let on_its : (with_processes its p x.0).on p.node p.incarnation ≡ x.0 = rw (itself p.node p.incarnation) refl in
+      let after : AreAnchoredOn x.0 no_locks p.node p.incarnation = subst (λ (y : Processes). AreAnchoredOn y no_locks p.node p.incarnation) on_its own.anchored in
+      let anchored_v : AreAnchoredOn x.0 t.locks p.node p.incarnation = record {
+        numbers = after.numbers;
+        descriptors = after.descriptors;
+        agree = after.agree;
+        locks = λ file owner b mode node incarnation held. hangs_on file owner.kind owner.number ps x.0 stays (anchored.locks file owner b mode node incarnation held);
+      } in
+      subst AreAnchored (sym h.1) (step_keeps p.node p.incarnation t v a
+      (record { others = λ m k e. rw e refl; their_locks = λ file owner e. refl })
+      (λ pid runs. host)
+      (λ pid fd o opened. own.descriptions pid fd o (ap (λ (y : Processes). y.opened pid fd) on_its ∙ (ap (λ (y : Processes). y.opened pid fd) (sym on_v) ∙ opened)))
+      (subst (λ (y : Processes). AreAnchoredOn y t.locks p.node p.incarnation) (sym on_v) anchored_v))
+
+  -- a process that begins had no descriptor
+  begins_stay : (child : ℕ) (fds : ℕ → Option Opened) → ps.runs child ≡ false → (q fd : ℕ) (o : Opened) → ps.opened q fd ≡ Some o → (with_process ps child true fds).opened q fd ≡ Some o
+  begins_stay child fds idle q fd o h = elim (cases_Bool (q == child)) [
+    | inl same ↦ absurd (both_ways (ps.runs child) idle (ap ps.runs (sym (eqb-true q child same)) ∙ (anchored.descriptors q fd o h).0))
+    | inr other ↦ rw other h
+  ]
+
+  -- a descriptor that opens was none
+  opens_stay : (fd : ℕ) (x : Opened) → ps.opened p.pid fd ≡ None → (q k : ℕ) (o : Opened) → ps.opened q k ≡ Some o → (with_descriptor ps p.pid fd (Some x)).opened q k ≡ Some o
+  opens_stay fd x free q k o h = elim (cases_Bool ((q == p.pid) && (k == fd))) [
+    | inl same ↦
+        let both = and_parts (q == p.pid) (k == fd) same in
+        let at : ps.opened q k ≡ ps.opened p.pid fd = ap (λ (n : ℕ). ps.opened n k) (eqb-true q p.pid both.0) ∙ ap (ps.opened p.pid) (eqb-true k fd both.1) in
+        absurd (none-some o (sym free ∙ (sym at ∙ h)))
+    | inr other ↦ rw other h
+  ]
+
+  lowest_stays : (x : Opened) → Extends ps (on_lowest_fd ps p.pid x (lowest_fd ps p.pid))
+  lowest_stays x =
+      let fd = lowest_fd ps p.pid in
+      elim (nat_lt fd most_descriptors) as (λ b. nat_lt fd most_descriptors ≡ b → Extends ps (if b then Ok (with_descriptor ps p.pid fd (Some x), Fd fd) else Err TooManyFiles)) [
+        | true ↦ λ h. opens_stay fd x (lowest_fd-free ps p.pid (below fd h))
+        | false ↦ λ h. tt
+      ] refl
+    where
+      below : (k : ℕ) → nat_lt k 64 ≡ true → k < 64
+      below k h = grind (arith, nat_tests, h)
+
+  spawn_stays : Extends ps (after_spawn ps p.pid)
+  spawn_stays = elim (ps.runs p.pid) as (λ b. ps.runs p.pid ≡ b → Extends ps (if b then Err Exists else Ok (with_process ps p.pid true (λ fd. None), Done))) [
+    | true ↦ λ h. tt
+    | false ↦ λ h. begins_stay p.pid (λ fd. None) h
+  ] refl
+
+  fork_stays : (child : ℕ) → Extends ps (after_fork ps p.pid child)
+  fork_stays child = elim (ps.runs p.pid) as (λ b. Extends ps (if b then (if ps.runs child then Err Exists else Ok (with_process ps child true (ps.opened p.pid), Done)) else Err NoProcess)) [
+    | false ↦ tt
+    | true ↦ elim (ps.runs child) as (λ b. ps.runs child ≡ b → Extends ps (if b then Err Exists else Ok (with_process ps child true (ps.opened p.pid), Done))) [
+      | true ↦ λ h. tt
+      | false ↦ λ h. begins_stay child (ps.opened p.pid) h
+    ] refl
+  ]
+
+  open_stays : (file : ℕ) (access : Access) → Extends ps (after_open ps p.pid file access)
+  open_stays file access =
+      let x : Opened = record { file = file; description = lowest_description ps; access = access } in
+      elim (ps.runs p.pid) as (λ b. Extends ps (if b then on_lowest_fd ps p.pid x (lowest_fd ps p.pid) else Err NoProcess)) [
+        | true ↦ lowest_stays x
+        | false ↦ tt
+      ]
+
+  dup_stays : (fd : ℕ) → Extends ps (after_dup ps p.pid fd)
+  dup_stays fd = elim (ps.runs p.pid) as (λ b. Extends ps (if b then again_on ps p.pid (ps.opened p.pid fd) else Err NoProcess)) [
+    | false ↦ tt
+    | true ↦ elim (ps.opened p.pid fd) as (λ x. Extends ps (again_on ps p.pid x)) [ Some o ↦ lowest_stays o | None ↦ tt ]
+  ]
+
+  -- what a lock call is about is its node's
+  target_owner : (need : Option Mode) (fd : ℕ) (kind : Kind) (start len : ℤ) (c : LockTarget) → target t p need fd kind start len ≡ Ok c → (c.owner.node ≡ p.node) × (c.owner.incarnation ≡ p.incarnation)
+  target_owner need fd kind start len c h =
+      let runs = if_then (is_running t p) (target_at p need kind (descriptor t p fd) (seg start len)) c NoProcess h in
+      let passes = passes_at p need kind (descriptor t p fd) (seg start len) c runs.1 in
+      subst (λ (x : LockTarget). (x.owner.node ≡ p.node) × (x.owner.incarnation ≡ p.incarnation)) passes.is (of_kind kind passes.what)
+    where
+      of_kind : (k : Kind) (o : Opened) → ((owner_of p k o).node ≡ p.node) × ((owner_of p k o).incarnation ≡ p.incarnation)
+      of_kind OfProcess o = (refl, refl)
+      of_kind OfDescription o = (refl, refl)
+
+  -- bytes are locked or freed
+  locked_keeps : (need : Option Mode) (fd : ℕ) (kind : Kind) (start len : ℤ) (c : LockTarget) (mode : Option Mode) → target t p need fd kind start len ≡ Ok c → AreAnchored (locked t c mode)
+  locked_keeps need fd kind start len c mode found =
+      let hangs = target_hangs t p need fd kind start len c found in
+      let own = target_owner need fd kind start len c found in
+      step_keeps p.node p.incarnation t (locked t c mode) a
+      (record { others = λ m k e. refl; their_locks = λ file owner e. theirs file owner own e })
+      (λ pid runs. host)
+      (λ pid fd' o opened. a.descriptions p.node p.incarnation pid fd' o opened)
+      (record {
+        numbers = anchored.numbers;
+        descriptors = anchored.descriptors;
+        agree = anchored.agree;
+        locks = λ file owner b m node incarnation held. elim (cases_Bool ((c.file == file) && same_owner c.owner owner)) [
+          | inl this ↦
+              let both = and_parts (c.file == file) (same_owner c.owner owner) this in
+              subst (λ (f : ℕ). Hangs ps f owner.kind owner.number) (eqb-true c.file file both.0) (subst (λ (x : Owner). Hangs ps c.file x.kind x.number) (owner_exact c.owner owner both.1) hangs)
+          | inr other ↦ anchored.locks file owner b m node incarnation (rw other at held)
+        ];
+      })
+    where
+      theirs : (file : ℕ) (owner : Owner) → (c.owner.node ≡ p.node) × (c.owner.incarnation ≡ p.incarnation) → ((owner.node == p.node) && (owner.incarnation == p.incarnation)) ≡ false → (locked t c mode).locks file owner ≡ t.locks file owner
+      theirs file owner own e = elim (cases_Bool ((c.file == file) && same_owner c.owner owner)) [
+        | inl this ↦
+            let is = owner_exact c.owner owner (and_parts (c.file == file) (same_owner c.owner owner) this).1 in
+            let node : owner.node ≡ p.node = ap (λ (x : Owner). x.node) (sym is) ∙ own.0 in
+            let incarnation : owner.incarnation ≡ p.incarnation = ap (λ (x : Owner). x.incarnation) (sym is) ∙ own.1 in
+            absurd (both_ways ((owner.node == p.node) && (owner.incarnation == p.incarnation)) e (and_from (owner.node == p.node) (owner.incarnation == p.incarnation) (eq-eqb owner.node p.node node) (eq-eqb owner.incarnation p.incarnation incarnation)))
+        | inr other ↦ rw other refl
+      ]
+
+  -- so a lock call leaves the table or locks bytes
+  chosen_keeps : (u : Table) (need : Option Mode) (fd : ℕ) (kind : Kind) (start len : ℤ) (c : LockTarget) (mode : Option Mode) (reply : Reply) (b : Bool) → target t p need fd kind start len ≡ Ok c → Is (sets t c mode b) reply u → AreAnchored u
+  chosen_keeps u need fd kind start len c mode reply true found h = subst AreAnchored (sym h.1) (locked_keeps need fd kind start len c mode found)
+  chosen_keeps u need fd kind start len c mode reply false found h = subst AreAnchored (sym h.1) a
+
+  same_keeps : (u : Table) → u ≡ t → AreAnchored u
+  same_keeps u same = subst AreAnchored (sym same) a
+
+  set_keeps : (u : Table) (fd : ℕ) (kind : Kind) (mode : Mode) (start len : ℤ) (reply : Reply) (c : LockTarget) → target t p (Some mode) fd kind start len ≡ Ok c → SetStep t mode reply u c → AreAnchored u
+  set_keeps u fd kind mode start len (Again lock) c found h = same_keeps u h.1
+  set_keeps u fd kind mode start len Done c found h = chosen_keeps u (Some mode) fd kind start len c (Some mode) Done (nat_le (regions_with t c (Some mode)) t.limit) found h.1
+  set_keeps u fd kind mode start len NoLocks c found h = chosen_keeps u (Some mode) fd kind start len c (Some mode) NoLocks (nat_le (regions_with t c (Some mode)) t.limit) found h.1
+  set_keeps u fd kind mode start len _ c found h = absurd h
+
+  wait_keeps : (u : Table) (fd : ℕ) (kind : Kind) (mode : Mode) (start len : ℤ) (reply : Reply) (c : LockTarget) → target t p (Some mode) fd kind start len ≡ Ok c → WaitStep t mode reply u c → AreAnchored u
+  wait_keeps u fd kind mode start len Interrupted c found h = same_keeps u h
+  wait_keeps u fd kind mode start len Done c found h = chosen_keeps u (Some mode) fd kind start len c (Some mode) Done (nat_le (regions_with t c (Some mode)) t.limit) found h.1
+  wait_keeps u fd kind mode start len NoLocks c found h = chosen_keeps u (Some mode) fd kind start len c (Some mode) NoLocks (nat_le (regions_with t c (Some mode)) t.limit) found h.1
+  wait_keeps u fd kind mode start len _ c found h = absurd h
+
+  query_keeps : (u : Table) (mode : Mode) (reply : Reply) (c : LockTarget) → QueryStep t mode reply u c → AreAnchored u
+  query_keeps u mode (Blocked lock) c h = same_keeps u h.1
+  query_keeps u mode Free c h = same_keeps u h.1
+  query_keeps u mode _ c h = absurd h
+
+  tested_keeps : (u : Table) (reply : Reply) (found : Result LockTarget Reply) (Answer : LockTarget → Type 0) → ((c : LockTarget) → found ≡ Ok c → Answer c → AreAnchored u) → AfterTests t found reply u Answer → AreAnchored u
+  tested_keeps u reply (Err refusal) Answer keeps h = same_keeps u h.1
+  tested_keeps u reply (Ok c) Answer keeps h = keeps c refl h
+
+  unlock_keeps : (u : Table) (fd : ℕ) (kind : Kind) (start len : ℤ) (reply : Reply) (found : Result LockTarget Reply) → target t p None fd kind start len ≡ found → Is (after_unlock t found) reply u → AreAnchored u
+  unlock_keeps u fd kind start len reply (Err refusal) is h = same_keeps u h.1
+  unlock_keeps u fd kind start len reply (Ok c) is h = chosen_keeps u None fd kind start len c None reply (nat_le (regions_with t c None) t.limit) is h
+
+  closes_keep : (u : Table) (fd : ℕ) (reply : Reply) (b : Bool) (x : Option Opened) → descriptor t p fd ≡ x → Is (if b then closed_at t p fd x else (t, NoProcess)) reply u → AreAnchored u
+  closes_keep u fd reply false x is h = same_keeps u h.1
+  closes_keep u fd reply true None is h = same_keeps u h.1
+  closes_keep u fd reply true (Some o) is h = subst AreAnchored (sym h.1) (closed_keeps p t fd o a is host)
+
+  exits_keep_if : (u : Table) (reply : Reply) (b : Bool) → Is (if b then (exited t p, Done) else (t, NoProcess)) reply u → AreAnchored u
+  exits_keep_if u reply false h = same_keeps u h.1
+  exits_keep_if u reply true h = subst AreAnchored (sym h.1) (exit_keeps p t a host)
+
+  pub calls_keep_anchored : (u : Table) (op : Op) (reply : Reply) → IsNumber most_processes p.pid → Step t p op reply u → AreAnchored u
+  calls_keep_anchored u Spawn reply number h = beside_keeps u (after_spawn ps p.pid) reply (subst (λ (x : Processes). IsOwn (beside its p (after_spawn x p.pid)).0 p.node p.incarnation) here (spawn_follows its p.node p.incarnation p.pid is_own number).own) spawn_stays h
+  calls_keep_anchored u (Fork child) reply number h = beside_keeps u (after_fork ps p.pid child) reply (subst (λ (x : Processes). IsOwn (beside its p (after_fork x p.pid child)).0 p.node p.incarnation) here (fork_follows its p.node p.incarnation p.pid is_own child h.0).own) (fork_stays child) h.1
+  calls_keep_anchored u (Open file access) reply number h = beside_keeps u (after_open ps p.pid file access) reply (subst (λ (x : Processes). IsOwn (beside its p (after_open x p.pid file access)).0 p.node p.incarnation) here (open_follows its p.node p.incarnation p.pid is_own file access number).own) (open_stays file access) h
+  calls_keep_anchored u (Dup fd) reply number h = beside_keeps u (after_dup ps p.pid fd) reply (subst (λ (x : Processes). IsOwn (beside its p (after_dup x p.pid fd)).0 p.node p.incarnation) here (dup_follows its p.node p.incarnation p.pid is_own fd).own) (dup_stays fd) h
+  calls_keep_anchored u (Close fd) reply number h = closes_keep u fd reply (is_running t p) (descriptor t p fd) refl h
+  calls_keep_anchored u Exit reply number h = exits_keep_if u reply (is_running t p) h
+  calls_keep_anchored u (Set fd kind mode start len) reply number h = tested_keeps u reply (target t p (Some mode) fd kind start len) (SetStep t mode reply u) (λ c found step. set_keeps u fd kind mode start len reply c found step) h
+  calls_keep_anchored u (Wait fd kind mode start len) reply number h = tested_keeps u reply (target t p (Some mode) fd kind start len) (WaitStep t mode reply u) (λ c found step. wait_keeps u fd kind mode start len reply c found step) h
+  calls_keep_anchored u (Unlock fd kind start len) reply number h = unlock_keeps u fd kind start len reply (target t p None fd kind start len) refl h
+  calls_keep_anchored u (Query fd kind mode start len) reply number h = tested_keeps u reply (target t p None fd kind start len) (QueryStep t mode reply u) (λ c found step. query_keeps u mode reply c step) h

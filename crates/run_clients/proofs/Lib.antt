@@ -1,0 +1,13 @@
+mod Calls
+mod Drops
+mod Explains
+mod FileViews
+mod Following
+mod Going
+mod Kept
+mod LockDeeds
+mod Lookups
+mod Noting
+mod Runs
+mod Shut
+mod Timing

@@ -1,0 +1,14 @@
+use Rattle.std.proofs.Common.{◌≡◌, ◌≤◌, ◌++◌}
+use Rattle.model.specs.Limits.{most_descriptors}
+use Rattle.model.specs.Table.{closed_below}
+use Rattle.fcntl_table.specs.Tables.{table_of}
+use Rattle.run_clients.specs.Deeds.{closings_below}
+use Rattle.run_clients.proofs.closing.exit.Given as goal
+
+-- the descriptors below this one are closed
+abbrev pub invariant-loop-fd : goal.invariant-loop-fd
+invariant-loop-fd l = record {
+  below : l.fd ≤ most_descriptors;
+  table : table_of l.table ≡ closed_below (table_of l.fn.table) l.process l.fd;
+  deeds : l.deeds.items ≡ l.fn.deeds.items ++ closings_below (table_of l.fn.table) l.process l.fd;
+}

@@ -1,0 +1,6 @@
+use Rattle.fcntl_table.specs.Tables.{table_of}
+use Rattle.run_clients.specs.Seen.{HasOpened}
+use Rattle.run_clients.proofs.open_calls.push_open_calls.Given as goal
+
+abbrev pub invariant-loop-index : goal.invariant-loop-index
+invariant-loop-index l = HasOpened l.entries (table_of l.table) l.fn.seen.items l.seen.items

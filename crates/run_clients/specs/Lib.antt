@@ -1,0 +1,5 @@
+pub mod Anchored
+pub mod Deeds
+pub mod References
+pub mod Times
+pub mod Seen

@@ -1,0 +1,127 @@
+//! What the clients of a run saw.
+ghost use Rattle.std.specs.Prelude.{◌≡◌, ◌++◌, ◌∷◌, [], ◌+◌, ℕ, List, length, map, Some, IfOk, IfSome, OnOk};
+ghost use Rattle.std.specs.List.{AllByRecursion};
+ghost use Rattle.model.specs.Limits.{IsProcess};
+ghost use Rattle.model.specs.Table.{Table};
+ghost use Rattle.messages.specs.declared.entry.Entry.{Entry};
+ghost use Rattle.cluster_core.specs.Histories.{EntryAt, ItemStep};
+ghost use Rattle.fcntl_table.specs.Tables.{table_of};
+ghost use Rattle.run_clients.specs.Anchored.{AreAnchored};
+ghost use Rattle.run_clients.specs.declared.answer.Answer.TheVariants.{At};
+ghost use Rattle.run_clients.specs.Times.{AreTimes, IsKept, IsKnown};
+ghost use Rattle.run_clients.specs.Seen.{AreExplained, IsOpenCall, IsSeen, call_of, item_deeds, op_of};
+
+use crate::answer::Answer;
+use crate::deed::Deed;
+use crate::file_call::FileCall;
+use crate::follow::take;
+use crate::open_calls::push_open_calls;
+use crate::times::Times;
+use cluster_core::item::Item;
+use cluster_core::journal::Journal;
+use fcntl_table::table::FcntlTable;
+use model::op::Op;
+use placement::placed::placed;
+use std::alloc::{AllocError, Global};
+
+/// What the clients of the journal's run saw: the calls of its history about files, in the order of that, each from
+/// the entry that makes it to the one that answers it. A set or a wait that is done gave its owner the bytes, an
+/// unlock took them, a denial and a query tell what was in the way. A close drops the locks of the process in the
+/// file, the last close of a description those of that; an exit closes each descriptor, and where a node fails each
+/// of its processes exits. Other calls, and those that are refused for another reason, are not among them. Behind
+/// them come lock calls that have no reply.
+///
+/// One table of record locks explains the calls about each file, in the order in which they stand.
+///
+/// # Errors
+/// `AllocError`.
+pub fn clients_of(alloc: Global, journal: &Journal) -> Result<Vec<FileCall>, AllocError>
+    ensures seen { IfOk result (λ seen. IsSeen journal.now.shape journal.now.entries seen.items) }
+    ensures explained { IfOk result (λ seen. AreExplained seen.items) }
+{
+    let history = placed(alloc, journal)?;
+    let times = Times::of(alloc, journal.entries())?;
+    let mut table = FcntlTable::new(alloc, history.version().most_regions());
+    let mut seen = Vec::new(alloc);
+    for item in history.items() {
+        see(alloc, &mut table, &times, item, &mut seen)?;
+    }
+    push_open_calls(alloc, &mut seen, &table, &times, journal.entries())?;
+    Ok(seen)
+}
+
+// The item leads the table on. Adds its calls.
+fn see(
+    alloc: Global,
+    table: &mut FcntlTable,
+    times: &Times,
+    item: &Item,
+    seen: &mut Vec<FileCall>,
+) -> Result<(), AllocError>
+    requires may { (next : Table) × ItemStep (table_of table.old) item.now next }
+    requires anchored { AreAnchored (table_of table.old) }
+    requires known { IsKnown times.now item.now }
+    ensures step { OnOk result (ItemStep (table_of table.old) item.now (table_of table.new)) }
+    ensures seen { OnOk result ((begin : ℕ) × (end : ℕ) × IsKept times.now item.now begin end × (seen.new.items ≡ seen.old.items ++ map (call_of (op_of item.now) begin (At end)) (item_deeds (table_of table.old) item.now))) }
+{
+    let (begin, end) = times.of_item(item);
+    let mut deeds = Vec::new(alloc);
+    take(table, item, &mut deeds)?;
+    push_calls(
+        seen,
+        op_of(item),
+        begin,
+        Answer::At(u64::from(end)),
+        deeds.as_slice(),
+    )
+}
+
+// What the process asked for; one of a node that fails exits.
+fn op_of(item: &Item) -> Op
+    ensures { result ≡ op_of item.now }
+{
+    match *item {
+        Item::Answered { op, .. } => op,
+        Item::Gone { .. } => Op::Exit,
+    }
+}
+
+/// Adds the deeds as calls of their owners.
+///
+/// # Errors
+/// `AllocError`.
+pub(crate) fn push_calls(
+    seen: &mut Vec<FileCall>,
+    op: Op,
+    begin: u32,
+    end: Answer,
+    deeds: &[Deed],
+) -> Result<(), AllocError>
+    ensures { OnOk result (seen.new.items ≡ seen.old.items ++ map (call_of op begin end) deeds.now) }
+{
+    for deed in deeds {
+        push_call(seen, op, begin, end, *deed)?;
+    }
+    Ok(())
+}
+
+// Adds the deed as a call of its owner.
+fn push_call(
+    seen: &mut Vec<FileCall>,
+    op: Op,
+    begin: u32,
+    end: Answer,
+    deed: Deed,
+) -> Result<(), AllocError>
+    ensures { OnOk result (seen.new.items ≡ seen.old.items ++ call_of op begin end deed ∷ []) }
+{
+    seen.push(FileCall {
+        file: deed.file,
+        op,
+        owner: deed.owner,
+        begin: u64::from(begin),
+        end,
+        act: deed.act,
+    })?;
+    Ok(())
+}

@@ -1,0 +1,135 @@
+//! Descriptors that are closed, processes that exit and nodes that fail, with what that does to locks.
+ghost use Rattle.std.specs.Prelude.{◌≡◌, ◌↔◌, ◌++◌, true, IsTrue, OnOk};
+ghost use Rattle.model.specs.Limits.{IsHost};
+ghost use Rattle.model.specs.Owners.{process_owner};
+ghost use Rattle.model.specs.Table.{is_running, descriptor, closed_if, exited, exited_if, gone};
+ghost use Rattle.fcntl_table.specs.Tables.{table_of};
+ghost use Rattle.run_clients.specs.Deeds.{closing, exit_deeds, exit_deeds_if, gone_deeds};
+ghost use Rattle.run_clients.specs.Anchored.{AreAnchored};
+
+use crate::deed::Deed;
+use crate::references::{is_open, is_running, refers};
+use client_history::act::Act;
+use fcntl_table::table::FcntlTable;
+use model::limits::{MOST_DESCRIPTORS, MOST_NODES, MOST_PROCESSES};
+use model::owner::{Kind, Owner};
+use model::process::Process;
+use std::alloc::AllocError;
+
+/// Closes the descriptor of the process, which runs, if there is such a one.
+///
+/// # Errors
+/// `AllocError`.
+pub(crate) fn close(
+    table: &mut FcntlTable,
+    process: Process,
+    fd: u8,
+    deeds: &mut Vec<Deed>,
+) -> Result<(), AllocError>
+    requires runs { is_running (table_of table.old) process ≡ true }
+    requires anchored { AreAnchored (table_of table.old) }
+    ensures table { OnOk result (table_of table.new ≡ closed_if (table_of table.old) process fd (descriptor (table_of table.old) process fd)) }
+    ensures deeds { OnOk result (deeds.new.items ≡ deeds.old.items ++ closing (table_of table.old) process fd (descriptor (table_of table.old) process fd)) }
+{
+    let Some(reference) = refers(table, process, fd) else {
+        return Ok(());
+    };
+    table.close(process, fd);
+    deeds.push(Deed {
+        file: reference.file,
+        owner: process_owner(process),
+        act: Act::Drops,
+    })?;
+    if !is_open(table, process, reference.owner.number) {
+        deeds.push(Deed {
+            file: reference.file,
+            owner: reference.owner,
+            act: Act::Drops,
+        })?;
+    }
+    Ok(())
+}
+
+// The process as an owner of locks.
+fn process_owner(process: Process) -> Owner
+    ensures { result ≡ process_owner process }
+{
+    Owner {
+        node: process.node,
+        incarnation: process.incarnation,
+        kind: Kind::OfProcess,
+        number: process.pid,
+    }
+}
+
+/// Closes each descriptor of the process, which runs, and ends it.
+///
+/// # Errors
+/// `AllocError`.
+pub(crate) fn exit(
+    table: &mut FcntlTable,
+    process: Process,
+    deeds: &mut Vec<Deed>,
+) -> Result<(), AllocError>
+    requires runs { is_running (table_of table.old) process ≡ true }
+    requires anchored { AreAnchored (table_of table.old) }
+    ensures table { OnOk result (table_of table.new ≡ exited (table_of table.old) process) }
+    ensures deeds { OnOk result (deeds.new.items ≡ deeds.old.items ++ exit_deeds (table_of table.old) process) }
+{
+    for fd in 0..MOST_DESCRIPTORS {
+        close(table, process, fd, deeds)?;
+    }
+    table.exit(process);
+    Ok(())
+}
+
+/// Ends each process of the node in that incarnation.
+///
+/// # Errors
+/// `AllocError`.
+pub(crate) fn fail(
+    table: &mut FcntlTable,
+    node: u8,
+    incarnation: u16,
+    deeds: &mut Vec<Deed>,
+) -> Result<(), AllocError>
+    requires anchored { AreAnchored (table_of table.old) }
+    ensures table { OnOk result (table_of table.new ≡ gone (table_of table.old) node incarnation) }
+    ensures deeds { OnOk result (deeds.new.items ≡ deeds.old.items ++ gone_deeds (table_of table.old) node incarnation) }
+{
+    if !is_host(node, incarnation) {
+        return Ok(());
+    }
+    for pid in 1..MOST_PROCESSES + 1 {
+        let process = Process {
+            node,
+            incarnation,
+            pid,
+        };
+        exit_if(table, process, deeds)?;
+    }
+    Ok(())
+}
+
+// Whether a node can have that number and incarnation.
+fn is_host(node: u8, incarnation: u16) -> bool
+    ensures { IsTrue result ↔ IsHost node incarnation }
+{
+    1 <= node && node <= MOST_NODES && 1 <= incarnation
+}
+
+// Ends the process, if it runs.
+fn exit_if(
+    table: &mut FcntlTable,
+    process: Process,
+    deeds: &mut Vec<Deed>,
+) -> Result<(), AllocError>
+    requires anchored { AreAnchored (table_of table.old) }
+    ensures table { OnOk result (table_of table.new ≡ exited_if (table_of table.old) process) }
+    ensures deeds { OnOk result (deeds.new.items ≡ deeds.old.items ++ exit_deeds_if (table_of table.old) process) }
+{
+    if is_running(table, process) {
+        exit(table, process, deeds)?;
+    }
+    Ok(())
+}

@@ -1,0 +1,167 @@
+//! What lock calls do to locks.
+ghost use Rattle.std.specs.Prelude.{◌≡◌, ◌++◌, ◌∷◌, [], OnOk};
+ghost use Rattle.fcntl_table.specs.Tables.{table_of};
+ghost use Rattle.run_clients.specs.Deeds.{asking, denied, listed, lock_deed, locking, unlocking};
+
+use crate::deed::Deed;
+use client_history::act::Act;
+use client_history::told_lock::ToldLock;
+use fcntl_table::table::FcntlTable;
+use intervals::span::Span;
+use model::lock_info::LockInfo;
+use model::lock_target::LockTarget;
+use model::mode::Mode;
+use model::op::Op;
+use model::process::Process;
+use model::reply::Reply;
+use std::alloc::AllocError;
+
+/// Adds what a lock call that is answered so does to locks, if it does or tells something: none where the call is no lock
+/// call, or is refused by its tests.
+///
+/// # Errors
+/// `AllocError`.
+pub(crate) fn push_lock_deed(
+    deeds: &mut Vec<Deed>,
+    table: &FcntlTable,
+    process: Process,
+    op: &Op,
+    reply: &Reply,
+) -> Result<(), AllocError>
+    ensures { OnOk result (deeds.new.items ≡ deeds.old.items ++ listed (lock_deed (table_of table.now) process op.now reply.now)) }
+{
+    match *op {
+        Op::Set {
+            fd,
+            kind,
+            mode,
+            start,
+            len,
+        } => push_locking(
+            deeds,
+            mode,
+            reply,
+            table.target(process, Some(mode), fd, kind, start, len),
+        ),
+        Op::Wait {
+            fd,
+            kind,
+            mode,
+            start,
+            len,
+        } => push_locking(
+            deeds,
+            mode,
+            reply,
+            table.target(process, Some(mode), fd, kind, start, len),
+        ),
+        Op::Unlock {
+            fd,
+            kind,
+            start,
+            len,
+        } => push_unlocking(
+            deeds,
+            reply,
+            table.target(process, None, fd, kind, start, len),
+        ),
+        Op::Query {
+            fd,
+            kind,
+            mode,
+            start,
+            len,
+        } => push_asking(
+            deeds,
+            mode,
+            reply,
+            table.target(process, None, fd, kind, start, len),
+        ),
+        _ => Ok(()),
+    }
+}
+
+// What a set or a wait in the mode does that is answered so.
+fn push_locking(
+    deeds: &mut Vec<Deed>,
+    mode: Mode,
+    reply: &Reply,
+    target: Result<LockTarget, Reply>,
+) -> Result<(), AllocError>
+    ensures { OnOk result (deeds.new.items ≡ deeds.old.items ++ listed (locking mode reply.now target)) }
+{
+    let Ok(target) = target else {
+        return Ok(());
+    };
+    let span = target.span;
+    match *reply {
+        Reply::Done => push(deeds, target, Act::Locks { mode, span }),
+        Reply::Again(lock) => push(deeds, target, denied(mode, span, lock)),
+        _ => Ok(()),
+    }
+}
+
+// What an unlock does that is answered so.
+fn push_unlocking(
+    deeds: &mut Vec<Deed>,
+    reply: &Reply,
+    target: Result<LockTarget, Reply>,
+) -> Result<(), AllocError>
+    ensures { OnOk result (deeds.new.items ≡ deeds.old.items ++ listed (unlocking reply.now target)) }
+{
+    let Ok(target) = target else {
+        return Ok(());
+    };
+    let span = target.span;
+    match *reply {
+        Reply::Done => push(deeds, target, Act::Frees { span }),
+        _ => Ok(()),
+    }
+}
+
+// What a query for the mode finds that is answered so.
+fn push_asking(
+    deeds: &mut Vec<Deed>,
+    mode: Mode,
+    reply: &Reply,
+    target: Result<LockTarget, Reply>,
+) -> Result<(), AllocError>
+    ensures { OnOk result (deeds.new.items ≡ deeds.old.items ++ listed (asking mode reply.now target)) }
+{
+    let Ok(target) = target else {
+        return Ok(());
+    };
+    let span = target.span;
+    match *reply {
+        Reply::Free => push(deeds, target, Act::IsFree { mode, span }),
+        Reply::Blocked(lock) => push(deeds, target, denied(mode, span, lock)),
+        _ => Ok(()),
+    }
+}
+
+// Adds what the call with this target does.
+fn push(deeds: &mut Vec<Deed>, target: LockTarget, act: Act) -> Result<(), AllocError>
+    ensures { OnOk result (deeds.new.items ≡ deeds.old.items ++ record { file = target.file; owner = target.owner; act = act } ∷ []) }
+{
+    deeds.push(Deed {
+        file: target.file,
+        owner: target.owner,
+        act,
+    })?;
+    Ok(())
+}
+
+// The lock was in the way, all of which is told.
+fn denied(mode: Mode, span: Span, lock: LockInfo) -> Act
+    ensures { result ≡ denied mode span lock }
+{
+    Act::IsDenied {
+        mode,
+        span,
+        told: ToldLock {
+            mode: Some(lock.mode),
+            span: Some(lock.span),
+            owner: Some(lock.owner),
+        },
+    }
+}

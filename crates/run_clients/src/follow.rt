@@ -1,0 +1,97 @@
+//! A history that is followed item by item, with what its items do to locks.
+ghost use Rattle.std.specs.Prelude.{◌≡◌, ◌++◌, OnOk};
+ghost use Rattle.model.specs.Table.{Table};
+ghost use Rattle.model.specs.Limits.{IsProcess};
+ghost use Rattle.cluster_core.specs.Histories.{caller, ItemStep};
+ghost use Rattle.fcntl_table.specs.Tables.{table_of};
+ghost use Rattle.run_clients.specs.Anchored.{AreAnchored};
+ghost use Rattle.run_clients.specs.Deeds.{listed, lock_deed};
+ghost use Rattle.run_clients.specs.Seen.{item_deeds};
+
+use crate::closing::{close, exit, fail};
+use crate::deed::Deed;
+use crate::deeds::push_lock_deed;
+use cluster_core::item::Item;
+use fcntl_table::table::FcntlTable;
+use model::call::CallId;
+use model::op::Op;
+use model::process::Process;
+use model::reply::Reply;
+use placement::legal::follow;
+use std::alloc::AllocError;
+
+/// The item, which may follow, leads the table on. Adds what it does to locks.
+///
+/// # Errors
+/// `AllocError`.
+pub(crate) fn take(
+    table: &mut FcntlTable,
+    item: &Item,
+    deeds: &mut Vec<Deed>,
+) -> Result<(), AllocError>
+    requires may { (next : Table) × ItemStep (table_of table.old) item.now next }
+    requires anchored { AreAnchored (table_of table.old) }
+    ensures step { OnOk result (ItemStep (table_of table.old) item.now (table_of table.new)) }
+    ensures deeds { OnOk result (deeds.new.items ≡ deeds.old.items ++ item_deeds (table_of table.old) item.now) }
+{
+    match *item {
+        Item::Answered {
+            id,
+            pid,
+            op: Op::Close { fd },
+            reply: Reply::Done,
+            ..
+        } => close(table, caller(id, pid), fd, deeds),
+        Item::Answered {
+            id,
+            pid,
+            op: Op::Exit,
+            reply: Reply::Done,
+            ..
+        } => exit(table, caller(id, pid), deeds),
+        Item::Answered {
+            id,
+            pid,
+            op,
+            reply,
+            ..
+        } => take_call(table, item, caller(id, pid), &op, &reply, deeds),
+        Item::Gone {
+            node,
+            incarnation,
+            ..
+        } => fail(table, node, incarnation, deeds),
+    }
+}
+
+// The same of a call that is neither a close nor an exit that is done.
+fn take_call(
+    table: &mut FcntlTable,
+    item: &Item,
+    process: Process,
+    op: &Op,
+    reply: &Reply,
+    deeds: &mut Vec<Deed>,
+) -> Result<(), AllocError>
+    requires may { (next : Table) × ItemStep (table_of table.old) item.now next }
+    ensures step { OnOk result (ItemStep (table_of table.old) item.now (table_of table.new)) }
+    ensures deeds { OnOk result (deeds.new.items ≡ deeds.old.items ++ listed (lock_deed (table_of table.old) process op.now reply.now)) }
+{
+    push_lock_deed(deeds, table, process, op, reply)?;
+    if !follow(table, item)? {
+        unreachable!()
+    }
+    Ok(())
+}
+
+// The process that makes the call.
+fn caller(id: CallId, pid: u16) -> Process
+    requires { IsProcess (caller id pid) }
+    ensures { result ≡ caller id pid }
+{
+    Process {
+        node: id.node,
+        incarnation: id.incarnation,
+        pid,
+    }
+}

@@ -1,0 +1,86 @@
+//! Lock calls that have no reply.
+ghost use Rattle.std.specs.Prelude.{◌≡◌, ◌≤◌, List, length, IfSome, OnOk};
+ghost use Rattle.messages.specs.declared.entry.Entry.{Entry};
+ghost use Rattle.cluster_core.specs.World.{journal_limit};
+ghost use Rattle.cluster_core.specs.Histories.{EntryAt, caller};
+ghost use Rattle.fcntl_table.specs.Tables.{table_of};
+ghost use Rattle.run_clients.specs.Times.{AreTimes};
+ghost use Rattle.run_clients.specs.Seen.{HasOpened};
+
+use crate::answer::Answer;
+use crate::clients::push_calls;
+use crate::deeds::push_lock_deed;
+use crate::file_call::FileCall;
+use crate::times::Times;
+use fcntl_table::table::FcntlTable;
+use messages::entry::Entry;
+use messages::event::Event;
+use model::call::CallId;
+use model::limits::MOST_PROCESSES;
+use model::process::Process;
+use model::reply::Reply;
+use std::alloc::{AllocError, Global};
+
+/// Adds the lock calls of the entries that have no reply, each with what it does where it is answered after all, by the
+/// table in the end.
+///
+/// # Errors
+/// `AllocError`.
+pub(crate) fn push_open_calls(
+    alloc: Global,
+    seen: &mut Vec<FileCall>,
+    table: &FcntlTable,
+    times: &Times,
+    entries: &[Entry],
+) -> Result<(), AllocError>
+    requires few { length entries.now ≤ journal_limit }
+    requires times { AreTimes entries.now times.now (length entries.now) }
+    ensures { OnOk result (HasOpened entries.now (table_of table.now) seen.old.items seen.new.items) }
+{
+    for (index, entry) in entries.iter().enumerate() {
+        push_open_call(alloc, seen, table, times, index as u32 + 1, entry)?;
+    }
+    Ok(())
+}
+
+// Adds the lock call that the entry at the position makes, if it makes one and that has no reply.
+fn push_open_call(
+    alloc: Global,
+    seen: &mut Vec<FileCall>,
+    table: &FcntlTable,
+    times: &Times,
+    position: u32,
+    entry: &Entry,
+) -> Result<(), AllocError>
+    ensures { OnOk result ((es : List Entry) → EntryAt es position entry.now → AreTimes es times.now (length es) → HasOpened es (table_of table.now) seen.old.items seen.new.items) }
+{
+    let Some(id) = entry.call() else {
+        return Ok(());
+    };
+    if times.is_answered(id) {
+        return Ok(());
+    }
+    let Event::Call { pid, op, .. } = entry.event() else {
+        return Ok(());
+    };
+    let Some(process) = process_of(id, *pid) else {
+        return Ok(());
+    };
+    let mut deeds = Vec::new(alloc);
+    push_lock_deed(&mut deeds, table, process, op, &Reply::Done)?;
+    push_calls(seen, *op, position, Answer::Never, deeds.as_slice())
+}
+
+// The process that makes the call, if a node can have one of that number.
+fn process_of(id: CallId, pid: u16) -> Option<Process>
+    ensures { IfSome result (λ process. process ≡ caller id pid) }
+{
+    if pid < 1 || pid > MOST_PROCESSES {
+        return None;
+    }
+    Some(Process {
+        node: id.node,
+        incarnation: id.incarnation,
+        pid,
+    })
+}

@@ -1,0 +1,119 @@
+//! The line of a call in a history of clients.
+use crate::answer::Answer;
+use crate::file_call::FileCall;
+use client_history::act::Act;
+use client_history::told_lock::ToldLock;
+use intervals::span::{GREATEST, Span};
+use model::mode::Mode;
+use model::op::Op;
+use model::owner::{Kind, Owner};
+use std::alloc::AllocError;
+use std::fmt::Write;
+use texts::words::Named;
+
+/// Writes `call BEGIN END OWNER OP -> REPLY`, or, where no reply is known, `call BEGIN - OWNER OP`.
+///
+/// # Errors
+/// `AllocError`.
+pub(crate) fn push_call(out: &mut String, call: &FileCall) -> Result<(), AllocError> {
+    push_times(out, call.begin, call.end)?;
+    push_client(out, &call.owner)?;
+    push_asked(out, call.file, &call.op, &call.act)?;
+    if let Answer::At(_) = call.end {
+        push_answer(out, &call.op, &call.act)?;
+    }
+    out.push_str("\n")
+}
+
+fn push_times(out: &mut String, begin: u64, end: Answer) -> Result<(), AllocError> {
+    match end {
+        Answer::At(end) => write!(out, "call {begin} {end} "),
+        Answer::Never => write!(out, "call {begin} - "),
+    }
+}
+
+// The owner as `N.I.pPID` or `N.I.dNUMBER`: an `@` would stand before the name of a machine.
+fn push_client(out: &mut String, owner: &Owner) -> Result<(), AllocError> {
+    let Owner {
+        node,
+        incarnation,
+        kind,
+        number,
+    } = *owner;
+    let letter = match kind {
+        Kind::OfProcess => "p",
+        Kind::OfDescription => "d",
+    };
+    write!(out, "{node}.{incarnation}.{letter}{number}")
+}
+
+// What the owner asked for.
+fn push_asked(out: &mut String, file: u16, op: &Op, act: &Act) -> Result<(), AllocError> {
+    match act {
+        Act::Locks { mode, span } | Act::IsDenied { mode, span, .. } | Act::IsFree { mode, span } =>
+            {
+                let verb = verb_of(op);
+                let mode = Mode::word(*mode);
+                write!(out, " {verb} {file} {mode}")?;
+                push_segment(out, span)
+            }
+        Act::Frees { span } => {
+            write!(out, " unlock {file}")?;
+            push_segment(out, span)
+        }
+        Act::Drops => write!(out, " close {file}"),
+    }
+}
+
+// The word of a set, a wait or a query.
+fn verb_of(op: &Op) -> &'static str {
+    match op {
+        Op::Wait { .. } => "wait",
+        Op::Query { .. } => "query",
+        _ => "set",
+    }
+}
+
+// What the owner was answered.
+fn push_answer(out: &mut String, op: &Op, act: &Act) -> Result<(), AllocError> {
+    match act {
+        Act::Locks { .. } | Act::Frees { .. } | Act::Drops => out.push_str(" -> done"),
+        Act::IsFree { .. } => out.push_str(" -> free"),
+        Act::IsDenied { told, .. } => {
+            let word = denial_of(op);
+            write!(out, " -> {word}")?;
+            push_told(out, told)
+        }
+    }
+}
+
+// The word of a denial.
+fn denial_of(op: &Op) -> &'static str {
+    match op {
+        Op::Query { .. } => "blocked",
+        _ => "again",
+    }
+}
+
+// The lock that is told, where all of it is.
+fn push_told(out: &mut String, told: &ToldLock) -> Result<(), AllocError> {
+    let (Some(mode), Some(span), Some(owner)) = (told.mode, told.span, told.owner) else {
+        return Ok(());
+    };
+    let mode = Mode::word(mode);
+    write!(out, " {mode}")?;
+    push_segment(out, &span)?;
+    out.push_str(" ")?;
+    push_client(out, &owner)
+}
+
+// Writes ` START LEN`; LEN is 0 where the span has the greatest byte that a file can have.
+fn push_segment(out: &mut String, span: &Span) -> Result<(), AllocError> {
+    let start = span.lo;
+    let len = if span.hi == GREATEST {
+        0
+    } else {
+        span.hi - span.lo + 1
+    };
+    write!(out, " {start} {len}")
+}
