@@ -1,214 +1,190 @@
--- What clap makes of the words of `judge`, word by word.
-use Rattle.std.proofs.Common.{arith, refl, sym, subst, codes, true, false, ℕ, Bool, List, [], ◌∷◌, ◌++◌, ◌≡◌, Option, Some, None}
-use Rattle.std.proofs.lemmas.List.{append_assoc}
-use Rattle.clap.specs.Walk.{positional, Walk, idle, option}
+-- What clap makes of the words of `judge`.
+use Rattle.std.specs.List.{fold}
+use Rattle.std.specs.Prelude.{option_and_then, option_map, slice_get, unwrap_or}
+use Rattle.std.specs.Option.{option_map_or}
+use Rattle.std.specs.Str.{bytes_eq}
+use Rattle.std.proofs.Common.{arith, refl, ap, ap₂, sym, subst, codes, length, map, true, false, List, [], ◌∷◌, ◌++◌, ◌≡◌, ◌≢◌, ◌∙◌, Option, Some, None}
+use Rattle.std.proofs.lemmas.List.{append-nil}
+use Rattle.clap.specs.Faults.{check_fault}
+use Rattle.clap.specs.Facts.{explicit_source}
+use Rattle.clap.specs.Kinds.{or_else}
+use Rattle.clap.specs.Takes.{is_given}
+use Rattle.clap.specs.Walk.{has_row, one_of, row_text, with_default}
 use Rattle.clap.specs.Words.{Row, Text}
 use Rattle.clap.proofs.OnLiterals.{clap_on_literals}
+use Rattle.command_line.specs.JudgeTasks.{JudgeTask, MayExplain, MayJudge, allow_words, rule_text}
 use Rattle.command_line.specs.Program.{flag_text, judge_app, judge_values_in}
-use Rattle.command_line.specs.Tasks.{judge, flag_words, greatest_seed, option_words, MayJudge}
+use Rattle.command_line.specs.Tasks.{judge, greatest_seed, option_words}
 use Rattle.command_line.specs.Words.{AsksFor}
-use Rattle.command_line.proofs.CommandWords.{asks_after, begin, behind_words, fault_after, is_path, met_after, none_read, number_row, path_row, read_then, words_row, ArePaths, IsPath, MayBePath, Reads, ReadsAll}
+use Rattle.command_line.proofs.CommandWords.{asks_after, fault_after, met_after, number_row, path_row, shape, words_row, ArePaths, MayBePath}
 use Rattle.command_line.proofs.BuiltCommands.{commands}
+use Rattle.command_line.proofs.JudgeReads.{base, explains_words_read, flags_read, go_on_read, json_read, number_path, order_read, picture_read, rule_rows, rules, rules_read, seen_as, stand, stats_read, words_read, AreAbsent, AreFlags, At}
 use Rattle.command_line.proofs.Numbers.{IsNumberText}
+use Rattle.command_line.proofs.WalkEnds.{behind, defaults_fine, ends, flag_value, flags_found, is_among, no_row, not_named, row_for, rows_of_flags, stays, words_of_flags, AreFine, FlagList, HaveOwnNames}
 
-abbrev values_after : Walk → Option (Text × Option (List Text) × List (Option Text))
-values_after w = judge_values_in (met_after judge_app w)
+-- the flags of a judgement
+abbrev flags_of : JudgeTask → FlagList
+flags_of t = (codes "order", t.order) ∷ (codes "go-on", t.go_on) ∷ (codes "stats", t.stats) ∷ (codes "json", t.json) ∷ (codes "picture", t.picture) ∷ []
 
--- the rows of the histories before the last
-abbrev rows : List Text → List Row
-rows [] = []
-rows (history ∷ histories) = words_row (codes "HISTORY") (history ∷ histories) ∷ []
+all_read : (t : JudgeTask) → AreFlags (flags_of t)
+all_read t = (order_read, (go_on_read, (stats_read, (json_read, (picture_read, tt)))))
 
--- where histories are read, of which this is the last
-abbrev has_histories : List Text → Text → Walk
-has_histories before history = behind_words (rows before) (Some (codes "HISTORY", history ∷ [])) positional
+own_names : (t : JudgeTask) → HaveOwnNames (flags_of t)
+own_names t = (refl, (refl, (refl, (refl, (refl, tt)))))
 
-first_read : (history : Text) → IsPath history → Reads judge_app begin history (has_histories [] history)
+-- a flag that is not given has its default
+abbrev unset_flag : Text → Type 0
+unset_flag name = one_of name (fold with_default [] rules) ≡ Some (codes "false")
+
+record Defaults : Type 0 where
+  pub fine : AreFine rules
+  pub no_file : row_for (codes "FILE") (fold with_default [] rules) ≡ None
+  pub no_rule : row_for (codes "RULE") (fold with_default [] rules) ≡ None
+  pub order : unset_flag (codes "order")
+  pub go_on : unset_flag (codes "go-on")
+  pub stats : unset_flag (codes "stats")
+  pub json : unset_flag (codes "json")
+  pub picture : unset_flag (codes "picture")
+
+defaults : Defaults
 unfolding clap_on_literals
-first_read history p = record { step = rw (p.no_dashes, p.no_minus, p.no_minus) refl; fine = rw (p.no_dashes, p.no_minus, p.no_minus) refl }
+defaults = record {
+  fine = (refl, (refl, (refl, (refl, (refl, (refl, (refl, (refl, (refl, (refl, tt))))))))));
+  no_file = refl;
+  no_rule = refl;
+  order = refl;
+  go_on = refl;
+  stats = refl;
+  json = refl;
+  picture = refl;
+}
 
-next_read : (before : List Text) (last history : Text) → IsPath history → Reads judge_app (has_histories before last) history (has_histories (before ++ last ∷ []) history)
+has_history : (rows : List Row) → is_given (codes "HISTORY") rows ≡ true → check_fault (shape judge_app) rows false ≡ []
 unfolding clap_on_literals
-next_read [] last history p = record { step = rw (p.no_dashes, p.no_minus, p.no_minus) refl; fine = rw (p.no_dashes, p.no_minus, p.no_minus) refl }
-next_read (first ∷ more) last history p = record { step = rw (p.no_dashes, p.no_minus, p.no_minus) refl; fine = rw (p.no_dashes, p.no_minus, p.no_minus) refl }
+has_history rows given = rw given refl
 
--- the row of a flag, if it is given
-abbrev flag_rows : Text → Bool → List Row
-flag_rows name false = []
-flag_rows name true = path_row name (codes "true") ∷ []
+some_history : (explains : Option Text) (t : JudgeTask) → MayExplain explains t → t.histories ≢ []
+some_history None t may = may
+some_history (Some file) t may = λ none.
+    let empty = ap length none in
+    absurd (omega (arith, empty, may.0))
 
-module _ (number : Text) (steps : ℕ) (n : IsNumberText 1 greatest_seed number steps) where
-  number_path : IsPath number
-  number_path = is_path number n.no_option
+module _ (number : Text) (t : JudgeTask) (n : IsNumberText 1 greatest_seed number t.steps) where
+  -- the rows before those of the flags, and all
+  abbrev front : Option Text → List Text → List Row
+  front explains words = base number t.steps n t.histories explains ++ rule_rows words
 
-  -- where `--steps` is read behind them
-  abbrev waits_for_steps : List Text → Walk
-  waits_for_steps histories = behind_words (words_row (codes "HISTORY") histories ∷ []) (Some (codes "N", [])) (option (codes "N"))
+  abbrev allowed_words : List Text
+  allowed_words = map rule_text t.allowed
 
-  -- the rows behind N, and those behind `--explains FILE`, if that is given
-  abbrev seen : List Text → Option Text → List Row
-  seen histories None = words_row (codes "HISTORY") histories ∷ number_row (codes "N") number ∷ []
-  seen histories (Some file) = words_row (codes "HISTORY") histories ∷ number_row (codes "N") number ∷ path_row (codes "FILE") file ∷ []
+  abbrev flags : List Row
+  flags = rows_of_flags (flags_of t)
 
-  -- where they are read
-  abbrev named : List Text → Option Text → Walk
-  named histories None = behind_words (words_row (codes "HISTORY") histories ∷ []) (Some (codes "N", number ∷ [])) idle
-  named histories (Some file) = behind_words (seen histories None) (Some (codes "FILE", file ∷ [])) idle
+  abbrev seen : List Row
+  seen = front t.explains allowed_words ++ flags
 
-  -- where flags with these rows are read behind them
-  abbrev with_flags : List Text → Option Text → List Row → Walk
-  with_flags histories explains [] = named histories explains
-  with_flags histories explains (flag ∷ flags) = behind_words (seen histories explains ++ flag ∷ flags) None idle
+  abbrev end_rows : List Row
+  end_rows = fold with_default seen rules
 
-  abbrev flagged : List Text → Option Text → Bool → Bool → Bool → Bool → Walk
-  flagged histories explains order go_on stats json =
-      with_flags histories explains (flag_rows (codes "order") order ++ (flag_rows (codes "go-on") go_on ++ (flag_rows (codes "stats") stats ++ flag_rows (codes "json") json)))
+  -- no flag has a row before the flags
+  not_before : (name : Text) → bytes_eq (codes "HISTORY") name ≡ false → bytes_eq (codes "N") name ≡ false → bytes_eq (codes "FILE") name ≡ false → bytes_eq (codes "RULE") name ≡ false
+      → (explains : Option Text) (words : List Text) → has_row name (front explains words) ≡ false
+  not_before name h k f r None [] = rw (h, k) refl
+  not_before name h k f r None (word ∷ words) = rw (h, k, r) refl
+  not_before name h k f r (Some file) [] = rw (h, k, f) refl
+  not_before name h k f r (Some file) (word ∷ words) = rw (h, k, f, r) refl
 
-  steps_read : (before : List Text) (last : Text) → Reads judge_app (has_histories before last) (codes "--steps") (waits_for_steps (before ++ last ∷ []))
-  unfolding clap_on_literals
-  steps_read [] last = record { step = refl; fine = refl }
-  steps_read (first ∷ more) last = record { step = refl; fine = refl }
+  away : AreAbsent (flags_of t) (front t.explains allowed_words)
+  away = (
+    not_before (codes "order") refl refl refl refl t.explains allowed_words,
+    (
+      not_before (codes "go-on") refl refl refl refl t.explains allowed_words,
+      (
+        not_before (codes "stats") refl refl refl refl t.explains allowed_words,
+        (not_before (codes "json") refl refl refl refl t.explains allowed_words, (not_before (codes "picture") refl refl refl refl t.explains allowed_words, tt)),
+      ),
+    ),
+  )
 
-  number_read : (histories : List Text) → Reads judge_app (waits_for_steps histories) number (named histories None)
-  unfolding clap_on_literals
-  number_read histories =
-      let q = number_path in
-      record { step = rw (q.no_dashes, q.no_minus, q.no_minus) refl; fine = rw (q.no_dashes, q.no_minus, q.no_minus) refl }
+  -- the rows that are found
+  histories_found : (explains : Option Text) (words : List Text) → row_for (codes "HISTORY") (front explains words ++ flags) ≡ Some (words_row (codes "HISTORY") t.histories)
+  histories_found None words = refl
+  histories_found (Some file) words = refl
 
-  explains_read : (histories : List Text) → Reads judge_app (named histories None) (codes "--explains") (behind_words (seen histories None) (Some (codes "FILE", [])) (option (codes "FILE")))
-  unfolding clap_on_literals
-  explains_read histories = record { step = refl; fine = rw n.fits refl }
+  number_found : (explains : Option Text) (words : List Text) → row_for (codes "N") (front explains words ++ flags) ≡ Some (number_row (codes "N") number)
+  number_found None words = refl
+  number_found (Some file) words = refl
 
-  file_read : (histories : List Text) (file : Text) → IsPath file → Reads judge_app (behind_words (seen histories None) (Some (codes "FILE", [])) (option (codes "FILE"))) file (named histories (Some file))
-  unfolding clap_on_literals
-  file_read histories file f = record { step = rw (f.no_dashes, f.no_minus, f.no_minus) refl; fine = rw (f.no_dashes, f.no_minus, f.no_minus) refl }
+  file_found : (explains : Option Text) (words : List Text) → row_for (codes "FILE") (front explains words ++ flags) ≡ option_map (path_row (codes "FILE")) explains
+  file_found None [] = no_row (codes "FILE") flags (not_named (codes "FILE") (flags_of t) refl)
+  file_found None (word ∷ words) = no_row (codes "FILE") flags (not_named (codes "FILE") (flags_of t) refl)
+  file_found (Some file) words = refl
 
-  -- each flag behind those before it
-  order_read : (histories : List Text) (explains : Option Text) → Reads judge_app (flagged histories explains false false false false) (codes "--order") (flagged histories explains true false false false)
-  unfolding clap_on_literals
-  order_read histories None = record { step = refl; fine = rw n.fits refl }
-  order_read histories (Some file) = record { step = refl; fine = refl }
+  abbrev rule_row : List Text → Option Row
+  rule_row [] = None
+  rule_row (word ∷ words) = Some (words_row (codes "RULE") (word ∷ words))
 
-  go_on_read : (histories : List Text) (explains : Option Text) (order : Bool) → Reads judge_app (flagged histories explains order false false false) (codes "--go-on") (flagged histories explains order true false false)
-  unfolding clap_on_literals
-  go_on_read histories None false = record { step = refl; fine = rw n.fits refl }
-  go_on_read histories None true = record { step = refl; fine = refl }
-  go_on_read histories (Some file) false = record { step = refl; fine = refl }
-  go_on_read histories (Some file) true = record { step = refl; fine = refl }
+  rules_found : (explains : Option Text) (words : List Text) → row_for (codes "RULE") (front explains words ++ flags) ≡ rule_row words
+  rules_found None [] = no_row (codes "RULE") flags (not_named (codes "RULE") (flags_of t) refl)
+  rules_found None (word ∷ words) = refl
+  rules_found (Some file) [] = no_row (codes "RULE") flags (not_named (codes "RULE") (flags_of t) refl)
+  rules_found (Some file) (word ∷ words) = refl
 
-  stats_read : (histories : List Text) (explains : Option Text) (order go_on : Bool) → Reads judge_app (flagged histories explains order go_on false false) (codes "--stats") (flagged histories explains order go_on true false)
-  unfolding clap_on_literals
-  stats_read histories None false false = record { step = refl; fine = rw n.fits refl }
-  stats_read histories None false true = record { step = refl; fine = refl }
-  stats_read histories None true false = record { step = refl; fine = refl }
-  stats_read histories None true true = record { step = refl; fine = refl }
-  stats_read histories (Some file) false false = record { step = refl; fine = refl }
-  stats_read histories (Some file) false true = record { step = refl; fine = refl }
-  stats_read histories (Some file) true false = record { step = refl; fine = refl }
-  stats_read histories (Some file) true true = record { step = refl; fine = refl }
+  flag_is : (name : Text) → has_row name (front t.explains allowed_words) ≡ false → unset_flag name → one_of name end_rows ≡ Some (flag_text (is_among name (flags_of t)))
+  flag_is name none unset = flag_value name (is_among name (flags_of t)) seen rules (behind name (front t.explains allowed_words) flags none ∙ flags_found name (flags_of t) (own_names t)) unset
 
-  json_read : (histories : List Text) (explains : Option Text) (order go_on stats : Bool) → Reads judge_app (flagged histories explains order go_on stats false) (codes "--json") (flagged histories explains order go_on stats true)
-  unfolding clap_on_literals
-  json_read histories None false false false = record { step = refl; fine = rw n.fits refl }
-  json_read histories None false false true = record { step = refl; fine = refl }
-  json_read histories None false true false = record { step = refl; fine = refl }
-  json_read histories None false true true = record { step = refl; fine = refl }
-  json_read histories None true false false = record { step = refl; fine = refl }
-  json_read histories None true false true = record { step = refl; fine = refl }
-  json_read histories None true true false = record { step = refl; fine = refl }
-  json_read histories None true true true = record { step = refl; fine = refl }
-  json_read histories (Some file) false false false = record { step = refl; fine = refl }
-  json_read histories (Some file) false false true = record { step = refl; fine = refl }
-  json_read histories (Some file) false true false = record { step = refl; fine = refl }
-  json_read histories (Some file) false true true = record { step = refl; fine = refl }
-  json_read histories (Some file) true false false = record { step = refl; fine = refl }
-  json_read histories (Some file) true false true = record { step = refl; fine = refl }
-  json_read histories (Some file) true true false = record { step = refl; fine = refl }
-  json_read histories (Some file) true true true = record { step = refl; fine = refl }
+  -- the values that the rows tell
+  number_text : row_text (number_row (codes "N") number) ≡ Some number
+  number_text = rw (number_path number t.steps n).no_minus refl
 
-  json_words_read : (histories : List Text) (explains : Option Text) (order go_on stats json : Bool)
-      → ReadsAll judge_app (flagged histories explains order go_on stats false) (flag_words (codes "--json") json) (flagged histories explains order go_on stats json)
-  json_words_read histories explains order go_on stats false = none_read _ (flagged histories explains order go_on stats false)
-  json_words_read histories explains order go_on stats true = read_then _ (json_read histories explains order go_on stats) (none_read _ (flagged histories explains order go_on stats true))
+  file_text : (explains : Option Text) → option_and_then (λ (row : Row). slice_get row.values 0) (option_map (path_row (codes "FILE")) explains) ≡ explains
+  file_text None = refl
+  file_text (Some file) = refl
 
-  stats_words_read : (histories : List Text) (explains : Option Text) (order go_on stats json : Bool)
-      → ReadsAll judge_app (flagged histories explains order go_on false false) (flag_words (codes "--stats") stats ++ flag_words (codes "--json") json) (flagged histories explains order go_on stats json)
-  stats_words_read histories explains order go_on false json = json_words_read histories explains order go_on false json
-  stats_words_read histories explains order go_on true json = read_then _ (stats_read histories explains order go_on) (json_words_read histories explains order go_on true json)
+  rule_words : (words : List Text) → unwrap_or (option_map (λ (row : Row). row.values) (rule_row words)) [] ≡ words
+  rule_words [] = refl
+  rule_words (word ∷ words) = refl
 
-  go_on_words_read : (histories : List Text) (explains : Option Text) (order go_on stats json : Bool)
-      → ReadsAll judge_app (flagged histories explains order false false false) (flag_words (codes "--go-on") go_on ++ flag_words (codes "--stats") stats ++ flag_words (codes "--json") json) (flagged histories explains order go_on stats json)
-  go_on_words_read histories explains order false stats json = stats_words_read histories explains order false stats json
-  go_on_words_read histories explains order true stats json = read_then _ (go_on_read histories explains order) (stats_words_read histories explains order true stats json)
-
-  flags_read : (histories : List Text) (explains : Option Text) (order go_on stats json : Bool)
-      → ReadsAll judge_app (named histories explains) (flag_words (codes "--order") order ++ flag_words (codes "--go-on") go_on ++ flag_words (codes "--stats") stats ++ flag_words (codes "--json") json)
-      (flagged histories explains order go_on stats json)
-  flags_read histories explains false go_on stats json = go_on_words_read histories explains false go_on stats json
-  flags_read histories explains true go_on stats json = read_then _ (order_read histories explains) (go_on_words_read histories explains true go_on stats json)
-
-  explains_words_read : (histories : List Text) (explains : Option Text) → MayBePath explains → (words : List Text) (last : Walk) → ReadsAll judge_app (named histories explains) words last
-      → ReadsAll judge_app (named histories None) (option_words (codes "--explains") explains ++ words) last
-  explains_words_read histories None f words last more = more
-  explains_words_read histories (Some file) f words last more = read_then _ (explains_read histories) (read_then _ (file_read histories file f) more)
-
-  -- the histories of which these were read, and those behind them
-  histories_read : (before : List Text) (history : Text) (more : List Text) → ArePaths more → (words : List Text) (last : Walk) → ReadsAll judge_app (named (before ++ history ∷ more) None) words last
-      → ReadsAll judge_app (has_histories before history) (more ++ codes "--steps" ∷ number ∷ words) last
-  histories_read before history [] paths words last behind = read_then _ (steps_read before history) (read_then _ (number_read (before ++ history ∷ [])) behind)
-  histories_read before history (next ∷ more) paths words last behind =
-      let P : List Text → Type 0 = λ histories. ReadsAll judge_app (named histories None) words last in
-      read_then _ (next_read before history next paths.0) (histories_read (before ++ history ∷ []) next more paths.1 words last (subst P (sym (append_assoc before (history ∷ []) (next ∷ more))) behind))
+  values_are : judge_values_in (Some (codes "judge", end_rows)) ≡ Some (
+    codes "judge",
+    Some t.histories,
+    allowed_words,
+    Some number ∷ t.explains ∷ Some (flag_text t.order) ∷ Some (flag_text t.go_on) ∷ Some (flag_text t.stats) ∷ Some (flag_text t.json) ∷ Some (flag_text t.picture) ∷ [],
+  )
+  values_are =
+      let histories = ap (option_map (λ (row : Row). row.values)) (stays (codes "HISTORY") rules seen _ (histories_found t.explains allowed_words)) in
+      let allowed = ap (λ (row : Option Row). unwrap_or (option_map (λ (row : Row). row.values) row) []) (ends (codes "RULE") seen rules _ (rules_found t.explains allowed_words) defaults.no_rule) ∙ rule_words allowed_words in
+      let steps = ap (option_and_then row_text) (stays (codes "N") rules seen _ (number_found t.explains allowed_words)) ∙ number_text in
+      let file = ap (option_and_then (λ (row : Row). slice_get row.values 0)) (ends (codes "FILE") seen rules _ (file_found t.explains allowed_words) defaults.no_file) ∙ file_text t.explains in
+      let order = flag_is (codes "order") away.0 defaults.order in
+      let go_on = flag_is (codes "go-on") away.1.0 defaults.go_on in
+      let stats = flag_is (codes "stats") away.1.1.0 defaults.stats in
+      let json = flag_is (codes "json") away.1.1.1.0 defaults.json in
+      let picture = flag_is (codes "picture") away.1.1.1.1.0 defaults.picture in
+      λ i. Some (codes "judge", histories i, allowed i, steps i ∷ file i ∷ order i ∷ go_on i ∷ stats i ∷ json i ∷ picture i ∷ [])
 
   -- nothing is wrong at the end, where all is met
-  last_tells : (histories : List Text) (explains : Option Text) (order go_on stats json : Bool)
-      → (fault_after judge_app (flagged histories explains order go_on stats json) ≡ [])
-      × (values_after (flagged histories explains order go_on stats json)
-      ≡ Some (codes "judge", Some histories, Some number ∷ explains ∷ Some (flag_text order) ∷ Some (flag_text go_on) ∷ Some (flag_text stats) ∷ Some (flag_text json) ∷ []))
-  unfolding clap_on_literals
-  last_tells histories None false false false false = (rw n.fits refl, rw number_path.no_minus refl)
-  last_tells histories None false false false true = (refl, rw number_path.no_minus refl)
-  last_tells histories None false false true false = (refl, rw number_path.no_minus refl)
-  last_tells histories None false false true true = (refl, rw number_path.no_minus refl)
-  last_tells histories None false true false false = (refl, rw number_path.no_minus refl)
-  last_tells histories None false true false true = (refl, rw number_path.no_minus refl)
-  last_tells histories None false true true false = (refl, rw number_path.no_minus refl)
-  last_tells histories None false true true true = (refl, rw number_path.no_minus refl)
-  last_tells histories None true false false false = (refl, rw number_path.no_minus refl)
-  last_tells histories None true false false true = (refl, rw number_path.no_minus refl)
-  last_tells histories None true false true false = (refl, rw number_path.no_minus refl)
-  last_tells histories None true false true true = (refl, rw number_path.no_minus refl)
-  last_tells histories None true true false false = (refl, rw number_path.no_minus refl)
-  last_tells histories None true true false true = (refl, rw number_path.no_minus refl)
-  last_tells histories None true true true false = (refl, rw number_path.no_minus refl)
-  last_tells histories None true true true true = (refl, rw number_path.no_minus refl)
-  last_tells histories (Some file) false false false false = (refl, rw number_path.no_minus refl)
-  last_tells histories (Some file) false false false true = (refl, rw number_path.no_minus refl)
-  last_tells histories (Some file) false false true false = (refl, rw number_path.no_minus refl)
-  last_tells histories (Some file) false false true true = (refl, rw number_path.no_minus refl)
-  last_tells histories (Some file) false true false false = (refl, rw number_path.no_minus refl)
-  last_tells histories (Some file) false true false true = (refl, rw number_path.no_minus refl)
-  last_tells histories (Some file) false true true false = (refl, rw number_path.no_minus refl)
-  last_tells histories (Some file) false true true true = (refl, rw number_path.no_minus refl)
-  last_tells histories (Some file) true false false false = (refl, rw number_path.no_minus refl)
-  last_tells histories (Some file) true false false true = (refl, rw number_path.no_minus refl)
-  last_tells histories (Some file) true false true false = (refl, rw number_path.no_minus refl)
-  last_tells histories (Some file) true false true true = (refl, rw number_path.no_minus refl)
-  last_tells histories (Some file) true true false false = (refl, rw number_path.no_minus refl)
-  last_tells histories (Some file) true true false true = (refl, rw number_path.no_minus refl)
-  last_tells histories (Some file) true true true false = (refl, rw number_path.no_minus refl)
-  last_tells histories (Some file) true true true true = (refl, rw number_path.no_minus refl)
+  ends_well : (last : At seen) → fault_after judge_app (stand last) ≡ []
+  ends_well last =
+      let given : is_given (codes "HISTORY") end_rows ≡ true =
+      ap (λ (found : Option Row). option_map_or (λ (row : Row). explicit_source row.source) found false) (stays (codes "HISTORY") rules seen _ (histories_found t.explains allowed_words)) in
+      let P : List Row → Type 0 = λ rows. check_fault (shape judge_app) (fold with_default rows rules) false ≡ [] in
+      ap₂ or_else last.fine (ap₂ or_else (defaults_fine rules _ defaults.fine) (subst P (sym last.settles) (has_history end_rows given)))
 
-  pub judge_asks : (program : Text) (histories : List Text) → ArePaths histories → (explains : Option Text) → MayBePath explains → (order go_on stats json : Bool) → MayJudge histories steps explains order go_on
-      → AsksFor (program ∷ codes "judge" ∷ (histories ++ codes "--steps" ∷ number ∷ (option_words (codes "--explains") explains
-      ++ (flag_words (codes "--order") order ++ flag_words (codes "--go-on") go_on ++ flag_words (codes "--stats") stats ++ flag_words (codes "--json") json))))
-      (judge histories steps explains order go_on stats json)
-  judge_asks program [] paths None f order go_on stats json may = absurd (may refl)
-  judge_asks program [] paths (Some file) f order go_on stats json may = absurd (omega (arith, may.0))
-  judge_asks program (history ∷ more) paths explains f order go_on stats json may =
-      let histories = history ∷ more in
-      let last = flagged histories explains order go_on stats json in
-      let behind = explains_words_read histories explains f _ last (flags_read histories explains order go_on stats json) in
-      let tells = last_tells histories explains order go_on stats json in
-      asks_after judge_app commands.judge program _ last (judge histories steps explains order go_on stats json)
-      (read_then _ (first_read history paths.0) (histories_read [] history more paths.1 _ last behind)) tells.0 (number, tells.1, n.writes, may)
+  tells_all : (last : At seen) → judge_values_in (met_after judge_app (stand last)) ≡ Some (
+    codes "judge",
+    Some t.histories,
+    allowed_words,
+    Some number ∷ t.explains ∷ Some (flag_text t.order) ∷ Some (flag_text t.go_on) ∷ Some (flag_text t.stats) ∷ Some (flag_text t.json) ∷ Some (flag_text t.picture) ∷ [],
+  )
+  tells_all last = ap (λ (rows : List Row). judge_values_in (Some (codes "judge", fold with_default rows rules))) last.settles ∙ values_are
+
+  pub judge_asks : (program : Text) → ArePaths t.histories → MayBePath t.explains → MayJudge t
+      → AsksFor (program ∷ codes "judge" ∷ (t.histories ++ codes "--steps" ∷ number ∷ (option_words (codes "--explains") t.explains ++ (allow_words t.allowed ++ words_of_flags (flags_of t))))) (judge t)
+  judge_asks program paths file may =
+      let behind_rules = λ (at : At (front t.explains allowed_words)). flags_read (flags_of t) (all_read t) (own_names t) (front t.explains allowed_words) at away in
+      let behind_file = λ (at : At (base number t.steps n t.histories t.explains)).
+      rules_read number t.steps n t.histories t.explains [] t.allowed (seen_as at (sym (append-nil (base number t.steps n t.histories t.explains)))) (words_of_flags (flags_of t)) seen behind_rules in
+      let end = explains_words_read number t.steps n t.histories t.explains file (allow_words t.allowed ++ words_of_flags (flags_of t)) seen behind_file in
+      let read = words_read number t.steps n t.histories (some_history t.explains t may.0) paths _ seen end in
+      asks_after judge_app commands.judge program _ (stand read.last) (judge t) read.all (ends_well read.last) (number, tells_all read.last, n.writes, may)

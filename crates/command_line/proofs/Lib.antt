@@ -1,12 +1,15 @@
 pub mod PlainWords
 pub mod CommandLine
+pub mod Unmet
 pub mod CommandWords
 pub mod BuiltCommands
 pub mod Flags
 pub mod Formats
 pub mod Numbers
+pub mod Rules
 pub mod CheckWords
 pub mod ExploreWords
+pub mod JudgeReads
 pub mod JudgeWords
 pub mod PictureWords
 pub mod RunWords
@@ -15,3 +18,4 @@ pub mod StraceWords
 pub mod ThreadsWords
 pub mod MetLine
 pub mod Tables
+pub mod WalkEnds

@@ -1,12 +1,14 @@
 -- What clap makes of plain words.
-use Rattle.std.proofs.Common.{arith, refl, sym, subst, codes, true, false, List, Option, Some, None, [], ◌∷◌, ◌++◌, ◌≡◌, ◌≢◌}
+use Rattle.std.proofs.Common.{arith, refl, sym, subst, codes, true, false, Bool, List, Option, Some, None, [], ◌∷◌, ◌++◌, ◌≡◌, ◌≢◌}
 use Rattle.std.specs.Prelude.{decimal, slice_get}
 use Rattle.std.specs.List.{All}
+use Rattle.std.proofs.lemmas.List.{append-nil}
 use Rattle.std.proofs.lemmas.List.Elements.{All-head, All-tail}
 use Rattle.clap.specs.Words.{Text, is_simple, is_simple_and_free}
 use Rattle.clap.proofs.OnLiterals.{clap_on_literals}
 use Rattle.command_line.specs.Program.{audit_app, explain_app, explore_app, history_app, judge_app, open_app, picture_app, program_app, schedule_app, strace_app, threads_app}
-use Rattle.command_line.specs.Tasks.{Task, run, threads, audit, history, explain, open_calls, check, picture, from_strace, explore, schedule, judge, default_steps, given, greatest_seed, most_nodes, HasPlainWords, paths_of, plain_words_of}
+use Rattle.command_line.specs.JudgeTasks.{plain_judgement}
+use Rattle.command_line.specs.Tasks.{Task, run, threads, audit, history, explain, open_calls, check, picture, from_strace, recorded_history, explore, schedule, judge, flag_words, given, greatest_seed, most_nodes, HasPlainWords, paths_of, plain_words_of}
 use Rattle.command_line.specs.Words.{AsksFor, IsPlain}
 use Rattle.command_line.specs.declared.format.Format.TheVariants.{Svg}
 use Rattle.command_line.proofs.BuiltCommands.{commands}
@@ -18,7 +20,7 @@ use Rattle.command_line.proofs.Numbers.{greatest_writes, hundred_writes, number_
 use Rattle.command_line.proofs.PictureWords.{around_asks, picture_asks}
 use Rattle.command_line.proofs.RunWords.{run_asks}
 use Rattle.command_line.proofs.ScheduleWords.{schedule_asks}
-use Rattle.command_line.proofs.StraceWords.{strace_asks}
+use Rattle.command_line.proofs.StraceWords.{recorded_asks, strace_asks}
 use Rattle.command_line.proofs.ThreadsWords.{threads_asks}
 
 pub is_simple_program : is_simple program_app ≡ true
@@ -35,9 +37,11 @@ module _ (program path : Text) (p : IsPath path) where
   unfolding clap_on_literals
   audit_asks = asks_by audit_app commands.audit program (path ∷ []) (audit path) (rw (p.no_dashes, p.no_minus, p.no_minus) refl) (rw (p.no_dashes, p.no_minus, p.no_minus) refl)
 
-  history_asks : AsksFor (program ∷ codes "history" ∷ path ∷ []) (history path)
+  history_asks : (as_clients : Bool) → AsksFor (program ∷ codes "history" ∷ path ∷ flag_words (codes "--as-clients") as_clients) (history path as_clients)
   unfolding clap_on_literals
-  history_asks = asks_by history_app commands.history program (path ∷ []) (history path) (rw (p.no_dashes, p.no_minus, p.no_minus) refl) (rw (p.no_dashes, p.no_minus, p.no_minus) refl)
+  history_asks false = asks_by history_app commands.history program (path ∷ []) (history path false) (rw (p.no_dashes, p.no_minus, p.no_minus) refl) (rw (p.no_dashes, p.no_minus, p.no_minus) refl)
+  history_asks true =
+      asks_by history_app commands.history program (path ∷ codes "--as-clients" ∷ []) (history path true) (rw (p.no_dashes, p.no_minus, p.no_minus) refl) (rw (p.no_dashes, p.no_minus, p.no_minus) refl)
 
   open_asks : AsksFor (program ∷ codes "open" ∷ path ∷ []) (open_calls path)
   unfolding clap_on_literals
@@ -68,11 +72,11 @@ module _ (program path : Text) (p : IsPath path) where
   unfolding clap_on_literals
   left_schedule = asks_by schedule_app commands.schedule program (path ∷ []) (schedule path 1 false) (rw (p.no_dashes, p.no_minus, p.no_minus) refl) (codes "1", rw (p.no_dashes, p.no_minus, p.no_minus) refl, one_writes 0 greatest_seed (omega arith) (omega arith))
 
-  left_judge : AsksFor (program ∷ codes "judge" ∷ path ∷ []) (judge (path ∷ []) default_steps None false false false false)
+  left_judge : AsksFor (program ∷ codes "judge" ∷ path ∷ []) (judge (plain_judgement path))
   unfolding clap_on_literals
   left_judge =
-      asks_by judge_app commands.judge program (path ∷ []) (judge (path ∷ []) default_steps None false false false false) (rw (p.no_dashes, p.no_minus, p.no_minus) refl)
-      (codes "10000000", rw (p.no_dashes, p.no_minus, p.no_minus) refl, steps_write, λ none. cc)
+      asks_by judge_app commands.judge program (path ∷ []) (judge (plain_judgement path)) (rw (p.no_dashes, p.no_minus, p.no_minus) refl)
+      (codes "10000000", rw (p.no_dashes, p.no_minus, p.no_minus) refl, steps_write, (λ none. cc, tt))
 
 -- what is asked where no option is given
 module _ (program path : Text) (plain : slice_get path 0 ≢ Some 45) where
@@ -91,7 +95,10 @@ module _ (program path : Text) (plain : slice_get path 0 ≢ Some 45) where
   pub bare_schedule_asks : AsksFor (program ∷ codes "schedule" ∷ path ∷ []) (schedule path 1 false)
   bare_schedule_asks = left_schedule program path (is_path path plain)
 
-  pub bare_judge_asks : AsksFor (program ∷ codes "judge" ∷ path ∷ []) (judge (path ∷ []) default_steps None false false false false)
+  pub bare_history_asks : AsksFor (program ∷ codes "history" ∷ path ∷ []) (history path false)
+  bare_history_asks = history_asks program path (is_path path plain) false
+
+  pub bare_judge_asks : AsksFor (program ∷ codes "judge" ∷ path ∷ []) (judge (plain_judgement path))
   bare_judge_asks = left_judge program path (is_path path plain)
 
 -- `explain JOURNAL CALL`
@@ -134,7 +141,7 @@ plain_task program (threads script seed stop no_join (Some file)) plain within =
     threads_asks program script (decimal seed) seed (is_path script (plain 0 [] (omega arith))) (number_text 0 greatest_seed seed (omega arith) (omega arith) within) (Some file)
     (is_path file (plain 1 [] (omega arith))) stop no_join
 plain_task program (audit journal) plain within = audit_asks program journal (is_path journal (plain 0 [] (omega arith)))
-plain_task program (history journal) plain within = history_asks program journal (is_path journal (plain 0 [] (omega arith)))
+plain_task program (history journal as_clients) plain within = history_asks program journal (is_path journal (plain 0 [] (omega arith))) as_clients
 plain_task program (explain journal call) plain within = explain_asks program journal call (is_path journal (plain 0 [] (omega arith))) (is_path call (plain 1 [] (omega arith)))
 plain_task program (open_calls journal) plain within = open_asks program journal (is_path journal (plain 0 [] (omega arith)))
 plain_task program (check scripts journal) plain within = check_asks program scripts journal within (are_paths scripts (given journal) plain) (may_be_path scripts journal plain)
@@ -149,16 +156,14 @@ plain_task program (from_strace recording nodes None) plain within =
 plain_task program (from_strace recording nodes (Some places)) plain within =
     strace_asks program recording (decimal nodes) nodes (is_path recording (plain 0 [] (omega arith))) (number_text 1 most_nodes nodes (omega arith) within.0 within.1) (Some places)
     (is_path places (plain 1 [] (omega arith)))
+plain_task program (recorded_history recordings) plain within = recorded_asks program recordings within (are_paths recordings [] (subst ArePlain (sym (append-nil recordings)) plain))
 plain_task program (explore script seeds first failures) plain within =
     explore_asks program script (decimal seeds) (decimal first) seeds first (is_path script (plain 0 [] (omega arith)))
     (number_text 1 greatest_seed seeds (omega arith) within.0 within.1) (number_text 0 greatest_seed first (omega arith) (omega arith) within.2) failures
 plain_task program (schedule script seed failures) plain within =
     schedule_asks program script (decimal seed) seed (is_path script (plain 0 [] (omega arith))) (number_text 0 greatest_seed seed (omega arith) (omega arith) within) failures
-plain_task program (judge histories steps None order go_on stats json) plain within =
-    judge_asks (decimal steps) steps (number_text 1 greatest_seed steps (omega arith) within.0 within.1) program histories (are_paths histories [] plain) None tt order go_on stats json within.2
-plain_task program (judge histories steps (Some file) order go_on stats json) plain within =
-    judge_asks (decimal steps) steps (number_text 1 greatest_seed steps (omega arith) within.0 within.1) program histories (are_paths histories (file ∷ []) plain)
-    (Some file) (may_be_path histories (Some file) plain) order go_on stats json within.2
+plain_task program (judge t) plain within =
+    judge_asks (decimal t.steps) t (number_text 1 greatest_seed t.steps (omega arith) within.0 within.1) program (are_paths t.histories (given t.explains) plain) (may_be_path t.histories t.explains plain) within.2
 
 pub plain_asks : (words : List Text) (task : Task) → IsPlain words task → AsksFor words task
 plain_asks words task plain =

@@ -1,6 +1,6 @@
 -- What the table of a command says of its parts.
 use Rattle.std.proofs.Common.{ap, arith, refl, sym, true, false, is_some, length, map, not, option_map, Bool, Bor, List, Option, [], ◌∷◌, None, Some, ◌==◌, ◌≡◌, ◌≢◌, ◌∙◌}
-use Rattle.std.specs.Prelude.{fold}
+use Rattle.std.specs.Prelude.{fold, get_or}
 use Rattle.std.proofs.lemmas.Bool.{ne_eqb}
 use Rattle.clap.specs.Walk.{is_empty, is_simple_arg}
 use Rattle.clap.specs.Words.{all_of, app_of, first_of, first_value, matched_of, new_app, raw_values, rows_of, rule_of, with_rule, App, Rule, Text}
@@ -11,7 +11,7 @@ use Rattle.clap.specs.declared.builder.command.Command.TheViews.{out-Command}
 use Rattle.clap.proofs.WalkLemmas.{both, first_value-rows, raw_values-rows}
 use Rattle.command_line.specs.Table.{app_given, rule_given}
 use Rattle.command_line.specs.declared.argument.Argument.{Argument}
-use Rattle.command_line.specs.declared.argument.Argument.TheVariants.{Word, Words, Value, Default, Number, Flag}
+use Rattle.command_line.specs.declared.argument.Argument.TheVariants.{Word, Words, Value, Values, Default, Number, Flag}
 use Rattle.command_line.specs.declared.subcommand.Subcommand.{Subcommand}
 
 is_not : (b : Bool) → not b ≡ true → b ≡ false
@@ -67,11 +67,18 @@ pub are_some : (texts : List (Bor Text)) → (length texts == 0) ≡ false → m
 are_some [] some none = cc
 are_some (text ∷ texts) some none = cc
 
+-- the one text of a list
+pub only_one : (texts : List (Bor Text)) (d : Bor Text) → length texts ≡ 1 → texts ≡ get_or texts 0 d ∷ []
+only_one [] d one = absurd (omega (arith, one))
+only_one (text ∷ []) d one = refl
+only_one (text ∷ other ∷ more) d one = absurd (omega (arith, one))
+
 -- each argument of the table is a simple one
 pub is_simple : (argument : Argument) → (rule_given argument).is_simple ≡ true
 is_simple (Word id help) = refl
 is_simple (Words id help) = refl
 is_simple (Value id long help) = refl
+is_simple (Values id long help) = refl
 is_simple (Default id long default help) = refl
 is_simple (Number id long default least greatest help) = refl
 is_simple (Flag name help) = refl

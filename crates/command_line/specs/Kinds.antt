@@ -1,13 +1,16 @@
 -- What the values and the errors of clap are to the program.
-use Rattle.std.specs.Prelude.{◌≡◌, ◌≢◌, ◌⊎◌, ⊤, ℕ, Bool, List, MatchOption, Option, Some}
+use Rattle.std.specs.Prelude.{◌≡◌, ◌≢◌, ◌⊎◌, ⊤, ℕ, Bool, List, map, MatchOption, Option, Some, Vec}
+use Rattle.std.specs.Global.{Global}
 use Rattle.clap.specs.Words.{IsAmong, Row, Text, fault_of}
 use Rattle.clap.specs.declared.error.kind.ErrorKind.{ErrorKind}
 use Rattle.clap.specs.declared.error.kind.ErrorKind.TheVariants.{OutOfMemory}
 use Rattle.command_line.specs.Program.{program_app, flag_text, IsMet, IsNumber}
+use Rattle.command_line.specs.JudgeTasks.{rule_text}
 use Rattle.command_line.specs.Tasks.{Task, format_text, task_of}
 use Rattle.command_line.specs.Words.{AsksForNothing, IsShown}
 use Rattle.command_line.specs.declared.format.Format.{Format}
 use Rattle.command_line.specs.declared.line.Line.{Line}
+use Rattle.command_line.specs.declared.rule.Rule.{Rule}
 use Rattle.command_line.specs.declared.refusal.Refusal.{Refusal}
 use Rattle.command_line.specs.declared.refusal.Refusal.TheVariants.{Help, Wrong, NotText, NoMemory}
 
@@ -38,3 +41,11 @@ IsFlagOf value result = MatchOption result ((flag : Bool) → value ≡ Some (fl
 -- the format whose word the argument has
 abbrev pub IsFormatOf : Option Text → Option Format → Type 0
 IsFormatOf value result = MatchOption result ((format : Format) → value ≡ Some (format_text format) → ⊥) (λ format. value ≡ Some (format_text format))
+
+-- the rule of the word
+abbrev pub IsRuleOf : Text → Option Rule → Type 0
+IsRuleOf word result = MatchOption result ((rule : Rule) → word ≡ rule_text rule → ⊥) (λ rule. word ≡ rule_text rule)
+
+-- the rules of the words; none where one of them is no rule's
+abbrev pub AreRulesOf : List Text → Option (Vec Rule Global) → Type 0
+AreRulesOf words result = MatchOption result ((rules : List Rule) → words ≡ map rule_text rules → ⊥) (λ rules. words ≡ map rule_text rules.items)

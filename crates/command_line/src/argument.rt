@@ -1,7 +1,7 @@
 //! Arguments of commands.
 ghost use Rattle.std.specs.Prelude.{◌≡◌};
 ghost use Rattle.clap.specs.Words.{Text, rule_of};
-ghost use Rattle.command_line.specs.Program.{flag_rule, number_rule, option_rule, path_rule, paths_rule};
+ghost use Rattle.command_line.specs.Program.{flag_rule, number_rule, option_rule, path_rule, paths_rule, values_rule};
 ghost use Rattle.command_line.specs.Table.{rule_given};
 
 use clap::builder::ValueParser;
@@ -26,7 +26,13 @@ pub(crate) enum Argument<'a> {
         long: &'a str,
         help: &'a str,
     },
-    /// The same with the text of its default.
+    /// The same, which may be given several times.
+    Values {
+        id: &'a str,
+        long: &'a str,
+        help: &'a str,
+    },
+    /// An option with a value and the text of its default.
     Default {
         id: &'a str,
         long: &'a str,
@@ -58,6 +64,7 @@ impl<'a> Argument<'a> {
             Argument::Word { id, help } => path_argument(alloc, *id, *help),
             Argument::Words { id, help } => paths_argument(alloc, *id, *help),
             Argument::Value { id, long, help } => option_argument(alloc, *id, *long, *help),
+            Argument::Values { id, long, help } => values_argument(alloc, *id, *long, *help),
             Argument::Default {
                 id,
                 long,
@@ -101,7 +108,14 @@ fn option_argument<'a>(alloc: Global, id: &'a str, long: &'a str, help: &'a str)
     Arg::new(alloc, id).long(long).help(help)
 }
 
-// The same option with a number from the least to the greatest as its value, and the text of its default.
+// The same option, which may be given several times.
+fn values_argument<'a>(alloc: Global, id: &'a str, long: &'a str, help: &'a str) -> Arg<'a>
+    ensures { rule_of result ≡ values_rule id.entry.now long.entry.now }
+{
+    option_argument(alloc, id, long, help).action(ArgAction::Append)
+}
+
+// An option with a number from the least to the greatest as its value, and the text of its default.
 fn with_number<'a>(option: Arg<'a>, default: &'a str, least: u32, greatest: u32) -> Arg<'a>
     ensures { (id long : Text) → rule_of option.entry ≡ option_rule id long → rule_of result ≡ number_rule id long default.entry.now least greatest }
 {

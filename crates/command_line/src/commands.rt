@@ -35,6 +35,14 @@ const FAILURES: Argument<'static> = Argument::Flag {
     help: "Let nodes and servers fail",
 };
 
+const HISTORY: &[Argument<'static>] = &[
+    JOURNAL,
+    Argument::Flag {
+        name: "as-clients",
+        help: "Print what the clients saw, for 'lockreplay judge'",
+    },
+];
+
 // What commands have that read a journal alone.
 const OF_JOURNAL: &[Argument<'static>] = &[JOURNAL];
 
@@ -133,7 +141,7 @@ const PICTURE: &[Argument<'static>] = &[
 ];
 
 const STRACE: &[Argument<'static>] = &[
-    Argument::Word {
+    Argument::Words {
         id: "RECORDING",
         help: "The recording: the output of strace -f, or - for standard input",
     },
@@ -149,6 +157,10 @@ const STRACE: &[Argument<'static>] = &[
         id: "PLACES",
         long: "place",
         help: "Place recorded processes by hand, as 10=1,12=2",
+    },
+    Argument::Flag {
+        name: "history",
+        help: "Make a history of clients, for 'lockreplay judge'",
     },
 ];
 
@@ -204,6 +216,11 @@ const JUDGE: &[Argument<'static>] = &[
         long: "explains",
         help: "Say whether the order in FILE explains HISTORY",
     },
+    Argument::Values {
+        id: "RULE",
+        long: "allow",
+        help: "Allow a difference from one table, as wait-drops",
+    },
     Argument::Flag {
         name: "order",
         help: "Print an order of the calls that explains them",
@@ -219,6 +236,10 @@ const JUDGE: &[Argument<'static>] = &[
     Argument::Flag {
         name: "json",
         help: "Print the text as JSON",
+    },
+    Argument::Flag {
+        name: "picture",
+        help: "Draw the first call that fits nowhere, as SVG",
     },
 ];
 
@@ -324,7 +345,7 @@ fn history_command<'a>() -> Subcommand<'a>
         name: "history",
         about: "Print the history of a journal",
         notes: HISTORY_NOTES,
-        arguments: OF_JOURNAL,
+        arguments: HISTORY,
     }
 }
 
@@ -377,7 +398,7 @@ fn strace_command<'a>() -> Subcommand<'a>
 {
     Subcommand {
         name: "from-strace",
-        about: "Turn the output of strace into a script",
+        about: "Turn the output of strace into a script or a history",
         notes: STRACE_NOTES,
         arguments: STRACE,
     }

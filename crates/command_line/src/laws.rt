@@ -1,21 +1,25 @@
 //! What holds of every command line.
 ghost use Rattle.std.specs.Prelude.{◌≡◌, ◌≢◌, List, ℕ, false, [], ◌∷◌, None, Some, codes, slice_get};
 ghost use Rattle.command_line.specs.declared.format.Format.TheVariants.{Svg};
-ghost use Rattle.command_line.specs.Tasks.{Task, default_steps, explore, from_strace, greatest_seed, judge, picture, schedule, threads};
+ghost use Rattle.command_line.specs.JudgeTasks.{plain_judgement};
+ghost use Rattle.command_line.specs.Tasks.{Task, explore, from_strace, greatest_seed, history, judge, picture, schedule, threads};
 ghost use Rattle.command_line.specs.Words.{AsksFor, IsPlain};
 
 /// The words `PROGRAM run SCRIPT`, with `--after JOURNAL`, `--journal FILE`, `--expect`, `--open` and `--quiet`
 /// behind it, or some of them in this order, `--quiet` where `--journal FILE` or `--expect` is one,
 /// `PROGRAM threads SCRIPT --seed N`, with `--stop-when-stuck`, `--no-join` and `--journal FILE`, or some of them in
-/// this order, behind it, `PROGRAM audit JOURNAL`, `PROGRAM history JOURNAL`, `PROGRAM explain JOURNAL CALL`,
-/// `PROGRAM open JOURNAL`, `PROGRAM check SCRIPT..`, of one script or more, with `--journal FILE` or without,
+/// this order, behind it, `PROGRAM audit JOURNAL`, `PROGRAM history JOURNAL`, with `--as-clients` or without,
+/// `PROGRAM explain JOURNAL CALL`, `PROGRAM open JOURNAL`, `PROGRAM check SCRIPT..`, of one script or more, with
+/// `--journal FILE` or without,
 /// `PROGRAM picture JOURNAL`, with `--around CALL` or without, and `--from K --to L --format FORMAT` behind it,
 /// `PROGRAM from-strace RECORDING --nodes N`, with `--place PLACES` or without,
+/// `PROGRAM from-strace RECORDING.. --history`, of one recording or more,
 /// `PROGRAM explore SCRIPT --seeds COUNT --first N` and `PROGRAM schedule SCRIPT --seed N`, with `--failures` or
-/// without, `PROGRAM judge HISTORY.. --steps N`, of one history or more, with `--order`, `--go-on`, `--stats` and
-/// `--json`, or some of them in this order, behind it, and `PROGRAM judge HISTORY --steps 10000000 --explains FILE`,
-/// with `--stats` and `--json`, or some of them, ask for just that, by the program's table of arguments, where each
-/// number is in its range.
+/// without, `PROGRAM judge HISTORY.. --steps N`, of one history or more, with `--allow RULE` as often as rules are
+/// allowed and `--order`, `--go-on`, `--stats`, `--json` and `--picture`, or some of them in this order, behind it,
+/// and `PROGRAM judge HISTORY --steps 10000000 --explains FILE`, with `--allow RULE` as often, and `--stats` and
+/// `--json`, or some of them, ask for just that, by the program's table of arguments, where each number is in its
+/// range; a picture is of one history.
 pub fn plain_words_ask_for_their_task()
     ensures { (words : List (List ℕ)) (task : Task) → IsPlain words task → AsksFor words task }
 {}
@@ -28,14 +32,16 @@ pub fn a_seed_left_out_is_1()
 
 /// The words `PROGRAM picture JOURNAL` ask for a picture as SVG, of the entries from 1 to 4294967295, around no
 /// call; `PROGRAM from-strace RECORDING` for one node, with no process placed by words; `PROGRAM explore SCRIPT` for 100 seeds, from 1 on,
-/// without failures; `PROGRAM schedule SCRIPT` for the seed 1, without failures; and `PROGRAM judge HISTORY` for a
-/// search among 10000000 tables of a file at most, and for nothing else.
+/// without failures; `PROGRAM schedule SCRIPT` for the seed 1, without failures; `PROGRAM judge HISTORY` for a
+/// search among 10000000 tables of a file at most, with no rule allowed, and for nothing else; and
+/// `PROGRAM history JOURNAL` for the history, and not for what clients saw.
 pub fn what_is_left_out_has_its_default()
     ensures picture { (program journal : List ℕ) → slice_get journal 0 ≢ Some 45 → AsksFor (program ∷ codes "picture" ∷ journal ∷ []) (picture journal None 1 greatest_seed Svg) }
     ensures strace { (program recording : List ℕ) → slice_get recording 0 ≢ Some 45 → AsksFor (program ∷ codes "from-strace" ∷ recording ∷ []) (from_strace recording 1 None) }
     ensures explore { (program script : List ℕ) → slice_get script 0 ≢ Some 45 → AsksFor (program ∷ codes "explore" ∷ script ∷ []) (explore script 100 1 false) }
     ensures schedule { (program script : List ℕ) → slice_get script 0 ≢ Some 45 → AsksFor (program ∷ codes "schedule" ∷ script ∷ []) (schedule script 1 false) }
-    ensures judge { (program history : List ℕ) → slice_get history 0 ≢ Some 45 → AsksFor (program ∷ codes "judge" ∷ history ∷ []) (judge (history ∷ []) default_steps None false false false false) }
+    ensures judge { (program path : List ℕ) → slice_get path 0 ≢ Some 45 → AsksFor (program ∷ codes "judge" ∷ path ∷ []) (judge (plain_judgement path)) }
+    ensures history { (program journal : List ℕ) → slice_get journal 0 ≢ Some 45 → AsksFor (program ∷ codes "history" ∷ journal ∷ []) (history journal false) }
 {}
 
 /// No words ask for two things.

@@ -4,9 +4,15 @@
 mod argument;
 mod commands;
 pub mod format;
+pub mod judge_line;
+mod judge_words;
 pub mod laws;
 pub mod line;
 mod notes;
+pub mod picture_line;
 pub mod refusal;
+pub mod rule;
+pub mod run_line;
+mod strace_words;
 mod subcommand;
 mod values;

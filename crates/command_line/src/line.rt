@@ -1,17 +1,22 @@
 //! The lines that words may ask for.
-ghost use Rattle.std.specs.Prelude.{◌≡◌, ◌⊎◌, codes, false, true, List, map, IfErr, IfOk, Some};
+ghost use Rattle.std.specs.Prelude.{◌≡◌, ◌⊎◌, codes, false, true, map, IfErr, IfOk, Some};
 ghost use Rattle.std.specs.Option.{option_map};
-ghost use Rattle.clap.specs.Words.{all_of, app_of, found_of, kind_of, rows_of, subcommand_rows_of};
+ghost use Rattle.clap.specs.Words.{app_of, found_of, kind_of, rows_of, subcommand_rows_of};
 ghost use Rattle.clap.specs.declared.error.kind.ErrorKind.TheVariants.{OutOfMemory, ValueValidation};
 ghost use Rattle.command_line.specs.Kinds.{IsKindOf, IsLineOf};
 ghost use Rattle.command_line.specs.Program.{program_app};
-ghost use Rattle.command_line.specs.Tasks.{task_of, MayBeQuiet, MayJudge};
+ghost use Rattle.command_line.specs.Tasks.{task_of, MayBeQuiet};
 ghost use Rattle.command_line.specs.Words.{AsksFor, IsRefusal};
 
 use crate::commands::program;
-use crate::format::{Format, format_in};
+use crate::format::format_in;
+use crate::judge_line::JudgeLine;
+use crate::judge_words::{judge_complaint, judge_in};
+use crate::picture_line::PictureLine;
 use crate::refusal::Refusal;
-use crate::values::{DEFAULT_STEPS, GREATEST_SEED, MOST_NODES, flag_in, number_in};
+use crate::run_line::{RunLine, ThreadsLine};
+use crate::strace_words::strace_in;
+use crate::values::{GREATEST_SEED, flag_in, number_in};
 use clap::error::ErrorKind;
 use clap::{ArgMatches, Command, Error};
 use std::alloc::{AllocError, Global};
@@ -20,38 +25,18 @@ use std::convert::AsStr;
 /// What the words of a command line ask for. Each text is a path, the name of a call, or the places of processes.
 #[derive(Drop)]
 pub enum Line<'a> {
-    /// `run SCRIPT [--after JOURNAL] [--journal FILE] [--expect] [--open] [--quiet]`: to run each line of the
-    /// script in order, in a cluster that begins or behind the run of a journal, and print the listing, with
-    /// the calls that have no reply behind it, if that is asked for, and first to write the journal of the run
-    /// to the file, if there is one; to compare the replies with what the script expects, if that is asked
-    /// for. Where there is such a file, or they are compared, the listing may be left away.
-    Run {
-        script: &'a str,
-        after: Option<&'a str>,
-        journal: Option<&'a str>,
-        expect: bool,
-        open: bool,
-        quiet: bool,
-    },
-    /// `threads SCRIPT [--seed N] [--stop-when-stuck] [--no-join] [--journal FILE]`: to run the script on
-    /// threads, with this seed or 1, until its end or, if that is asked for, until no open call can be
-    /// answered any more, its failures and starts beside open calls, if that is asked for, to print the
-    /// listing, how many receipts its journal holds and whether that is one of a run, and first to write it to
-    /// the file, if there is one.
-    Threads {
-        script: &'a str,
-        seed: u32,
-        stop_when_stuck: bool,
-        no_join: bool,
-        journal: Option<&'a str>,
-    },
+    /// `run SCRIPT`, with what else is asked of a run: to run each line of the script in order.
+    Run(RunLine<'a>),
+    /// `threads SCRIPT`, with what else is asked of a run on threads: to run the script on threads.
+    Threads(ThreadsLine<'a>),
     /// `audit JOURNAL`: to say whether the journal is one of a run.
     Audit {
         journal: &'a str,
     },
-    /// `history JOURNAL`: to print the history of the journal.
+    /// `history JOURNAL [--as-clients]`: to print the history of the journal, or what its clients saw, if that is asked for.
     History {
         journal: &'a str,
+        as_clients: bool,
     },
     /// `explain JOURNAL CALL`: to tell the story of the call of this name in the journal.
     Explain {
@@ -68,16 +53,8 @@ pub enum Line<'a> {
         scripts: Vec<&'a str>,
         journal: Option<&'a str>,
     },
-    /// `picture JOURNAL [--around CALL] [--from K] [--to L] [--format FORMAT]`: to draw, in this format or as
-    /// SVG, the entries of the journal, or those around the call of this name, of them those from entry K to
-    /// entry L, which are counted from 1; K is 1 where it is left out, and L 4294967295.
-    Picture {
-        journal: &'a str,
-        around: Option<&'a str>,
-        from: u32,
-        to: u32,
-        format: Format,
-    },
+    /// `picture JOURNAL`, with what else is asked of a picture: to draw entries of the journal.
+    Picture(PictureLine<'a>),
     /// `from-strace RECORDING [--nodes N] [--place PLACES]`: to turn the recording of the calls of processes
     /// into a script of a cluster of N nodes, from 1 to 64, or of 1, with processes at the places that these
     /// words name, if there are any. What these words say is not read here.
@@ -85,6 +62,11 @@ pub enum Line<'a> {
         recording: &'a str,
         nodes: u8,
         places: Option<&'a str>,
+    },
+    /// `from-strace RECORDING.. --history`: to turn recordings of the calls of processes, of which there is at least one, into a
+    /// history of clients. Of several each is written as `NAME=FILE`, which is not read here.
+    RecordedHistory {
+        recordings: Vec<&'a str>,
     },
     /// `explore SCRIPT [--seeds COUNT] [--first N] [--failures]`: to run the script under so many schedules,
     /// from 1 on, or under 100, from the seed N or 1 on, with failures of nodes and servers, if they are asked
@@ -102,20 +84,9 @@ pub enum Line<'a> {
         seed: u32,
         failures: bool,
     },
-    /// `judge HISTORY.. [--steps N] [--explains FILE] [--order] [--go-on] [--stats] [--json]`: to say of each
-    /// history, of which there is at least one, whether one table explains it, looking at N tables for each file at
-    /// most, or at 10000000; or whether the order in FILE explains the one history, where nothing is searched. To
-    /// print the order that was found, to leave out what fits nowhere and go on behind it, and to print counts, if
-    /// that is asked for; as JSON, if that is.
-    Judge {
-        histories: Vec<&'a str>,
-        steps: u32,
-        explains: Option<&'a str>,
-        order: bool,
-        go_on: bool,
-        stats: bool,
-        json: bool,
-    },
+    /// `judge HISTORY..`, with what else is asked of a judgement: to say of each history whether one table explains it, or
+    /// whether the order that is given does.
+    Judge(JudgeLine<'a>),
 }
 
 impl<'a> Line<'a> {
@@ -177,8 +148,9 @@ fn complaint(matches: &ArgMatches<'_>) -> &'static str {
         Some(("picture", _)) =>
             "invalid value for '--format <FORMAT>': it is svg, mermaid or trace",
         Some(("run", _)) => "the argument '--quiet' needs '--journal <FILE>' or '--expect'",
-        Some(("judge", _)) =>
-            "the argument '--explains <FILE>' takes one HISTORY, and no '--steps', '--order' or '--go-on'",
+        Some(("judge", values)) => judge_complaint(values),
+        Some(("from-strace", _)) =>
+            "there is one RECORDING, or with '--history' several, and no '--nodes' or '--place'",
         _ => "no command is given",
     }
 }
@@ -199,7 +171,7 @@ fn line_of<'a>(alloc: Global, matches: &ArgMatches<'a>) -> Result<Option<Line<'a
         "open" => Ok(open_in(values)),
         "check" => check_in(alloc, values),
         "picture" => Ok(picture_in(values)),
-        "from-strace" => Ok(strace_in(values)),
+        "from-strace" => strace_in(alloc, values),
         "explore" => Ok(explore_in(values)),
         "schedule" => Ok(schedule_in(values)),
         "judge" => judge_in(alloc, values),
@@ -219,14 +191,14 @@ fn run_in<'a>(values: &ArgMatches<'a>) -> Option<Line<'a>>
     if !may_be_quiet(journal, expect, quiet) {
         return None;
     }
-    Some(Line::Run {
+    Some(Line::Run(RunLine {
         script,
         after,
         journal,
         expect,
         open,
         quiet,
-    })
+    }))
 }
 
 // Whether the listing of a run is made, or may be left away.
@@ -245,13 +217,13 @@ fn threads_in<'a>(values: &ArgMatches<'a>) -> Option<Line<'a>>
     let stop_when_stuck = flag_in(values, "stop-when-stuck")?;
     let no_join = flag_in(values, "no-join")?;
     let file = values.get_str("FILE");
-    Some(Line::Threads {
+    Some(Line::Threads(ThreadsLine {
         script,
         seed,
         stop_when_stuck,
         no_join,
         journal: file,
-    })
+    }))
 }
 
 fn audit_in<'a>(values: &ArgMatches<'a>) -> Option<Line<'a>>
@@ -265,7 +237,11 @@ fn history_in<'a>(values: &ArgMatches<'a>) -> Option<Line<'a>>
     ensures { IsLineOf (Some (codes "history", rows_of (found_of values.now))) result }
 {
     let journal = values.get_str("JOURNAL")?;
-    Some(Line::History { journal })
+    let as_clients = flag_in(values, "as-clients")?;
+    Some(Line::History {
+        journal,
+        as_clients,
+    })
 }
 
 fn explain_in<'a>(values: &ArgMatches<'a>) -> Option<Line<'a>>
@@ -306,26 +282,13 @@ fn picture_in<'a>(values: &ArgMatches<'a>) -> Option<Line<'a>>
     let from = number_in(values, "K", 1, GREATEST_SEED)?;
     let to = number_in(values, "L", 1, GREATEST_SEED)?;
     let format = format_in(values)?;
-    Some(Line::Picture {
+    Some(Line::Picture(PictureLine {
         journal,
         around,
         from,
         to,
         format,
-    })
-}
-
-fn strace_in<'a>(values: &ArgMatches<'a>) -> Option<Line<'a>>
-    ensures { IsLineOf (Some (codes "from-strace", rows_of (found_of values.now))) result }
-{
-    let recording = values.get_str("RECORDING")?;
-    let nodes = number_in(values, "N", 1, MOST_NODES)?;
-    let places = values.get_str("PLACES");
-    Some(Line::FromStrace {
-        recording,
-        nodes: nodes as u8,
-        places,
-    })
+    }))
 }
 
 fn explore_in<'a>(values: &ArgMatches<'a>) -> Option<Line<'a>>
@@ -354,57 +317,4 @@ fn schedule_in<'a>(values: &ArgMatches<'a>) -> Option<Line<'a>>
         seed,
         failures,
     })
-}
-
-fn judge_in<'a>(alloc: Global, values: &ArgMatches<'a>) -> Result<Option<Line<'a>>, AllocError>
-    ensures { IfOk result (IsLineOf (Some (codes "judge", rows_of (found_of values.now)))) }
-{
-    let Some(paths) = values.get_strs("HISTORY") else {
-        return Ok(None);
-    };
-    let mut histories = Vec::new(alloc);
-    histories.extend_from_slice(paths)?;
-    Ok(judge_of(values, histories))
-}
-
-// The line of these histories.
-fn judge_of<'a>(values: &ArgMatches<'a>, histories: Vec<&'a str>) -> Option<Line<'a>>
-    requires { all_of (codes "HISTORY") (rows_of (found_of values.now)) ≡ Some (map (λ path. path.now) histories.items) }
-    ensures { IsLineOf (Some (codes "judge", rows_of (found_of values.now))) result }
-{
-    let steps = number_in(values, "N", 1, GREATEST_SEED)?;
-    let explains = values.get_str("FILE");
-    let order = flag_in(values, "order")?;
-    let go_on = flag_in(values, "go-on")?;
-    let stats = flag_in(values, "stats")?;
-    let json = flag_in(values, "json")?;
-    if !may_judge(histories.as_slice(), steps, explains, order, go_on) {
-        return None;
-    }
-    Some(Line::Judge {
-        histories,
-        steps,
-        explains,
-        order,
-        go_on,
-        stats,
-        json,
-    })
-}
-
-// Whether there is a history, and of a judgement by an order no more and no words of a search.
-fn may_judge(
-    histories: &[&str],
-    steps: u32,
-    explains: Option<&str>,
-    order: bool,
-    go_on: bool,
-) -> bool
-    ensures may { result ≡ true → MayJudge (map (λ path. path.now) histories.now) steps (option_map (λ file. file.now) explains.entry) order go_on }
-    ensures may_not { result ≡ false → MayJudge (map (λ path. path.now) histories.now) steps (option_map (λ file. file.now) explains.entry) order go_on → ⊥ }
-{
-    match explains {
-        None => !histories.is_empty(),
-        Some(_) => histories.len() == 1 && steps == DEFAULT_STEPS && !order && !go_on,
-    }
 }

@@ -49,8 +49,10 @@ To make a script of what programs did, which strace recorded to a file:
 To see what is wrong in scripts, and whether each reply of a run is as its script expects:
   lockreplay check SCRIPT SCRIPT
   lockreplay run SCRIPT --expect --quiet
-To see whether what clients of any lock manager saw contradicts itself:
+To see whether what clients of any lock manager saw contradicts itself, as one that
+strace recorded:
   lockreplay judge HISTORY
+  lockreplay from-strace RECORDING --history | lockreplay judge -
 
 'lockreplay help run' tells how a script is written and what the listing shows.";
 
@@ -177,7 +179,11 @@ check JOURNAL' tells why.";
 pub(crate) const HISTORY_NOTES: &str = "\
 The journal is audited first. Where its entries are a run, the section 'history' of the
 listing of the run is printed (exit status 0): every call at its place in one table of
-locks. Else the text is 'audit no K', as of 'lockreplay audit' (exit status 1).";
+locks. Else the text is 'audit no K', as of 'lockreplay audit' (exit status 1).
+
+With --as-clients the text is a history of clients in its place, as 'lockreplay judge'
+reads it: what each owner was told of its calls about files. The times of a call are the
+entries, counted from 1, at which it was made and answered.";
 
 /// What stands under the options of `explain`.
 pub(crate) const EXPLAIN_NOTES: &str = "\
@@ -239,7 +245,14 @@ is no such list, or a NODE is past N, no script is made (exit status 3).
 
 What is not served is told on standard error, by the line of RECORDING, the first hundred
 times, and then how often more; the script is that of the other lines, and the exit
-status is 1. Else it is 0.";
+status is 1. Else it is 0.
+
+With --history the text is a history of clients, for 'lockreplay judge', of what the
+processes saw; there are no nodes then. Each line of RECORDING needs its time since 1970
+(strace -ttt; with -T its length too, with -y the paths of its files). Recordings of
+several machines are given together, each as NAME=RECORDING:
+  lockreplay from-strace --history a=a.strace b=b.strace
+A line whose time is missing or goes back is told as RECORDING:LINE (exit status 3).";
 
 /// What stands under the options of `explore`.
 pub(crate) const EXPLORE_NOTES: &str = "\
@@ -302,19 +315,29 @@ give each reply? The text is one of these:
 Here yes means that no contradiction was observed, and no more. Behind 'no' stands for
 each such file the first call that fits nowhere, by its line, and for up to three tables
 that there may have been before it what they hold, what of it is in its way and which
-calls are open. Behind 'unknown' stands up to which line an order was found.
+calls are open. Behind 'unknown' stands the line of the call at whose end the steps ran
+out.
 
 With --go-on the call that fits nowhere is left out, and the search goes on behind it; the
 text tells each. With --order the order is printed, behind 'yes' a line for each file:
   order F LINE LINE ..
 With --explains FILE such lines are read from FILE and nothing is searched. The text is
 'explains yes' where the orders explain the calls (exit status 0), else 'explains no F'
-with the first file whose order doesn't (exit status 1). With --stats counts are printed
-too, with --json all of it as JSON.
+with the first file whose order doesn't (exit status 1). With --stats a line of counts is
+printed too: the calls that are judged, exits, calls that say nothing, files, owners and
+machines. With --json all is printed as JSON. With --picture, of one HISTORY, the first
+call that fits nowhere is drawn as SVG, where one does, and nothing else is printed.
+
+With --allow RULE, once for each, the history is judged by one table, but for these:
+  wait-drops            a wait first gives back its owner's own locks on its bytes
+  close-own-descriptor  a close of a descriptor that was not used drops no lock
+  no-query              what queries tell says nothing
+  stale-read-denial     a lock that is gone may be in the way of a read lock
+  lost-at               each owner loses its locks in the times that 'lost' lines tell
 
 Of several histories each line of the text begins with 'HISTORY: '. The exit status is 1
 where one is contradicted, else 5 where one is unknown.
 
-A test shows what clients look at. Log an exit of each owner, also of one that is killed
-or fenced; have many owners lock few bytes; and let an observer query these all the time:
-a lost lock is found only where somebody looks.";
+A test shows what clients look at: a lost lock is found only where somebody looks. A
+tester wants few hot bytes, a yield behind each call, and an observer that queries all
+the time. Log an exit of each owner, also of one that is killed or fenced.";

@@ -1,4 +1,4 @@
-use Rattle.command_line.proofs.PlainWords.{bare_explore_asks, bare_judge_asks, bare_picture_asks, bare_schedule_asks, bare_strace_asks}
+use Rattle.command_line.proofs.PlainWords.{bare_explore_asks, bare_history_asks, bare_judge_asks, bare_picture_asks, bare_schedule_asks, bare_strace_asks}
 use Rattle.command_line.proofs.laws.what_is_left_out_has_its_default.Goals as goal
 
 pub returns-clause-picture : goal.returns-clause-picture
@@ -15,3 +15,6 @@ returns-clause-schedule c = bare_schedule_asks
 
 pub returns-clause-judge : goal.returns-clause-judge
 returns-clause-judge c = bare_judge_asks
+
+pub returns-clause-history : goal.returns-clause-history
+returns-clause-history c = bare_history_asks

@@ -1,7 +1,7 @@
 use Rattle.std.proofs.Common.{rules, ap, codes, map, sym, ◌≡◌, ◌∙◌, List, Some, []}
 use Rattle.std.specs.Prelude.{unwrap_or, Option}
 use Rattle.clap.specs.Words.{Text, found_of, rows_of}
-use Rattle.command_line.proofs.CommandLine.{no_check}
+use Rattle.command_line.proofs.Unmet.{no_check}
 use Rattle.command_line.proofs.Tables.{are_none, are_some, no_texts, same_value, texts_are}
 use Rattle.command_line.proofs.line.check_in.Goals as goal
 

@@ -36,4 +36,4 @@ pub returns-in-schedule : goal.returns-in-schedule
 returns-in-schedule c = line_met _ _ _ c.in-Some.name.now _ _ c.schedule_in.result c.in-Some.ensures.name c.in-Some.ensures.rows c.in-schedule.is c.schedule_in.ensures
 
 pub returns-in-text : goal.returns-in-text
-returns-in-text c = line_met _ _ _ c.in-Some.name.now _ _ c.strace_in.result c.in-Some.ensures.name c.in-Some.ensures.rows c.in-text.is c.strace_in.ensures
+returns-in-text c = IfOk-weaker c.strace_in.result _ _ (λ line met. line_met _ _ _ c.in-Some.name.now _ _ line c.in-Some.ensures.name c.in-Some.ensures.rows c.in-text.is met) c.strace_in.ensures

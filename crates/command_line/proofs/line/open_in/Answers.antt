@@ -1,6 +1,6 @@
 use Rattle.std.proofs.Common.{rules, ap, codes, Option, None, Some, [], ◌∷◌, ◌≡◌}
 use Rattle.clap.specs.Words.{Text, found_of, rows_of}
-use Rattle.command_line.proofs.CommandLine.{no_open}
+use Rattle.command_line.proofs.Unmet.{no_open}
 use Rattle.command_line.proofs.Tables.{no_value, value_is}
 use Rattle.command_line.proofs.line.open_in.Goals as goal
 

@@ -1,6 +1,6 @@
 use Rattle.std.proofs.Common.{rules, codes, None, Some, [], ◌∷◌, ◌≡◌}
 use Rattle.clap.specs.Words.{found_of, rows_of}
-use Rattle.command_line.proofs.CommandLine.{no_first, no_format, no_last, no_picture}
+use Rattle.command_line.proofs.Unmet.{no_first, no_format, no_last, no_picture}
 use Rattle.command_line.proofs.Tables.{no_value, same_value, value_is}
 use Rattle.command_line.proofs.line.picture_in.Goals as goal
 

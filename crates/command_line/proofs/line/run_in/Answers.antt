@@ -1,6 +1,6 @@
 use Rattle.std.proofs.Common.{rules, codes, None, Some, [], ◌∷◌, ◌≡◌}
 use Rattle.clap.specs.Words.{found_of, rows_of}
-use Rattle.command_line.proofs.CommandLine.{no_expect_flag, no_quiet, no_quiet_flag, no_run_flag, no_script}
+use Rattle.command_line.proofs.Unmet.{no_expect_flag, no_quiet, no_quiet_flag, no_run_flag, no_script}
 use Rattle.command_line.proofs.Tables.{no_value, same_value, value_is}
 use Rattle.command_line.proofs.line.run_in.Goals as goal
 

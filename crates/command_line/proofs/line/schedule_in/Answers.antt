@@ -1,6 +1,6 @@
 use Rattle.std.proofs.Common.{rules, codes, None, Some, [], ◌∷◌, ◌≡◌}
 use Rattle.clap.specs.Words.{found_of, rows_of}
-use Rattle.command_line.proofs.CommandLine.{no_scheduled_flag, no_scheduled_script, no_scheduled_seed}
+use Rattle.command_line.proofs.Unmet.{no_scheduled_flag, no_scheduled_script, no_scheduled_seed}
 use Rattle.command_line.proofs.Tables.{no_value, value_is}
 use Rattle.command_line.proofs.line.schedule_in.Goals as goal
 

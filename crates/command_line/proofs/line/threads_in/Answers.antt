@@ -1,6 +1,6 @@
 use Rattle.std.proofs.Common.{rules, codes, None, Some, [], ◌∷◌, ◌≡◌}
 use Rattle.clap.specs.Words.{found_of, rows_of}
-use Rattle.command_line.proofs.CommandLine.{no_flag, no_join_flag, no_seed, no_threads_script}
+use Rattle.command_line.proofs.Unmet.{no_flag, no_join_flag, no_seed, no_threads_script}
 use Rattle.command_line.proofs.Tables.{no_value, same_value, value_is}
 use Rattle.command_line.proofs.line.threads_in.Goals as goal
 

@@ -1,0 +1,75 @@
+-- What a judgement may be asked for.
+use Rattle.std.specs.Prelude.{ℕ, ◌≡◌, ◌≢◌, ⊤, Bool, true, false, List, Option, Some, None, [], ◌∷◌, codes, length, map, option_map}
+use Rattle.clap.specs.Words.{Text}
+use Rattle.command_line.specs.declared.judge_line.JudgeLine.{JudgeLine}
+use Rattle.command_line.specs.declared.rule.Rule.{Rule}
+use Rattle.command_line.specs.declared.rule.Rule.TheVariants.{WaitDrops, CloseOwnDescriptor, NoQuery, StaleReadDenial, LostAt}
+
+-- to judge the histories of these paths, looking at so many tables for each file at most, or by the order that the other path names, if there is one; to allow these rules; to print orders, to go on behind what fits nowhere, and to print counts, if that is asked for; as JSON, or as a picture, if that is
+pub record JudgeTask : Type 0 where
+  pub histories : List Text
+  pub steps : ℕ
+  pub explains : Option Text
+  pub allowed : List Rule
+  pub order : Bool
+  pub go_on : Bool
+  pub stats : Bool
+  pub json : Bool
+  pub picture : Bool
+
+abbrev pub judge_task_of : JudgeLine → JudgeTask
+judge_task_of line = record {
+  histories = map (λ history. history.now) line.histories.items;
+  steps = line.steps;
+  explains = option_map (λ file. file.now) line.explains;
+  allowed = line.allowed.items;
+  order = line.order;
+  go_on = line.go_on;
+  stats = line.stats;
+  json = line.json;
+  picture = line.picture;
+}
+
+-- the word that asks for a rule
+abbrev pub rule_text : Rule → Text
+rule_text WaitDrops = codes "wait-drops"
+rule_text CloseOwnDescriptor = codes "close-own-descriptor"
+rule_text NoQuery = codes "no-query"
+rule_text StaleReadDenial = codes "stale-read-denial"
+rule_text LostAt = codes "lost-at"
+
+-- the words that ask for rules to be allowed
+abbrev pub allow_words : List Rule → List Text
+allow_words [] = []
+allow_words (rule ∷ rules) = codes "--allow" ∷ rule_text rule ∷ allow_words rules
+
+-- how many tables of a file are looked at where that is left out
+abbrev pub default_steps : ℕ
+default_steps = 10000000
+
+-- what is asked where nothing but the path of a history is given
+abbrev pub plain_judgement : Text → JudgeTask
+plain_judgement path = record {
+  histories = path ∷ [];
+  steps = default_steps;
+  explains = None;
+  allowed = [];
+  order = false;
+  go_on = false;
+  stats = false;
+  json = false;
+  picture = false;
+}
+
+-- a history is judged by an order alone: nothing is searched
+abbrev pub MayExplain : Option Text → JudgeTask → Type 0
+MayExplain None t = t.histories ≢ []
+MayExplain (Some file) t = (length t.histories ≡ 1) × (t.steps ≡ default_steps) × (t.order ≡ false) × (t.go_on ≡ false) × (t.picture ≡ false)
+
+-- a picture is of one history
+abbrev pub MayDraw : Bool → JudgeTask → Type 0
+MayDraw false t = ⊤
+MayDraw true t = length t.histories ≡ 1
+
+abbrev pub MayJudge : JudgeTask → Type 0
+MayJudge t = MayExplain t.explains t × MayDraw t.picture t
