@@ -1,7 +1,7 @@
 -- Lemmas on faults of commands.
 use Rattle.std.proofs.Common.{ℕ, List, [], ◌∷◌, Option, Some, None, inl, inr}
 use Rattle.std.specs.Prelude.{⊤}
-use Rattle.command_line.specs.Tasks.{Task, run, threads, audit, history, explain, open_calls, check, picture, from_strace, explore, schedule, judge}
+use Rattle.command_line.specs.Tasks.{Task, run, threads, audit, history, explain, open_calls, check, picture, from_strace, recorded_history, explore, schedule, judge}
 use Rattle.replay.specs.declared.fault.Fault.{Fault}
 use Rattle.replay.specs.declared.fault.Fault.TheVariants.{BadLine, CannotRead, CannotWrite, CannotWriteOutput, NoMemory, JournalFull, OldJournal, Faulty}
 use Rattle.replay.specs.Checks.{AreCheckFault, IsSeveralFault, IsTrialFault}
@@ -67,16 +67,17 @@ input-weaker old RanShort Refuses (run script None to compares with_open quiet) 
 input-weaker old RanShort Refuses (run script (Some after) to compares with_open quiet) fault is = going-weaker old RanShort script after fault is
 input-weaker old RanShort Refuses (threads script seed may_stop no_join to) fault is = file-weaker (old script) RanShort script (ThreadsFault (old script)) fault is
 input-weaker old RanShort Refuses (audit journal) fault is = file-weaker (old journal) RanShort journal (JournalFault (old journal)) fault is
-input-weaker old RanShort Refuses (history journal) fault is = file-weaker (old journal) RanShort journal (JournalFault (old journal)) fault is
+input-weaker old RanShort Refuses (history journal as_clients) fault is = file-weaker (old journal) RanShort journal (JournalFault (old journal)) fault is
 input-weaker old RanShort Refuses (explain journal name) fault is = file-weaker (old journal) RanShort journal (JournalFault (old journal)) fault is
 input-weaker old RanShort Refuses (open_calls journal) fault is = file-weaker (old journal) RanShort journal (JournalFault (old journal)) fault is
 input-weaker old RanShort Refuses (check scripts journal) fault (inl is) = inl (checks-weaker old RanShort scripts fault is)
 input-weaker old RanShort Refuses (check scripts journal) fault (inr is) = inr (trial-weaker RanShort Refuses journal fault is)
 input-weaker old RanShort Refuses (picture journal name from to format) fault is = file-weaker (old journal) RanShort journal (JournalFault (old journal)) fault is
 input-weaker old RanShort Refuses (from_strace recording nodes places) fault is = file-weaker (old recording) RanShort recording (RecordingFault (old recording) nodes places) fault is
+input-weaker old RanShort Refuses (recorded_history words) fault is = is
 input-weaker old RanShort Refuses (explore script seeds first failures) fault is = file-weaker (old script) RanShort script (ExploreFault failures (old script)) fault is
 input-weaker old RanShort Refuses (schedule script seed failures) fault is = file-weaker (old script) RanShort script (ExploreFault failures (old script)) fault is
-input-weaker old RanShort Refuses (judge paths steps orders with_order go_on stats json) fault is = judge-weaker old RanShort paths orders fault is
+input-weaker old RanShort Refuses (judge t) fault is = judge-weaker old RanShort t.histories t.explains fault is
 
 -- memory may be short before
 pub fault-weaker : (old new : Files) (RanShort : Type 0) (Refuses : List ℕ → Type 0) (task : Task) (fault : Fault) → IsFault old RanShort Refuses task new fault → IsFault old ⊤ Refuses task new fault
@@ -100,12 +101,13 @@ short-memory old Refuses (run script None to compares with_open quiet) = inl tt
 short-memory old Refuses (run script (Some after) to compares with_open quiet) = inl (inl tt)
 short-memory old Refuses (threads script seed may_stop no_join to) = inl tt
 short-memory old Refuses (audit journal) = inl tt
-short-memory old Refuses (history journal) = inl tt
+short-memory old Refuses (history journal as_clients) = inl tt
 short-memory old Refuses (explain journal name) = inl tt
 short-memory old Refuses (open_calls journal) = inl tt
 short-memory old Refuses (check scripts journal) = inl (short-check old scripts)
 short-memory old Refuses (picture journal name from to format) = inl tt
 short-memory old Refuses (from_strace recording nodes places) = inl tt
+short-memory old Refuses (recorded_history words) = tt
 short-memory old Refuses (explore script seeds first failures) = inl tt
 short-memory old Refuses (schedule script seed failures) = inl tt
-short-memory old Refuses (judge paths steps orders with_order go_on stats json) = inl tt
+short-memory old Refuses (judge t) = inl tt

@@ -1,70 +1,61 @@
 -- Lemmas on histories that are judged.
-use Rattle.std.proofs.Common.{◌≡◌, ◌≢◌, ◌<◌, ◌≤◌, ℕ, ◌+◌, Bool, List, [], ◌∷◌, length, take, get_or, Option, Some, None, inl, inr, refl, sym, subst, arith}
+use Rattle.std.proofs.Common.{◌≡◌, ◌≢◌, ◌<◌, ◌≤◌, ℕ, ◌+◌, List, length, take, get_or, Option, Some, None, inl, inr, refl, sym, subst}
 use Rattle.std.specs.Prelude.{◌⊎◌, ⊤, All, Any, String}
 use Rattle.std.specs.Global.{Global}
 use Rattle.std.proofs.lemmas.List.{take_all}
-use Rattle.std.proofs.lemmas.List.Elements.{All-more, All-nil, All-weaker}
-use Rattle.command_line.specs.Tasks.{Task, run, threads, audit, history, explain, open_calls, check, picture, from_strace, explore, schedule, judge}
+use Rattle.std.proofs.lemmas.List.Elements.{All-more, All-weaker}
+use Rattle.command_line.specs.JudgeTasks.{JudgeTask}
+use Rattle.command_line.specs.Tasks.{judge}
+use Rattle.history_text.specs.declared.rule.Allowed.{Allowed}
 use Rattle.judgements.specs.declared.outcome.Outcome.{Outcome}
 use Rattle.judgements.specs.declared.outcome.Outcome.TheVariants as outcome
 use Rattle.replay.specs.declared.fault.Fault.{Fault}
 use Rattle.replay.specs.declared.fault.Fault.TheVariants.{BadLine, CannotRead, CannotWrite, CannotWriteOutput, NoMemory, JournalFull, OldJournal, Faulty}
 use Rattle.replay.specs.declared.shown.Shown.{Shown}
 use Rattle.replay.specs.declared.shown.Shown.TheVariants.{Text, Wanting, Partial, Noted, Undecided, Yes, No}
-use Rattle.replay.specs.Checks.{AreChecked}
-use Rattle.replay.specs.Commands.{Does, IsFault, IsJudge}
+use Rattle.replay.specs.Commands.{IsFault}
 use Rattle.replay.specs.Judging.{AreJudged, HasHistoryAt, HasTextAt, IsJudgeFault, IsNotJudged, IsSaidIn, IsSaidOf, IsUnreadAs, shown_of}
-use Rattle.replay.specs.Showing.{shown_status}
 use Rattle.replay.specs.Stores.{Files, SameFiles}
-use Rattle.replay.specs.Tellings.{IsChecked}
-use Rattle.replay.proofs.Stores.{had-no_text, had-text, same, same-after}
+use Rattle.replay.proofs.Stores.{had-no_text, had-text, same-after}
 
 -- what is said of a text is said of a history
-history-said : (orders : Option (List ℕ)) (old : Files) (said : Outcome) (path : List ℕ) → IsSaidOf orders old said path → HasHistoryAt old path
-history-said None old said path is = (is.0, is.1, is.2, (is.3.0, is.3.1))
-history-said (Some orders) old said path is = (is.0, is.1, is.2, (is.3.0, is.3.1))
+history-said : (allowed : Allowed) (orders : Option (List ℕ)) (old : Files) (said : Outcome) (path : List ℕ) → IsSaidOf allowed orders old said path → HasHistoryAt allowed old path
+history-said allowed None old said path is = (is.0, is.1, is.2, (is.3.0, is.3.1))
+history-said allowed (Some orders) old said path is = (is.0, is.1, is.2, (is.3.0, is.3.1))
 
-had-said : (orders : Option (List ℕ)) (old new : Files) (said : Outcome) (path : List ℕ) → SameFiles old new → IsSaidOf orders new said path → IsSaidOf orders old said path
-had-said orders old new said path same is = had-text old new path (λ text. IsSaidIn orders text said) same is
+had-said : (allowed : Allowed) (orders : Option (List ℕ)) (old new : Files) (said : Outcome) (path : List ℕ) → SameFiles old new → IsSaidOf allowed orders new said path → IsSaidOf allowed orders old said path
+had-said allowed orders old new said path same is = had-text old new path (λ text. IsSaidIn allowed orders text said) same is
 
 -- so many histories were judged: no file changed, each has one, and what is said of them is so
-pub record SoFar (orders : Option (List ℕ)) (old new : Files) (said : Outcome) (count : ℕ) (paths : List (List ℕ)) : Type 0 where
+pub record SoFar (allowed : Allowed) (orders : Option (List ℕ)) (old new : Files) (said : Outcome) (count : ℕ) (paths : List (List ℕ)) : Type 0 where
   pub same : SameFiles old new
-  pub read : All (HasHistoryAt old) (take count paths)
-  pub explained : said ≡ outcome.Yes → All (IsSaidOf orders old outcome.Yes) (take count paths)
-  pub contradicted : said ≡ outcome.No → Any (IsSaidOf orders old outcome.No) paths
-
-pub none-yet : (orders : Option (List ℕ)) (old : Files) (paths : List (List ℕ)) → SoFar orders old old outcome.Yes 0 paths
-none-yet orders old paths = record {
-  same = same old;
-  read = All-nil (HasHistoryAt old);
-  explained = λ word. All-nil (IsSaidOf orders old outcome.Yes);
-  contradicted = λ word. absurd (cc);
-}
+  pub read : All (HasHistoryAt allowed old) (take count paths)
+  pub explained : said ≡ outcome.Yes → All (IsSaidOf allowed orders old outcome.Yes) (take count paths)
+  pub contradicted : said ≡ outcome.No → Any (IsSaidOf allowed orders old outcome.No) paths
 
 -- one more
-pub so-far-more : (orders : Option (List ℕ)) (old mid new : Files) (was now said : Outcome) (count : ℕ) (paths : List (List ℕ)) (path : List ℕ) → count < length paths → path ≡ get_or paths count path
-    → IsSaidOf orders mid now path → (said ≡ outcome.Yes → (was ≡ outcome.Yes) × (now ≡ outcome.Yes)) → (said ≡ outcome.No → (was ≡ outcome.No) ⊎ (now ≡ outcome.No)) → SameFiles mid new
-    → SoFar orders old mid was count paths → SoFar orders old new said (count + 1) paths
-so-far-more orders old mid new was now said count paths path lt at is explained contradicted after before = record {
+pub so-far-more : (allowed : Allowed) (orders : Option (List ℕ)) (old mid new : Files) (was now said : Outcome) (count : ℕ) (paths : List (List ℕ)) (path : List ℕ) → count < length paths → path ≡ get_or paths count path
+    → IsSaidOf allowed orders mid now path → (said ≡ outcome.Yes → (was ≡ outcome.Yes) × (now ≡ outcome.Yes)) → (said ≡ outcome.No → (was ≡ outcome.No) ⊎ (now ≡ outcome.No)) → SameFiles mid new
+    → SoFar allowed orders old mid was count paths → SoFar allowed orders old new said (count + 1) paths
+so-far-more allowed orders old mid new was now said count paths path lt at is explained contradicted after before = record {
   same = same-after old mid new before.same after;
-  read = All-more (HasHistoryAt old) paths count path lt before.read (subst (HasHistoryAt old) at (history-said orders old now path (had-said orders old mid now path before.same is)));
+  read = All-more (HasHistoryAt allowed old) paths count path lt before.read (subst (HasHistoryAt allowed old) at (history-said allowed orders old now path (had-said allowed orders old mid now path before.same is)));
   explained = λ word.
       let both = explained word in
-      let here = subst (λ (o : Outcome). IsSaidOf orders mid o path) both.1 is in
-      All-more (IsSaidOf orders old outcome.Yes) paths count path lt (before.explained both.0) (subst (IsSaidOf orders old outcome.Yes) at (had-said orders old mid outcome.Yes path before.same here));
+      let here = subst (λ (o : Outcome). IsSaidOf allowed orders mid o path) both.1 is in
+      All-more (IsSaidOf allowed orders old outcome.Yes) paths count path lt (before.explained both.0) (subst (IsSaidOf allowed orders old outcome.Yes) at (had-said allowed orders old mid outcome.Yes path before.same here));
   contradicted = λ word. elim (contradicted word) [
     | inl earlier ↦ before.contradicted earlier
-    | inr here ↦ (count, path, lt, sym at, had-said orders old mid outcome.No path before.same (subst (λ (o : Outcome). IsSaidOf orders mid o path) here is))
+    | inr here ↦ (count, path, lt, sym at, had-said allowed orders old mid outcome.No path before.same (subst (λ (o : Outcome). IsSaidOf allowed orders mid o path) here is))
   ];
 }
 
 -- all of them
-pub judged-all : (orders : Option (List ℕ)) (old new : Files) (said : Outcome) (count : ℕ) (paths : List (List ℕ)) (text : String Global) → length paths ≤ count → SoFar orders old new said count paths
-    → AreJudged old paths orders (shown_of said text)
-judged-all orders old new outcome.Yes count paths text whole far = subst (All (IsSaidOf orders old outcome.Yes)) (take_all count paths whole) (far.explained refl)
-judged-all orders old new outcome.Unknown count paths text whole far = subst (All (HasHistoryAt old)) (take_all count paths whole) far.read
-judged-all orders old new outcome.No count paths text whole far = (subst (All (HasHistoryAt old)) (take_all count paths whole) far.read, far.contradicted refl)
+pub judged-all : (allowed : Allowed) (orders : Option (List ℕ)) (old new : Files) (said : Outcome) (count : ℕ) (paths : List (List ℕ)) (text : String Global) → length paths ≤ count → SoFar allowed orders old new said count paths
+    → AreJudged old allowed paths orders (shown_of said text)
+judged-all allowed orders old new outcome.Yes count paths text whole far = subst (All (IsSaidOf allowed orders old outcome.Yes)) (take_all count paths whole) (far.explained refl)
+judged-all allowed orders old new outcome.Unknown count paths text whole far = subst (All (HasHistoryAt allowed old)) (take_all count paths whole) far.read
+judged-all allowed orders old new outcome.No count paths text whole far = (subst (All (HasHistoryAt allowed old)) (take_all count paths whole) far.read, far.contradicted refl)
 
 -- one of them is not judged
 pub not-judged : (old mid : Files) (RanShort : Type 0) (count : ℕ) (paths : List (List ℕ)) (path : List ℕ) (orders : Option (List ℕ)) (fault : Fault) → count < length paths → path ≡ get_or paths count path → SameFiles old mid
@@ -83,17 +74,17 @@ not-judged old mid RanShort count paths path orders (Faulty report) lt at same i
 any-had : (P Q : List ℕ → Type 0) (paths : List (List ℕ)) → ((path : List ℕ) → P path → Q path) → Any P paths → Any Q paths
 any-had P Q paths same any = (any.0, any.1, any.2, any.3, same any.1 any.4)
 
-pub had-judged : (orders : Option (List ℕ)) (old new : Files) (paths : List (List ℕ)) (shown : Shown) → SameFiles old new → AreJudged new paths orders shown → AreJudged old paths orders shown
-had-judged orders old new paths (Text text) same is = All-weaker (IsSaidOf orders new outcome.Yes) (IsSaidOf orders old outcome.Yes) (λ path said. had-said orders old new outcome.Yes path same said) paths is
-had-judged orders old new paths (Wanting text) same is = (
-  All-weaker (HasHistoryAt new) (HasHistoryAt old) (λ path has. had-text old new path _ same has) paths is.0,
-  any-had (IsSaidOf orders new outcome.No) (IsSaidOf orders old outcome.No) paths (λ path said. had-said orders old new outcome.No path same said) is.1,
+pub had-judged : (allowed : Allowed) (orders : Option (List ℕ)) (old new : Files) (paths : List (List ℕ)) (shown : Shown) → SameFiles old new → AreJudged new allowed paths orders shown → AreJudged old allowed paths orders shown
+had-judged allowed orders old new paths (Text text) same is = All-weaker (IsSaidOf allowed orders new outcome.Yes) (IsSaidOf allowed orders old outcome.Yes) (λ path said. had-said allowed orders old new outcome.Yes path same said) paths is
+had-judged allowed orders old new paths (Wanting text) same is = (
+  All-weaker (HasHistoryAt allowed new) (HasHistoryAt allowed old) (λ path has. had-text old new path _ same has) paths is.0,
+  any-had (IsSaidOf allowed orders new outcome.No) (IsSaidOf allowed orders old outcome.No) paths (λ path said. had-said allowed orders old new outcome.No path same said) is.1,
 )
-had-judged orders old new paths (Undecided text) same is = All-weaker (HasHistoryAt new) (HasHistoryAt old) (λ path has. had-text old new path _ same has) paths is
-had-judged orders old new paths (Partial text told) same is = is
-had-judged orders old new paths (Noted text told) same is = is
-had-judged orders old new paths Yes same is = is
-had-judged orders old new paths (No position) same is = is
+had-judged allowed orders old new paths (Undecided text) same is = All-weaker (HasHistoryAt allowed new) (HasHistoryAt allowed old) (λ path has. had-text old new path _ same has) paths is
+had-judged allowed orders old new paths (Partial text told) same is = is
+had-judged allowed orders old new paths (Noted text told) same is = is
+had-judged allowed orders old new paths Yes same is = is
+had-judged allowed orders old new paths (No position) same is = is
 
 -- and by orders
 pub had-fault : (old new : Files) (RanShort : Type 0) (paths : List (List ℕ)) (orders : Option (List ℕ)) (fault : Fault) → SameFiles old new → IsJudgeFault new RanShort paths None fault → IsJudgeFault old RanShort paths orders fault
@@ -110,47 +101,13 @@ had-fault old new RanShort paths orders OldJournal same is = absurd is
 had-fault old new RanShort paths orders (Faulty report) same is = any-had (HasTextAt new) (HasTextAt old) paths (λ path has. had-text old new path (λ text. ⊤) same has) is
 
 -- why histories are not judged is a fault of the judgement
-pub judge-fault : (old new : Files) (RanShort : Type 0) (Refuses : List ℕ → Type 0) (paths : List (List ℕ)) (steps : ℕ) (orders : Option (List ℕ)) (with_order go_on stats json : Bool) (fault : Fault) → SameFiles old new
-    → IsJudgeFault old RanShort paths orders fault → (fault ≢ CannotWriteOutput) × IsFault old RanShort Refuses (judge paths steps orders with_order go_on stats json) new fault
-judge-fault old new RanShort Refuses paths steps orders with_order go_on stats json (BadLine line) same is = absurd is
-judge-fault old new RanShort Refuses paths steps orders with_order go_on stats json (CannotRead named reason) same is = (λ e. absurd (cc), (is, same))
-judge-fault old new RanShort Refuses paths steps orders with_order go_on stats json (CannotWrite named reason) same is = absurd is
-judge-fault old new RanShort Refuses paths steps orders with_order go_on stats json CannotWriteOutput same is = absurd is
-judge-fault old new RanShort Refuses paths steps orders with_order go_on stats json NoMemory same is = (λ e. absurd (cc), (is, same))
-judge-fault old new RanShort Refuses paths steps orders with_order go_on stats json JournalFull same is = absurd is
-judge-fault old new RanShort Refuses paths steps orders with_order go_on stats json OldJournal same is = absurd is
-judge-fault old new RanShort Refuses paths steps orders with_order go_on stats json (Faulty report) same is = (λ e. absurd (cc), (is, same))
-
--- only a judgement is undecided
-undecided-text : (text : List ℕ) (told : String Global) → IsChecked text (Undecided told) → ⊥
-undecided-text text told (inl is) = is.2
-undecided-text text told (inr is) = is.1.2
-
-undecided-check : (old : Files) (paths : List (List ℕ)) (text : String Global) → AreChecked old paths (Undecided text) → ⊥
-undecided-check old [] text is = is.1
-undecided-check old (path ∷ []) text is = undecided-text is.0 text is.3
-undecided-check old (path ∷ other ∷ more) text is = is.1
-
-undecided-task : (old new : Files) (task : Task) (text : String Global) → Does old task new (Undecided text) → IsJudge task
-undecided-task old new (run script None to compares with_open quiet) text is = is.3
-undecided-task old new (run script (Some after) to compares with_open quiet) text is = is.2.1.3
-undecided-task old new (threads script seed may_stop no_join to) text is = is.2
-undecided-task old new (audit path) text is = is.2
-undecided-task old new (history path) text is = is.2
-undecided-task old new (explain path name) text is = is.2
-undecided-task old new (open_calls path) text is = is.2
-undecided-task old new (check scripts journal) text is = undecided-check old scripts text is.0
-undecided-task old new (picture path name from to format) text is = is.2
-undecided-task old new (from_strace path nodes places) text is = is.0.3.3
-undecided-task old new (explore path seeds first failures) text is = is.0.3
-undecided-task old new (schedule path seed failures) text is = is.0.3
-undecided-task old new (judge paths steps orders with_order go_on stats json) text is = tt
-
-pub undecided : (old new : Files) (task : Task) (shown : Shown) → Does old task new shown → shown_status shown ≡ 5 → IsJudge task
-undecided old new task (Text text) is five = absurd (cc)
-undecided old new task (Wanting text) is five = absurd (cc)
-undecided old new task (Partial text told) is five = absurd (cc)
-undecided old new task (Noted text told) is five = absurd (cc)
-undecided old new task (Undecided text) is five = undecided-task old new task text is
-undecided old new task Yes is five = absurd (cc)
-undecided old new task (No position) is five = absurd (cc)
+pub judge-fault : (old new : Files) (RanShort : Type 0) (Refuses : List ℕ → Type 0) (t : JudgeTask) (fault : Fault) → SameFiles old new → IsJudgeFault old RanShort t.histories t.explains fault
+    → (fault ≢ CannotWriteOutput) × IsFault old RanShort Refuses (judge t) new fault
+judge-fault old new RanShort Refuses t (BadLine line) same is = absurd is
+judge-fault old new RanShort Refuses t (CannotRead named reason) same is = (λ e. absurd (cc), (is, same))
+judge-fault old new RanShort Refuses t (CannotWrite named reason) same is = absurd is
+judge-fault old new RanShort Refuses t CannotWriteOutput same is = absurd is
+judge-fault old new RanShort Refuses t NoMemory same is = (λ e. absurd (cc), (is, same))
+judge-fault old new RanShort Refuses t JournalFull same is = absurd is
+judge-fault old new RanShort Refuses t OldJournal same is = absurd is
+judge-fault old new RanShort Refuses t (Faulty report) same is = (λ e. absurd (cc), (is, same))

@@ -1,7 +1,7 @@
 -- Which files a command leaves as they were.
 use Rattle.std.proofs.Common.{ℕ, Bool, List, Option, Some, None, subst}
 use Rattle.cluster_core.specs.Journals.{JournalFields}
-use Rattle.command_line.specs.Tasks.{Task, run, threads, audit, history, explain, open_calls, check, picture, from_strace, explore, schedule, judge}
+use Rattle.command_line.specs.Tasks.{Task, run, threads, audit, history, explain, open_calls, check, picture, from_strace, recorded_history, explore, schedule, judge}
 use Rattle.replay.specs.declared.fault.Fault.{Fault}
 use Rattle.replay.specs.declared.fault.Fault.TheVariants.{BadLine, CannotRead, CannotWrite, CannotWriteOutput, NoMemory, JournalFull, OldJournal, Faulty}
 use Rattle.replay.specs.declared.shown.Shown.{Shown}
@@ -16,15 +16,16 @@ same-but old new (run script after (Some path) compares with_open quiet) same = 
 same-but old new (threads script seed may_stop no_join None) same = same
 same-but old new (threads script seed may_stop no_join (Some path)) same = λ other file differs. same other file
 same-but old new (audit path) same = same
-same-but old new (history path) same = same
+same-but old new (history path as_clients) same = same
 same-but old new (explain path name) same = same
 same-but old new (open_calls path) same = same
 same-but old new (check scripts journal) same = same
 same-but old new (picture path name from to format) same = same
 same-but old new (from_strace path nodes places) same = same
+same-but old new (recorded_history words) same = same
 same-but old new (explore path seeds first failures) same = same
 same-but old new (schedule path seed failures) same = same
-same-but old new (judge paths steps orders with_order go_on stats json) same = same
+same-but old new (judge t) same = same
 
 -- where the journal was kept
 kept-run : (old new : Files) (script : List ℕ) (after to : Option (List ℕ)) (compares with_open quiet : Bool) (text : List ℕ) → KeepsJournal old to text new → SameButJournal (run script after to compares with_open quiet) old new
@@ -47,15 +48,16 @@ done-files old new (run script (Some after) to compares with_open quiet) shown i
 done-files old new (threads script seed may_stop no_join None) shown is = is.3
 done-files old new (threads script seed may_stop no_join (Some path)) shown is = is.3.1
 done-files old new (audit path) shown is = is.3
-done-files old new (history path) shown is = is.3
+done-files old new (history path as_clients) shown is = is.3
 done-files old new (explain path name) shown is = is.3
 done-files old new (open_calls path) shown is = is.3
 done-files old new (check scripts journal) shown is = is.1
 done-files old new (picture path name from to format) shown is = is.3
 done-files old new (from_strace path nodes places) shown is = is.1
+done-files old new (recorded_history words) shown is = is.2
 done-files old new (explore path seeds first failures) shown is = is.1
 done-files old new (schedule path seed failures) shown is = is.1
-done-files old new (judge paths steps orders with_order go_on stats json) shown is = is.1
+done-files old new (judge t) shown is = is.1
 
 -- where the journal could not be written
 unwritten : (old new : Files) (task : Task) (named : List ℕ) → HasJournalFor old task named → SameOthers old new named → SameButJournal task old new
@@ -66,15 +68,16 @@ unwritten old new (run script (Some after) (Some path) compares with_open quiet)
 unwritten old new (threads script seed may_stop no_join None) named has others = absurd has
 unwritten old new (threads script seed may_stop no_join (Some path)) named has others = subst (λ (p : List ℕ). SameOthers old new p) has.0 others
 unwritten old new (audit path) named has others = absurd has
-unwritten old new (history path) named has others = absurd has
+unwritten old new (history path as_clients) named has others = absurd has
 unwritten old new (explain path name) named has others = absurd has
 unwritten old new (open_calls path) named has others = absurd has
 unwritten old new (check scripts journal) named has others = absurd has
 unwritten old new (picture path name from to format) named has others = absurd has
 unwritten old new (from_strace path nodes places) named has others = absurd has
+unwritten old new (recorded_history words) named has others = absurd has
 unwritten old new (explore path seeds first failures) named has others = absurd has
 unwritten old new (schedule path seed failures) named has others = absurd has
-unwritten old new (judge paths steps orders with_order go_on stats json) named has others = absurd has
+unwritten old new (judge t) named has others = absurd has
 
 -- where there is a fault
 pub fault-files : (old new : Files) (RanShort : Type 0) (Refuses : List ℕ → Type 0) (task : Task) (fault : Fault) → IsFault old RanShort Refuses task new fault → SameButJournal task old new

@@ -14,4 +14,6 @@ pub mod Explorations
 pub mod LeftFiles
 pub mod Checks
 pub mod Judging
+pub mod RecordedHistories
+pub mod AllowedRules
 pub mod FaultLines

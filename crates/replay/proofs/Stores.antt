@@ -1,7 +1,7 @@
 -- Lemmas on what stores hold.
 use Rattle.std.proofs.Common.{◌≢◌, ℕ, List, Option, Some, None, sym, ap, inl, inr}
 use Rattle.std.specs.Prelude.{◌↔◌}
-use Rattle.command_line.specs.Tasks.{Task, run, threads, audit, history, explain, open_calls, check, picture, from_strace, explore, schedule, judge, journal_path}
+use Rattle.command_line.specs.Tasks.{Task, run, threads, audit, history, explain, open_calls, check, picture, from_strace, recorded_history, explore, schedule, judge, journal_path}
 use Rattle.replay.specs.Commands.{SameButJournal}
 use Rattle.replay.specs.Stores.{Files, HasNoText, HasText, SameFiles, SameOthers}
 
@@ -38,12 +38,13 @@ same-unless old new (run script after (Some other) compares with_open quiet) pat
 same-unless old new (threads script seed may_stop no_join None) path file kept owing_nothing = kept path file
 same-unless old new (threads script seed may_stop no_join (Some other)) path file kept owing_nothing = kept path file (λ is. owing_nothing (ap (λ (p : List ℕ). Some p) (sym is)))
 same-unless old new (audit journal) path file kept owing_nothing = kept path file
-same-unless old new (history journal) path file kept owing_nothing = kept path file
+same-unless old new (history journal as_clients) path file kept owing_nothing = kept path file
 same-unless old new (explain journal name) path file kept owing_nothing = kept path file
 same-unless old new (open_calls journal) path file kept owing_nothing = kept path file
 same-unless old new (check scripts journal) path file kept owing_nothing = kept path file
 same-unless old new (picture journal name from to format) path file kept owing_nothing = kept path file
 same-unless old new (from_strace recording nodes places) path file kept owing_nothing = kept path file
+same-unless old new (recorded_history words) path file kept owing_nothing = kept path file
 same-unless old new (explore script seeds first failures) path file kept owing_nothing = kept path file
 same-unless old new (schedule script seed failures) path file kept owing_nothing = kept path file
-same-unless old new (judge histories steps orders with_order go_on stats json) path file kept owing_nothing = kept path file
+same-unless old new (judge t) path file kept owing_nothing = kept path file

@@ -1,5 +1,5 @@
 -- What the journal of a file is.
-use Rattle.std.specs.Prelude.{◌≡◌, ℕ, ◌<◌, ◌≤◌, List, length, string_bytes, Option, Some, None}
+use Rattle.std.specs.Prelude.{◌≡◌, ℕ, ⊤, ◌<◌, ◌≤◌, Bool, true, false, List, length, string_bytes, Option, Some, None}
 use Rattle.cluster_core.specs.declared.item.Item.{Item}
 use Rattle.cluster_core.specs.Histories.{HasHistory, EachAtItsPlace}
 use Rattle.cluster_core.specs.Journals.{JournalFields, IsFirstWrong}
@@ -69,12 +69,17 @@ IsAudit j (Undecided text) = ⊥
 abbrev pub IsHistoryText : JournalFields → List ℕ → Type 0
 IsHistoryText j text = (history : List Item) × HasHistory j.shape j.entries history × EachAtItsPlace j.entries history × (text ≡ history_text history)
 
--- what is shown for the history of the entries: it, where they are a run, or the first wrong one
-abbrev pub IsHistory : JournalFields → Shown → Type 0
-IsHistory j Yes = ⊥
-IsHistory j (Wanting text) = ⊥
-IsHistory j (Partial text told) = ⊥
-IsHistory j (Noted text told) = ⊥
-IsHistory j (Undecided text) = ⊥
-IsHistory j (No position) = IsFirstWrong j.shape j.entries position
-IsHistory j (Text text) = IsRun j.shape j.entries × IsHistoryText j (string_bytes text)
+-- so is the text, unless it tells what the clients of the run saw; what that says is not said
+abbrev pub IsHistoryUnless : Bool → JournalFields → List ℕ → Type 0
+IsHistoryUnless true j text = ⊤
+IsHistoryUnless false j text = IsHistoryText j text
+
+-- what is shown for the history of the entries, as it is or as clients saw it: it, where they are a run, or the first wrong one
+abbrev pub IsHistory : Bool → JournalFields → Shown → Type 0
+IsHistory as_clients j Yes = ⊥
+IsHistory as_clients j (Wanting text) = ⊥
+IsHistory as_clients j (Partial text told) = ⊥
+IsHistory as_clients j (Noted text told) = ⊥
+IsHistory as_clients j (Undecided text) = ⊥
+IsHistory as_clients j (No position) = IsFirstWrong j.shape j.entries position
+IsHistory as_clients j (Text text) = IsRun j.shape j.entries × IsHistoryUnless as_clients j (string_bytes text)

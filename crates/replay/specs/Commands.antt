@@ -3,7 +3,7 @@ use Rattle.std.specs.Prelude.{◌≡◌, ℕ, ⊤, ◌⊎◌, Bool, true, false,
 use Rattle.std.specs.Io.KnownBytes.{Appends}
 use Rattle.cluster_core.specs.Journals.{JournalFields, IsFirstWrong}
 use Rattle.cluster_core.specs.Runs.{IsRun}
-use Rattle.command_line.specs.Tasks.{Task, run, threads, audit, history, explain, open_calls, check, picture, from_strace, explore, schedule, judge}
+use Rattle.command_line.specs.Tasks.{Task, run, threads, audit, history, explain, open_calls, check, picture, from_strace, recorded_history, explore, schedule, judge}
 use Rattle.journal_text.specs.Journals.{journal_text}
 use Rattle.journal_text.specs.Readings.{WritesJournal}
 use Rattle.replay.specs.declared.fault.Fault.{Fault}
@@ -14,9 +14,10 @@ use Rattle.replay.specs.Audits.{HasJournal, HasNewJournal, IsAudit, IsHistory}
 use Rattle.replay.specs.Checks.{AreChecked, IsChecksFault}
 use Rattle.replay.specs.Faults.{IsBehindFault, IsJournalFault, IsOldFault, IsScriptFault, IsThreadsFault}
 use Rattle.replay.specs.Explorations.{IsExploreFault, IsExplored, IsScheduled}
-use Rattle.replay.specs.Judging.{AreJudged, IsJudgeFault}
+use Rattle.replay.specs.Judging.{AreJudged, IsJudgeFault, allowed_of}
 use Rattle.replay.specs.Outputs.{AppendsPart}
 use Rattle.player.specs.Played.{PlayedState}
+use Rattle.replay.specs.RecordedHistories.{AreRecorded, IsRecordedFault, IsRecordedShown}
 use Rattle.replay.specs.Recordings.{IsRecorded, IsRecordingFault}
 use Rattle.replay.specs.Scripts.{HasComparedRun, HasComparedRunBehind, HasRun, HasRunBehind, IsListing}
 use Rattle.replay.specs.Showing.{shown_status, shown_text}
@@ -70,15 +71,16 @@ Does old (run script None to compares with_open quiet) new shown = (played : Pla
 Does old (run script (Some after) to compares with_open quiet) new shown = (j : JournalFields) × HasNewJournal (old after) j × GoesOn old script j to compares with_open quiet new shown
 Does old (threads script seed may_stop no_join to) new shown = (t : ThreadedFields) × IsTold (old script) no_join may_stop t × ShowsThreads t shown × KeepsJournal old to t.journal new
 Does old (audit path) new shown = (j : JournalFields) × HasJournal (old path) j × IsAudit j shown × SameFiles old new
-Does old (history path) new shown = (j : JournalFields) × HasJournal (old path) j × IsHistory j shown × SameFiles old new
+Does old (history path as_clients) new shown = (j : JournalFields) × HasJournal (old path) j × IsHistory as_clients j shown × SameFiles old new
 Does old (explain path name) new shown = (j : JournalFields) × HasJournal (old path) j × IsExplained j name shown × SameFiles old new
 Does old (open_calls path) new shown = (j : JournalFields) × HasJournal (old path) j × IsOpenTold j shown × SameFiles old new
 Does old (check scripts journal) new shown = AreChecked old scripts shown × SameFiles old new
 Does old (picture path name from to format) new shown = (j : JournalFields) × HasJournal (old path) j × IsDrawn j name from to format shown × SameFiles old new
 Does old (from_strace path nodes places) new shown = HasText (old path) (λ text. IsRecorded nodes places shown) × SameFiles old new
+Does old (recorded_history words) new shown = AreRecorded old words × IsRecordedShown shown × SameFiles old new
 Does old (explore path seeds first failures) new shown = HasText (old path) (λ text. IsExplored failures first seeds text shown) × SameFiles old new
 Does old (schedule path seed failures) new shown = HasText (old path) (λ text. IsScheduled failures text shown) × SameFiles old new
-Does old (judge paths steps orders with_order go_on stats json) new shown = AreJudged old paths orders shown × SameFiles old new
+Does old (judge t) new shown = AreJudged old (allowed_of t.allowed) t.histories t.explains shown × SameFiles old new
 
 -- it is shown behind what a writer took, with its status, and told so beside
 abbrev pub Shows : (Shown → Type 0) → Option (List ℕ) → Option (List ℕ) → (Shown → Type 0) → ℕ → Type 0
@@ -101,15 +103,16 @@ IsInputFault old RanShort Refuses (run script None to compares with_open quiet) 
 IsInputFault old RanShort Refuses (run script (Some after) to compares with_open quiet) fault = IsGoingFault old RanShort script after fault
 IsInputFault old RanShort Refuses (threads script seed may_stop no_join to) fault = IsThreadsFault (old script) RanShort script fault
 IsInputFault old RanShort Refuses (audit path) fault = IsJournalFault (old path) RanShort path fault
-IsInputFault old RanShort Refuses (history path) fault = IsJournalFault (old path) RanShort path fault
+IsInputFault old RanShort Refuses (history path as_clients) fault = IsJournalFault (old path) RanShort path fault
 IsInputFault old RanShort Refuses (explain path name) fault = IsJournalFault (old path) RanShort path fault
 IsInputFault old RanShort Refuses (open_calls path) fault = IsJournalFault (old path) RanShort path fault
 IsInputFault old RanShort Refuses (check scripts journal) fault = IsChecksFault old RanShort Refuses scripts journal fault
 IsInputFault old RanShort Refuses (picture path name from to format) fault = IsJournalFault (old path) RanShort path fault
 IsInputFault old RanShort Refuses (from_strace path nodes places) fault = IsRecordingFault (old path) RanShort path nodes places fault
+IsInputFault old RanShort Refuses (recorded_history words) fault = IsRecordedFault old words fault
 IsInputFault old RanShort Refuses (explore path seeds first failures) fault = IsExploreFault failures (old path) RanShort path fault
 IsInputFault old RanShort Refuses (schedule path seed failures) fault = IsExploreFault failures (old path) RanShort path fault
-IsInputFault old RanShort Refuses (judge paths steps orders with_order go_on stats json) fault = IsJudgeFault old RanShort paths orders fault
+IsInputFault old RanShort Refuses (judge t) fault = IsJudgeFault old RanShort t.histories t.explains fault
 
 -- a run has a journal for the file of this path
 abbrev pub HasJournalFor : Files → Task → List ℕ → Type 0
@@ -138,27 +141,29 @@ abbrev pub IsCheck : Task → Type 0
 IsCheck (run script after to compares with_open quiet) = ⊥
 IsCheck (threads script seed may_stop no_join to) = ⊥
 IsCheck (audit path) = ⊥
-IsCheck (history path) = ⊥
+IsCheck (history path as_clients) = ⊥
 IsCheck (explain path name) = ⊥
 IsCheck (open_calls path) = ⊥
 IsCheck (check scripts journal) = ⊤
 IsCheck (picture path name from to format) = ⊥
 IsCheck (from_strace path nodes places) = ⊥
+IsCheck (recorded_history words) = ⊥
 IsCheck (explore path seeds first failures) = ⊥
 IsCheck (schedule path seed failures) = ⊥
-IsCheck (judge paths steps orders with_order go_on stats json) = ⊥
+IsCheck (judge t) = ⊥
 
 -- the task is a judgement, which may not know what was asked
 abbrev pub IsJudge : Task → Type 0
 IsJudge (run script after to compares with_open quiet) = ⊥
 IsJudge (threads script seed may_stop no_join to) = ⊥
 IsJudge (audit path) = ⊥
-IsJudge (history path) = ⊥
+IsJudge (history path as_clients) = ⊥
 IsJudge (explain path name) = ⊥
 IsJudge (open_calls path) = ⊥
 IsJudge (check scripts journal) = ⊥
 IsJudge (picture path name from to format) = ⊥
 IsJudge (from_strace path nodes places) = ⊥
+IsJudge (recorded_history words) = ⊥
 IsJudge (explore path seeds first failures) = ⊥
 IsJudge (schedule path seed failures) = ⊥
-IsJudge (judge paths steps orders with_order go_on stats json) = ⊤
+IsJudge (judge t) = ⊤

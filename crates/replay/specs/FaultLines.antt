@@ -1,6 +1,6 @@
 -- The lines that tell of faults: commands whose lines are fixed leave reasons away.
 use Rattle.std.specs.Prelude.{◌≡◌, ℕ, Bool, true, false, List, ◌++◌, codes}
-use Rattle.command_line.specs.Tasks.{Task, run, threads, audit, history, explain, open_calls, check, picture, from_strace, explore, schedule, judge}
+use Rattle.command_line.specs.Tasks.{Task, run, threads, audit, history, explain, open_calls, check, picture, from_strace, recorded_history, explore, schedule, judge}
 use Rattle.replay.specs.declared.fault.Fault.{Fault}
 use Rattle.replay.specs.declared.fault.Fault.TheVariants.{CannotRead, CannotWrite}
 use Rattle.replay.specs.Faults.{fault_line}
@@ -16,15 +16,16 @@ abbrev pub says_why : Task → Bool
 says_why (run script after to compares with_open quiet) = false
 says_why (threads script seed may_stop no_join to) = false
 says_why (audit path) = false
-says_why (history path) = false
+says_why (history path as_clients) = false
 says_why (explain path name) = true
 says_why (open_calls path) = true
 says_why (check scripts journal) = true
 says_why (picture path name from to format) = true
 says_why (from_strace path nodes places) = true
+says_why (recorded_history words) = true
 says_why (explore path seeds first failures) = true
 says_why (schedule path seed failures) = true
-says_why (judge paths steps explains order go_on stats json) = true
+says_why (judge t) = true
 
 -- the line of a fault of a command that says reasons, or that does not
 abbrev pub IsToldWith : Bool → Fault → List ℕ → Type 0

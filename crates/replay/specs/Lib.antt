@@ -8,6 +8,7 @@ pub mod Scripts
 pub mod Threads
 pub mod Explorations
 pub mod Recordings
+pub mod RecordedHistories
 pub mod Audits
 pub mod Faults
 pub mod FaultLines

@@ -5,7 +5,7 @@ ghost use Rattle.cluster_core.specs.World.{journal_limit};
 ghost use Rattle.command_line.specs.Tasks.{audit, history};
 ghost use Rattle.journal_text.specs.Readings.{HasLength};
 ghost use Rattle.replay.specs.declared.fault.Fault.TheVariants.{CannotWriteOutput, NoMemory};
-ghost use Rattle.replay.specs.Audits.{HasJournal, HasNewJournal, IsAudited, IsHistoryText, IsVerdict, WritesFew};
+ghost use Rattle.replay.specs.Audits.{HasJournal, HasNewJournal, IsAudited, IsHistoryText, IsHistoryUnless, IsVerdict, WritesFew};
 ghost use Rattle.replay.specs.Commands.{Does, IsFault};
 ghost use Rattle.replay.specs.Faults.{IsJournalFault, IsOldFault, IsTextFault};
 ghost use Rattle.replay.specs.Stores.{SameFiles};
@@ -24,6 +24,7 @@ use messages::entry::Entry;
 use messages::shape::Shape;
 use placement::placed_run::PlacedRun;
 use player::watcher::Watcher;
+use run_clients::text::clients_text;
 use std::alloc::{AllocError, Global};
 
 // What an audit of the entries of a journal comes to.
@@ -52,18 +53,19 @@ pub(crate) fn audit<'a, S: Store, V: Watcher>(
     }
 }
 
-// The history of the journal of a file, where it is one of a run.
+// The history of the journal of a file, where it is one of a run, or what its clients saw, if that is asked for.
 pub(crate) fn history<'a, S: Store>(
     alloc: Global,
     store: &mut S,
     path: &'a str,
+    as_clients: bool,
 ) -> Result<Shown, Fault<'a>>
-    ensures done { IfOk result (Does (S.holds store.old) (history path.now) (S.holds store.new)) }
+    ensures done { IfOk result (Does (S.holds store.old) (history path.now as_clients) (S.holds store.new)) }
     ensures fault { IfErr result (λ fault. (fault ≢ CannotWriteOutput)
-        × IsFault (S.holds store.old) (S.ran_short store.new) (S.refuses store.new) (history path.now) (S.holds store.new) fault) }
+        × IsFault (S.holds store.old) (S.ran_short store.new) (S.refuses store.new) (history path.now as_clients) (S.holds store.new) fault) }
 {
     match checked(alloc, store, path)? {
-        Audited::Run(journal) => match history_of(alloc, journal) {
+        Audited::Run(journal) => match history_text(alloc, journal, as_clients) {
             Ok(text) => Ok(Shown::Text(text)),
             Err(_) => Err(Fault::NoMemory),
         },
@@ -241,6 +243,17 @@ fn entries_read<'a>(alloc: Global, text: &str) -> Result<(Shape, Vec<Entry>), Fa
         return Err(Fault::JournalFull);
     }
     Ok((shape, entries))
+}
+
+// The history of a run as text, or what its clients saw, if that is asked for.
+fn history_text(alloc: Global, journal: Journal, as_clients: bool) -> Result<String, AllocError>
+    ensures { IfOk result (λ text. IsHistoryUnless as_clients journal (string_bytes text)) }
+{
+    if as_clients {
+        clients_text(alloc, journal)
+    } else {
+        history_of(alloc, journal)
+    }
 }
 
 // The history of a run as text.

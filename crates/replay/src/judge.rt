@@ -1,17 +1,20 @@
 //! Histories of clients, judged.
 ghost use Rattle.std.specs.Prelude.{◌≡◌, ◌≢◌, map, option_map, None, Some, IfErr, IfOk};
+ghost use Rattle.command_line.specs.JudgeTasks.{judge_task_of};
 ghost use Rattle.command_line.specs.Tasks.{judge};
 ghost use Rattle.replay.specs.declared.fault.Fault.TheVariants.{CannotWriteOutput};
 ghost use Rattle.replay.specs.Commands.{Does, IsFault};
-ghost use Rattle.replay.specs.Judging.{AreJudged, IsJudgeFault, shown_of};
+ghost use Rattle.replay.specs.Judging.{AreJudged, IsJudgeFault, allowed_of, shown_of};
 ghost use Rattle.replay.specs.Stores.{SameFiles};
 
+use crate::allowing::allowed_of;
 use crate::check_reports::push_lines;
 use crate::fault::Fault;
 use crate::input::text_of;
 use crate::judge_text::{Given, judged_at};
 use crate::shown::Shown;
 use crate::store::Store;
+use command_line::judge_line::JudgeLine;
 use judgements::judgement::Judgement;
 use judgements::judging::Judging;
 use judgements::outcome::Outcome;
@@ -22,32 +25,45 @@ use std::alloc::{AllocError, Global};
 pub(crate) fn judge<'a, S: Store>(
     alloc: Global,
     store: &mut S,
-    paths: &[&'a str],
-    orders: Option<&'a str>,
-    judging: Judging,
+    line: &JudgeLine<'a>,
 ) -> Result<Shown, Fault<'a>>
-    ensures done { IfOk result (Does (S.holds store.old) (judge (map (λ path. path.now) paths.now) judging.steps (option_map (λ file. file.now) orders.entry) judging.order judging.go_on judging.stats judging.json) (S.holds store.new)) }
+    ensures done { IfOk result (Does (S.holds store.old) (judge (judge_task_of line.now)) (S.holds store.new)) }
     ensures fault { IfErr result (λ fault. (fault ≢ CannotWriteOutput)
-        × IsFault (S.holds store.old) (S.ran_short store.new) (S.refuses store.new) (judge (map (λ path. path.now) paths.now) judging.steps (option_map (λ file. file.now) orders.entry) judging.order judging.go_on judging.stats judging.json) (S.holds store.new) fault) }
+        × IsFault (S.holds store.old) (S.ran_short store.new) (S.refuses store.new) (judge (judge_task_of line.now)) (S.holds store.new) fault) }
 {
-    judged(alloc, store, paths, orders, judging)
+    judged(alloc, store, line)
 }
 
 // The same, by what is known of the files.
 fn judged<'a, S: Store>(
     alloc: Global,
     store: &mut S,
-    paths: &[&'a str],
-    orders: Option<&'a str>,
-    judging: Judging,
+    line: &JudgeLine<'a>,
 ) -> Result<Shown, Fault<'a>>
-    ensures done { IfOk result (AreJudged (S.holds store.old) (map (λ path. path.now) paths.now) (option_map (λ file. file.now) orders.entry)) }
-    ensures fault { IfErr result (IsJudgeFault (S.holds store.old) (S.ran_short store.new) (map (λ path. path.now) paths.now) (option_map (λ file. file.now) orders.entry)) }
+    ensures done { IfOk result (AreJudged (S.holds store.old) (allowed_of line.now.allowed.items) (judge_task_of line.now).histories (judge_task_of line.now).explains) }
+    ensures fault { IfErr result (IsJudgeFault (S.holds store.old) (S.ran_short store.new) (judge_task_of line.now).histories (judge_task_of line.now).explains) }
     ensures files { SameFiles (S.holds store.old) (S.holds store.new) }
 {
-    match orders {
+    let paths = line.histories.as_slice();
+    let judging = judging_of(line);
+    match line.explains {
         None => all_judged(alloc, store, paths, None, judging),
         Some(path) => judged_by(alloc, store, paths, path, judging),
+    }
+}
+
+// How the histories are judged.
+fn judging_of(line: &JudgeLine<'_>) -> Judging
+    ensures { result.allowed ≡ allowed_of line.now.allowed.items }
+{
+    Judging {
+        steps: u64::from(line.steps),
+        order: line.order,
+        go_on: line.go_on,
+        stats: line.stats,
+        json: line.json,
+        picture: line.picture,
+        allowed: allowed_of(line.allowed.as_slice()),
     }
 }
 
@@ -59,7 +75,7 @@ fn judged_by<'a, S: Store>(
     orders: &'a str,
     judging: Judging,
 ) -> Result<Shown, Fault<'a>>
-    ensures done { IfOk result (AreJudged (S.holds store.old) (map (λ path. path.now) paths.now) (Some orders.now)) }
+    ensures done { IfOk result (AreJudged (S.holds store.old) judging.allowed (map (λ path. path.now) paths.now) (Some orders.now)) }
     ensures fault { IfErr result (IsJudgeFault (S.holds store.old) (S.ran_short store.new) (map (λ path. path.now) paths.now) (Some orders.now)) }
     ensures files { SameFiles (S.holds store.old) (S.holds store.new) }
 {
@@ -79,7 +95,7 @@ fn all_judged<'a, S: Store>(
     given: Option<Given<'_>>,
     judging: Judging,
 ) -> Result<Shown, Fault<'a>>
-    ensures done { IfOk result (AreJudged (S.holds store.old) (map (λ path. path.now) paths.now) (option_map (λ g. g.path.now) given.entry)) }
+    ensures done { IfOk result (AreJudged (S.holds store.old) judging.allowed (map (λ path. path.now) paths.now) (option_map (λ g. g.path.now) given.entry)) }
     ensures fault { IfErr result (IsJudgeFault (S.holds store.old) (S.ran_short store.new) (map (λ path. path.now) paths.now) None) }
     ensures files { SameFiles (S.holds store.old) (S.holds store.new) }
 {

@@ -27,7 +27,7 @@ pub(crate) fn judged_at<'a, S: Store>(
     given: Option<Given<'_>>,
     judging: Judging,
 ) -> Result<Judgement, Fault<'a>>
-    ensures done { IfOk result (λ judgement. IsSaidOf (option_map (λ g. g.path.now) given.entry) (S.holds store.old) judgement.outcome path.now) }
+    ensures done { IfOk result (λ judgement. IsSaidOf judging.allowed (option_map (λ g. g.path.now) given.entry) (S.holds store.old) judgement.outcome path.now) }
     ensures fault { IfErr result (IsNotJudged (S.holds store.old) (S.ran_short store.new) path.now) }
     ensures files { SameFiles (S.holds store.old) (S.holds store.new) }
 {
@@ -43,7 +43,7 @@ fn judged_in<'a>(
     given: Option<Given<'_>>,
     judging: Judging,
 ) -> Result<Judgement, Fault<'a>>
-    ensures done { IfOk result (λ judgement. IsSaidIn (option_map (λ g. g.path.now) given.entry) text.now judgement.outcome) }
+    ensures done { IfOk result (λ judgement. IsSaidIn judging.allowed (option_map (λ g. g.path.now) given.entry) text.now judgement.outcome) }
     ensures fault { IfErr result (IsShortOr ⊤) }
 {
     let judged = match given {

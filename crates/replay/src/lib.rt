@@ -1,6 +1,7 @@
 //! Running scripts: the files, the run and what is printed of it.
 #![tactic(auto)]
 
+mod allowing;
 mod audit;
 mod auditor;
 mod behind;
@@ -28,9 +29,11 @@ pub mod perform;
 mod ran;
 pub mod reason;
 mod recorded;
+mod recorded_history;
 pub mod respond;
 mod run;
 mod several;
+mod showing;
 pub mod shown;
 pub mod store;
 pub mod threaded;

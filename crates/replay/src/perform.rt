@@ -1,8 +1,7 @@
 //! Doing what a command line asks for.
 ghost use Rattle.std.specs.Prelude.{◌≡◌, ◌≢◌, ◌≤◌, ◌<◌, ◌⊎◌, ℕ, List, None, Some, IfErr, IfOk, OnErr, OnOk};
-ghost use Rattle.std.specs.Option.{option_map};
 ghost use Rattle.std.specs.Io.KnownBytes.{Appends};
-ghost use Rattle.command_line.specs.Tasks.{run, task_of};
+ghost use Rattle.command_line.specs.Tasks.{task_of};
 ghost use Rattle.replay.specs.declared.fault.Fault.TheVariants.{CannotWriteOutput};
 ghost use Rattle.replay.specs.Commands.{Does, IsCheck, IsFault, IsJudge, Leaves, SameButJournal, Shows, TellsFault};
 ghost use Rattle.replay.specs.FaultLines.{IsFaultLine, IsFaultOf, says_why};
@@ -11,25 +10,13 @@ ghost use Rattle.replay.specs.Outputs.{WritesOrFails};
 ghost use Rattle.replay.specs.Showing.{TellsBeside, shown_text};
 ghost use Rattle.replay.specs.Statuses.{status_of, IsStatus};
 
-use crate::audit::{audit, history};
-use crate::behind::{run_behind, run_behind_with_journal};
-use crate::check::check;
-use crate::draw::{draw, window};
-use crate::explain::{explain, open_calls};
-use crate::explored::{explored, scheduled};
 use crate::fault::Fault;
-use crate::judge::judge;
 use crate::output::Output;
-use crate::recorded::recorded;
-use crate::run::{run_script, run_with_journal};
+use crate::showing::shown_of;
 use crate::shown::Shown;
 use crate::store::Store;
-use crate::threads::play_on_threads;
-use crate::wanted::Wanted;
-use actors::manner::Manner;
 use actors::run_watcher::RunWatcher;
 use command_line::line::Line;
-use judgements::judging::Judging;
 use player::watcher::Watcher;
 use std::alloc::Global;
 use std::sync::Wait;
@@ -120,17 +107,16 @@ fn says_why(line: &Line<'_>) -> bool
     ensures { result ≡ says_why (task_of line.now) }
 {
     match line {
-        Line::Run { .. } | Line::Threads { .. } | Line::Audit { .. } | Line::History { .. } => {
-            false
-        }
+        Line::Run(_) | Line::Threads(_) | Line::Audit { .. } | Line::History { .. } => false,
         Line::Explain { .. }
         | Line::Open { .. }
         | Line::Check { .. }
-        | Line::Picture { .. }
+        | Line::Picture(_)
         | Line::FromStrace { .. }
+        | Line::RecordedHistory { .. }
         | Line::Explore { .. }
         | Line::Schedule { .. }
-        | Line::Judge { .. } => true,
+        | Line::Judge(_) => true,
     }
 }
 
@@ -173,155 +159,5 @@ fn done<'a, R: Threads + Wait + Clock + Sync, S: Store, O: Output, V: Watcher + 
     match shown.show(out) {
         Ok(()) => Ok(shown),
         Err(_) => Err(Fault::CannotWriteOutput),
-    }
-}
-
-// What is shown of a script that is run, once its journal is written, if a file for it is named, behind the
-// journal of another file, if one is named.
-fn run_shown<'a, S: Store, V: Watcher>(
-    alloc: Global,
-    store: &mut S,
-    script: &'a str,
-    after: Option<&'a str>,
-    journal: Option<&'a str>,
-    wanted: Wanted,
-    watcher: &mut V,
-) -> Result<Shown, Fault<'a>>
-    ensures done { IfOk result (Does (S.holds store.old) (run script.now (option_map (λ file. file.now) after.entry) (option_map (λ file. file.now) journal.entry) wanted.expect wanted.open wanted.quiet) (S.holds store.new)) }
-    ensures fault { IfErr result (λ fault. (fault ≢ CannotWriteOutput)
-        × IsFault (S.holds store.old) (S.ran_short store.new) (S.refuses store.new) (run script.now (option_map (λ file. file.now) after.entry) (option_map (λ file. file.now) journal.entry) wanted.expect wanted.open wanted.quiet) (S.holds store.new) fault) }
-{
-    match after {
-        None => run_alone_shown(alloc, store, script, journal, wanted, watcher),
-        Some(after) => run_behind_shown(alloc, store, script, after, journal, wanted, watcher),
-    }
-}
-
-// The same of a script that goes on behind no journal.
-fn run_alone_shown<'a, S: Store, V: Watcher>(
-    alloc: Global,
-    store: &mut S,
-    script: &'a str,
-    journal: Option<&'a str>,
-    wanted: Wanted,
-    watcher: &mut V,
-) -> Result<Shown, Fault<'a>>
-    ensures done { IfOk result (Does (S.holds store.old) (run script.now None (option_map (λ file. file.now) journal.entry) wanted.expect wanted.open wanted.quiet) (S.holds store.new)) }
-    ensures fault { IfErr result (λ fault. (fault ≢ CannotWriteOutput)
-        × IsFault (S.holds store.old) (S.ran_short store.new) (S.refuses store.new) (run script.now None (option_map (λ file. file.now) journal.entry) wanted.expect wanted.open wanted.quiet) (S.holds store.new) fault) }
-{
-    match journal {
-        None => run_script(alloc, store, script, wanted, watcher),
-        Some(file) => run_with_journal(alloc, store, script, file, wanted, watcher),
-    }
-}
-
-// The same of a script that goes on behind the journal of another file.
-fn run_behind_shown<'a, S: Store, V: Watcher>(
-    alloc: Global,
-    store: &mut S,
-    script: &'a str,
-    after: &'a str,
-    journal: Option<&'a str>,
-    wanted: Wanted,
-    watcher: &mut V,
-) -> Result<Shown, Fault<'a>>
-    ensures done { IfOk result (Does (S.holds store.old) (run script.now (Some after.now) (option_map (λ file. file.now) journal.entry) wanted.expect wanted.open wanted.quiet) (S.holds store.new)) }
-    ensures fault { IfErr result (λ fault. (fault ≢ CannotWriteOutput)
-        × IsFault (S.holds store.old) (S.ran_short store.new) (S.refuses store.new) (run script.now (Some after.now) (option_map (λ file. file.now) journal.entry) wanted.expect wanted.open wanted.quiet) (S.holds store.new) fault) }
-{
-    match journal {
-        None => run_behind(alloc, store, script, after, wanted, watcher),
-        Some(file) => run_behind_with_journal(alloc, store, script, after, file, wanted, watcher),
-    }
-}
-
-// What is shown of the line, once all else that it asks for is done.
-fn shown_of<'a, R: Threads + Wait + Clock + Sync, S: Store, V: Watcher + RunWatcher>(
-    rt: &R,
-    alloc: Global,
-    line: &Line<'a>,
-    store: &mut S,
-    watcher: &mut V,
-) -> Result<Shown, Fault<'a>>
-    ensures done { IfOk result (Does (S.holds store.old) (task_of line.now) (S.holds store.new)) }
-    ensures fault { IfErr result (λ fault. (fault ≢ CannotWriteOutput)
-        × IsFault (S.holds store.old) (S.ran_short store.new) (S.refuses store.new) (task_of line.now) (S.holds store.new) fault) }
-{
-    match *line {
-        Line::Run {
-            script,
-            after,
-            journal,
-            expect,
-            open,
-            quiet,
-        } => {
-            let wanted = Wanted {
-                expect,
-                open,
-                quiet,
-            };
-            run_shown(alloc, store, script, after, journal, wanted, watcher)
-        }
-        Line::Threads {
-            script,
-            seed,
-            stop_when_stuck: may_stop,
-            no_join,
-            journal,
-        } => {
-            let manner = Manner { no_join, may_stop };
-            play_on_threads(rt, alloc, store, script, seed, manner, journal, watcher)
-        }
-        Line::Audit { journal } => audit(alloc, store, journal, watcher),
-        Line::History { journal } => history(alloc, store, journal),
-        Line::Explain { journal, call } => explain(alloc, store, journal, call),
-        Line::Open { journal } => open_calls(alloc, store, journal),
-        Line::Check {
-            ref scripts,
-            journal,
-        } => check(alloc, store, scripts.as_slice(), journal, watcher),
-        Line::Picture {
-            journal,
-            around,
-            from,
-            to,
-            format,
-        } => draw(alloc, store, journal, around, &window(from, to), format),
-        Line::FromStrace {
-            recording,
-            nodes,
-            places,
-        } => recorded(alloc, store, recording, nodes, places),
-        Line::Explore {
-            script,
-            seeds,
-            first,
-            failures,
-        } => explored(alloc, store, script, seeds, first, failures, watcher),
-        Line::Schedule {
-            script,
-            seed,
-            failures,
-        } => scheduled(alloc, store, script, seed, failures),
-        Line::Judge {
-            ref histories,
-            steps,
-            explains,
-            order,
-            go_on,
-            stats,
-            json,
-        } => {
-            let judging = Judging {
-                steps: u64::from(steps),
-                order,
-                go_on,
-                stats,
-                json,
-            };
-            judge(alloc, store, histories.as_slice(), explains, judging)
-        }
     }
 }

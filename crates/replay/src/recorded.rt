@@ -100,8 +100,8 @@ fn made_of<'a>(
     }
 }
 
-// The fault that this line tells.
-fn told<'a>(alloc: Global, line: &str) -> Fault<'a>
+/// The fault that this line tells.
+pub(crate) fn told<'a>(alloc: Global, line: &str) -> Fault<'a>
     ensures { IsShortOr ⊤ result }
 {
     match String::from_str(alloc, line) {

@@ -1,4 +1,4 @@
-use Rattle.std.proofs.Common.{◌<◌, ℕ, List, [], Bor, None, arith, inr, length, map, option_map, sym, subst}
+use Rattle.std.proofs.Common.{◌<◌, ℕ, List, [], Bor, None, arith, inr, length, map, sym, subst}
 use Rattle.std.proofs.lemmas.List.{get_or-map, length-map}
 use Rattle.std.proofs.lemmas.Result.{err_from_is_err_and}
 use Rattle.replay.specs.declared.fault.Fault.TheVariants.{NoMemory}
@@ -39,7 +39,7 @@ loop-path-preserved g c =
     let paths = c.args.paths.now in
     let i = c.loop-path.path-index in
     let lt = c.loop-path-test.true in
-    so-far-more _ (holds c.args.store.now) (holds c.loop-path.store) (holds c.judged_at.new.store) _ _ _ i (map now_of paths) _ (within paths i lt) (sym (get_or-map now_of paths i nothing _ lt)) c.in_ok-judgement.ensures.done c.with-outcome.ensures.yes c.with-outcome.ensures.no c.judged_at.ensures.files c.loop-path.invariant
+    so-far-more _ _ (holds c.args.store.now) (holds c.loop-path.store) (holds c.judged_at.new.store) _ _ _ i (map now_of paths) _ (within paths i lt) (sym (get_or-map now_of paths i nothing _ lt)) c.in_ok-judgement.ensures.done c.with-outcome.ensures.yes c.with-outcome.ensures.no c.judged_at.ensures.files c.loop-path.invariant
 
 pub returns-clause-done : goal.returns-clause-done
 returns-clause-done g c =
@@ -47,4 +47,4 @@ returns-clause-done g c =
     let paths = c.args.paths.now in
     let mapped = length-map paths now_of in
     let last = c.loop-path-test.false in
-    rw c.shown_as.ensures (judged-all _ (holds c.args.store.now) (holds c.loop-path.store) c.loop-path.outcome c.loop-path.path-index (map now_of paths) c.loop-path.told (omega (arith, mapped, last)) c.loop-path.invariant)
+    rw c.shown_as.ensures (judged-all _ _ (holds c.args.store.now) (holds c.loop-path.store) c.loop-path.outcome c.loop-path.path-index (map now_of paths) c.loop-path.told (omega (arith, mapped, last)) c.loop-path.invariant)

@@ -7,7 +7,7 @@ pub returns-clause-done : goal.returns-clause-done
 returns-clause-done g c =
     let holds = g.S.Store.holds in
     IfOk-weaker c.all_judged.result _ _ (λ shown is.
-    had-judged (Some c.args.orders.now) (holds c.args.store.now) (holds c.text_of.new.store) (map (λ path. path.now) c.args.paths.now) shown c.text_of.ensures.files is
+    had-judged c.args.judging.allowed (Some c.args.orders.now) (holds c.args.store.now) (holds c.text_of.new.store) (map (λ path. path.now) c.args.paths.now) shown c.text_of.ensures.files is
     ) c.all_judged.ensures.done
 
 pub returns-clause-fault : goal.returns-clause-fault

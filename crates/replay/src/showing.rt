@@ -1,0 +1,191 @@
+//! What is shown of each command.
+ghost use Rattle.std.specs.Prelude.{◌≢◌, None, Some, IfErr, IfOk};
+ghost use Rattle.std.specs.Option.{option_map};
+ghost use Rattle.command_line.specs.Tasks.{picture_task_of, run, run_task_of, task_of, threads_task_of};
+ghost use Rattle.replay.specs.declared.fault.Fault.TheVariants.{CannotWriteOutput};
+ghost use Rattle.replay.specs.Commands.{Does, IsFault};
+
+use crate::audit::{audit, history};
+use crate::behind::{run_behind, run_behind_with_journal};
+use crate::check::check;
+use crate::draw::{draw, window};
+use crate::explain::{explain, open_calls};
+use crate::explored::{explored, scheduled};
+use crate::fault::Fault;
+use crate::judge::judge;
+use crate::recorded::recorded;
+use crate::recorded_history::recorded_history;
+use crate::run::{run_script, run_with_journal};
+use crate::shown::Shown;
+use crate::store::Store;
+use crate::threads::play_on_threads;
+use crate::wanted::Wanted;
+use actors::manner::Manner;
+use actors::run_watcher::RunWatcher;
+use command_line::line::Line;
+use command_line::picture_line::PictureLine;
+use command_line::run_line::{RunLine, ThreadsLine};
+use player::watcher::Watcher;
+use std::alloc::Global;
+use std::sync::Wait;
+use std::thread::Threads;
+use std::time::Clock;
+
+/// What is shown of the line, once all else that it asks for is done.
+///
+/// # Errors
+/// Why it was not done.
+pub(crate) fn shown_of<'a, R: Threads + Wait + Clock + Sync, S: Store, V: Watcher + RunWatcher>(
+    rt: &R,
+    alloc: Global,
+    line: &Line<'a>,
+    store: &mut S,
+    watcher: &mut V,
+) -> Result<Shown, Fault<'a>>
+    ensures done { IfOk result (Does (S.holds store.old) (task_of line.now) (S.holds store.new)) }
+    ensures fault { IfErr result (λ fault. (fault ≢ CannotWriteOutput)
+        × IsFault (S.holds store.old) (S.ran_short store.new) (S.refuses store.new) (task_of line.now) (S.holds store.new) fault) }
+{
+    match *line {
+        Line::Run(asked) => run_shown(alloc, store, asked, watcher),
+        Line::Threads(asked) => threads_shown(rt, alloc, store, asked, watcher),
+        Line::Audit { journal } => audit(alloc, store, journal, watcher),
+        Line::History {
+            journal,
+            as_clients,
+        } => history(alloc, store, journal, as_clients),
+        Line::Explain { journal, call } => explain(alloc, store, journal, call),
+        Line::Open { journal } => open_calls(alloc, store, journal),
+        Line::Check {
+            ref scripts,
+            journal,
+        } => check(alloc, store, scripts.as_slice(), journal, watcher),
+        Line::Picture(asked) => picture_shown(alloc, store, asked),
+        Line::FromStrace {
+            recording,
+            nodes,
+            places,
+        } => recorded(alloc, store, recording, nodes, places),
+        Line::RecordedHistory { ref recordings } => {
+            recorded_history(alloc, store, recordings.as_slice())
+        }
+        Line::Explore {
+            script,
+            seeds,
+            first,
+            failures,
+        } => explored(alloc, store, script, seeds, first, failures, watcher),
+        Line::Schedule {
+            script,
+            seed,
+            failures,
+        } => scheduled(alloc, store, script, seed, failures),
+        Line::Judge(ref asked) => judge(alloc, store, asked),
+    }
+}
+
+// What is shown of a script that is run, once its journal is written, if a file for it is named, behind the
+// journal of another file, if one is named.
+fn run_shown<'a, S: Store, V: Watcher>(
+    alloc: Global,
+    store: &mut S,
+    asked: RunLine<'a>,
+    watcher: &mut V,
+) -> Result<Shown, Fault<'a>>
+    ensures done { IfOk result (Does (S.holds store.old) (run_task_of asked.entry) (S.holds store.new)) }
+    ensures fault { IfErr result (λ fault. (fault ≢ CannotWriteOutput)
+        × IsFault (S.holds store.old) (S.ran_short store.new) (S.refuses store.new) (run_task_of asked.entry) (S.holds store.new) fault) }
+{
+    let wanted = Wanted {
+        expect: asked.expect,
+        open: asked.open,
+        quiet: asked.quiet,
+    };
+    let (script, journal) = (asked.script, asked.journal);
+    match asked.after {
+        None => run_alone_shown(alloc, store, script, journal, wanted, watcher),
+        Some(after) => run_behind_shown(alloc, store, script, after, journal, wanted, watcher),
+    }
+}
+
+// The same of a script that goes on behind no journal.
+fn run_alone_shown<'a, S: Store, V: Watcher>(
+    alloc: Global,
+    store: &mut S,
+    script: &'a str,
+    journal: Option<&'a str>,
+    wanted: Wanted,
+    watcher: &mut V,
+) -> Result<Shown, Fault<'a>>
+    ensures done { IfOk result (Does (S.holds store.old) (run script.now None (option_map (λ file. file.now) journal.entry) wanted.expect wanted.open wanted.quiet) (S.holds store.new)) }
+    ensures fault { IfErr result (λ fault. (fault ≢ CannotWriteOutput)
+        × IsFault (S.holds store.old) (S.ran_short store.new) (S.refuses store.new) (run script.now None (option_map (λ file. file.now) journal.entry) wanted.expect wanted.open wanted.quiet) (S.holds store.new) fault) }
+{
+    match journal {
+        None => run_script(alloc, store, script, wanted, watcher),
+        Some(file) => run_with_journal(alloc, store, script, file, wanted, watcher),
+    }
+}
+
+// The same of a script that goes on behind the journal of another file.
+fn run_behind_shown<'a, S: Store, V: Watcher>(
+    alloc: Global,
+    store: &mut S,
+    script: &'a str,
+    after: &'a str,
+    journal: Option<&'a str>,
+    wanted: Wanted,
+    watcher: &mut V,
+) -> Result<Shown, Fault<'a>>
+    ensures done { IfOk result (Does (S.holds store.old) (run script.now (Some after.now) (option_map (λ file. file.now) journal.entry) wanted.expect wanted.open wanted.quiet) (S.holds store.new)) }
+    ensures fault { IfErr result (λ fault. (fault ≢ CannotWriteOutput)
+        × IsFault (S.holds store.old) (S.ran_short store.new) (S.refuses store.new) (run script.now (Some after.now) (option_map (λ file. file.now) journal.entry) wanted.expect wanted.open wanted.quiet) (S.holds store.new) fault) }
+{
+    match journal {
+        None => run_behind(alloc, store, script, after, wanted, watcher),
+        Some(file) => run_behind_with_journal(alloc, store, script, after, file, wanted, watcher),
+    }
+}
+
+// What is shown of a script that is run on threads.
+fn threads_shown<'a, R: Threads + Wait + Clock + Sync, S: Store, V: Watcher + RunWatcher>(
+    rt: &R,
+    alloc: Global,
+    store: &mut S,
+    asked: ThreadsLine<'a>,
+    watcher: &mut V,
+) -> Result<Shown, Fault<'a>>
+    ensures done { IfOk result (Does (S.holds store.old) (threads_task_of asked.entry) (S.holds store.new)) }
+    ensures fault { IfErr result (λ fault. (fault ≢ CannotWriteOutput)
+        × IsFault (S.holds store.old) (S.ran_short store.new) (S.refuses store.new) (threads_task_of asked.entry) (S.holds store.new) fault) }
+{
+    let manner = Manner {
+        no_join: asked.no_join,
+        may_stop: asked.stop_when_stuck,
+    };
+    let (script, journal) = (asked.script, asked.journal);
+    play_on_threads(
+        rt, alloc, store, script, asked.seed, manner, journal, watcher,
+    )
+}
+
+// What is shown of the entries of a journal that are drawn.
+fn picture_shown<'a, S: Store>(
+    alloc: Global,
+    store: &mut S,
+    asked: PictureLine<'a>,
+) -> Result<Shown, Fault<'a>>
+    ensures done { IfOk result (Does (S.holds store.old) (picture_task_of asked.entry) (S.holds store.new)) }
+    ensures fault { IfErr result (λ fault. (fault ≢ CannotWriteOutput)
+        × IsFault (S.holds store.old) (S.ran_short store.new) (S.refuses store.new) (picture_task_of asked.entry) (S.holds store.new) fault) }
+{
+    let drawn = window(asked.from, asked.to);
+    draw(
+        alloc,
+        store,
+        asked.journal,
+        asked.around,
+        &drawn,
+        asked.format,
+    )
+}
