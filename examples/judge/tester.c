@@ -12,7 +12,7 @@
 //   -r            times of CLOCK_REALTIME, which several machines may share, in place of CLOCK_MONOTONIC
 //   -n            tells whose lock F_GETLK found: that l_pid is right is judged too
 //   -u            tells nothing of a lock that F_GETLK found
-//   -x COMMAND    is run by sh in the middle: a fault
+//   -x COMMAND    is run by sh in the middle: a fault, in which locks may be lost (`--allow lost-at`)
 #define _GNU_SOURCE
 #include <errno.h>
 #include <fcntl.h>
@@ -37,7 +37,7 @@ enum operation { SET, WAIT, UNLOCK, QUERY, CLOSE };
 struct call {
     uint64_t begin;
     _Atomic uint64_t end;
-    int process, file, by_description, error;
+    int process, file, by_description, error, unused;
     enum operation operation;
     struct flock asked, answer;
 };
@@ -69,7 +69,7 @@ static atomic_int *is_over;
 static int slot_count, process_of[MOST_SLOTS], started, live;
 static pid_t pid_of[MOST_PROCESSES];
 static struct exit_of exit_of[MOST_PROCESSES];
-static int descriptors[2][MOST_FILES];
+static int descriptors[2][MOST_FILES], is_used[2][MOST_FILES];
 static uint64_t randomness;
 
 static uint64_t now(void) {
@@ -142,6 +142,9 @@ static int make_call(int slot, struct call call) {
         return ENOSPC;
     struct call *written = &calls_of(slot)[place];
     struct flock lock = call.asked;
+    int *used = &is_used[call.by_description][call.file];
+    call.unused = !*used;
+    *used = call.operation == CLOSE ? 0 : *used || call.operation != QUERY;
     if (call.operation == WAIT)
         set_alarm(1 + below(longest_wait));
     *written = call;
@@ -301,7 +304,10 @@ static void kill_one(void) {
 static void make_fault(void) {
     uint64_t begin = now();
     int status = system(fault);
-    printf("note %llu %llu %s, status %d\n", (unsigned long long)begin, (unsigned long long)now(), fault, status);
+    uint64_t end = now();
+    printf("note %llu %llu %s, status %d\n", (unsigned long long)begin, (unsigned long long)end, fault, status);
+    for (int file = 0; file < files; file++)
+        printf("lost %llu %llu %d\n", (unsigned long long)begin, (unsigned long long)end, file);
     fault = NULL;
 }
 
@@ -399,6 +405,8 @@ static void print_call(const struct call *call, int by_description) {
         printf(" %s", mode_of(call->asked.l_type));
     if (call->operation != CLOSE)
         printf(" %lld %lld", (long long)call->asked.l_start, (long long)call->asked.l_len);
+    else if (call->unused || call->by_description != by_description)
+        printf(" unused");
     if (end)
         print_answer(call);
     printf("\n");
