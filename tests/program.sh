@@ -91,10 +91,12 @@ done
 try_text 'no file for check' 2 err 'Usage: lockreplay check' check
 try_text 'an option for check' 2 err 'Usage: lockreplay check' check first.lock --quiet
 try_text 'several files in the usage of check' 0 out 'Usage: lockreplay check [OPTIONS] <SCRIPT>...' help check
-for command in from-strace explore schedule; do
+for command in from-strace explore schedule judge; do
     try_text "no file for $command" 2 err "Usage: lockreplay $command" "$command"
-    try_text "two files for $command" 2 err "Usage: lockreplay $command" "$command" first.lock first.lock
     try_text "an option for $command" 2 err "Usage: lockreplay $command" "$command" first.lock --journal=new.journal
+done
+for command in explore schedule; do
+    try_text "two files for $command" 2 err "Usage: lockreplay $command" "$command" first.lock first.lock
 done
 try_text 'the help on from-strace' 0 out 'strace -f' help from-strace
 try_text 'the help on explore' 0 out '# expect WORDS' help explore
@@ -122,6 +124,27 @@ done
 try_text 'places left out' 2 err "a value is required for '--place <PLACES>'" from-strace first.lock --place
 try_text 'places named twice' 2 err "'--place <PLACES>' cannot be used multiple times" from-strace first.lock --place 1=1 --place 2=1
 try_text 'the help on places' 0 out '--place PID=NODE,..' help from-strace
+try_text 'two recordings for a script' 2 err 'there is one RECORDING' from-strace first.strace second.strace
+try_text 'a history of recordings on nodes' 2 err "no '--nodes' or '--place'" from-strace first.strace --history --nodes 2
+try_text 'a history of recordings at places' 2 err "no '--nodes' or '--place'" from-strace --history first.strace second.strace --place 1=1
+try_text 'a history of recordings, with a value' 2 err '--history' from-strace first.strace --history=yes
+try_text 'a history in the help on from-strace' 0 out 'a=a.strace b=b.strace' help from-strace
+try_text 'what clients saw, with a value' 2 err '--as-clients' history new.journal --as-clients=yes
+try_text 'what clients saw in the help on history' 0 out '--as-clients' help history
+for rule in wait WAIT-DROPS lost-at,no-query ''; do
+    try_text "a rule that is none: $rule" 2 err "invalid value for '--allow <RULE>'" judge first.history --allow no-query --allow "$rule"
+done
+try_text 'a rule left out' 2 err "a value is required for '--allow <RULE>'" judge first.history --allow
+for option in --steps=1 --order --go-on --picture; do
+    try_text "$option beside an order that is given" 2 err "the argument '--explains <FILE>' takes one HISTORY" judge first.history --explains given.order $option
+done
+try_text 'two histories beside an order that is given' 2 err "the argument '--explains <FILE>' takes one HISTORY" \
+    judge first.history second.history --explains given.order
+try_text 'a picture of two histories' 2 err "the argument '--picture' takes one HISTORY" judge first.history --picture second.history
+try_text 'what a tester wants in the help on judge' 0 out 'few hot bytes' help judge
+for rule in wait-drops close-own-descriptor no-query stale-read-denial lost-at; do
+    try_text "the rule in the help on judge: $rule" 0 out "$rule " help judge
+done
 try_text 'replies that are expected in the help on run' 0 out "Compare the replies with the '# expect' lines of SCRIPT" help run
 for number in -1 4294967296 many; do
     try_text "a first seed that is none: $number" 2 err "--first" explore first.lock --first="$number"
@@ -426,6 +449,9 @@ judge 'the journal that it writes with = behind the script' 0 $? none none none 
 try 'an audit of it' 0 yes none audit written.journal
 try 'an audit of it behind --' 0 yes none audit -- written.journal
 try 'its history' 0 first.history none history written.journal
+echo 'history yes' >explained
+timeout 120 "$program" history written.journal --as-clients 2>came.err </dev/null | timeout 120 "$program" judge - >came.out
+judge 'what its clients saw, judged' 0 $? explained came.out none came.err
 printf 'call 1.1.1\nentry 1: process 1 of node 1 calls: spawn\n  reply: done\nhistory: at entry 1 (its call and reply)\n' >first.story
 try 'the story of its first call' 0 first.story none explain written.journal 1.1.1
 try 'the story of its first call behind --' 0 first.story none explain -- written.journal 1.1.1
@@ -480,6 +506,7 @@ sed 's/^reply 1.1.1 done$/reply 1.1.1 exists/' first.journal >wrong.journal
 echo 'audit no 1' >no-first
 try 'a story by a journal that is none of a run' 1 no-first none explain wrong.journal 1.1.1
 try 'a picture of a journal that is none of a run' 1 no-first none picture wrong.journal
+try 'what clients saw by a journal that is none of a run' 1 no-first none history --as-clients wrong.journal
 try 'open calls by a journal that is none of a run' 1 no-first none open wrong.journal
 head -n 4 first.journal >cut.journal
 echo 'bad line 5' >no-end
@@ -503,6 +530,18 @@ printf 'cluster nodes 1 files 1 policy wide\n' >wanted.lock
 : >empty.strace
 echo 'node 1 has no process' >wanted.err
 try 'a recording of nothing' 1 wanted.lock wanted.err from-strace empty.strace
+echo 'from-strace --history: expected a lock call on a file whose name is known' >no-locks
+try 'a history of a recording of nothing' 3 none no-locks from-strace empty.strace --history
+echo 'from-strace --history: expected NAME=RECORDING for each of several' >no-machine
+try 'a history of two recordings without machines' 3 none no-machine from-strace empty.strace empty.strace --history
+echo 'from-strace --history: expected for each recording a name of its own, without space or @' >no-names
+for names in 'a a' ' b' 'a@b c'; do
+    try "a history of two recordings of machines with such names: $names" 3 none no-names from-strace --history "${names% *}=empty.strace" "${names#* }=empty.strace"
+done
+printf '1 fcntl(3, F_SETLK, {l_type=F_WRLCK, l_whence=SEEK_SET, l_start=0, l_len=0}) = 0\n' >timeless.strace
+echo 'timeless.strace:1: expected a time since 1970, as strace -ttt writes it' >no-time
+try 'a history of a recording without times' 3 none no-time from-strace --history timeless.strace
+try 'a history of recordings, of which one has no times' 3 none no-time from-strace --history a=empty.strace b=timeless.strace
 echo settle >>wanted.lock
 try 'a schedule of nothing' 0 wanted.lock none schedule empty.lock
 

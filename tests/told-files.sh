@@ -9,18 +9,18 @@
 read_file() {
     case $1 in
     explain) try "$1 of $2" 3 none "$3" explain "$2" 1.1.1 ;;
-    *) try "$1 of $2" 3 none "$3" "$1" "$2" ;;
+    *) try "$1 of $2" 3 none "$3" $1 "$2" ;;
     esac
 }
-fixed='run threads audit history'
-reasoned='explain open picture from-strace explore schedule check judge'
+fixed=(run threads audit history 'history --as-clients')
+reasoned=(explain open picture from-strace 'from-strace --history' explore schedule check judge 'judge --allow wait-drops' 'judge --picture')
 
 # Tries both kinds of commands on a file that can't be read: its path, and the reason.
 try_unread() {
     echo "cannot read $1" >fixed.err
     echo "cannot read $1: $2" >reasoned.err
-    for command in $fixed; do read_file "$command" "$1" fixed.err; done
-    for command in $reasoned; do read_file "$command" "$1" reasoned.err; done
+    for command in "${fixed[@]}"; do read_file "$command" "$1" fixed.err; done
+    for command in "${reasoned[@]}"; do read_file "$command" "$1" reasoned.err; done
 }
 
 printf '\377' >first-byte

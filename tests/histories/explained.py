@@ -6,8 +6,13 @@
 - nothing of an owner stands behind its exit, and where an exit stands all calls of its owner that were answered do.
 
 Up to a time: only calls that began by then stand, and those that were answered by then have to. A query without a reply, and a call that was interrupted
-or refused, says nothing and stands nowhere. An exit stands in each file in which its owner has a call."""
+or refused, says nothing and stands nowhere. An exit stands in each file in which its owner has a call.
+
+A lock manager may differ from one table by rules: then some calls say less, a wait is an unlock and a set, and of a loss each owner of the file has a call."""
+from .reader import Call
 from .table import Rules
+
+RULES = ("wait-drops", "close-own-descriptor", "no-query", "stale-read-denial", "lost-at")
 
 
 def says_something(call):
@@ -17,23 +22,64 @@ def says_something(call):
     return call.reply not in ("interrupted", "refused")
 
 
+def steps(call, allowed):
+    """What the call, which is no exit, is taken for: no call, one, or two where a wait gives back its owner's own locks first."""
+    is_denied = call.reply in ("again", "blocked")
+    silenced = {
+        "no-query": call.operation == "query",
+        "stale-read-denial": is_denied and call.mode == "read",
+        "close-own-descriptor": call.unused,
+    }
+    if any(silenced[rule] for rule in allowed if rule in silenced):
+        return []
+    if call.operation == "wait" and "wait-drops" in allowed and call.reply != "refused":
+        unlock = call._replace(operation="unlock", mode=None, reply=call.reply and "done")
+        return [unlock] if call.reply == "interrupted" else [unlock, call._replace(follows=call.end is not None)]
+    return [call] if says_something(call) else []
+
+
+def losses_of(history, file, of_file):
+    """The calls by which the owners of the calls of a file lose what they have there, but for those that had exited before."""
+    ends = {call.owner: call.end for call in history.calls if call.operation == "exit" and call.end is not None}
+    owners = list(dict.fromkeys(call.owner for call in of_file))
+    for loss in history.losses:
+        for owner in owners if loss.file == file else ():
+            if loss.begin <= ends.get(owner, loss.begin):
+                yield Call(loss.line, loss.begin, loss.end, owner, "close", file, None, None, "done", None)
+
+
 def widened(call, machines):
     """The call in all the time in which it may have been made, where the clock of its owner's machine is off by at most its skew."""
     skew = machines.get(call.owner.partition("@")[2], 0)
     return call._replace(begin=max(0, call.begin - skew), end=None if call.end is None else call.end + skew)
 
 
-def files_of(history):
-    """The calls of each file in the order of their lines, and behind them the exits of their owners."""
+def files_of(history, allowed=()):
+    """The calls of each file in the order of their lines, behind them what their owners lost, and behind that the exits of these."""
     files = {}
-    calls = [widened(call, history.machines) for call in history.calls]
-    for call in calls:
+    for call in history.calls:
         if call.operation != "exit":
-            files.setdefault(call.file, []).extend([call] if says_something(call) else [])
-    for of_file in files.values():
+            files.setdefault(call.file, []).extend(steps(call, allowed))
+    for file, of_file in files.items():
+        lost = list(losses_of(history, file, of_file)) if "lost-at" in allowed else []
         owners = {call.owner for call in of_file}
-        of_file.extend([call for call in calls if call.operation == "exit" and call.owner in owners])
+        exits = [call for call in history.calls if call.operation == "exit" and call.owner in owners]
+        files[file] = [widened(call, history.machines) for call in of_file + lost + exits]
     return files
+
+
+def indexes(calls, words):
+    """Which calls of a file the words of an order name, or None where one names none: of the calls of a line the next one, or the one whose number stands behind a dot."""
+    found, named, places = [], {}, {}
+    for place, call in enumerate(calls):
+        places.setdefault(str(call.line), []).append(place)
+    for word in words:
+        line, dot, number = word.partition(".")
+        named[line] = int(number) if dot else named.get(line, 0) + 1
+        if not 1 <= named[line] <= len(places.get(line, ())):
+            return None
+        found.append(places[line][named[line] - 1])
+    return found
 
 
 def is_order(calls, order):
@@ -44,7 +90,7 @@ def is_order(calls, order):
         call = calls[index]
         latest = max(latest, call.begin)
         table = rules.after(table, call)
-        if table is None or index in stood or call.owner in gone or call.end is not None and call.end < latest:
+        if table is None or index in stood or call.owner in gone or call.end is not None and call.end < latest or call.follows and index - 1 not in stood:
             return False
         stood.add(index)
         if call.operation == "exit":
@@ -58,6 +104,7 @@ class Orders:
     def __init__(self, calls):
         self.calls, self.rules = calls, Rules(calls)
         self.ended_before = [self.those(lambda other, call=call: other.end is not None and other.end < call.begin) for call in calls]
+        self.first_of = [1 << index - 1 if call.follows else 0 for index, call in enumerate(calls)]
         self.exits_of = [self.those(lambda other, call=call: other.operation == "exit" and other.owner == call.owner) for call in calls]
         self.answered_of = [self.those(lambda other, call=call: other.owner == call.owner and other.end is not None) for call in calls]
 
@@ -72,7 +119,8 @@ class Orders:
         while left:
             stand, table = left.pop()
             for index, call in enumerate(self.calls):
-                if stand >> index & 1 or stand & self.ended_before[index] != self.ended_before[index] or stand & self.exits_of[index]:
+                before = self.ended_before[index] | self.first_of[index]
+                if stand >> index & 1 or stand & before != before or stand & self.exits_of[index]:
                     continue
                 after = self.rules.after(table, call)
                 state = (stand | 1 << index, after)

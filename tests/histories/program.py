@@ -22,12 +22,13 @@ Table = collections.namedtuple("Table", "locks in_way open")
 
 
 class Said:
-    """What is said of one history: its verdict; by file the calls that fit nowhere, each with the tables that there may be before it, where a history of one file has
-    them under None; the order of each file by the numbers of lines; up to which lines files are explained; counts; and lines of no kind."""
+    """What is said of one history: its verdict, and the rules that are allowed; by file the calls that fit nowhere, each with the tables that there may be before it, where a history of one file has
+    them under None; the order of each file by the words that name lines; up to which lines files are explained; counts, also those of the locks of each file; and lines
+    of no kind."""
 
     def __init__(self, lines):
-        self.lines, self.verdict, self.stats = lines, None, None
-        self.misfits, self.orders, self.explained, self.others = {}, {}, {}, []
+        self.lines, self.verdict, self.allowed, self.stats = lines, None, [], None
+        self.misfits, self.orders, self.explained, self.locks, self.others = {}, {}, {}, {}, []
         self.file = None
         for line in lines:
             if not self.take(line):
@@ -37,15 +38,18 @@ class Said:
         """Whether the line may stand there."""
         word, _blank, rest = line.partition(" ")
         if word == "history" and self.verdict is None:
-            self.verdict = rest
+            self.verdict, _but, rules = rest.partition(", but for ")
+            self.allowed = rules.split(", ") if rules else []
         elif word == "file":
             self.file = rest
         elif word == "order":
-            self.orders[rest.split(" ")[0]] = [int(number) for number in rest.split(" ")[1:]]
+            self.orders[rest.split(" ")[0]] = rest.split(" ")[1:]
         elif found := MISFIT.fullmatch(line):
             self.misfits.setdefault(self.file, []).append(Misfit(int(found[1]), found[2], []))
         elif found := re.fullmatch(r"explained up to line (\d+)", line):
             self.explained[self.file] = int(found[1])
+        elif found := re.fullmatch(r"stats of (\S+) (locks .*)", line):
+            self.locks[found[1]] = found[2]
         elif word == "stats":
             self.stats = rest
         elif self.misfits:

@@ -1,4 +1,5 @@
-"""Small random histories: what clients of one table of locks see whose calls overlap; in half of them some replies are others than those of the table."""
+"""Small random histories: what clients of one table of locks see whose calls overlap, or of one that differs from it by some rules; in half of them some replies are
+others than those of the table."""
 from .reader import GREATEST, Call
 from .table import NUMBERS, Rules
 
@@ -17,16 +18,20 @@ def segment(random, span):
 class History:
     """A history that is being made: its calls with the times at which they happen, None for one that does not, and what they are answered."""
 
-    def __init__(self, random):
-        self.random = random
+    def __init__(self, random, rules):
+        self.random, self.rules = random, rules
         self.bytes = random.choice(BYTES)
         self.most, self.lengths = random.choice(((5, (3, 12, 25)), (3, (12, 25)), (3, ()), (8, (3, 6))))
         self.files = ["f"] if random.random() < 0.8 else ["f", "g"]
         self.machines = {"a": 0, "b": random.choice((0, 1, 6))} if random.random() < 0.2 else {}
         self.owners = [name + (f"@{random.choice(list(self.machines))}" if self.machines else "") for name in NAMES[: random.randint(2, 5)]]
-        self.calls, self.happens = [], []
+        self.calls, self.happens, self.losses = [], [], []
+        self.operations = OPERATIONS + ("wait",) * 6 if "wait-drops" in rules else OPERATIONS
         for owner in self.owners:
             self.add_calls(owner, self.most < 8 and random.random() < 0.2)
+        for _ in range(random.choice((0, 0, 0, 1))):
+            begin = random.randint(0, 25)
+            self.losses.append((begin, begin + random.randint(0, 9), random.choice(self.files)))
         self.answer()
 
     def span(self):
@@ -56,13 +61,14 @@ class History:
     def operation_and_length(self, is_first):
         """What a call does, and how long it takes at most. Where no lengths are given each owner sets a lock, and then come long calls of all."""
         if self.lengths:
-            return self.random.choice(OPERATIONS), self.random.choice(self.lengths)
+            return self.random.choice(self.operations), self.random.choice(self.lengths)
         return ("set", 3) if is_first else (self.random.choice(("set", "query", "query", "unlock", "unlock")), self.random.choice((8, 30)))
 
     def add(self, owner, operation, begin, end, happens):
         mode = self.random.choice(("read", "write", "write")) if operation in ("set", "wait", "query") else None
         span = self.span() if operation != "close" else None
-        self.calls.append(Call(0, begin, end, owner, operation, self.random.choice(self.files), mode, span, None, None))
+        unused = operation == "close" and self.random.random() < 0.4
+        self.calls.append(Call(0, begin, end, owner, operation, self.random.choice(self.files), mode, span, None, None, unused))
         self.happens.append(happens)
 
     def add_exit(self, owner, first):
@@ -83,22 +89,41 @@ class History:
         self.calls.append(Call(0, begin, None if random.random() < 0.1 else end, owner, "exit", None, None, None, None, None))
         self.happens.append({file: random.uniform(gone, end) for file in self.files})
 
+    def events(self, file):
+        """What happens in a file, each with its time: a call, by its index, which has its reply then; or an owner loses what it has in some bytes."""
+        random = self.random
+        for index, (call, time) in enumerate(zip(self.calls, self.happens)):
+            time = time[file] if isinstance(time, dict) else time
+            if time is None or call.file not in (file, None):
+                continue
+            if "wait-drops" in self.rules and call.operation == "wait":
+                yield random.uniform(call.begin, time), None, (call.owner, call.span)
+            yield time, index, None
+        for begin, end, of_file in self.losses if "lost-at" in self.rules else ():
+            for owner in self.owners if of_file == file else ():
+                yield random.uniform(begin, end), None, (owner, (0, GREATEST))
+
     def answer(self):
         """Gives each call that happens and has an end the reply of its file's table at that time."""
         for file in self.files:
-            happens = [(time[file] if isinstance(time, dict) else time, index) for index, time in enumerate(self.happens)]
-            order = sorted((time, index) for time, index in happens if time is not None and self.calls[index].file in (file, None))
             rules = Rules(self.calls)
             table = rules.empty
-            for _time, index in order:
+            for _time, index, lost in sorted(self.events(file), key=lambda event: event[0]):
+                if lost:
+                    table = rules.with_mode(table, *lost, 0)
+                    continue
                 call = self.reply(rules, table, self.calls[index])
                 self.calls[index] = call if call.end is not None else self.calls[index]
-                if call.reply != "interrupted":
+                if call.reply != "interrupted" and not (call.unused and "close-own-descriptor" in self.rules):
                     table = rules.after(table, call) or table
 
     def reply(self, rules, table, call):
         if call.operation in ("unlock", "close", "exit"):
             return call._replace(reply="done")
+        if call.mode == "read" and call.operation != "wait" and "stale-read-denial" in self.rules and self.random.random() < 0.3:
+            return call._replace(reply="blocked" if call.operation == "query" else "again")
+        if call.operation == "query" and "no-query" in self.rules and self.random.random() < 0.5:
+            return call._replace(reply=self.random.choice(("free", "blocked")))
         if rules.is_free(table, call.owner, call.span, NUMBERS[call.mode]):
             return call._replace(reply="free" if call.operation == "query" else "done")
         if call.operation == "wait":
@@ -137,7 +162,7 @@ class History:
     def line(self, call):
         words = ["call", call.begin, "-" if call.end is None else call.end, call.owner, call.operation]
         words += [word for word in (call.file, call.mode) if word]
-        words += segment(self.random, call.span) if call.span else []
+        words += segment(self.random, call.span) if call.span else ["unused"] if call.unused else []
         if call.end is not None and (call.operation != "exit" or self.random.random() < 0.5):
             words += ["->", call.reply or "done"]
         if call.told:
@@ -148,7 +173,7 @@ class History:
         return " ".join(map(str, words))
 
     def text(self):
-        lines = [self.line(call) for call in self.calls]
+        lines = [self.line(call) for call in self.calls] + [f"lost {begin} {end} {file}" for begin, end, file in self.losses]
         self.random.shuffle(lines)
         for _ in range(self.random.randrange(3)):
             lines.insert(self.random.randrange(len(lines) + 1), self.random.choice(("note 5 7 a fault", "# a remark", "")))
@@ -156,9 +181,9 @@ class History:
         return "".join(line + "\n" for line in head + [f"machine {machine} skew {skew}" for machine, skew in self.machines.items()] + lines)
 
 
-def make(random):
-    """The text of a history."""
-    history = History(random)
+def make(random, rules=()):
+    """The text of a history, of a table that differs by these rules from one."""
+    history = History(random, rules)
     for _ in range(random.choice((0, 0, 0, 1, 1, 2))):
         history.change()
     return history.text()

@@ -17,9 +17,10 @@ HAVE_MODE = ("set", "wait", "query")
 ANSWERS = ("done", "again", "free", "blocked", "interrupted", "refused")
 
 # A call as its line says it. An exit has no file, an unlock no mode; reply and told are None where there is none; told is (mode, span, owner) with
-# None for an owner that is not told.
-Call = collections.namedtuple("Call", "line begin end owner operation file mode span reply told")
-History = collections.namedtuple("History", "unit machines calls")
+# None for an owner that is not told. A close may be of a descriptor that was unused. Of a call that is taken for two the second follows the first.
+Call = collections.namedtuple("Call", "line begin end owner operation file mode span reply told unused follows", defaults=(False, False))
+Loss = collections.namedtuple("Loss", "line begin end file")
+History = collections.namedtuple("History", "unit machines calls losses")
 
 
 class Bad(Exception):
@@ -74,7 +75,7 @@ class Reader:
     """What was read of a history."""
 
     def __init__(self):
-        self.unit, self.machines, self.calls = None, {}, []
+        self.unit, self.machines, self.calls, self.losses = None, {}, [], []
         self.begins, self.exits = {}, {}
 
     def take_line(self, number, line):
@@ -88,6 +89,9 @@ class Reader:
             self.take_machine(words)
         elif first == "call":
             self.take_call(number, words)
+        elif first == "lost":
+            self.losses.append(Loss(number, *self.take_times(words, False), words.take()[0]))
+            words.end()
         elif first != "note":
             raise Bad(column)
 
@@ -129,16 +133,21 @@ class Reader:
             raise Bad(column)
         return first, last
 
-    def take_call(self, number, words):
+    @staticmethod
+    def take_times(words, may_be_open):
+        """BEGIN and END, which is None where it is `-` and may be."""
         begin = words.take_number(0, GREATEST)
-        end = None
-        if words.line[words.place :].split(" ", 1)[0] == "-":
+        if may_be_open and words.line[words.place :].split(" ", 1)[0] == "-":
             words.take()
-        else:
-            column = words.column()
-            end = words.take_number(0, GREATEST)
-            if end < begin:
-                raise Bad(column)
+            return begin, None
+        column = words.column()
+        end = words.take_number(0, GREATEST)
+        if end < begin:
+            raise Bad(column)
+        return begin, end
+
+    def take_call(self, number, words):
+        begin, end = self.take_times(words, True)
         owner, column = self.take_owner(words)
         over = self.exits.get(owner)
         if over is not None and begin > over:
@@ -151,13 +160,16 @@ class Reader:
             self.take_exit(owner, end, column)
         else:
             file = words.take()[0]
+        unused = operation == "close" and words.line[words.place :].split(" ", 1)[0] == "unused"
+        if unused:
+            words.take()
         if operation in HAVE_MODE:
             mode = words.take_one_of(MODES)
         if operation not in ("close", "exit"):
             span = self.take_span(words)
         reply, told = self.take_reply(operation, end, words)
         words.end()
-        self.calls.append(Call(number, begin, end, owner, operation, file, mode, span, reply, told))
+        self.calls.append(Call(number, begin, end, owner, operation, file, mode, span, reply, told, unused))
 
     def take_exit(self, owner, end, column):
         """An owner exits once, and no call of it begins behind the end of that."""
@@ -200,4 +212,4 @@ def read(text):
         raise Bad(len(lines[-1]) + 1, len(lines))
     if reader.unit is None:
         raise Bad(1, len(lines))
-    return History(reader.unit, reader.machines, reader.calls)
+    return History(reader.unit, reader.machines, reader.calls, reader.losses)
