@@ -9,13 +9,9 @@ use Rattle.std.proofs.lemmas.List.Folds.{list_any_at}
 use Rattle.model.specs.declared.call.CallId.{CallId}
 use Rattle.messages.specs.declared.event.Event.{Event}
 use Rattle.messages.specs.declared.event.Event.TheVariants.{Call, Deliver, Interrupt, Retry, Resend, Declare, Restart, Learn, FailServer, StartServer}
-use Rattle.messages.specs.declared.message.Message.{Message}
-use Rattle.messages.specs.declared.message.Message.TheVariants.{Request, Grant, Revoke, Taken, Released, Conflict, Deny, Freed, Hello, Report}
 use Rattle.messages.specs.Entries.{EntryFields}
-use Rattle.messages.specs.Messages.{same_call}
-use Rattle.messages.proofs.SameMessages.{call_exact}
-use Rattle.stories.specs.About.{PlacedFields, answers, delivers, is_about}
-use Rattle.stories.specs.OpenIndexes.{call_come, call_named, ends_at, is_call, with_last, with_one}
+use Rattle.stories.specs.About.{PlacedFields, answers, delivers, is_about, is_call}
+use Rattle.stories.specs.OpenIndexes.{call_come, ends_at, with_last, with_one}
 
 -- the element behind others
 slice_get-behind : {A : Type 0} (xs : List A) (y : A) (k : ℕ) → k ≡ length xs → slice_get (xs ++ y ∷ []) k ≡ Some y
@@ -51,21 +47,9 @@ pub part_next : (belongs : Bool) (part next rest all : List PlacedFields) (p : P
 part_next true part next rest all p is before = ap (λ (qs : List PlacedFields). qs ++ rest) is ∙ append_assoc part (p ∷ []) rest ∙ before
 part_next false part next rest all p is before = ap (λ (qs : List PlacedFields). qs ++ rest) is ∙ before
 
--- a message is about the call that it names
-pub is_about-named : (call : CallId) (m : Message) → is_about call m ≡ is_call call (call_named m)
-is_about-named call (Request file named blocking mode wanted) = refl
-is_about-named call (Grant file number named mode span) = refl
-is_about-named call (Revoke file number holder named mode wanted) = refl
-is_about-named call (Taken file number named) = refl
-is_about-named call (Released file number holder named span) = refl
-is_about-named call (Conflict file number holder named lock) = refl
-is_about-named call (Deny file named holder number lock) = refl
-is_about-named call (Freed file host) = refl
-is_about-named call (Hello file number host) = refl
-is_about-named call (Report file number host runs) = refl
-
+-- a message that comes is about the call that it names
 pub delivers-come : (call : CallId) (event : Event) → delivers (is_about call) event ≡ is_call call (call_come event)
-delivers-come call (Deliver m) = is_about-named call m
+delivers-come call (Deliver m) = refl
 delivers-come call (Call node pid op) = refl
 delivers-come call (Interrupt node pid) = refl
 delivers-come call (Retry node pid) = refl
@@ -75,14 +59,6 @@ delivers-come call (Restart node) = refl
 delivers-come call (Learn file node incarnation) = refl
 delivers-come call (FailServer file) = refl
 delivers-come call (StartServer file) = refl
-
--- a call without a reply is another than one that has one
-pub unanswered-is_other : (call other : CallId) (es : List EntryFields) → list_any (answers call) es ≡ true → list_any (answers other) es ≡ false → same_call call other ≡ false
-unanswered-is_other call other es there none = by (same_call call other) refl
-  where
-    by : (b : Bool) → same_call call other ≡ b → same_call call other ≡ false
-    by false same = same
-    by true same = absurd (false≢true (sym none ∙ ap (λ (c : CallId). list_any (answers c) es) (sym (call_exact call other same)) ∙ there))
 
 -- no entry replies to a call where none of all does
 pub no_answer_at : (call : CallId) (es : List EntryFields) (k : ℕ) (e : EntryFields) → k < length es → e ≡ get_or es k e → list_any (answers call) es ≡ false → answers call e ≡ false

@@ -2,4 +2,3 @@ pub mod Passes
 pub mod Firsts
 pub mod CallParts
 pub mod OpenEnds
-pub mod OpenTold

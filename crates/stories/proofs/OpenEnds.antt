@@ -1,11 +1,10 @@
 -- Where calls without a reply end.
-use Rattle.std.proofs.Common.{◌≡◌, ℕ, zero, suc, ◌+◌, ◌<◌, ◌≤◌, Bool, true, false, cond, ◌&&◌, ◌||◌, ◌==◌, nat_lt, List, [], ◌∷◌, ◌++◌, drop, filter, map, reverse, Option, Some, None, refl, sym, ◌∙◌, ap, subst, arith, rules}
-use Rattle.std.specs.Prelude.{find, if◌then◌else◌, option_to_list, All, IfSome}
+use Rattle.std.proofs.Common.{◌≡◌, ℕ, zero, suc, ◌+◌, ◌<◌, ◌≤◌, Bool, true, false, cond, ◌&&◌, ◌||◌, ◌==◌, nat_lt, List, [], ◌∷◌, ◌++◌, drop, filter, map, reverse, Option, Some, None, refl, sym, ◌∙◌, ap, arith, rules}
+use Rattle.std.specs.Prelude.{find, if◌then◌else◌, option_to_list, IfSome}
 use Rattle.std.specs.List.{cons_option, enumerate_from}
 use Rattle.std.specs.Option.{option_map_or}
 use Rattle.std.proofs.lemmas.Bool.Decides.{nat_tests}
 use Rattle.std.proofs.lemmas.List.{append-nil, reverse-append}
-use Rattle.std.proofs.lemmas.List.Elements.{All-push}
 use Rattle.model.specs.declared.call.CallId.{CallId}
 use Rattle.model.specs.declared.op.Op.{Op}
 use Rattle.model.specs.declared.op.Op.TheVariants.{Spawn, Fork, Open, Dup, Close, Exit, Set, Wait, Unlock, Query}
@@ -15,9 +14,9 @@ use Rattle.messages.specs.Entries.{EntryFields}
 use Rattle.stories.specs.contracts.ending.EndingPartialEq.TheImpl as derived
 use Rattle.stories.specs.declared.ending.Ending.{Ending}
 use Rattle.stories.specs.declared.made_call.MadeCall.{MadeCall}
-use Rattle.stories.specs.OpenCalls.{end_of, ends, is_open}
+use Rattle.stories.specs.OpenCalls.{OpenFields, end_of, ends, is_open, open_call}
 use Rattle.stories.proofs.CallParts.{or_false}
-use Rattle.stories.specs.OpenIndexes.{EndsByEnding, IsOpenCall, OpenFields, earlier, end_in, ending_by, exit_on, failure_of, first_end, is_ending, open_with}
+use Rattle.stories.specs.OpenIndexes.{EndsByEnding, earlier, end_in, ending_by, exit_on, failure_of, first_end, is_ending, open_with}
 
 -- what is found among entries stands at the first position or behind it
 found_from : (test : EntryFields → Bool) (n : ℕ) (es : List EntryFields) → IfSome (find (λ (p : ℕ × EntryFields). test p.1) (enumerate_from n es)) (λ p. n ≤ p.0)
@@ -147,37 +146,22 @@ ends_next index next k n es e here at updates knows ending =
     ∙ ap (λ (o : Option (ℕ × EntryFields)). cond (is_ending ending e) (Some (k + 1, e)) o) (knows ending ∙ ap (λ (m : ℕ). find (λ (p : ℕ × EntryFields). is_ending ending p.1) (enumerate_from (m + 1) (drop n es))) at)
     ∙ sym (ap (λ (ds : List EntryFields). find (λ (p : ℕ × EntryFields). is_ending ending p.1) (enumerate_from (k + 1) ds)) here)
 
--- the calls of one more entry, found before those that were found, which are kept from the last on
-pub opened_next : (es : List EntryFields) (index : EndsByEnding) (o : Option MadeCall) (rest : List MadeCall) (calls next : List OpenFields) →
-    next ≡ calls ++ option_to_list (open_with es index o) →
-    map (λ (c : OpenFields). c.made) (reverse calls) ≡ filter (is_open es) rest →
-    map (λ (c : OpenFields). c.made) (reverse next) ≡ filter (is_open es) (cons_option o rest)
-opened_next es index o rest calls next is before =
-    ap (λ (cs : List OpenFields). map (λ (c : OpenFields). c.made) (reverse cs)) is ∙ by o
-  where
-    one : (b : Bool) (made : MadeCall) →
-        map (λ (c : OpenFields). c.made) (reverse (calls ++ option_to_list (if b then Some (record { made = made; end = first_end index made }) else None)))
-        ≡ cond b (made ∷ filter (is_open es) rest) (filter (is_open es) rest)
-    one true made =
-        ap (λ (cs : List OpenFields). map (λ (c : OpenFields). c.made) cs) (reverse-append calls (record { made = made; end = first_end index made } ∷ []))
-        ∙ ap (λ (ms : List MadeCall). made ∷ ms) before
-    one false made = ap (λ (cs : List OpenFields). map (λ (c : OpenFields). c.made) (reverse cs)) (append-nil calls) ∙ before
-
-    by : (m : Option MadeCall) → map (λ (c : OpenFields). c.made) (reverse (calls ++ option_to_list (open_with es index m))) ≡ filter (is_open es) (cons_option m rest)
-    by None = ap (λ (cs : List OpenFields). map (λ (c : OpenFields). c.made) (reverse cs)) (append-nil calls) ∙ before
-    by (Some made) = one (is_open es made) made
-
--- each of them is open, and ended so
-pub all_opened : (es : List EntryFields) (index : EndsByEnding) (o : Option MadeCall) (k : ℕ) (calls next : List OpenFields) →
+-- the open calls of one more entry, found before those that were found, which are kept from the last on
+pub opened_next : (es : List EntryFields) (index : EndsByEnding) (o : Option MadeCall) (k : ℕ) (rest : List MadeCall) (calls next : List OpenFields) →
     IfSome o (λ made. made.position ≡ k) → KnowsEnds index (k + 1) (drop k es) →
     next ≡ calls ++ option_to_list (open_with es index o) →
-    All (IsOpenCall es) calls → All (IsOpenCall es) next
-all_opened es index o k calls next at knows is before = subst (All (IsOpenCall es)) (sym is) (by o at)
+    reverse calls ≡ map (open_call es) (filter (is_open es) rest) →
+    reverse next ≡ map (open_call es) (filter (is_open es) (cons_option o rest))
+opened_next es index o k rest calls next at knows is before = ap reverse is ∙ by o at
   where
-    one : (made : MadeCall) → made.position ≡ k → (b : Bool) → is_open es made ≡ b → All (IsOpenCall es) (calls ++ option_to_list (if b then Some (record { made = made; end = first_end index made }) else None))
-    one made there true passes = All-push (IsOpenCall es) calls (record { made = made; end = first_end index made }) before (record { unanswered = passes; ended = first_end-is made index k es there knows })
-    one made there false passes = subst (All (IsOpenCall es)) (sym (append-nil calls)) before
+    one : (b : Bool) (made : MadeCall) → made.position ≡ k →
+        reverse (calls ++ option_to_list (if b then Some (record (open_call es made) { end = first_end index made }) else None))
+        ≡ map (open_call es) (cond b (made ∷ filter (is_open es) rest) (filter (is_open es) rest))
+    one true made there =
+        reverse-append calls (record (open_call es made) { end = first_end index made } ∷ [])
+        ∙ (λ i. record (open_call es made) { end = first_end-is made index k es there knows i } ∷ before i)
+    one false made there = ap reverse (append-nil calls) ∙ before
 
-    by : (m : Option MadeCall) → IfSome m (λ made. made.position ≡ k) → All (IsOpenCall es) (calls ++ option_to_list (open_with es index m))
-    by None there = subst (All (IsOpenCall es)) (sym (append-nil calls)) before
-    by (Some made) there = one made there (is_open es made) refl
+    by : (m : Option MadeCall) → IfSome m (λ made. made.position ≡ k) → reverse (calls ++ option_to_list (open_with es index m)) ≡ map (open_call es) (filter (is_open es) (cons_option m rest))
+    by None there = ap reverse (append-nil calls) ∙ before
+    by (Some made) there = one (is_open es made) made there

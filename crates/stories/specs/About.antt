@@ -1,5 +1,5 @@
 -- What of a journal is about a call.
-use Rattle.std.specs.Prelude.{ℕ, ◌+◌, Bool, false, ◌||◌, List, [], ◌∷◌, filter, find, flat_map, length, Option, option_map}
+use Rattle.std.specs.Prelude.{ℕ, ◌+◌, Bool, false, ◌||◌, List, [], ◌∷◌, filter, find, flat_map, length, Option, Some, None, option_map}
 use Rattle.std.specs.List.{list_any}
 use Rattle.std.specs.Option.{option_map_or}
 use Rattle.model.specs.declared.call.CallId.{CallId}
@@ -10,16 +10,24 @@ use Rattle.messages.specs.declared.message.Message.TheVariants.{Request, Grant, 
 use Rattle.messages.specs.Entries.{EntryFields}
 use Rattle.messages.specs.Messages.{same_call, same_message}
 
+-- the call that a message names
+abbrev pub call_named : Message → Option CallId
+call_named (Request file call blocking mode wanted) = Some call
+call_named (Grant file number call mode span) = Some call
+call_named (Revoke file number holder call mode wanted) = Some call
+call_named (Taken file number call) = Some call
+call_named (Released file number holder call span) = Some call
+call_named (Conflict file number holder call lock) = Some call
+call_named (Deny file call holder number lock) = Some call
+call_named _ = None
+
+-- there is a call, and it is this one
+abbrev pub is_call : CallId → Option CallId → Bool
+is_call call named = option_map_or (λ one. same_call one call) named false
+
 -- the message names the call
 abbrev pub is_about : CallId → Message → Bool
-is_about call (Request file named blocking mode wanted) = same_call named call
-is_about call (Grant file number named mode span) = same_call named call
-is_about call (Revoke file number holder named mode wanted) = same_call named call
-is_about call (Taken file number named) = same_call named call
-is_about call (Released file number holder named span) = same_call named call
-is_about call (Conflict file number holder named lock) = same_call named call
-is_about call (Deny file named holder number lock) = same_call named call
-is_about call _ = false
+is_about call message = is_call call (call_named message)
 
 -- a message comes that passes the test
 abbrev pub delivers : (Message → Bool) → Event → Bool
@@ -28,7 +36,7 @@ delivers test _ = false
 
 -- the entry makes the call
 abbrev pub makes : CallId → EntryFields → Bool
-makes call e = option_map_or (λ made. same_call made call) e.call false
+makes call e = is_call call e.call
 
 -- the entry replies to the call
 abbrev pub answers : CallId → EntryFields → Bool

@@ -1,6 +1,5 @@
 pub mod About
 pub mod Index
-pub mod Lines
 pub mod Pending
 pub mod OpenCalls
 pub mod OpenIndexes

@@ -1,5 +1,5 @@
 -- The calls without a reply.
-use Rattle.std.specs.Prelude.{ℕ, Bool, false, not, ◌&&◌, ◌==◌, nat_lt, List, ◌++◌, codes, decimal, filter, filter_map, find, flat_map, Option, Some, None}
+use Rattle.std.specs.Prelude.{ℕ, Bool, false, not, ◌&&◌, ◌==◌, nat_lt, List, filter, filter_map, find, Option, Some, None}
 use Rattle.std.specs.List.{enumerate_from, list_any}
 use Rattle.std.specs.Option.{option_and_then, option_map_or}
 use Rattle.model.specs.declared.call.CallId.{CallId}
@@ -8,14 +8,12 @@ use Rattle.model.specs.declared.op.Op.TheVariants.{Exit}
 use Rattle.model.specs.Owners.{host_of_call, same_host}
 use Rattle.messages.specs.declared.event.Event.{Event}
 use Rattle.messages.specs.declared.event.Event.TheVariants.{Call, Declare}
-use Rattle.messages.specs.declared.version.Version.{Version}
 use Rattle.messages.specs.Entries.{EntryFields}
 use Rattle.messages.specs.Messages.{same_call}
-use Rattle.message_text.specs.Names.{call_text}
 use Rattle.stories.specs.declared.made_call.MadeCall.{MadeCall}
-use Rattle.stories.specs.About.{answers, part_of}
-use Rattle.stories.specs.Pending.{pending_told}
-use Rattle.stories.specs.Lines.{calling_text}
+use Rattle.stories.specs.declared.standing.Standing.{Standing}
+use Rattle.stories.specs.About.{NumberedFields, answers, part_of}
+use Rattle.stories.specs.Pending.{standing_of, under_way}
 
 -- the call that an event makes, which takes this name, at an entry at this position
 abbrev pub made_by : ℕ → Event → Option CallId → Option MadeCall
@@ -56,32 +54,18 @@ call_made call entries = find (λ made. same_call made.call call) (made_calls en
 abbrev pub ended_by : CallId → List EntryFields → Option (ℕ × EntryFields)
 ended_by call entries = option_and_then (λ made. end_of made entries) (call_made call entries)
 
--- how a call that is ended at this position by this event ended
-abbrev pub ended_text : ℕ → Event → List ℕ
-ended_text position (Declare node) = codes "gone since entry " ++ decimal position ++ codes "\n"
-ended_text position _ = codes "ended at entry " ++ decimal position ++ codes "\n"
+-- what an open call has: the call, the entry that ended it, the messages about it that are under way, and where it stands
+pub record OpenFields : Type 0 where
+  pub made : MadeCall
+  pub end : Option (ℕ × EntryFields)
+  pub way : List NumberedFields
+  pub standing : Standing
 
--- the line of that
-abbrev pub ended_told : ℕ → Event → List ℕ
-ended_told position event = codes "  " ++ ended_text position event
-
--- how the call ended, or what it waits for
-abbrev pub state_told : Version → MadeCall → List EntryFields → Option (ℕ × EntryFields) → List ℕ
-state_told version made entries None = pending_told version made.call (part_of made.call entries)
-state_told version made entries (Some end) = ended_told end.0 end.1.event
-
--- what the line of a call begins with that is open since the entry at this position
-abbrev pub since_text : CallId → ℕ → List ℕ
-since_text call position = codes "open " ++ call_text call ++ codes " since entry " ++ decimal position ++ codes ": "
-
--- the first line of a call without a reply
-abbrev pub made_told : MadeCall → List ℕ
-made_told made = since_text made.call made.position ++ calling_text made.pid made.call.node made.op ++ codes "\n"
-
--- its lines
-abbrev pub open_told : Version → List EntryFields → MadeCall → List ℕ
-open_told version entries made = made_told made ++ state_told version made entries (end_of made entries)
-
--- the lines of all of them, in the order of their entries
-abbrev pub open_text : Version → List EntryFields → List ℕ
-open_text version entries = flat_map (open_told version entries) (open_calls entries)
+-- the open call that entries make
+abbrev pub open_call : List EntryFields → MadeCall → OpenFields
+open_call entries made = record {
+  made = made;
+  end = end_of made entries;
+  way = under_way made.call (part_of made.call entries);
+  standing = standing_of made.call (part_of made.call entries);
+}

@@ -1,5 +1,5 @@
--- What indexes know of entries, from which the calls without a reply are told.
-use Rattle.std.specs.Prelude.{◌≡◌, ℕ, Bool, false, nat_lt, ◌==◌, true, if◌then◌else◌, List, [], ◌∷◌, ◌++◌, ◌-◌, length, slice_get, Option, Some, None, option_map}
+-- What indexes know of entries, by which the calls without a reply are found.
+use Rattle.std.specs.Prelude.{◌≡◌, ℕ, Bool, false, nat_lt, ◌==◌, if◌then◌else◌, List, [], ◌∷◌, ◌++◌, ◌-◌, length, slice_get, Option, Some, None, option_map}
 use Rattle.std.specs.Global.{Vec}
 use Rattle.std.specs.HashMap.{HashMap, get}
 use Rattle.std.specs.HashSet.{HashSet, contains}
@@ -12,15 +12,12 @@ use Rattle.model.specs.declared.op.Op.TheVariants.{Exit}
 use Rattle.model.specs.contracts.call.CallIdPartialEq.TheImpl as derived_of_calls
 use Rattle.messages.specs.declared.event.Event.{Event}
 use Rattle.messages.specs.declared.event.Event.TheVariants.{Call, Declare, Deliver}
-use Rattle.messages.specs.declared.message.Message.{Message}
-use Rattle.messages.specs.declared.message.Message.TheVariants.{Request, Grant, Revoke, Taken, Released, Conflict, Deny}
 use Rattle.messages.specs.Entries.{EntryFields}
-use Rattle.messages.specs.Messages.{same_call}
 use Rattle.stories.specs.contracts.ending.EndingPartialEq.TheImpl as derived
 use Rattle.stories.specs.declared.ending.Ending.{Ending}
 use Rattle.stories.specs.declared.made_call.MadeCall.{MadeCall}
-use Rattle.stories.specs.About.{PlacedFields, answers, part_of}
-use Rattle.stories.specs.OpenCalls.{end_of, is_open}
+use Rattle.stories.specs.About.{PlacedFields, answers, call_named, part_of}
+use Rattle.stories.specs.OpenCalls.{OpenFields, is_open, open_call}
 
 abbrev pub Calls : Type 0
 Calls = HashSet CallId (BuildHasherDefault FoldHasher)
@@ -66,40 +63,15 @@ end_in ends ending = get derived.ghosts.eq ends ending
 abbrev pub first_end : EndsByEnding → MadeCall → Option (ℕ × EntryFields)
 first_end ends made = earlier (end_in ends (exit_on made.call made.pid)) (end_in ends (failure_of made.call))
 
--- a call, and the entry that ended it
-pub record OpenFields : Type 0 where
-  pub made : MadeCall
-  pub end : Option (ℕ × EntryFields)
-
--- no entry replies to the call, and the entry is the first behind it that ends it
-pub record IsOpenCall (entries : List EntryFields) (call : OpenFields) : Type 0 where
-  pub unanswered : is_open entries call.made ≡ true
-  pub ended : call.end ≡ end_of call.made entries
-
--- the call that an entry makes, if it is open, with the end that it has
+-- the call that an entry makes, if it is open, with its end by the index
 abbrev pub open_with : List EntryFields → EndsByEnding → Option MadeCall → Option OpenFields
 open_with entries ends None = None
-open_with entries ends (Some made) = if is_open entries made then Some (record { made = made; end = first_end ends made }) else None
-
--- the call that a message names
-abbrev pub call_named : Message → Option CallId
-call_named (Request file call blocking mode wanted) = Some call
-call_named (Grant file number call mode span) = Some call
-call_named (Revoke file number holder call mode wanted) = Some call
-call_named (Taken file number call) = Some call
-call_named (Released file number holder call span) = Some call
-call_named (Conflict file number holder call lock) = Some call
-call_named (Deny file call holder number lock) = Some call
-call_named _ = None
+open_with entries ends (Some made) = if is_open entries made then Some (record (open_call entries made) { end = first_end ends made }) else None
 
 -- the call that the message names which comes
 abbrev pub call_come : Event → Option CallId
 call_come (Deliver message) = call_named message
 call_come _ = None
-
--- there is a call, and it is this one
-abbrev pub is_call : CallId → Option CallId → Bool
-is_call call named = option_map_or (λ one. same_call one call) named false
 
 abbrev pub PartsByCall : Type 0
 PartsByCall = HashMap CallId (Vec PlacedFields) (BuildHasherDefault FoldHasher)

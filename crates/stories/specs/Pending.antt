@@ -1,19 +1,16 @@
 -- What a call without a reply waits for.
-use Rattle.std.specs.Prelude.{ℕ, Bool, not, if◌then◌else◌, List, [], ◌∷◌, ◌++◌, codes, decimal, filter, flat_map, fold}
+use Rattle.std.specs.Prelude.{Bool, not, if◌then◌else◌, List, [], ◌∷◌, ◌++◌, filter, fold}
 use Rattle.std.specs.List.{list_any}
 use Rattle.model.specs.declared.call.CallId.{CallId}
 use Rattle.messages.specs.declared.event.Event.{Event}
 use Rattle.messages.specs.declared.event.Event.TheVariants.{Deliver}
 use Rattle.messages.specs.declared.message.Message.{Message}
 use Rattle.messages.specs.declared.message.Message.TheVariants.{Request, Grant, Revoke, Taken, Conflict}
-use Rattle.messages.specs.declared.version.Version.{Version}
 use Rattle.messages.specs.Entries.{EntryFields}
 use Rattle.messages.specs.Messages.{same_call, same_message}
-use Rattle.message_text.specs.Names.{lock_text}
 use Rattle.stories.specs.declared.standing.Standing.{Standing}
 use Rattle.stories.specs.declared.standing.Standing.TheVariants.{AtNode, Requested, AtServer, Behind}
 use Rattle.stories.specs.About.{PlacedFields, NumberedFields, delivers, is_about, sent_by}
-use Rattle.stories.specs.Lines.{addressed_text}
 
 -- the message is one of those
 abbrev pub is_on_way : List NumberedFields → Message → Bool
@@ -31,27 +28,13 @@ way_after call way p = fold way_with (filter (λ m. not (delivers (same_message 
 abbrev pub under_way : CallId → List PlacedFields → List NumberedFields
 under_way call part = fold (way_after call) [] part
 
--- the line of a message that is under way
-abbrev pub way_told : Version → NumberedFields → List ℕ
-way_told version m = codes "  message " ++ decimal m.number ++ codes " is under way to " ++ addressed_text version m.message
-
--- where a call stands whose node asks a server for it
-abbrev pub asked : Standing → Standing
-asked AtNode = Requested
-asked before = before
-
--- where one stands that the server of a file serves: what was in its way may be gone
-abbrev pub served : Standing → ℕ → Standing
-served (Behind lock) file = AtServer file
-served before file = before
-
--- where one stands behind a message about it: a lock in its way is told of, its node has taken a grant, a server is asked, or serves it
+-- where a call stands behind a message about it: a lock in its way is told of; its node has taken a grant, or asks a server; a server goes on with it
 abbrev pub after_word : Standing → Message → Standing
 after_word before (Conflict file number holder call lock) = Behind lock
 after_word before (Taken file number call) = AtNode
-after_word before (Request file call blocking mode wanted) = asked before
-after_word before (Grant file number call mode span) = served before file
-after_word before (Revoke file number holder call mode wanted) = served before file
+after_word AtNode (Request file call blocking mode wanted) = Requested
+after_word (Behind lock) (Grant file number call mode span) = AtServer file
+after_word (Behind lock) (Revoke file number holder call mode wanted) = AtServer file
 after_word before _ = before
 
 -- behind one that is sent
@@ -70,14 +53,3 @@ after_entry call before e = fold (after_message call) (after_event call before e
 -- behind the entries that belong to it
 abbrev pub standing_of : CallId → List PlacedFields → Standing
 standing_of call part = fold (λ before p. after_entry call before p.entry) AtNode part
-
--- the line of what a call waits for that stands there; the message that is under way tells of a request
-abbrev pub waits_told : CallId → Standing → List ℕ
-waits_told call (Behind lock) = codes "  waits: behind " ++ lock_text lock ++ codes "\n"
-waits_told call (AtServer file) = codes "  waits: at server " ++ decimal file ++ codes "\n"
-waits_told call Requested = []
-waits_told call AtNode = codes "  waits: at node " ++ decimal call.node ++ codes ", for a lock or a call of its own\n"
-
--- what a call waits for, of the entries that belong to it
-abbrev pub pending_told : Version → CallId → List PlacedFields → List ℕ
-pending_told version call part = flat_map (way_told version) (under_way call part) ++ waits_told call (standing_of call part)

@@ -14,9 +14,6 @@ use std::collections::HashMap;
 pub type Ends<'a> = HashMap<Ending, End<'a>>;
 
 /// Takes the entry at this position, which stands before those of the index, into it.
-///
-/// # Errors
-/// `AllocError` where a request for memory was refused.
 pub fn note_end<'a>(ends: &mut Ends<'a>, position: u64, entry: &'a Entry) -> Result<(), AllocError>
     ensures { OnOk result ((ending : Ending) → end_in ends.new ending ≡ cond (is_ending ending entry.entry.now) (Some (position, entry.entry.now)) (end_in ends.old ending)) }
 {

@@ -1,44 +1,85 @@
 //! Calls without a reply.
 use crate::end::End;
+use crate::ends::{Ends, first_end, note_end};
 use crate::made_call::MadeCall;
+use crate::parts::Parts;
+use crate::placed_entry::NumberedMessage;
+use crate::standing::Standing;
+use crate::under_way::under_way;
+use messages::entry::Entry;
+use std::alloc::{AllocError, Global};
+use std::collections::HashMap;
 use std::marker::Model;
 
-/// A call without a reply, with the entry that ended it, if one did.
+/// A call without a reply: the first entry behind it that is an exit of its process or declares its node
+/// failed, the messages about it that are under way, and where it stands.
 #[derive(Drop)]
-pub(crate) struct OpenCall<'a> {
-    made: MadeCall,
-    end: Option<End<'a>>,
+pub struct OpenCall<'a> {
+    pub(crate) made: MadeCall,
+    pub(crate) end: Option<End<'a>>,
+    pub(crate) way: Vec<NumberedMessage<'a>>,
+    pub(crate) standing: Standing,
 }
 
 impl<'a> Model for OpenCall<'a> {
-    ghost use Rattle.stories.specs.OpenIndexes.{OpenFields};
+    ghost use Rattle.stories.specs.OpenCalls.{OpenFields};
 
     ghost Value = { OpenFields };
 
-    ghost view = { λ o. record { made = o.made; end = o.end } };
+    ghost view = { λ o. record { made = o.made; end = o.end; way = o.way.items; standing = o.standing } };
 }
 
-impl<'a> OpenCall<'a> {
-    ghost use Rattle.std.specs.Prelude.{◌≡◌, option_copied};
+ghost use Rattle.std.specs.Prelude.{◌≡◌, ◌++◌, map, option_to_list, IfOk, OnOk};
+ghost use Rattle.stories.specs.OpenCalls.{open_call, open_calls};
+ghost use Rattle.stories.specs.OpenIndexes.{open_with};
 
-    /// The call that ended so.
-    pub(crate) fn new(made: MadeCall, end: Option<End<'a>>) -> OpenCall<'a>
-        ensures { result ≡ record { made = made; end = end.entry } }
-    {
-        OpenCall { made, end }
+/// The calls of the entries of a journal, the first at position 1, to which no entry replies, in the order
+/// of their entries.
+///
+/// A message about a call is under way that was sent and came at no entry behind that which sends it, as
+/// one that was lost; of equal ones the first. A call stands by what came last: the lock in its way that a
+/// conflict told of; the server to which its request came, or which took it up again since; its own node,
+/// where that has taken a grant for it, or asked no server yet.
+pub fn unanswered<'a>(alloc: Global, entries: &'a [Entry]) -> Result<Vec<OpenCall<'a>>, AllocError>
+    ensures { IfOk result (λ calls. calls.items ≡ map (open_call entries.entry.now) (open_calls entries.entry.now)) }
+{
+    let parts = Parts::of(alloc, entries)?;
+    let mut calls = Vec::new(alloc);
+    let mut ends = HashMap::new(alloc);
+    for index in (0..entries.len()).rev() {
+        let entry = &entries[index];
+        let position = index as u64 + 1;
+        let made = MadeCall::of(position, entry);
+        add_open(&mut calls, alloc, &parts, &ends, made)?;
+        note_end(&mut ends, position, entry)?;
     }
+    calls.reverse();
+    Ok(calls)
+}
 
-    /// The call.
-    pub(crate) fn made(&self) -> &MadeCall
-        ensures { result.now ≡ self.now.made }
+// The call, if it is one to which no entry replies, comes last, with the first entry of the index that
+// ends it.
+fn add_open<'a>(
+    calls: &mut Vec<OpenCall<'a>>,
+    alloc: Global,
+    parts: &Parts<'a>,
+    ends: &Ends<'a>,
+    made: Option<MadeCall>,
+) -> Result<(), AllocError>
+    ensures { OnOk result (calls.new.items ≡ calls.old.items ++ option_to_list (open_with parts.now ends.now made)) }
+{
+    if let Some(made) = made
+        && let Some(part) = parts.of_open(&made.call)
     {
-        &self.made
+        let way = under_way(alloc, part, &made.call)?;
+        let standing = Standing::of(part, &made.call);
+        let end = first_end(ends, &made);
+        calls.push(OpenCall {
+            made,
+            end,
+            way,
+            standing,
+        })?;
     }
-
-    /// The entry that ended it.
-    pub(crate) fn end(&self) -> Option<&End<'a>>
-        ensures { option_copied result ≡ self.now.end }
-    {
-        self.end.as_ref()
-    }
+    Ok(())
 }

@@ -1,18 +1,18 @@
 //! The entries that belong to calls.
 use crate::about::call_named;
-use crate::answered_calls::AnsweredCalls;
 use crate::placed_entry::PlacedEntry;
 use messages::entry::Entry;
 use messages::event::Event;
 use model::call::CallId;
 use std::alloc::{AllocError, Global};
-use std::collections::HashMap;
+use std::collections::{HashMap, HashSet};
 use std::marker::Model;
 
 /// The entries, of all, that belong to each call to which no entry replies.
 #[derive(Drop)]
 pub(crate) struct Parts<'a> {
     entries: &'a [Entry],
+    answered: HashSet<CallId>,
     parts: HashMap<CallId, Vec<PlacedEntry<'a>>>,
     // Of a call to which none belongs.
     none: Vec<PlacedEntry<'a>>,
@@ -21,32 +21,25 @@ pub(crate) struct Parts<'a> {
 impl<'a> Model for Parts<'a> {
     ghost use Rattle.std.specs.Prelude.{◌≡◌, [], List};
     ghost use Rattle.messages.specs.Entries.{EntryFields};
-    ghost use Rattle.stories.specs.OpenIndexes.{KnowsParts};
+    ghost use Rattle.stories.specs.OpenIndexes.{KnowsAnswered, KnowsParts};
 
     ghost Value = { List EntryFields };
 
     ghost view = { λ p. p.entries.now };
 
-    ghost invariant = { λ p. KnowsParts p.parts p.entries.now × (p.none.items ≡ []) };
+    ghost invariant = { λ p. KnowsAnswered p.answered p.entries.now × KnowsParts p.parts p.entries.now × (p.none.items ≡ []) };
 }
 
 impl<'a> Parts<'a> {
-    ghost use Rattle.std.specs.Prelude.{◌≡◌, false, IfOk};
+    ghost use Rattle.std.specs.Prelude.{◌≡◌, true, false, IfOk, MatchOption};
     ghost use Rattle.std.specs.List.{list_any};
     ghost use Rattle.stories.specs.About.{answers, part_of};
 
-    /// Those of these entries, which reply to the calls that have a reply.
-    ///
-    /// # Errors
-    /// `AllocError` where a request for memory was refused.
-    pub(crate) fn of(
-        alloc: Global,
-        entries: &'a [Entry],
-        answered: &AnsweredCalls<'_>,
-    ) -> Result<Parts<'a>, AllocError>
-        requires { answered.now ≡ entries.now }
+    /// Those of these entries.
+    pub(crate) fn of(alloc: Global, entries: &'a [Entry]) -> Result<Parts<'a>, AllocError>
         ensures { IfOk result (λ parts. parts ≡ entries.entry.now) }
     {
+        let answered = answered_calls(alloc, entries)?;
         let mut parts = HashMap::new(alloc);
         let mut position = 0u64;
         let mut number = 1u128;
@@ -54,44 +47,67 @@ impl<'a> Parts<'a> {
             position += 1;
             let count = entry.sends().len();
             let placed = PlacedEntry::new(position, number, entry);
-            note_entry(&mut parts, alloc, answered, &placed)?;
+            note_entry(&mut parts, alloc, &answered, &placed)?;
             number += count as u128;
         }
-        let none = Vec::new(alloc);
         Ok(Parts {
             entries,
+            answered,
             parts,
-            none,
+            none: Vec::new(alloc),
         })
     }
 
-    /// The entries that belong to the call, to which no entry replies.
-    pub(crate) fn of_call(&self, call: &CallId) -> &[PlacedEntry<'a>]
-        ensures { list_any (answers call.now) self.now ≡ false → result.now ≡ part_of call.now self.now }
+    /// The entries that belong to the call, if no entry replies to it.
+    pub(crate) fn of_open(&self, call: &CallId) -> Option<&[PlacedEntry<'a>]>
+        ensures { MatchOption result (list_any (answers call.now) self.now ≡ true) (λ part. (list_any (answers call.now) self.now ≡ false) × (part.now ≡ part_of call.now self.now)) }
     {
-        let Some(part) = self.parts.get(call) else {
-            return self.none.as_slice();
-        };
-        part.as_slice()
+        if self.answered.contains(call) {
+            return None;
+        }
+        match self.parts.get(call) {
+            Some(part) => Some(part.as_slice()),
+            None => Some(self.none.as_slice()),
+        }
     }
 }
 
-ghost use Rattle.std.specs.Prelude.{◌≡◌, false, if◌then◌else◌, OnOk};
-ghost use Rattle.std.specs.List.{list_any};
+ghost use Rattle.std.specs.Prelude.{◌≡◌, ◌||◌, false, if◌then◌else◌, IfOk, OnOk};
 ghost use Rattle.model.specs.declared.call.CallId.{CallId};
 ghost use Rattle.messages.specs.Messages.{same_call};
-ghost use Rattle.stories.specs.About.{answers, belongs};
-ghost use Rattle.stories.specs.OpenIndexes.{call_come, ends_at, is_call, part_in, with_last, with_one};
+ghost use Rattle.stories.specs.About.{answers, belongs, is_call};
+ghost use Rattle.stories.specs.OpenIndexes.{KnowsAnswered, call_come, ends_at, has_call, part_in, with_last, with_one};
+
+// The calls to which entries reply.
+fn answered_calls(alloc: Global, entries: &[Entry]) -> Result<HashSet<CallId>, AllocError>
+    ensures { IfOk result (λ calls. KnowsAnswered calls entries.now) }
+{
+    let mut calls = HashSet::new(alloc);
+    for entry in entries {
+        note_reply(&mut calls, entry)?;
+    }
+    Ok(calls)
+}
+
+// Takes the call to which the entry replies into the index.
+fn note_reply(calls: &mut HashSet<CallId>, entry: &Entry) -> Result<(), AllocError>
+    ensures { OnOk result ((call : CallId) → has_call calls.new call ≡ (has_call calls.old call || answers call entry.now)) }
+{
+    if let Some((call, _)) = entry.reply() {
+        calls.insert(call)?;
+    }
+    Ok(())
+}
 
 // The entry comes last in the part of each call that it belongs to, but for those that have a reply. It
 // stands behind all entries of the parts.
 fn note_entry<'a>(
     parts: &mut HashMap<CallId, Vec<PlacedEntry<'a>>>,
     alloc: Global,
-    answered: &AnsweredCalls<'_>,
+    answered: &HashSet<CallId>,
     placed: &PlacedEntry<'a>,
 ) -> Result<(), AllocError>
-    ensures { OnOk result ((call : CallId) → list_any (answers call) answered.now ≡ false → answers call placed.now.entry ≡ false → ends_at placed.now.position (part_in parts.old call) ≡ false
+    ensures { OnOk result ((call : CallId) → has_call answered.now call ≡ false → answers call placed.now.entry ≡ false → ends_at placed.now.position (part_in parts.old call) ≡ false
         → part_in parts.new call ≡ with_one (belongs call placed.now.entry) (part_in parts.old call) placed.now) }
 {
     let entry = placed.entry();
@@ -117,34 +133,20 @@ fn call_come(event: &Event) -> Option<CallId>
 fn note<'a>(
     parts: &mut HashMap<CallId, Vec<PlacedEntry<'a>>>,
     alloc: Global,
-    answered: &AnsweredCalls<'_>,
+    answered: &HashSet<CallId>,
     call: Option<CallId>,
     placed: &PlacedEntry<'a>,
 ) -> Result<(), AllocError>
-    ensures { OnOk result ((other : CallId) → list_any (answers other) answered.now ≡ false
+    ensures { OnOk result ((other : CallId) → has_call answered.now other ≡ false
         → part_in parts.new other ≡ (if is_call other call then with_last (part_in parts.old other) placed.now else part_in parts.old other)) }
 {
-    match call {
-        Some(call) => note_call(parts, alloc, answered, &call, placed),
-        None => Ok(()),
-    }
-}
-
-// The entry comes last in the part of the call, if it has no reply, unless it does already.
-fn note_call<'a>(
-    parts: &mut HashMap<CallId, Vec<PlacedEntry<'a>>>,
-    alloc: Global,
-    answered: &AnsweredCalls<'_>,
-    call: &CallId,
-    placed: &PlacedEntry<'a>,
-) -> Result<(), AllocError>
-    ensures { OnOk result ((other : CallId) → list_any (answers other) answered.now ≡ false
-        → part_in parts.new other ≡ (if same_call call.now other then with_last (part_in parts.old other) placed.now else part_in parts.old other)) }
-{
-    if answered.has(call) {
+    let Some(call) = call else {
+        return Ok(());
+    };
+    if answered.contains(&call) {
         return Ok(());
     }
-    add_entry(parts, alloc, call, placed)
+    add_entry(parts, alloc, &call, placed)
 }
 
 // The entry comes last in the part of the call, unless it does already.

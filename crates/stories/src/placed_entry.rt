@@ -1,13 +1,28 @@
-//! Entries with their places.
+//! Entries and messages with their places.
 ghost use Rattle.std.specs.Prelude.{◌≡◌, ◌+◌, ◌<◌, ◌^◌, length, IfOk};
 ghost use Rattle.stories.specs.About.{part_of, sent_by};
 
 use crate::about::{belongs, is_about};
-use crate::numbered_message::NumberedMessage;
 use messages::entry::Entry;
+use messages::message::Message;
 use model::call::CallId;
 use std::alloc::{AllocError, Global};
 use std::marker::Model;
+
+/// A message with its number in the order of sending, from 1.
+#[derive(Drop)]
+pub(crate) struct NumberedMessage<'a> {
+    pub(crate) number: u128,
+    pub(crate) message: &'a Message,
+}
+
+impl<'a> Model for NumberedMessage<'a> {
+    ghost use Rattle.stories.specs.About.{NumberedFields};
+
+    ghost Value = { NumberedFields };
+
+    ghost view = { λ m. record { number = m.number; message = m.message.now } };
+}
 
 /// An entry with its position in the journal, from 1, and with the number of the first message that it
 /// sends: messages have numbers from 1 in the order of sending, over all entries.
@@ -69,9 +84,6 @@ impl<'a> PlacedEntry<'a> {
     }
 
     /// The messages about the call that the entry sends.
-    ///
-    /// # Errors
-    /// `AllocError` where a request for memory was refused.
     pub(crate) fn sent_by(
         &self,
         alloc: Global,
@@ -84,7 +96,7 @@ impl<'a> PlacedEntry<'a> {
         for message in self.entry.sends() {
             let message = message.get();
             if is_about(message, call) {
-                sent.push(NumberedMessage::new(number, message))?;
+                sent.push(NumberedMessage { number, message })?;
             }
             number += 1;
         }
@@ -93,9 +105,6 @@ impl<'a> PlacedEntry<'a> {
 }
 
 /// The entries that belong to the call, of a journal's.
-///
-/// # Errors
-/// `AllocError` where a request for memory was refused.
 pub(crate) fn part_of<'a>(
     alloc: Global,
     entries: &'a [Entry],

@@ -1,6 +1,5 @@
 //! The messages about a call.
-use crate::numbered_message::NumberedMessage;
-use crate::placed_entry::PlacedEntry;
+use crate::placed_entry::{NumberedMessage, PlacedEntry};
 use messages::message::Message;
 use model::call::CallId;
 use std::alloc::{AllocError, Global};
@@ -32,9 +31,6 @@ impl<'a> SentMessages<'a> {
     ghost use Rattle.stories.specs.About.{number_of, sent_about};
 
     /// Those that the entries send, which belong to the call.
-    ///
-    /// # Errors
-    /// `AllocError` where a request for memory was refused.
     pub(crate) fn of(
         alloc: Global,
         part: &[PlacedEntry<'a>],
@@ -57,7 +53,7 @@ impl<'a> SentMessages<'a> {
         ensures { OnOk result (self.new ≡ self.old ++ messages.now) }
     {
         for numbered in messages {
-            self.add(numbered.number(), numbered.message())?;
+            self.add(numbered.number, numbered.message)?;
         }
         Ok(())
     }
@@ -71,7 +67,7 @@ impl<'a> SentMessages<'a> {
             self.numbers.insert(message, number)?;
         }
         self.messages
-            .push_reserved(NumberedMessage::new(number, message));
+            .push_reserved(NumberedMessage { number, message });
         Ok(())
     }
 

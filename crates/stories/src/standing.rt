@@ -22,7 +22,7 @@ pub(crate) enum Standing {
 
 impl Standing {
     ghost use Rattle.std.specs.Prelude.{◌≡◌};
-    ghost use Rattle.stories.specs.Pending.{after_entry, after_event, after_message, after_word, asked, served, standing_of};
+    ghost use Rattle.stories.specs.Pending.{after_entry, after_event, after_message, after_word, standing_of};
 
     /// Where the call stands behind the entries, which belong to it.
     pub(crate) fn of(part: &[PlacedEntry<'_>], call: &CallId) -> Standing
@@ -78,32 +78,15 @@ impl Standing {
     fn after_word(self, message: &Message) -> Standing
         ensures { result ≡ after_word self message.now }
     {
-        match message {
-            Message::Conflict { lock, .. } => Standing::Behind(*lock),
+        match (self, message) {
+            (_, Message::Conflict { lock, .. }) => Standing::Behind(*lock),
             // its node has taken a grant
-            Message::Taken { .. } => Standing::AtNode,
-            Message::Request { .. } => self.asked(),
-            Message::Grant { file, .. } | Message::Revoke { file, .. } => self.served(file.get()),
-            _ => self,
-        }
-    }
-
-    // Where a call stands whose node asks a server for it.
-    fn asked(self) -> Standing
-        ensures { result ≡ asked self }
-    {
-        match self {
-            Standing::AtNode => Standing::Requested,
-            _ => self,
-        }
-    }
-
-    // Where a call stands that the server of the file serves: what was in its way may be gone.
-    fn served(self, file: u16) -> Standing
-        ensures { result ≡ served self file }
-    {
-        match self {
-            Standing::Behind(_) => Standing::AtServer(file),
+            (_, Message::Taken { .. }) => Standing::AtNode,
+            (Standing::AtNode, Message::Request { .. }) => Standing::Requested,
+            // what was in its way may be gone
+            (Standing::Behind(_), Message::Grant { file, .. } | Message::Revoke { file, .. }) => {
+                Standing::AtServer(file.get())
+            }
             _ => self,
         }
     }

@@ -6,9 +6,9 @@ use Rattle.std.proofs.lemmas.List.Folds.{list_any_more}
 use Rattle.model.specs.declared.call.CallId.{CallId}
 use Rattle.messages.specs.declared.message.Message.{Message}
 use Rattle.messages.specs.Entries.{EntryFields}
-use Rattle.stories.specs.About.{answers, delivers, is_about, makes}
-use Rattle.stories.specs.OpenIndexes.{call_come, is_call, part_in, with_last, with_one}
-use Rattle.stories.proofs.CallParts.{belongs-unanswered, delivers-come, is_about-named, one_more, or_assoc, or_false}
+use Rattle.stories.specs.About.{answers, delivers, is_about, is_call, makes}
+use Rattle.stories.specs.OpenIndexes.{call_come, part_in, with_last, with_one}
+use Rattle.stories.proofs.CallParts.{belongs-unanswered, delivers-come, one_more, or_assoc, or_false}
 use Rattle.stories.proofs.parts.note_entry.Goals as goal
 
 pub loop-message-init : goal.loop-message-init
@@ -34,7 +34,7 @@ loop-message-preserved c call none fresh =
     let own = c.message-item.result in
     let m = c.get.result.now in
     let before = makes call p.entry || delivers (is_about call) p.entry.event in
-    let here : is_call call c.call_named.result ≡ is_about call m = ap (is_call call) c.call_named.ensures ∙ sym (is_about-named call m) in
+    let here : is_call call c.call_named.result ≡ is_about call m = ap (is_call call) c.call_named.ensures in
     let next = one_more (before || list_any (is_about call) (take i ms)) (is_about call m) old now (part_in c.note-in-loop-message.new.parts call) p fresh (c.loop-message.invariant call none fresh) (c.in_ok-note-3.ensures call none ∙ ap (λ (b : Bool). if b then with_last now p else now) here) in
     next
     ∙ ap (λ (b : Bool). with_one b old p) (or_assoc before (list_any (is_about call) (take i ms)) (is_about call m)

@@ -18,7 +18,7 @@ loop-entry-preserved c =
     let placed_now : PlacedFields = record { position = n; number = c.loop-entry.number; entry = e } in
     let rest = placed (n + 1) (c.loop-entry.number + length e.sends) (drop (i + 1) es) in
     let taken = λ (call : CallId) (none : list_any (answers call) es ≡ false).
-    let there : list_any (answers call) c.args.answered.now ≡ false = ap (λ (xs : List EntryFields). list_any (answers call) xs) c.requires ∙ none in
+    let there = c.in_ok-answered.ensures call ∙ none in
     let mine = ap (λ (q : PlacedFields). answers call q.entry) c.new-placed.ensures ∙ no_answer_at call es i e c.loop-entry-test.true c.entry-item.is none in
     let fresh = c.loop-entry.invariant.behind call none c.new-placed.result.position (subst (λ (q : PlacedFields). c.loop-entry.position < q.position) (sym c.new-placed.ensures) (omega arith)) in
     c.in_ok-note_entry.ensures call there mine fresh ∙ ap (λ (q : PlacedFields). with_one (belongs call q.entry) (part_in c.loop-entry.parts call) q) c.new-placed.ensures in

@@ -9,16 +9,15 @@ use Rattle.stories.proofs.sent_messages.SentMessages.add.Goals.{then-not-contain
 pub invariant_of-self-2 : goal.invariant_of-self-2
 invariant_of-self-2 c =
     let before = c.self.inside.messages.items in
-    let last = λ (ms : List NumberedFields). ms ++ c.new.result ∷ [] in
-    let this = ap (λ (n : NumberedFields). before ++ n ∷ []) c.new.ensures in
+    let last = λ (ms : List NumberedFields). ms ++ record { number = c.args.number; message = c.args.message.now } ∷ [] in
     elim c.if-not-contains_key.branch [
       | then-not-contains_key+in_ok-insert w ↦ λ m.
-          let items = c.push_reserved.ensures.items ∙ ap (λ (s : Inside). last s.messages.items) w.self-inside-is ∙ ap last c.reserve.ensures.items ∙ this in
+          let items = c.push_reserved.ensures.items ∙ ap (λ (s : Inside). last s.messages.items) w.self-inside-is ∙ ap last c.reserve.ensures.items in
           ap (λ (s : Inside). number_in s.numbers m) w.self-inside-is
           ∙ known_first c.self.inside.numbers before c.self.invariant c.args.number c.args.message w.insert.new.self (sym w.if-not-contains_key.ensures) w.in_ok-insert.ensures.updates.0 m
           ∙ ap (λ (ms : List NumberedFields). number_of ms m.now) (sym items)
       | else-not-contains_key w ↦ λ m.
-          let items = c.push_reserved.ensures.items ∙ ap (λ (s : Inside). last s.messages.items) w.self-inside-is ∙ ap last c.reserve.ensures.items ∙ this in
+          let items = c.push_reserved.ensures.items ∙ ap (λ (s : Inside). last s.messages.items) w.self-inside-is ∙ ap last c.reserve.ensures.items in
           ap (λ (s : Inside). number_in s.numbers m) w.self-inside-is
           ∙ known_again c.self.inside.numbers before c.self.invariant c.args.number c.args.message (sym w.if-not-contains_key.ensures) m
           ∙ ap (λ (ms : List NumberedFields). number_of ms m.now) (sym items)
