@@ -1,5 +1,3 @@
-pub mod Places
-pub mod Sequences
+pub mod Lanes
 pub mod Tracks
-pub mod Traces
 pub mod Laws

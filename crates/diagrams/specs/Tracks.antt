@@ -1,5 +1,5 @@
 -- The rows of a trace.
-use Rattle.std.specs.Prelude.{ℕ, ◌+◌, ◌*◌, List, [], ◌++◌, codes, decimal, map}
+use Rattle.std.specs.Prelude.{ℕ, ◌+◌, ◌*◌, List, [], map}
 use Rattle.std.specs.Option.{option_map_or}
 use Rattle.model.specs.declared.call.CallId.{CallId}
 use Rattle.messages.specs.declared.actor.Actor.{Actor}
@@ -10,7 +10,6 @@ use Rattle.messages.specs.declared.message.Message.{Message}
 use Rattle.messages.specs.Entries.{EntryFields}
 use Rattle.messages.specs.Messages.{addressee, host_of}
 use Rattle.indexmap.specs.IndexSet.{insert_all}
-use Rattle.message_text.specs.Names.{host_text}
 use Rattle.pictures.specs.declared.bar.Bar.{Bar}
 use Rattle.pictures.specs.Stretches.{PlacedFields}
 use Rattle.diagrams.specs.declared.track.Track.{Track}
@@ -28,16 +27,6 @@ abbrev pub thread_of : Track → ℕ
 thread_of (Process node incarnation pid) = pid
 thread_of (Node node incarnation) = 1000
 thread_of (Server file) = 1000
-
-unfoldable pub process_name : Track → List ℕ
-process_name (Process node incarnation pid) = codes "node " ++ host_text node incarnation
-process_name (Node node incarnation) = codes "node " ++ host_text node incarnation
-process_name (Server file) = codes "server " ++ decimal file
-
-unfoldable pub thread_name : Track → List ℕ
-thread_name (Process node incarnation pid) = codes "process " ++ decimal pid
-thread_name (Node node incarnation) = codes "messages"
-thread_name (Server file) = codes "messages"
 
 -- the row of the process that makes a call
 abbrev pub track_of_call : CallId → ℕ → Track

@@ -4,7 +4,6 @@
 pub mod laws;
 pub mod mermaid;
 mod notes;
-mod places;
 mod slices;
 pub mod trace;
 mod track;

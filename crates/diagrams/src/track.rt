@@ -1,6 +1,6 @@
-//! Rows of a trace.
-ghost use Rattle.std.specs.Prelude.{◌≡◌, ◌++◌, string_bytes, OnOk};
-ghost use Rattle.diagrams.specs.Tracks.{incarnation_of, process_name, process_of, thread_name, thread_of, track_in, track_of, track_of_bar, track_of_call, track_to};
+//! Rows of a trace. Each error is `AllocError`: a request for memory was refused.
+ghost use Rattle.std.specs.Prelude.{◌≡◌};
+ghost use Rattle.diagrams.specs.Tracks.{incarnation_of, process_of, thread_of, track_in, track_of, track_of_bar, track_of_call, track_to};
 
 use message_text::names::push_host;
 use messages::actor::Actor;
@@ -82,13 +82,7 @@ impl Track {
     }
 
     /// Writes the name of its process.
-    ///
-    /// # Errors
-    /// `AllocError` where a request for memory was refused.
-    #[tactic(auto, unfolding(crate::specs::Tracks::process_name))]
-    pub(crate) fn push_process_name(&self, out: &mut String) -> Result<(), AllocError>
-        ensures { OnOk result (string_bytes out.new ≡ string_bytes out.old ++ process_name self.now) }
-    {
+    pub(crate) fn push_process_name(&self, out: &mut String) -> Result<(), AllocError> {
         match self {
             Track::Process {
                 node,
@@ -104,13 +98,7 @@ impl Track {
     }
 
     /// Writes the name of its thread.
-    ///
-    /// # Errors
-    /// `AllocError` where a request for memory was refused.
-    #[tactic(auto, unfolding(crate::specs::Tracks::thread_name))]
-    pub(crate) fn push_thread_name(&self, out: &mut String) -> Result<(), AllocError>
-        ensures { OnOk result (string_bytes out.new ≡ string_bytes out.old ++ thread_name self.now) }
-    {
+    pub(crate) fn push_thread_name(&self, out: &mut String) -> Result<(), AllocError> {
         match self {
             Track::Process { pid, .. } => write!(out, "process {pid}"),
             Track::Node { .. } | Track::Server(_) => out.push_str("messages"),

@@ -2,6 +2,5 @@ pub mod Lasts
 pub mod RowLaws
 pub mod LastToPass
 pub mod Grows
-pub mod Glue
 pub mod LastBars
 pub mod HeldStretches

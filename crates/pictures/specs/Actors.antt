@@ -1,12 +1,11 @@
 -- Who takes part in an entry.
-use Rattle.std.specs.Prelude.{ℕ, Bool, false, ◌||◌, ◌==◌, List, codes}
+use Rattle.std.specs.Prelude.{Bool, false, ◌||◌, ◌==◌}
 use Rattle.std.specs.List.{list_any}
 use Rattle.messages.specs.declared.actor.Actor.{Actor}
 use Rattle.messages.specs.declared.actor.Actor.TheVariants.{Node, Server}
 use Rattle.messages.specs.declared.event.Event.{Event}
 use Rattle.messages.specs.declared.event.Event.TheVariants.{Call, Deliver, Interrupt, Retry, Resend, Declare, Restart, Learn, FailServer, StartServer}
 use Rattle.messages.specs.declared.message.Message.{Message}
-use Rattle.messages.specs.declared.message.Message.TheVariants.{Request, Grant, Revoke, Taken, Released, Conflict, Deny, Freed, Hello, Report}
 use Rattle.messages.specs.Entries.{EntryFields}
 use Rattle.messages.specs.Messages.{addressee, file_of, host_of}
 use Rattle.stories.specs.About.{delivers}
@@ -41,16 +40,3 @@ same_actor _ _ = false
 -- the actor takes the event, sends what comes there, or is sent to
 abbrev pub takes_part : Actor → EntryFields → Bool
 takes_part actor e = same_actor (actor_of e.event) actor || (delivers (λ m. same_actor (sender_of m) actor) e.event || list_any (λ m. same_actor (addressee m) actor) e.sends)
-
--- the word for a message
-abbrev pub message_word : Message → List ℕ
-message_word (Request file call blocking mode wanted) = codes "request"
-message_word (Grant file number call mode span) = codes "grant"
-message_word (Revoke file number holder call mode wanted) = codes "revoke"
-message_word (Taken file number call) = codes "taken"
-message_word (Released file number holder call span) = codes "released"
-message_word (Conflict file number holder call lock) = codes "conflict"
-message_word (Deny file call holder number lock) = codes "deny"
-message_word (Freed file holder) = codes "freed"
-message_word (Hello file number holder) = codes "hello"
-message_word (Report file number holder runs) = codes "report"

@@ -1,9 +1,7 @@
 -- Calls that are drawn.
-use Rattle.std.specs.Prelude.{ℕ, ◌+◌, Bool, false, ◌&&◌, ◌||◌, nat_le, if◌then◌else◌, List, codes, filter_map, Option, option_and_then, unwrap_or, Some, None}
+use Rattle.std.specs.Prelude.{ℕ, ◌+◌, Bool, false, ◌&&◌, ◌||◌, nat_le, if◌then◌else◌, List, filter_map, Option, option_and_then, unwrap_or, Some, None}
 use Rattle.std.specs.List.{enumerate_from}
 use Rattle.std.specs.Option.{option_map_or}
-use Rattle.model.specs.declared.op.Op.{Op}
-use Rattle.model.specs.declared.op.Op.TheVariants.{Spawn, Fork, Open, Dup, Close, Exit, Set, Wait, Unlock, Query}
 use Rattle.messages.specs.Entries.{EntryFields}
 use Rattle.stories.specs.declared.made_call.MadeCall.{MadeCall}
 use Rattle.stories.specs.OpenCalls.{made_by}
@@ -40,16 +38,3 @@ bars w entries = filter_map (λ p. bar_at w entries p.0 p.1) (enumerate_from 1 e
 -- where a bar ends: where the call is over, or else behind the window
 abbrev pub right_end : Window → Bar → ℕ
 right_end w b = unwrap_or (over_at b.answer b.end) (w.to + 1)
-
--- the word for an operation
-abbrev pub op_word : Op → List ℕ
-op_word Spawn = codes "spawn"
-op_word (Fork child) = codes "fork"
-op_word (Open file access) = codes "open"
-op_word (Dup fd) = codes "dup"
-op_word (Close fd) = codes "close"
-op_word Exit = codes "exit"
-op_word (Set fd kind mode start len) = codes "set"
-op_word (Wait fd kind mode start len) = codes "wait"
-op_word (Unlock fd kind start len) = codes "unlock"
-op_word (Query fd kind mode start len) = codes "query"

@@ -13,7 +13,8 @@ use Rattle.pictures.specs.declared.row.Row.{Row}
 use Rattle.pictures.specs.declared.row.Row.TheVariants.{Lane, Process}
 use Rattle.pictures.specs.Actors.{takes_part}
 use Rattle.pictures.specs.Rows.{row_of, rows, same_row}
-use Rattle.pictures.specs.Sheets.{SheetFields, left_edge, right_edge, x_of}
+use Rattle.pictures.specs.declared.window.Window.{Window}
+use Rattle.pictures.specs.Drawings.{left_edge, right_edge, x_of}
 use Rattle.pictures.specs.Stretches.{PlacedFields, origin_of}
 
 -- the row is about a node or a server of the shape
@@ -47,8 +48,8 @@ EachArrowIsFromTheLastSend = (before : List EntryFields) (m : Message) → Match
 
 -- what comes later in the journal stands no further left, and in the window 60 units further right for each entry
 abbrev pub TimeGoesRight : Type 0
-TimeGoesRight = (s : SheetFields) (p q : ℕ) → (p ≤ q → x_of s p ≤ x_of s q) × (s.window.from ≤ p → p < q → q ≤ s.window.to → x_of s p + 60 ≤ x_of s q)
+TimeGoesRight = (w : Window) (p q : ℕ) → (p ≤ q → x_of w p ≤ x_of w q) × (w.from ≤ p → p < q → q ≤ w.to → x_of w p + 60 ≤ x_of w q)
 
 -- the place of each entry is between the edges
 abbrev pub EachEntryIsBetweenTheEdges : Type 0
-EachEntryIsBetweenTheEdges = (s : SheetFields) (p : ℕ) → (left_edge ≤ x_of s p) × (x_of s p ≤ right_edge s)
+EachEntryIsBetweenTheEdges = (w : Window) (p : ℕ) → (left_edge ≤ x_of w p) × (x_of w p ≤ right_edge w)

@@ -1,4 +1,3 @@
-pub mod Points
 pub mod Places
 pub mod Actors
 pub mod Stretches
@@ -10,10 +9,7 @@ pub mod Holdings
 pub mod Pieces
 pub mod Shares
 pub mod Tracks
-pub mod Sheets
-pub mod Svg
-pub mod Style
-pub mod TrackTexts
-pub mod Pictures
+pub mod History
+pub mod Drawings
 pub mod Around
 pub mod Laws

@@ -8,6 +8,8 @@ use Rattle.messages.specs.Entries.{EntryFields}
 use Rattle.messages.specs.Messages.{is_among, same_call, same_message}
 use Rattle.stories.specs.About.{delivers}
 use Rattle.pictures.specs.declared.answer.Answer.{Answer}
+use Rattle.pictures.specs.declared.fate.Fate.{Fate}
+use Rattle.pictures.specs.declared.fate.Fate.TheVariants.{Comes, IsLate, IsLost}
 
 -- the last of what the elements give, each with its position, from 1
 abbrev pub last_some : {A B : Type 0} → (ℕ → A → Option B) → List A → Option B
@@ -24,6 +26,10 @@ last_sent m entries = last_some (λ position e. position_if (is_among e.sends m)
 -- a message that the entry at this position sends comes at none behind it
 unfoldable pub is_lost : List EntryFields → ℕ → Message → Bool
 is_lost entries position m = not (list_any (λ e. delivers (same_message m) e.event) (drop position entries))
+
+-- what becomes of a message that the entry of these at this position sends, where those up to the window's end are these
+abbrev pub fate_of : List EntryFields → List EntryFields → ℕ → Message → Fate
+fate_of entries in_time position m = if is_lost entries position m then IsLost else (if is_lost in_time position m then IsLate else Comes)
 
 -- what an entry at this position answers, where it answers the call
 abbrev pub answer_at : CallId → ℕ → Option (CallId × Reply) → Option Answer

@@ -43,13 +43,11 @@ shared_by lo hi pieces = map (λ r. Share (share lo hi pieces r.0 r.1)) (enumera
 unfoldable pub tracks_of_stretch : List Piece → ℕ × ℕ → List Track
 tracks_of_stretch pieces s = shared_by s.0 s.1 (filter (covers s.0 s.1) pieces)
 
--- a file with these pieces, under its heading
-unfoldable pub tracks_of_pieces : ℕ → List Piece → List Track
-tracks_of_pieces file pieces = File file ∷ flat_map (tracks_of_stretch pieces) (stretches (ends pieces))
-
--- a file, with those of the pieces that are its own
+-- a file with those of the pieces that are its own, under its heading
 unfoldable pub tracks_of_file : List Piece → ℕ → List Track
-tracks_of_file pieces file = tracks_of_pieces file (filter (is_of_file file) pieces)
+tracks_of_file pieces file =
+    let own = filter (is_of_file file) pieces in
+    File file ∷ flat_map (tracks_of_stretch own) (stretches (ends own))
 
 -- the files of which something is held
 abbrev pub tracks : List Piece → List Track

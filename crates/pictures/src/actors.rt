@@ -3,7 +3,7 @@ ghost use Rattle.std.specs.Prelude.{◌≡◌};
 ghost use Rattle.std.specs.List.{list_any};
 ghost use Rattle.messages.specs.Messages.{addressee};
 ghost use Rattle.stories.specs.About.{delivers};
-ghost use Rattle.pictures.specs.Actors.{actor_of, message_word, same_actor, sender_of, takes_part};
+ghost use Rattle.pictures.specs.Actors.{actor_of, same_actor, sender_of, takes_part};
 
 use messages::actor::Actor;
 use messages::entry::Entry;
@@ -72,22 +72,4 @@ fn is_any_addressee(actor: &Actor, messages: &[SharedMessage]) -> bool
     messages
         .iter()
         .any(|message| is_same_actor(&message.get().addressee(), actor))
-}
-
-/// The word for a message.
-pub fn message_word(message: &Message) -> &'static str
-    ensures { result.now ≡ message_word message.now }
-{
-    match message {
-        Message::Request { .. } => "request",
-        Message::Grant { .. } => "grant",
-        Message::Revoke { .. } => "revoke",
-        Message::Taken { .. } => "taken",
-        Message::Released { .. } => "released",
-        Message::Conflict { .. } => "conflict",
-        Message::Deny { .. } => "deny",
-        Message::Freed { .. } => "freed",
-        Message::Hello { .. } => "hello",
-        Message::Report { .. } => "report",
-    }
 }

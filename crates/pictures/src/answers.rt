@@ -1,4 +1,4 @@
-//! The answers to calls.
+//! The answers to calls. Each error is `AllocError`: a request for memory was refused.
 ghost use Rattle.std.specs.Prelude.{◌≡◌, ◌+◌, ◌++◌, ◌∷◌, [], List, length, IfOk, OnOk};
 ghost use Rattle.messages.specs.Entries.{EntryFields};
 ghost use Rattle.pictures.specs.Indexes.{KnowsAnswers};
@@ -13,9 +13,6 @@ use std::collections::HashMap;
 pub(crate) type Answers = HashMap<CallId, Answer>;
 
 /// The answers that entries have to calls.
-///
-/// # Errors
-/// `AllocError` where a request for memory was refused.
 pub(crate) fn answers_of(alloc: Global, entries: &[Entry]) -> Result<Answers, AllocError>
     ensures { IfOk result (λ answers. KnowsAnswers answers entries.now) }
 {

@@ -1,4 +1,4 @@
-//! Where messages come.
+//! Where messages come. Each error is `AllocError`: a request for memory was refused.
 use messages::entry::Entry;
 use messages::event::Event;
 use messages::message::Message;
@@ -8,7 +8,7 @@ use std::marker::Model;
 
 /// Where, of entries, each message comes last.
 #[derive(Drop)]
-pub struct Deliveries<'a> {
+pub(crate) struct Deliveries<'a> {
     entries: &'a [Entry],
     places: HashMap<&'a Message, u64>,
 }
@@ -30,10 +30,7 @@ impl<'a> Deliveries<'a> {
     ghost use Rattle.pictures.specs.Places.{is_lost};
 
     /// Those of these entries.
-    ///
-    /// # Errors
-    /// `AllocError` where a request for memory was refused.
-    pub fn of(alloc: Global, entries: &'a [Entry]) -> Result<Deliveries<'a>, AllocError>
+    pub(crate) fn of(alloc: Global, entries: &'a [Entry]) -> Result<Deliveries<'a>, AllocError>
         ensures { IfOk result (λ deliveries. deliveries ≡ entries.entry.now) }
     {
         let mut places = HashMap::new(alloc);
@@ -46,7 +43,7 @@ impl<'a> Deliveries<'a> {
     }
 
     /// Whether a message that the entry at this position sends comes at none behind it.
-    pub fn is_lost(&self, position: u64, message: &'a Message) -> bool
+    pub(crate) fn is_lost(&self, position: u64, message: &'a Message) -> bool
         ensures { result ≡ is_lost self.now position message.entry.now }
     {
         is_past(position, self.places.get(&message).copied())

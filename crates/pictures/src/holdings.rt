@@ -1,4 +1,4 @@
-//! What the live nodes hold behind entries.
+//! What the live nodes hold behind entries. Each error is `AllocError`: a request for memory was refused.
 ghost use Rattle.std.specs.Prelude.{◌≡◌, IfOk};
 ghost use Rattle.cluster_core.specs.Listings.{IsLockListing, IsTokenListing};
 ghost use Rattle.cluster_core.specs.Parts.{world_state};
@@ -30,9 +30,6 @@ impl Model for Holdings {
 
 impl Holdings {
     /// What the live nodes of a world hold, to which the entries up to this position lead.
-    ///
-    /// # Errors
-    /// `AllocError` where a request for memory was refused.
     pub(crate) fn of(alloc: Global, position: u64, world: &World) -> Result<Holdings, AllocError>
         ensures position { IfOk result (λ held. held.position ≡ position) }
         ensures tokens { IfOk result (λ held. IsTokenListing (world_state world.now) held.tokens) }

@@ -1,6 +1,7 @@
 //! What nodes hold behind the entries of the window, piece by piece.
-ghost use Rattle.std.specs.Prelude.{◌≡◌, ◌++◌, flat_map, filter, map, IfOk, OnOk};
-ghost use Rattle.pictures.specs.Pieces.{covers, is_of_file, lock_piece, pieces, token_piece};
+//! Each error is `AllocError`: a request for memory was refused.
+ghost use Rattle.std.specs.Prelude.{◌≡◌, map, IfOk};
+ghost use Rattle.pictures.specs.Pieces.{lock_piece, pieces, token_piece};
 
 use crate::held::Held;
 use crate::holdings::Holdings;
@@ -10,46 +11,19 @@ use cluster_core::token_run::TokenRun;
 use std::alloc::{AllocError, Global};
 
 /// All tokens, entry by entry, and then all locks.
-///
-/// # Errors
-/// `AllocError` where a request for memory was refused.
 pub(crate) fn pieces(alloc: Global, holdings: &[Holdings]) -> Result<Vec<Piece>, AllocError>
     ensures { IfOk result (λ made. made.items ≡ pieces holdings.now) }
 {
     let mut pieces = Vec::new(alloc);
     for held in holdings {
-        add_tokens(&mut pieces, alloc, held.position, held.tokens.as_slice())?;
+        let tokens = token_pieces(alloc, held.position, held.tokens.as_slice())?;
+        pieces.extend_from_slice(tokens.as_slice())?;
     }
     for held in holdings {
-        add_locks(&mut pieces, alloc, held.position, held.locks.as_slice())?;
+        let locks = lock_pieces(alloc, held.position, held.locks.as_slice())?;
+        pieces.extend_from_slice(locks.as_slice())?;
     }
     Ok(pieces)
-}
-
-// These tokens, behind the entry at this position, come last.
-fn add_tokens(
-    pieces: &mut Vec<Piece>,
-    alloc: Global,
-    position: u64,
-    tokens: &[TokenRun],
-) -> Result<(), AllocError>
-    ensures { OnOk result (pieces.new.items ≡ pieces.old.items ++ map (token_piece position) tokens.now) }
-{
-    let own = token_pieces(alloc, position, tokens)?;
-    pieces.extend_from_slice(own.as_slice())
-}
-
-// These locks, behind the entry at this position, come last.
-fn add_locks(
-    pieces: &mut Vec<Piece>,
-    alloc: Global,
-    position: u64,
-    locks: &[HeldLock],
-) -> Result<(), AllocError>
-    ensures { OnOk result (pieces.new.items ≡ pieces.old.items ++ map (lock_piece position) locks.now) }
-{
-    let own = lock_pieces(alloc, position, locks)?;
-    pieces.extend_from_slice(own.as_slice())
 }
 
 // These tokens, behind the entry at this position.
@@ -101,41 +75,4 @@ fn piece_of_lock(position: u64, held: &HeldLock) -> Piece
             mode: held.lock.mode,
         },
     }
-}
-
-/// Those of the pieces that are of the file.
-///
-/// # Errors
-/// `AllocError` where a request for memory was refused.
-pub(crate) fn pieces_of_file(
-    alloc: Global,
-    pieces: &[Piece],
-    file: u64,
-) -> Result<Vec<Piece>, AllocError>
-    ensures { IfOk result (λ made. made.items ≡ filter (is_of_file file) pieces.now) }
-{
-    pieces
-        .iter()
-        .copied()
-        .filter(|piece| piece.is_of_file(file))
-        .collect(alloc)
-}
-
-/// Those of the pieces that have all bytes from one to another.
-///
-/// # Errors
-/// `AllocError` where a request for memory was refused.
-pub(crate) fn pieces_over(
-    alloc: Global,
-    pieces: &[Piece],
-    lo: u64,
-    hi: u64,
-) -> Result<Vec<Piece>, AllocError>
-    ensures { IfOk result (λ made. made.items ≡ filter (covers lo hi) pieces.now) }
-{
-    pieces
-        .iter()
-        .copied()
-        .filter(|piece| piece.covers(lo, hi))
-        .collect(alloc)
 }

@@ -1,6 +1,5 @@
 //! Rows of a picture.
 ghost use Rattle.std.specs.Prelude.{◌≡◌};
-ghost use Rattle.pictures.specs.Pictures.{name_class, row_class};
 ghost use Rattle.pictures.specs.Rows.{is_of, row_of, same_row};
 
 use crate::actors::is_same_actor;
@@ -54,9 +53,7 @@ impl Row {
     }
 
     /// The class of its line.
-    pub(crate) fn class(&self) -> &'static str
-        ensures { result.now ≡ row_class self.now }
-    {
+    pub(crate) fn class(&self) -> &'static str {
         match self {
             Row::Lane(Actor::Node(_)) => "node",
             Row::Lane(Actor::Server(_)) => "server",
@@ -65,9 +62,7 @@ impl Row {
     }
 
     /// The class of its name.
-    pub(crate) fn name_class(&self) -> &'static str
-        ensures { result.now ≡ name_class self.now }
-    {
+    pub(crate) fn name_class(&self) -> &'static str {
         match self {
             Row::Lane(_) => "lane",
             Row::Process { .. } => "owner",

@@ -1,4 +1,4 @@
-//! The rows of a picture, from top to bottom.
+//! The rows of a picture, from top to bottom. Each error is `AllocError`: a request for memory was refused.
 ghost use Rattle.std.specs.Prelude.{◌≡◌, ◌++◌, filter, IfOk, OnOk};
 ghost use Rattle.std.specs.List.{list_any};
 ghost use Rattle.messages.specs.declared.actor.Actor.TheVariants.{Node, Server};
@@ -17,10 +17,7 @@ use std::alloc::{AllocError, Global};
 /// The rows of a picture of these entries and calls: the first half of the nodes, the servers, and the
 /// rest of the nodes, each with the processes that make calls on the side away from the servers. Nodes
 /// and servers that take no part, and have no such process, are left out.
-///
-/// # Errors
-/// `AllocError` where a request for memory was refused.
-pub fn rows(
+pub(crate) fn rows(
     alloc: Global,
     shape: &Shape,
     part: &[PlacedEntry<'_>],
@@ -119,7 +116,7 @@ fn add_busy(
 fn is_in_part(part: &[PlacedEntry<'_>], actor: &Actor) -> bool
     ensures { result ≡ list_any (λ p. takes_part actor.now p.entry) part.now }
 {
-    part.iter().any(|placed| takes_part(actor, placed.entry()))
+    part.iter().any(|placed| takes_part(actor, placed.entry))
 }
 
 // Whether one of the processes is the actor's own.

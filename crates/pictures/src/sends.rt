@@ -1,4 +1,4 @@
-//! Where messages are sent.
+//! Where messages are sent. Each error is `AllocError`: a request for memory was refused.
 ghost use Rattle.std.specs.Prelude.{◌≡◌, ◌+◌, ◌++◌, ◌∷◌, [], List, length, OnOk};
 ghost use Rattle.messages.specs.Entries.{EntryFields};
 ghost use Rattle.pictures.specs.Indexes.{KnowsSent};
@@ -14,9 +14,6 @@ use std::collections::HashMap;
 pub(crate) type SentAt<'a> = HashMap<&'a Message, u64>;
 
 /// Takes the messages that the entry at this position sends into the index of those before it.
-///
-/// # Errors
-/// `AllocError` where a request for memory was refused.
 pub(crate) fn note_sends<'a>(
     sends: &mut SentAt<'a>,
     position: u64,

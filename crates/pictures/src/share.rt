@@ -1,17 +1,17 @@
-//! How long a node holds the bytes of a stretch.
+//! How long a node holds the bytes of a stretch. Each error is `AllocError`: a request for memory was refused.
 use crate::piece::Piece;
 use crate::stay::Stay;
 use std::alloc::{AllocError, Global};
 use std::marker::Model;
 
-/// The bytes of a file from one to another, as far as one node holds them.
+/// The bytes of a file from one to another, as far as one node holds them; whether it is the first node of that stretch; and how long it holds what.
 #[derive(Drop)]
 pub struct Share {
-    lo: u64,
-    hi: u64,
-    node: u64,
-    leads: bool,
-    stays: Vec<Stay>,
+    pub(crate) lo: u64,
+    pub(crate) hi: u64,
+    pub(crate) node: u64,
+    pub(crate) leads: bool,
+    pub(crate) stays: Vec<Stay>,
 }
 
 impl Model for Share {
@@ -27,9 +27,6 @@ impl Share {
     ghost use Rattle.pictures.specs.Shares.{share};
 
     /// The share of the node in a stretch with these pieces, where so many others stand before it.
-    ///
-    /// # Errors
-    /// `AllocError` where a request for memory was refused.
     pub(crate) fn of(
         alloc: Global,
         lo: u64,
@@ -48,41 +45,6 @@ impl Share {
             leads: number == 0,
             stays,
         })
-    }
-
-    /// The first byte.
-    pub(crate) fn lo(&self) -> u64
-        ensures { result ≡ self.now.lo }
-    {
-        self.lo
-    }
-
-    /// The last byte.
-    pub(crate) fn hi(&self) -> u64
-        ensures { result ≡ self.now.hi }
-    {
-        self.hi
-    }
-
-    /// The node.
-    pub(crate) fn node(&self) -> u64
-        ensures { result ≡ self.now.node }
-    {
-        self.node
-    }
-
-    /// Whether the node is the first one of the stretch.
-    pub(crate) fn leads(&self) -> bool
-        ensures { result ≡ self.now.leads }
-    {
-        self.leads
-    }
-
-    /// How long it holds what.
-    pub(crate) fn stays(&self) -> &[Stay]
-        ensures { result.now ≡ self.now.stays }
-    {
-        self.stays.as_slice()
     }
 }
 

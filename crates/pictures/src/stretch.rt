@@ -1,4 +1,5 @@
 //! What the live nodes hold behind a stretch of a journal.
+//! Each error is `AllocError`: a request for memory was refused.
 ghost use Rattle.std.specs.Prelude.{◌≡◌, ◌<◌, All, Ok, map, take, IfOk, OnOk};
 ghost use Rattle.cluster_core.specs.Next.{next};
 ghost use Rattle.cluster_core.specs.Parts.{world_state};
@@ -14,9 +15,6 @@ use std::alloc::{AllocError, Global};
 /// What the live nodes hold behind each entry of the journal from one position to another, with both of
 /// them, in the order of the entries; positions count from 1, and there is nothing for those at which the
 /// journal has no entry. The events happen once more, up to the last of these entries.
-///
-/// # Errors
-/// `AllocError` where a request for memory was refused.
 pub fn holdings(
     alloc: Global,
     journal: &Journal,
@@ -39,8 +37,8 @@ pub fn holdings(
     Ok(held)
 }
 
-// The entries up to this position.
-fn up_to(entries: &[Entry], to: u64) -> &[Entry]
+/// The entries up to this position.
+pub(crate) fn up_to(entries: &[Entry], to: u64) -> &[Entry]
     ensures { result.now ≡ take to entries.now }
 {
     let count = to.min(entries.len() as u64) as usize;

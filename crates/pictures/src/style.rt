@@ -1,11 +1,8 @@
 //! How the elements look, and what that means.
-ghost use Rattle.std.specs.Prelude.{◌≡◌, ◌++◌, string_bytes, OnOk};
-ghost use Rattle.pictures.specs.Style.{dark, defs, legend, light, style};
 
-use std::alloc::AllocError;
-
-// How they look in the light.
-const LIGHT: &str = "\
+/// How they look, in the light and in the dark.
+pub(crate) const STYLE: &str = "\
+<style>
 svg { background: #ffffff; font-family: Helvetica, Arial, sans-serif; font-size: 10px; }
 text { fill: #1f2430; }
 .number { fill: #7a8194; text-anchor: middle; }
@@ -44,10 +41,7 @@ text { fill: #1f2430; }
 .shared { fill-opacity: 0.4; }
 .lock { fill: none; stroke: #1f2430; stroke-width: 1.5; }
 .read { stroke-dasharray: 3 2; }
-";
-
-// What differs in the dark.
-const DARK: &str = "\
+@media (prefers-color-scheme: dark) {
 svg { background: #14171f; }
 text { fill: #e6e8ee; }
 .number, .again { fill: #8f97aa; }
@@ -80,49 +74,12 @@ text { fill: #e6e8ee; }
 .n7 { fill: #b8a23f; }
 .n8 { fill: #a8816b; }
 .lock { stroke: #ffffff; }
+}
+</style>
 ";
 
-/// Writes how the elements look, in the light and in the dark.
-///
-/// # Errors
-/// `AllocError` where a request for memory was refused.
-#[tactic(auto, unfolding(crate::specs::Style::style))]
-pub(crate) fn push_style(out: &mut String) -> Result<(), AllocError>
-    ensures { OnOk result (string_bytes out.new ≡ string_bytes out.old ++ style) }
-{
-    out.push_str("<style>\n")?;
-    push_light(out)?;
-    out.push_str("@media (prefers-color-scheme: dark) {\n")?;
-    push_dark(out)?;
-    out.push_str("}\n</style>\n")
-}
-
-// Writes how they look in the light.
-#[tactic(auto, unfolding(crate::specs::Style::light))]
-fn push_light(out: &mut String) -> Result<(), AllocError>
-    ensures { OnOk result (string_bytes out.new ≡ string_bytes out.old ++ light) }
-{
-    out.push_str(LIGHT)
-}
-
-// Writes what differs in the dark.
-#[tactic(auto, unfolding(crate::specs::Style::dark))]
-fn push_dark(out: &mut String) -> Result<(), AllocError>
-    ensures { OnOk result (string_bytes out.new ≡ string_bytes out.old ++ dark) }
-{
-    out.push_str(DARK)
-}
-
-/// Writes the head of an arrow, a diamond, and what the boxes of tokens and locks mean.
-///
-/// # Errors
-/// `AllocError` where a request for memory was refused.
-#[tactic(auto, unfolding(crate::specs::Style::defs))]
-pub(crate) fn push_defs(out: &mut String) -> Result<(), AllocError>
-    ensures { OnOk result (string_bytes out.new ≡ string_bytes out.old ++ defs) }
-{
-    out.push_str(
-        "\
+/// The head of an arrow, a diamond, and what the boxes of tokens and locks mean.
+pub(crate) const DEFINITIONS: &str = "\
 <defs>
 <marker id='head' viewBox='0 0 8 8' refX='8' refY='4' markerWidth='7' markerHeight='7' orient='auto'><path class='head' d='M0 0L8 4L0 8Z'/></marker>
 <path id='place' d='M0 -5L5 0L0 5L-5 0Z'/>
@@ -133,26 +90,14 @@ pub(crate) fn push_defs(out: &mut String) -> Result<(), AllocError>
 <rect class='lock write' x='196' y='5' width='14' height='6' rx='3'/><text x='214' y='12'>write lock</text>
 </g>
 </defs>
-",
-    )
-}
+";
 
-/// Writes what the colours and the diamond mean.
-///
-/// # Errors
-/// `AllocError` where a request for memory was refused.
-#[tactic(auto, unfolding(crate::specs::Style::legend))]
-pub(crate) fn push_legend(out: &mut String) -> Result<(), AllocError>
-    ensures { OnOk result (string_bytes out.new ≡ string_bytes out.old ++ legend) }
-{
-    out.push_str(
-        "\
+/// What the colours and the diamond mean.
+pub(crate) const LEGEND: &str = "\
 <rect class='done' x='12' y='8' width='10' height='10' rx='2'/><text x='26' y='17'>done</text>
 <rect class='denied' x='68' y='8' width='10' height='10' rx='2'/><text x='82' y='17'>denied</text>
 <rect class='refused' x='12' y='24' width='10' height='10' rx='2'/><text x='26' y='33'>refused</text>
 <rect class='open' x='68' y='24' width='10' height='10' rx='2'/><text x='82' y='33'>open</text>
 <use class='place' href='#place' x='17' y='45'/><text x='26' y='49'>in history</text>
 <line class='lost' x1='82' y1='45' x2='94' y2='45'/><text class='gone' x='98' y='45'>lost</text>
-",
-    )
-}
+";

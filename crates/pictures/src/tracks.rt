@@ -1,9 +1,9 @@
-//! The bytes of files, and who holds them.
-ghost use Rattle.std.specs.Prelude.{◌≡◌, ◌++◌, flat_map, IfOk, OnOk};
-ghost use Rattle.pictures.specs.Tracks.{ends, files, nodes, shared_by, stretches, stretches_from, tracks, tracks_of_file, tracks_of_pieces, tracks_of_stretch};
+//! The bytes of files, and who holds them. Each error is `AllocError`: a request for memory was refused.
+ghost use Rattle.std.specs.Prelude.{◌≡◌, ◌++◌, filter, flat_map, IfOk, OnOk};
+ghost use Rattle.pictures.specs.Pieces.{covers, is_of_file};
+ghost use Rattle.pictures.specs.Tracks.{ends, files, nodes, shared_by, stretches, stretches_from, tracks, tracks_of_file, tracks_of_stretch};
 
 use crate::piece::Piece;
-use crate::pieces::{pieces_of_file, pieces_over};
 use crate::share::Share;
 use crate::track::Track;
 use std::alloc::{AllocError, Global};
@@ -11,9 +11,6 @@ use std::collections::BTreeSet;
 
 /// The tracks of the pieces: for each file of them a heading, and for each stretch between their ends the
 /// nodes that hold it.
-///
-/// # Errors
-/// `AllocError` where a request for memory was refused.
 pub(crate) fn tracks(alloc: Global, pieces: &[Piece]) -> Result<Vec<Track>, AllocError>
     ensures { IfOk result (λ made. made.items ≡ tracks pieces.now) }
 {
@@ -58,7 +55,7 @@ fn ends(alloc: Global, pieces: &[Piece]) -> Result<Vec<u64>, AllocError>
     ends.into_iter().collect(alloc)
 }
 
-// A file, with those of the pieces that are its own.
+// A file, with those of the pieces that are its own, under its heading.
 #[tactic(auto, unfolding(crate::specs::Tracks::tracks_of_file))]
 fn add_file(
     tracks: &mut Vec<Track>,
@@ -68,23 +65,21 @@ fn add_file(
 ) -> Result<(), AllocError>
     ensures { OnOk result (tracks.new.items ≡ tracks.old.items ++ tracks_of_file pieces.now file) }
 {
-    let own = pieces_of_file(alloc, pieces, file)?;
-    add_pieces(tracks, alloc, file, own.as_slice())
+    let own = of_file(alloc, pieces, file)?;
+    let ends = ends(alloc, own.as_slice())?;
+    tracks.push(Track::File(file))?;
+    add_stretches(tracks, alloc, own.as_slice(), ends.as_slice())
 }
 
-// A file with these pieces, under its heading.
-#[tactic(auto, unfolding(crate::specs::Tracks::tracks_of_pieces))]
-fn add_pieces(
-    tracks: &mut Vec<Track>,
-    alloc: Global,
-    file: u64,
-    pieces: &[Piece],
-) -> Result<(), AllocError>
-    ensures { OnOk result (tracks.new.items ≡ tracks.old.items ++ tracks_of_pieces file pieces.now) }
+// Those of the pieces that are of the file.
+fn of_file(alloc: Global, pieces: &[Piece], file: u64) -> Result<Vec<Piece>, AllocError>
+    ensures { IfOk result (λ made. made.items ≡ filter (is_of_file file) pieces.now) }
 {
-    let ends = ends(alloc, pieces)?;
-    tracks.push(Track::File(file))?;
-    add_stretches(tracks, alloc, pieces, ends.as_slice())
+    pieces
+        .iter()
+        .copied()
+        .filter(|piece| piece.is_of_file(file))
+        .collect(alloc)
 }
 
 // The stretches between these ends.
@@ -120,7 +115,7 @@ fn add_stretches_from(
     Ok(())
 }
 
-// A stretch, with those of the pieces that have it.
+// The nodes that hold a stretch, each with its share of those of the pieces that have it.
 #[tactic(auto, unfolding(crate::specs::Tracks::tracks_of_stretch))]
 fn add_stretch(
     tracks: &mut Vec<Track>,
@@ -131,8 +126,19 @@ fn add_stretch(
 ) -> Result<(), AllocError>
     ensures { OnOk result (tracks.new.items ≡ tracks.old.items ++ tracks_of_stretch pieces.now (lo, hi)) }
 {
-    let over = pieces_over(alloc, pieces, lo, hi)?;
+    let over = over(alloc, pieces, lo, hi)?;
     add_shares(tracks, alloc, lo, hi, over.as_slice())
+}
+
+// Those of the pieces that have all bytes from one to another.
+fn over(alloc: Global, pieces: &[Piece], lo: u64, hi: u64) -> Result<Vec<Piece>, AllocError>
+    ensures { IfOk result (λ made. made.items ≡ filter (covers lo hi) pieces.now) }
+{
+    pieces
+        .iter()
+        .copied()
+        .filter(|piece| piece.covers(lo, hi))
+        .collect(alloc)
 }
 
 // The nodes that hold a stretch with these pieces, each with its share.

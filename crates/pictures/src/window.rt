@@ -11,7 +11,7 @@ pub struct Window {
 
 impl Window {
     /// The window without what lies outside of so many entries.
-    pub fn cut(&self, count: u64) -> Window
+    pub(crate) fn cut(&self, count: u64) -> Window
         ensures { result ≡ cut count self.now }
     {
         Window {

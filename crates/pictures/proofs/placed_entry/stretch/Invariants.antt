@@ -2,6 +2,7 @@ use Rattle.std.proofs.Common.{◌≡◌, ◌+◌, ◌-◌, ◌++◌, ℕ, drop, 
 use Rattle.std.specs.List.{enumerate_from}
 use Rattle.messages.specs.Entries.{EntryFields}
 use Rattle.pictures.specs.Indexes.{KnowsSent}
+use Rattle.pictures.specs.Places.{fate_of}
 use Rattle.pictures.specs.Stretches.{placed_at, stretch}
 use Rattle.pictures.proofs.placed_entry.stretch.Given as goal
 
@@ -9,5 +10,5 @@ abbrev pub invariant-loop-entry : goal.invariant-loop-entry
 invariant-loop-entry l = record {
   standing : l.position ≡ l.entry-index;
   known : KnowsSent l.sends (take l.entry-index l.entries);
-  made : l.part.items ++ filter_map (λ (p : ℕ × EntryFields). placed_at l.window (take (p.0 - 1) l.entries) p.0 p.1) (enumerate_from (l.position + 1) (drop l.entry-index l.entries)) ≡ stretch l.window l.entries;
+  made : l.part.items ++ filter_map (λ (p : ℕ × EntryFields). placed_at l.window (take (p.0 - 1) l.entries) (fate_of l.entries (take l.window.to l.entries) p.0) p.0 p.1) (enumerate_from (l.position + 1) (drop l.entry-index l.entries)) ≡ stretch l.window l.entries;
 }
