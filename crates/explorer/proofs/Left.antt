@@ -1,7 +1,6 @@
 -- Calls of processes that are left behind a schedule.
-use Rattle.std.proofs.Common.{◌≡◌, ℕ, zero, suc, ◌+◌, ◌<◌, ◌==◌, ◌&&◌, Bool, true, false, if◌then◌else◌, List, [], ◌∷◌, ◌++◌, length, take, get_or, sym, ap, subst, ◌∙◌, inl, inr, refl, Option, Some, None}
+use Rattle.std.proofs.Common.{◌≡◌, ℕ, zero, suc, ◌+◌, ◌<◌, Bool, true, List, [], ◌∷◌, ◌++◌, length, take, get_or, sym, ap, subst, ◌∙◌, inl, inr, refl, Option, Some, None}
 use Rattle.std.specs.Prelude.{◌⊎◌, All, slice_get}
-use Rattle.std.proofs.lemmas.Bool.{cases_eq, eq-eqb, ne_eqb}
 use Rattle.std.proofs.lemmas.Grind.{flat_map-append}
 use Rattle.std.proofs.lemmas.List.{append-nil, take_more}
 use Rattle.std.proofs.lemmas.List.Elements.{All-append, All-cons, All-head, All-nil, All-tail}
@@ -10,14 +9,15 @@ use Rattle.model.specs.declared.op.Op.{Op}
 use Rattle.messages.specs.Entries.{EntryFields}
 use Rattle.cluster_core.specs.World.{WorldState}
 use Rattle.lockscript.specs.declared.script_line.Command.{Command}
-use Rattle.lockscript.specs.declared.script_line.Command.TheVariants.{Call, Deliver, Lose, Settle, Interrupt, Retry, Resend, Declare, Restart, Learn, FailServer, StartServer}
+use Rattle.lockscript.specs.declared.script_line.Command.TheVariants.{Call}
 use Rattle.lockscript.specs.Scripts.{IsCommand, LineFields}
 use Rattle.player.specs.Played.{PlayedState}
 use Rattle.explorer.specs.Answers.{tries}
 use Rattle.explorer.specs.Ends.{AreServed, IsOpenAfter, LeavesOpen, MakesCallsOf}
-use Rattle.explorer.specs.Indexes.{HoldsOfCaller}
-use Rattle.explorer.specs.Schedules.{calls_in, calls_of, numbered, op_of}
+use Rattle.explorer.specs.Indexes.{HoldsOfCaller, IsServedOther}
+use Rattle.explorer.specs.Schedules.{calls_in, calls_of, may_stand, numbered, op_of, Follows}
 use Rattle.explorer.proofs.Orders.{Begins}
+use Rattle.explorer.proofs.Walks.{op-cases}
 
 nothing-behind : (xs rest : List Op) → slice_get (xs ++ rest) (length xs) ≡ None → rest ≡ []
 nothing-behind [] [] none = refl
@@ -50,65 +50,23 @@ none-same : (calls : List Op) (Holds : Type 0) → NoneOr calls Holds → NoneOr
 none-same calls Holds (inl none) = inl (append-nil calls ∙ none)
 none-same calls Holds (inr holds) = inr holds
 
-call-next : (Holds : ℕ → ℕ → Type 0) (node pid n p : ℕ) (op : Op) (calls : List Op) → Holds n p → NoneOr calls (Holds node pid) → n ≡ node ⊎ (n ≡ node → ⊥) → p ≡ pid ⊎ (p ≡ pid → ⊥)
-    → NoneOr (calls ++ op_of node pid (Call n p op)) (Holds node pid)
-call-next Holds node pid n p op calls here before (inl e) (inl f) = inr (subst (λ (k : ℕ). Holds node k) f (subst (λ (k : ℕ). Holds k p) e here))
-call-next Holds node pid n p op calls here before (inl e) (inr f) =
-    let both : ((n == node) && (p == pid)) ≡ false = ap (λ (b : Bool). b && (p == pid)) (eq-eqb n node e) ∙ ne_eqb p pid f in
-    let P : Bool → Type 0 = λ b. NoneOr (calls ++ (if b then op ∷ [] else [])) (Holds node pid) in
-    subst P (sym both) (none-same calls (Holds node pid) before)
-call-next Holds node pid n p op calls here before (inr e) q =
-    let both : ((n == node) && (p == pid)) ≡ false = ap (λ (b : Bool). b && (p == pid)) (ne_eqb n node e) in
-    let P : Bool → Type 0 = λ b. NoneOr (calls ++ (if b then op ∷ [] else [])) (Holds node pid) in
-    subst P (sym both) (none-same calls (Holds node pid) before)
-
 -- of each process that the lines call so far it holds, of one line more
 pub held-next : (Holds : ℕ → ℕ → Type 0) (node pid : ℕ) (c : Command) (calls : List Op) → HoldsOfCaller Holds c → NoneOr calls (Holds node pid) → NoneOr (calls ++ op_of node pid c) (Holds node pid)
-held-next Holds node pid (Call n p op) calls here before = call-next Holds node pid n p op calls here before (cases_eq n node) (cases_eq p pid)
-held-next Holds node pid (Deliver message) calls here before = none-same calls (Holds node pid) before
-held-next Holds node pid (Lose message) calls here before = none-same calls (Holds node pid) before
-held-next Holds node pid Settle calls here before = none-same calls (Holds node pid) before
-held-next Holds node pid (Interrupt n p) calls here before = none-same calls (Holds node pid) before
-held-next Holds node pid (Retry n p) calls here before = none-same calls (Holds node pid) before
-held-next Holds node pid (Resend file) calls here before = none-same calls (Holds node pid) before
-held-next Holds node pid (Declare n) calls here before = none-same calls (Holds node pid) before
-held-next Holds node pid (Restart n) calls here before = none-same calls (Holds node pid) before
-held-next Holds node pid (Learn file n incarnation) calls here before = none-same calls (Holds node pid) before
-held-next Holds node pid (FailServer file) calls here before = none-same calls (Holds node pid) before
-held-next Holds node pid (StartServer file) calls here before = none-same calls (Holds node pid) before
+held-next Holds node pid (Call n p op) calls here before =
+    op-cases (λ (ops : List Op). NoneOr (calls ++ ops) (Holds node pid)) node pid n p op
+    (λ e f. inr (subst (λ (k : ℕ). Holds node k) f (subst (λ (k : ℕ). Holds k p) e here)))
+    (none-same calls (Holds node pid) before)
+held-next Holds node pid _ calls here before = none-same calls (Holds node pid) before
 
 -- a line may ask for each call of a process that lines ask for
 abbrev IsServedCall : ℕ → ℕ → Op → Type 0
 IsServedCall node pid op = IsCommand (Call node pid op)
 
-served-call : (node pid n p : ℕ) (op : Op) → IsCommand (Call n p op) → n ≡ node ⊎ (n ≡ node → ⊥) → p ≡ pid ⊎ (p ≡ pid → ⊥) → All (IsServedCall node pid) (op_of node pid (Call n p op))
-served-call node pid n p op is (inl e) (inl f) =
-    let both : ((n == node) && (p == pid)) ≡ true = ap (λ (b : Bool). b && (p == pid)) (eq-eqb n node e) ∙ eq-eqb p pid f in
-    let P : Bool → Type 0 = λ b. All (IsServedCall node pid) (if b then op ∷ [] else []) in
-    let its = subst (λ (k : ℕ). IsCommand (Call node k op)) f (subst (λ (k : ℕ). IsCommand (Call k p op)) e is) in
-    subst P (sym both) (All-cons (IsServedCall node pid) op [] its (All-nil (IsServedCall node pid)))
-served-call node pid n p op is (inl e) (inr f) =
-    let both : ((n == node) && (p == pid)) ≡ false = ap (λ (b : Bool). b && (p == pid)) (eq-eqb n node e) ∙ ne_eqb p pid f in
-    let P : Bool → Type 0 = λ b. All (IsServedCall node pid) (if b then op ∷ [] else []) in
-    subst P (sym both) (All-nil (IsServedCall node pid))
-served-call node pid n p op is (inr e) q =
-    let both : ((n == node) && (p == pid)) ≡ false = ap (λ (b : Bool). b && (p == pid)) (ne_eqb n node e) in
-    let P : Bool → Type 0 = λ b. All (IsServedCall node pid) (if b then op ∷ [] else []) in
-    subst P (sym both) (All-nil (IsServedCall node pid))
-
 served-op : (node pid : ℕ) (c : Command) → IsCommand c → All (IsServedCall node pid) (op_of node pid c)
-served-op node pid (Call n p op) is = served-call node pid n p op is (cases_eq n node) (cases_eq p pid)
-served-op node pid (Deliver message) is = All-nil (IsServedCall node pid)
-served-op node pid (Lose message) is = All-nil (IsServedCall node pid)
-served-op node pid Settle is = All-nil (IsServedCall node pid)
-served-op node pid (Interrupt n p) is = All-nil (IsServedCall node pid)
-served-op node pid (Retry n p) is = All-nil (IsServedCall node pid)
-served-op node pid (Resend file) is = All-nil (IsServedCall node pid)
-served-op node pid (Declare n) is = All-nil (IsServedCall node pid)
-served-op node pid (Restart n) is = All-nil (IsServedCall node pid)
-served-op node pid (Learn file n incarnation) is = All-nil (IsServedCall node pid)
-served-op node pid (FailServer file) is = All-nil (IsServedCall node pid)
-served-op node pid (StartServer file) is = All-nil (IsServedCall node pid)
+served-op node pid (Call n p op) is =
+    let here : n ≡ node → p ≡ pid → IsServedCall node pid op = λ e f. subst (λ (k : ℕ). IsCommand (Call node k op)) f (subst (λ (k : ℕ). IsCommand (Call k p op)) e is) in
+    op-cases (All (IsServedCall node pid)) node pid n p op (λ e f. All-cons (IsServedCall node pid) op [] (here e f) (All-nil (IsServedCall node pid))) (All-nil (IsServedCall node pid))
+served-op node pid _ is = All-nil (IsServedCall node pid)
 
 abbrev IsServedLine : LineFields → Type 0
 IsServedLine l = IsCommand l.command
@@ -126,6 +84,11 @@ at-place P (x ∷ ops) (suc k) op all at = at-place P ops k op (All-tail P x ops
 
 pub left-served : (node pid : ℕ) (lines : List LineFields) (k : ℕ) (op : Op) → AreServed lines → slice_get (calls_in node pid lines) k ≡ Some op → IsCommand (Call node pid op)
 left-served node pid lines k op served at = at-place (IsServedCall node pid) (calls_in node pid lines) k op (served-calls node pid lines served) at
+
+-- what is no call may come next where it may stand
+pub follows-other : (failures : Bool) (lines : List LineFields) (taken : List Command) (c : Command) → IsServedOther c → may_stand failures lines c ≡ true → Follows failures lines taken c
+follows-other failures lines taken (Call n p op) served stands = absurd served
+follows-other failures lines taken _ served stands = record { is_next = tt; stands = stands; served = served }
 
 -- where a process can't go on, all its calls are made, or the last one is open
 pub none-goes-on : (lines : List LineFields) (commands : List Command) (node pid : ℕ) (made : List (Option ℕ)) (entries : List EntryFields) (world : WorldState) → Begins (calls_of node pid commands) (calls_in node pid lines)

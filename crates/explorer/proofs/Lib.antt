@@ -3,7 +3,6 @@ mod MetOutcomes
 mod Orders
 mod Puts
 mod Reading
-mod RunWalks
 mod SameAnswers
 mod Seeds
 mod Walks

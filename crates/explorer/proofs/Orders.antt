@@ -1,18 +1,17 @@
 -- Schedules that go on by one command.
-use Rattle.std.proofs.Common.{◌≡◌, ℕ, ◌+◌, ◌<◌, ◌≤◌, ◌==◌, ◌&&◌, Bool, true, false, if◌then◌else◌, List, [], ◌∷◌, ◌++◌, length, map, refl, sym, ap, subst, ◌∙◌, inl, inr, arith, length-append, Some}
-use Rattle.std.specs.Prelude.{◌⊎◌, slice_get}
+use Rattle.std.proofs.Common.{◌≡◌, ℕ, ◌+◌, ◌<◌, ◌≤◌, Bool, true, List, [], ◌∷◌, ◌++◌, length, map, refl, sym, ap, subst, ◌∙◌, arith, length-append, Some}
+use Rattle.std.specs.Prelude.{slice_get}
 use Rattle.std.specs.List.{enumerate_from}
-use Rattle.std.proofs.lemmas.Bool.{cases_eq, eq-eqb, ne_eqb}
 use Rattle.std.proofs.lemmas.List.{append-nil, append_assoc}
 use Rattle.std.proofs.lemmas.List.Elements.{All-nil, All-push}
 use Rattle.std.proofs.lemmas.Option.{none-some, same_Some}
 use Rattle.model.specs.declared.op.Op.{Op}
 use Rattle.lockscript.specs.declared.script_line.Command.{Command}
-use Rattle.lockscript.specs.declared.script_line.Command.TheVariants.{Call, Deliver, Lose, Settle, Interrupt, Retry, Resend, Declare, Restart, Learn, FailServer, StartServer}
+use Rattle.lockscript.specs.declared.script_line.Command.TheVariants.{Call}
 use Rattle.lockscript.specs.Scripts.{IsCommand, LineFields}
 use Rattle.player.specs.Progress.{Progress, Does, End, RunsTo}
 use Rattle.player.proofs.Progresses.{turns_push}
-use Rattle.explorer.proofs.Walks.{calls-push}
+use Rattle.explorer.proofs.Walks.{calls-push, op-cases}
 use Rattle.explorer.specs.Schedules.{calls_in, calls_of, line_of, may_stand, most_lines, numbered, op_of, Follows, IsNextCall, IsScheduleOf}
 
 -- the number of one line more
@@ -51,40 +50,16 @@ begins-more made all op begins at =
 begins-same : (made all : List Op) → Begins made all → Begins (made ++ []) all
 begins-same made all begins = (begins.0, begins.1 ∙ ap (λ (ops : List Op). ops ++ begins.0) (sym (append-nil made)))
 
--- what a call adds to the calls of a process
-call-adds : (node pid n p : ℕ) (op : Op) (made all : List Op) → (n ≡ node → p ≡ pid → slice_get all (length made) ≡ Some op) → Begins made all → n ≡ node ⊎ (n ≡ node → ⊥) → p ≡ pid ⊎ (p ≡ pid → ⊥)
-    → Begins (made ++ op_of node pid (Call n p op)) all
-call-adds node pid n p op made all next begins (inl e) (inl f) =
-    let both : ((n == node) && (p == pid)) ≡ true = ap (λ (b : Bool). b && (p == pid)) (eq-eqb n node e) ∙ eq-eqb p pid f in
-    let P : Bool → Type 0 = λ b. Begins (made ++ (if b then op ∷ [] else [])) all in
-    subst P (sym both) (begins-more made all op begins (next e f))
-call-adds node pid n p op made all next begins (inl e) (inr f) =
-    let both : ((n == node) && (p == pid)) ≡ false = ap (λ (b : Bool). b && (p == pid)) (eq-eqb n node e) ∙ ne_eqb p pid f in
-    let P : Bool → Type 0 = λ b. Begins (made ++ (if b then op ∷ [] else [])) all in
-    subst P (sym both) (begins-same made all begins)
-call-adds node pid n p op made all next begins (inr e) q =
-    let both : ((n == node) && (p == pid)) ≡ false = ap (λ (b : Bool). b && (p == pid)) (ne_eqb n node e) in
-    let P : Bool → Type 0 = λ b. Begins (made ++ (if b then op ∷ [] else [])) all in
-    subst P (sym both) (begins-same made all begins)
-
 -- what a command adds to the calls of a process
 adds : (lines : List LineFields) (commands : List Command) (c : Command) (node pid : ℕ) → IsNextCall lines commands c → Begins (calls_of node pid commands) (calls_in node pid lines)
     → Begins (calls_of node pid commands ++ op_of node pid c) (calls_in node pid lines)
 adds lines commands (Call n p op) node pid next begins =
+    let made = calls_of node pid commands in
+    let all = calls_in node pid lines in
     let P : ℕ → Type 0 = λ k. slice_get (calls_in k p lines) (length (calls_of k p commands)) ≡ Some op in
     let Q : ℕ → Type 0 = λ k. slice_get (calls_in node k lines) (length (calls_of node k commands)) ≡ Some op in
-    call-adds node pid n p op (calls_of node pid commands) (calls_in node pid lines) (λ e f. subst Q f (subst P e next)) begins (cases_eq n node) (cases_eq p pid)
-adds lines commands (Deliver message) node pid next begins = begins-same (calls_of node pid commands) (calls_in node pid lines) begins
-adds lines commands (Lose message) node pid next begins = begins-same (calls_of node pid commands) (calls_in node pid lines) begins
-adds lines commands Settle node pid next begins = begins-same (calls_of node pid commands) (calls_in node pid lines) begins
-adds lines commands (Interrupt n p) node pid next begins = begins-same (calls_of node pid commands) (calls_in node pid lines) begins
-adds lines commands (Retry n p) node pid next begins = begins-same (calls_of node pid commands) (calls_in node pid lines) begins
-adds lines commands (Resend file) node pid next begins = begins-same (calls_of node pid commands) (calls_in node pid lines) begins
-adds lines commands (Declare n) node pid next begins = begins-same (calls_of node pid commands) (calls_in node pid lines) begins
-adds lines commands (Restart n) node pid next begins = begins-same (calls_of node pid commands) (calls_in node pid lines) begins
-adds lines commands (Learn file n incarnation) node pid next begins = begins-same (calls_of node pid commands) (calls_in node pid lines) begins
-adds lines commands (FailServer file) node pid next begins = begins-same (calls_of node pid commands) (calls_in node pid lines) begins
-adds lines commands (StartServer file) node pid next begins = begins-same (calls_of node pid commands) (calls_in node pid lines) begins
+    op-cases (λ (ops : List Op). Begins (made ++ ops) all) node pid n p op (λ e f. begins-more made all op begins (subst Q f (subst P e next))) (begins-same made all begins)
+adds lines commands _ node pid next begins = begins-same (calls_of node pid commands) (calls_in node pid lines) begins
 
 -- one command more
 pub schedule-on : (failures : Bool) (lines : List LineFields) (commands : List Command) (c : Command) → Follows failures lines commands c → IsScheduleOf failures lines commands → IsScheduleOf failures lines (commands ++ c ∷ [])

@@ -1,23 +1,21 @@
 -- One step of a walk over a script, a schedule or entries.
-use Rattle.std.proofs.Common.{◌≡◌, ℕ, zero, suc, ◌+◌, ◌<◌, ◌==◌, ◌&&◌, Bool, true, false, cond, List, [], ◌∷◌, ◌++◌, length, get_or, drop, take, map, refl, sym, ap, subst, ◌∙◌, inl, inr, arith, drop-cons, add-one, append_assoc, Option, Some, None}
-use Rattle.std.specs.Prelude.{◌⊎◌, if◌then◌else◌, find, flat_map, option_map, slice_get}
-use Rattle.std.specs.List.{enumerate_from}
+use Rattle.std.proofs.Common.{◌≡◌, ℕ, zero, suc, ◌+◌, ◌<◌, ◌==◌, ◌&&◌, Bool, true, false, cond, List, [], ◌∷◌, ◌++◌, length, get_or, drop, take, map, refl, sym, ap, subst, ◌∙◌, arith, drop-cons, add-one, append_assoc, Option, Some, None}
+use Rattle.std.specs.Prelude.{if◌then◌else◌, find, flat_map, option_map, slice_get}
 use Rattle.std.specs.Option.{option_map_or}
-use Rattle.std.proofs.lemmas.Bool.{cases_eq, eq-eqb, ne_eqb}
 use Rattle.std.proofs.lemmas.Grind.{common_steps, flat_map-append}
 use Rattle.std.proofs.lemmas.List.{append-nil, map-append, take_more}
 use Rattle.model.specs.declared.op.Op.{Op}
 use Rattle.messages.specs.Entries.{EntryFields}
 use Rattle.lockscript.specs.declared.refused_line.RefusedLine.{RefusedLine}
 use Rattle.lockscript.specs.declared.script_line.Command.{Command}
-use Rattle.lockscript.specs.declared.script_line.Command.TheVariants.{Call, Deliver, Lose, Settle, Interrupt, Retry, Resend, Declare, Restart, Learn, FailServer, StartServer}
+use Rattle.lockscript.specs.declared.script_line.Command.TheVariants.{Call}
 use Rattle.lockscript.specs.Scripts.{LineFields}
 use Rattle.model.specs.declared.call.CallId.{CallId}
 use Rattle.explorer.specs.declared.answer.Answer.{Answer}
 use Rattle.explorer.specs.Answers.{answer_behind, answers_behind, calls_by, count_taken, is_taken, named_answer, names, refusal_of, tried_answer, tries}
 use Rattle.explorer.specs.ByProcess.{ByProcess, list_in}
 use Rattle.explorer.specs.Indexes.{answer_by, answer_tried, next_try, KnowsCalls, KnowsTries}
-use Rattle.explorer.specs.Schedules.{calls_of, line_of, numbered, op_of}
+use Rattle.explorer.specs.Schedules.{calls_of, op_of}
 
 -- what a list has from a place on
 pub drop_at : {A : Type 0} (xs : List A) (k : ℕ) (x : A) → k < length xs → drop k xs ≡ get_or xs k x ∷ drop (k + 1) xs
@@ -35,6 +33,14 @@ flat-next {A} f xs k x old new all within is before =
     ∙ ap (λ (ys : List A). old ++ flat_map f ys) (sym (drop_at xs k x within))
     ∙ before
 
+-- what holds of a call where it is one of this process, and where it isn't
+pub op-cases : (P : List Op → Type 0) (node pid n p : ℕ) (op : Op) → (n ≡ node → p ≡ pid → P (op ∷ [])) → P [] → P (op_of node pid (Call n p op))
+op-cases P node pid n p op its other = by ((n == node) && (p == pid)) refl
+  where
+    by : (t : Bool) → t ≡ ((n == node) && (p == pid)) → P (if t then op ∷ [] else [])
+    by true e = its (grind (arith, e)) (grind (arith, e))
+    by false e = other
+
 pub calls-push : (node pid : ℕ) (commands : List Command) (c : Command) → calls_of node pid (commands ++ c ∷ []) ≡ calls_of node pid commands ++ op_of node pid c
 calls-push node pid commands c = flat_map-append (op_of node pid) commands (c ∷ []) ∙ ap (λ (ops : List Op). calls_of node pid commands ++ ops) (append-nil (op_of node pid c))
 
@@ -47,15 +53,14 @@ commands-more lines i l within is =
     ap commands_of (take_more lines i l within ∙ ap (λ (x : LineFields). take i lines ++ x ∷ []) (sym is))
     ∙ map-append (λ (x : LineFields). x.command) (take i lines) (l ∷ [])
 
--- one command more of a schedule
-pub tries-next : (refused : List RefusedLine) (node pid number : ℕ) (c : Command) (old new : List (Option ℕ)) (refusal : Option ℕ) (rest : List Command) (all : List (Option ℕ)) →
-    new ≡ old ++ (if calls_by node pid c then refusal ∷ [] else []) → refusal ≡ refusal_of refused number →
-    old ++ tries refused node pid (map line_of (enumerate_from number (c ∷ rest))) ≡ all →
-    new ++ tries refused node pid (map line_of (enumerate_from (number + 1) rest)) ≡ all
-tries-next refused node pid number c old new refusal rest all is code before =
-    let more = tries refused node pid (map line_of (enumerate_from (number + 1) rest)) in
-    ap (λ (xs : List (Option ℕ)). xs ++ more) (is ∙ ap (λ (r : Option ℕ). old ++ (if calls_by node pid c then r ∷ [] else [])) code)
-    ∙ append_assoc old (if calls_by node pid c then refusal_of refused number ∷ [] else []) more
+-- one line more that is run
+pub tries-on : (refused : List RefusedLine) (node pid : ℕ) (l : LineFields) (old new : List (Option ℕ)) (refusal : Option ℕ) (rest : List LineFields) (all : List (Option ℕ)) →
+    new ≡ old ++ (if calls_by node pid l.command then refusal ∷ [] else []) → refusal ≡ refusal_of refused l.number →
+    old ++ tries refused node pid (l ∷ rest) ≡ all → new ++ tries refused node pid rest ≡ all
+tries-on refused node pid l old new refusal rest all is code before =
+    let more = tries refused node pid rest in
+    ap (λ (xs : List (Option ℕ)). xs ++ more) (is ∙ ap (λ (r : Option ℕ). old ++ (if calls_by node pid l.command then r ∷ [] else [])) code)
+    ∙ append_assoc old (if calls_by node pid l.command then refusal_of refused l.number ∷ [] else []) more
     ∙ before
 
 -- the number of this refusal, or of the other one
@@ -101,41 +106,18 @@ unmoved earlier taken ts false before = ap length (append-nil taken) ∙ before 
 abbrev AreTaken : List Op → List Op → List (Option ℕ) → Type 0
 AreTaken taken earlier ts = length taken ≡ count_taken (take (length earlier) ts)
 
-call-taken : (node pid n p : ℕ) (op : Op) (earlier taken : List Op) (ts : List (Option ℕ)) (tried : Option (Option ℕ)) → (n ≡ node → p ≡ pid → tried ≡ slice_get ts (length earlier)) → AreTaken taken earlier ts →
-    n ≡ node ⊎ (n ≡ node → ⊥) → p ≡ pid ⊎ (p ≡ pid → ⊥) →
-    AreTaken (taken ++ (if option_map_or is_taken tried false then op_of node pid (Call n p op) else [])) (earlier ++ op_of node pid (Call n p op)) ts
-call-taken node pid n p op earlier taken ts tried here before (inl e) (inl f) =
-    let both : ((n == node) && (p == pid)) ≡ true = ap (λ (b : Bool). b && (p == pid)) (eq-eqb n node e) ∙ eq-eqb p pid f in
-    let P : Bool → Type 0 = λ b. AreTaken (taken ++ (if option_map_or is_taken tried false then (if b then op ∷ [] else []) else [])) (earlier ++ (if b then op ∷ [] else [])) ts in
-    let Q : Option (Option ℕ) → Type 0 = λ t. AreTaken (taken ++ one_if (option_map_or is_taken t false) op) (earlier ++ op ∷ []) ts in
-    subst P (sym both) (subst Q (sym (here e f)) (moved earlier taken ts op before))
-call-taken node pid n p op earlier taken ts tried here before (inl e) (inr f) =
-    let both : ((n == node) && (p == pid)) ≡ false = ap (λ (b : Bool). b && (p == pid)) (eq-eqb n node e) ∙ ne_eqb p pid f in
-    let P : Bool → Type 0 = λ b. AreTaken (taken ++ (if option_map_or is_taken tried false then (if b then op ∷ [] else []) else [])) (earlier ++ (if b then op ∷ [] else [])) ts in
-    subst P (sym both) (unmoved earlier taken ts (option_map_or is_taken tried false) before)
-call-taken node pid n p op earlier taken ts tried here before (inr e) q =
-    let both : ((n == node) && (p == pid)) ≡ false = ap (λ (b : Bool). b && (p == pid)) (ne_eqb n node e) in
-    let P : Bool → Type 0 = λ b. AreTaken (taken ++ (if option_map_or is_taken tried false then (if b then op ∷ [] else []) else [])) (earlier ++ (if b then op ∷ [] else [])) ts in
-    subst P (sym both) (unmoved earlier taken ts (option_map_or is_taken tried false) before)
-
 pub taken-next : (made : ByProcess (Option ℕ)) (known : ByProcess Op) (taken : List Op) (node pid : ℕ) (c : Command) → AreTaken taken (list_in known node pid) (list_in made node pid) →
     AreTaken (taken ++ (if option_map_or is_taken (next_try made known c) false then op_of node pid c else [])) (list_in known node pid ++ op_of node pid c) (list_in made node pid)
 taken-next made known taken node pid (Call n p op) before =
+    let earlier = list_in known node pid in
+    let ts = list_in made node pid in
     let tried = slice_get (list_in made n p) (length (list_in known n p)) in
-    let there : n ≡ node → p ≡ pid → tried ≡ slice_get (list_in made node pid) (length (list_in known node pid)) =
+    let there : n ≡ node → p ≡ pid → tried ≡ slice_get ts (length earlier) =
     λ e f. ap (λ (k : ℕ). slice_get (list_in made k p) (length (list_in known k p))) e ∙ ap (λ (k : ℕ). slice_get (list_in made node k) (length (list_in known node k))) f in
-    call-taken node pid n p op (list_in known node pid) taken (list_in made node pid) tried there before (cases_eq n node) (cases_eq p pid)
-taken-next made known taken node pid (Deliver message) before = unmoved (list_in known node pid) taken (list_in made node pid) false before
-taken-next made known taken node pid (Lose message) before = unmoved (list_in known node pid) taken (list_in made node pid) false before
-taken-next made known taken node pid Settle before = unmoved (list_in known node pid) taken (list_in made node pid) false before
-taken-next made known taken node pid (Interrupt n p) before = unmoved (list_in known node pid) taken (list_in made node pid) false before
-taken-next made known taken node pid (Retry n p) before = unmoved (list_in known node pid) taken (list_in made node pid) false before
-taken-next made known taken node pid (Resend file) before = unmoved (list_in known node pid) taken (list_in made node pid) false before
-taken-next made known taken node pid (Declare n) before = unmoved (list_in known node pid) taken (list_in made node pid) false before
-taken-next made known taken node pid (Restart n) before = unmoved (list_in known node pid) taken (list_in made node pid) false before
-taken-next made known taken node pid (Learn file n incarnation) before = unmoved (list_in known node pid) taken (list_in made node pid) false before
-taken-next made known taken node pid (FailServer file) before = unmoved (list_in known node pid) taken (list_in made node pid) false before
-taken-next made known taken node pid (StartServer file) before = unmoved (list_in known node pid) taken (list_in made node pid) false before
+    op-cases (λ (ops : List Op). AreTaken (taken ++ (if option_map_or is_taken tried false then ops else [])) (earlier ++ ops) ts) node pid n p op
+    (λ e f. subst (λ (t : Option (Option ℕ)). AreTaken (taken ++ one_if (option_map_or is_taken t false) op) (earlier ++ op ∷ []) ts) (sym (there e f)) (moved earlier taken ts op before))
+    (unmoved earlier taken ts (option_map_or is_taken tried false) before)
+taken-next made known taken node pid _ before = unmoved (list_in known node pid) taken (list_in made node pid) false before
 
 -- what a line comes to
 tried-answer : (tried : Option (Option ℕ)) (before : List (Option ℕ)) (named : List CallId) (entries : List EntryFields) →
@@ -144,36 +126,26 @@ tried-answer None before named entries = refl
 tried-answer (Some (Some code)) before named entries = refl
 tried-answer (Some None) before named entries = refl
 
-pub answer-here : (made : ByProcess (Option ℕ)) (known taken : ByProcess Op) (earlier : List Command) (c : Command) (commands : List Command) (refused : List RefusedLine) (entries : List EntryFields) →
-    KnowsTries made refused commands → KnowsCalls known earlier → ((node pid : ℕ) → AreTaken (list_in taken node pid) (list_in known node pid) (list_in made node pid)) →
-    answer_by entries taken (next_try made known c) c ≡ answer_behind earlier c commands refused entries
-answer-here made known taken earlier (Call n p op) commands refused entries made_is known_is taken_is =
+pub answer-here : (made : ByProcess (Option ℕ)) (known taken : ByProcess Op) (earlier : List Command) (c : Command) (done : List LineFields) (refused : List RefusedLine) (entries : List EntryFields) →
+    KnowsTries made refused done → KnowsCalls known earlier → ((node pid : ℕ) → AreTaken (list_in taken node pid) (list_in known node pid) (list_in made node pid)) →
+    answer_by entries taken (next_try made known c) c ≡ answer_behind earlier c done refused entries
+answer-here made known taken earlier (Call n p op) done refused entries made_is known_is taken_is =
     let ts = list_in made n p in
     let k = length (list_in known n p) in
     let named = names n p entries in
     ap (λ (m : ℕ). answer_tried (slice_get ts k) (named_answer (slice_get named m) entries)) (taken_is n p)
     ∙ tried-answer (slice_get ts k) (take k ts) named entries
     ∙ ap (λ (xs : List (Option ℕ)). tried_answer (slice_get xs k) (take k xs) named entries) (made_is n p)
-    ∙ ap (λ (ops : List Op). let xs = tries refused n p (numbered commands) in tried_answer (slice_get xs (length ops)) (take (length ops) xs) named entries) (known_is n p)
-answer-here made known taken earlier (Deliver message) commands refused entries made_is known_is taken_is = refl
-answer-here made known taken earlier (Lose message) commands refused entries made_is known_is taken_is = refl
-answer-here made known taken earlier Settle commands refused entries made_is known_is taken_is = refl
-answer-here made known taken earlier (Interrupt n p) commands refused entries made_is known_is taken_is = refl
-answer-here made known taken earlier (Retry n p) commands refused entries made_is known_is taken_is = refl
-answer-here made known taken earlier (Resend file) commands refused entries made_is known_is taken_is = refl
-answer-here made known taken earlier (Declare n) commands refused entries made_is known_is taken_is = refl
-answer-here made known taken earlier (Restart n) commands refused entries made_is known_is taken_is = refl
-answer-here made known taken earlier (Learn file n incarnation) commands refused entries made_is known_is taken_is = refl
-answer-here made known taken earlier (FailServer file) commands refused entries made_is known_is taken_is = refl
-answer-here made known taken earlier (StartServer file) commands refused entries made_is known_is taken_is = refl
+    ∙ ap (λ (ops : List Op). let xs = tries refused n p done in tried_answer (slice_get xs (length ops)) (take (length ops) xs) named entries) (known_is n p)
+answer-here made known taken earlier _ done refused entries made_is known_is taken_is = refl
 
 -- one line more
-pub answers-next : (earlier more : List Command) (l : LineFields) (rest : List LineFields) (commands : List Command) (refused : List RefusedLine) (entries : List EntryFields) (answers new : List Answer) (a : Answer) (all : List Answer) →
-    new ≡ answers ++ a ∷ [] → a ≡ answer_behind earlier l.command commands refused entries → more ≡ earlier ++ l.command ∷ [] →
-    answers ++ answers_behind earlier (l ∷ rest) commands refused entries ≡ all → new ++ answers_behind more rest commands refused entries ≡ all
-answers-next earlier more l rest commands refused entries answers new a all is here on before =
-    let after = answers_behind (earlier ++ l.command ∷ []) rest commands refused entries in
-    ap (λ (cs : List Command). new ++ answers_behind cs rest commands refused entries) on
+pub answers-next : (earlier more : List Command) (l : LineFields) (rest done : List LineFields) (refused : List RefusedLine) (entries : List EntryFields) (answers new : List Answer) (a : Answer) (all : List Answer) →
+    new ≡ answers ++ a ∷ [] → a ≡ answer_behind earlier l.command done refused entries → more ≡ earlier ++ l.command ∷ [] →
+    answers ++ answers_behind earlier (l ∷ rest) done refused entries ≡ all → new ++ answers_behind more rest done refused entries ≡ all
+answers-next earlier more l rest done refused entries answers new a all is here on before =
+    let after = answers_behind (earlier ++ l.command ∷ []) rest done refused entries in
+    ap (λ (cs : List Command). new ++ answers_behind cs rest done refused entries) on
     ∙ ap (λ (xs : List Answer). xs ++ after) is
     ∙ append_assoc answers (a ∷ []) after
     ∙ ap (λ (b : Answer). answers ++ b ∷ after) here

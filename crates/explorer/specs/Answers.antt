@@ -1,4 +1,4 @@
--- What the calls of a script come to in a schedule of it.
+-- What the calls of a script come to in a schedule or a run of it.
 use Rattle.std.specs.Prelude.{ℕ, ◌==◌, ◌&&◌, Bool, true, false, if◌then◌else◌, List, [], ◌∷◌, ◌++◌, codes, count_by, decimal, find, flat_map, length, option_map, option_to_list, slice_get, take, Option, Some, None}
 use Rattle.model.specs.declared.call.CallId.{CallId}
 use Rattle.model.specs.declared.reply.Reply.{Reply}
@@ -84,17 +84,17 @@ tried_answer (Some None) earlier named entries = named_answer (slice_get named (
 abbrev pub call_answer : ℕ → List (Option ℕ) → List CallId → List EntryFields → Answer
 call_answer before tries named entries = tried_answer (slice_get tries before) (take before tries) named entries
 
--- what a line of the script comes to, behind these commands of it, in this schedule, by the refused lines and the entries
-abbrev pub answer_behind : List Command → Command → List Command → List RefusedLine → List EntryFields → Answer
-answer_behind earlier (Call node pid op) commands refused entries =
-    call_answer (length (calls_of node pid earlier)) (tries refused node pid (numbered commands)) (names node pid entries) entries
-answer_behind earlier _ commands refused entries = NotMade
+-- what a line of a script comes to, behind these commands of it, where these lines are run, by those that are refused and the entries
+abbrev pub answer_behind : List Command → Command → List LineFields → List RefusedLine → List EntryFields → Answer
+answer_behind earlier (Call node pid op) made refused entries =
+    call_answer (length (calls_of node pid earlier)) (tries refused node pid made) (names node pid entries) entries
+answer_behind earlier _ made refused entries = NotMade
 
 -- what each line comes to
-abbrev pub answers_behind : List Command → List LineFields → List Command → List RefusedLine → List EntryFields → List Answer
-answers_behind earlier [] commands refused entries = []
-answers_behind earlier (l ∷ ls) commands refused entries = answer_behind earlier l.command commands refused entries ∷ answers_behind (earlier ++ l.command ∷ []) ls commands refused entries
+abbrev pub answers_behind : List Command → List LineFields → List LineFields → List RefusedLine → List EntryFields → List Answer
+answers_behind earlier [] made refused entries = []
+answers_behind earlier (l ∷ ls) made refused entries = answer_behind earlier l.command made refused entries ∷ answers_behind (earlier ++ l.command ∷ []) ls made refused entries
 
 -- what the lines of a script come to in this schedule of them, by what came of it
 abbrev pub answers_in : List LineFields → List Command → PlayedState → List Answer
-answers_in lines commands p = answers_behind [] lines commands p.refused p.journal.entries
+answers_in lines commands p = answers_behind [] lines (numbered commands) p.refused p.journal.entries

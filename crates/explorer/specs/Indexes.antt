@@ -12,13 +12,13 @@ use Rattle.cluster_core.specs.World.{WorldState}
 use Rattle.lockscript.specs.declared.refused_line.RefusedLine.{RefusedLine}
 use Rattle.lockscript.specs.declared.script_line.Command.{Command}
 use Rattle.lockscript.specs.declared.script_line.Command.TheVariants.{Call}
-use Rattle.lockscript.specs.Scripts.{LineFields}
+use Rattle.lockscript.specs.Scripts.{IsCommand, LineFields}
 use Rattle.explorer.specs.declared.answer.Answer.{Answer}
 use Rattle.explorer.specs.declared.answer.Answer.TheVariants.{NotMade, Refused, Open}
 use Rattle.explorer.specs.Answers.{answer_or, named_answer, names, refusal_of, reply_answer, tries}
 use Rattle.explorer.specs.ByProcess.{ByProcess, list_in}
 use Rattle.explorer.specs.Ends.{IsOpenAfter}
-use Rattle.explorer.specs.Schedules.{calls_in, calls_of, numbered}
+use Rattle.explorer.specs.Schedules.{calls_in, calls_of}
 
 -- the index has the calls of each process among the commands
 abbrev pub KnowsCalls : ByProcess Op → List Command → Type 0
@@ -35,9 +35,9 @@ CodesByLine = HashMap ℕ ℕ (BuildHasherDefault FoldHasher)
 abbrev pub KnowsRefusals : CodesByLine → List RefusedLine → Type 0
 KnowsRefusals codes refused = (number : ℕ) → get nat_eq codes number ≡ refusal_of refused number
 
--- the index has what became of each call of a process among the commands
-abbrev pub KnowsTries : ByProcess (Option ℕ) → List RefusedLine → List Command → Type 0
-KnowsTries made refused commands = (node pid : ℕ) → list_in made node pid ≡ tries refused node pid (numbered commands)
+-- the index has what became of each call of a process among the lines
+abbrev pub KnowsTries : ByProcess (Option ℕ) → List RefusedLine → List LineFields → Type 0
+KnowsTries made refused lines = (node pid : ℕ) → list_in made node pid ≡ tries refused node pid lines
 
 -- the index has the names of the calls of each process
 abbrev pub KnowsNames : ByProcess CallId → List EntryFields → Type 0
@@ -68,6 +68,11 @@ answer_tried (Some None) answer = answer
 abbrev pub answer_by : List EntryFields → ByProcess Op → Option (Option ℕ) → Command → Answer
 answer_by entries taken tried (Call node pid op) = answer_tried tried (named_answer (slice_get (names node pid entries) (length (list_in taken node pid))) entries)
 answer_by entries taken tried _ = NotMade
+
+-- the command is no call, and a line may ask for it
+abbrev pub IsServedOther : Command → Type 0
+IsServedOther (Call node pid op) = ⊥
+IsServedOther command = IsCommand command
 
 -- behind these commands the process has no call left, or the last one of those that were made of it is open
 abbrev pub CannotGoOn : List LineFields → List Command → ByProcess (Option ℕ) → List EntryFields → WorldState → ℕ → ℕ → Type 0

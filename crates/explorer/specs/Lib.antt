@@ -7,6 +7,5 @@ pub mod Explores
 pub mod Indexes
 pub mod Laws
 pub mod Outcomes
-pub mod Reports
 pub mod Schedules
 pub mod Texts

@@ -1,17 +1,19 @@
-//! What the lines of a script come to in a schedule.
-ghost use Rattle.std.specs.Prelude.{◌≡◌, ◌++◌, [], ℕ, false, if◌then◌else◌, IfOk, OnOk};
+//! What the lines of a script come to in a schedule, and in a run.
+ghost use Rattle.std.specs.Prelude.{◌≡◌, ◌++◌, [], ℕ, false, if◌then◌else◌, IfOk, List, OnOk};
 ghost use Rattle.std.specs.Option.{option_map_or};
+ghost use Rattle.lockscript.specs.declared.refused_line.RefusedLine.{RefusedLine};
+ghost use Rattle.lockscript.specs.Scripts.{LineFields};
 ghost use Rattle.player.specs.Parts.{state_of};
 ghost use Rattle.explorer.specs.Answers.{answers_behind, answers_in, is_taken};
 ghost use Rattle.explorer.specs.ByProcess.{list_in};
-ghost use Rattle.explorer.specs.Indexes.{answer_by, answer_tried, next_try};
-ghost use Rattle.explorer.specs.Schedules.{op_of};
+ghost use Rattle.explorer.specs.Indexes.{answer_by, answer_tried, next_try, KnowsTries};
+ghost use Rattle.explorer.specs.Schedules.{numbered, op_of};
 
 use crate::answer::Answer;
 use crate::by_process::{count, value_at};
 use crate::calls::{Calls, note_call};
 use crate::told::Told;
-use crate::tries::{Tries, tries};
+use crate::tries::{Tries, line_tries, tries};
 use lockscript::refused_line::RefusedLine;
 use lockscript::script_line::{Command, ScriptLine};
 use messages::entry::Entry;
@@ -31,34 +33,60 @@ pub(crate) fn answers(
 ) -> Result<Vec<Answer>, AllocError>
     ensures { IfOk result (λ answers. answers.items ≡ answers_in lines.now commands.now (state_of played.now)) }
 {
-    answers_by(
-        alloc,
-        lines,
-        commands,
-        played.refused(),
-        played.journal().entries(),
-    )
+    let entries = played.journal().entries();
+    schedule_answers(alloc, lines, commands, played.refused(), entries)
 }
 
-// The same by the refused lines and the entries of the schedule. Of each process the calls of the lines so far
-// are known, and which of them were taken.
-fn answers_by(
+// What each line of the script comes to where these commands are the schedule, in which these lines were refused and
+// which has these entries.
+fn schedule_answers(
     alloc: Global,
     lines: &[ScriptLine],
     commands: &[Command],
     refused: &[RefusedLine],
     entries: &[Entry],
 ) -> Result<Vec<Answer>, AllocError>
-    ensures { IfOk result (λ answers. answers.items ≡ answers_behind [] lines.now commands.now refused.now entries.now) }
+    ensures { IfOk result (λ answers. answers.items ≡ answers_behind [] lines.now (numbered commands.now) refused.now entries.now) }
 {
     let tries = tries(alloc, refused, commands)?;
+    let answers = answers_by(alloc, lines, &tries, entries)?;
+    Ok(answers)
+}
+
+/// What each line of the script comes to in a run of it in which these lines were refused and which has these entries.
+///
+/// # Errors
+/// `AllocError` where a request for memory was refused.
+pub(crate) fn run_answers(
+    alloc: Global,
+    lines: &[ScriptLine],
+    refused: &[RefusedLine],
+    entries: &[Entry],
+) -> Result<Vec<Answer>, AllocError>
+    ensures { IfOk result (λ answers. answers.items ≡ answers_behind [] lines.now lines.now refused.now entries.now) }
+{
+    let tries = line_tries(alloc, refused, lines)?;
+    let answers = answers_by(alloc, lines, &tries, entries)?;
+    Ok(answers)
+}
+
+// What each line of the script comes to by the entries, where this became of the calls of each process. Of each process
+// the calls of the lines so far are known, and which of them were taken.
+fn answers_by(
+    alloc: Global,
+    lines: &[ScriptLine],
+    tries: &Tries,
+    entries: &[Entry],
+) -> Result<Vec<Answer>, AllocError>
+    ensures { IfOk result (λ answers. (made : List LineFields) (refused : List RefusedLine) → KnowsTries tries.now refused made → answers.items ≡ answers_behind [] lines.now made refused entries.now) }
+{
     let told = Told::of(alloc, entries)?;
     let mut earlier = HashMap::new(alloc);
     let mut taken = HashMap::new(alloc);
     let mut answers = Vec::new(alloc);
     for line in lines {
         let command = line.command();
-        let answer = note_line(&mut earlier, &mut taken, alloc, &tries, &told, &command)?;
+        let answer = note_line(&mut earlier, &mut taken, alloc, tries, &told, &command)?;
         answers.push(answer)?;
     }
     Ok(answers)
@@ -97,8 +125,8 @@ fn next_try(tries: &Tries, earlier: &Calls, command: &Command) -> Option<Option<
     }
 }
 
-/// What the command of a line comes to where that became of it, behind those that were taken.
-pub(crate) fn answer_by(
+// What the command of a line comes to where that became of it, behind those that were taken.
+fn answer_by(
     told: &Told<'_>,
     taken: &Calls,
     tried: Option<Option<u16>>,
@@ -126,11 +154,8 @@ fn answer_tried(tried: Option<Option<u16>>, answer: Answer) -> Answer
     }
 }
 
-/// The command comes last of the calls of its process that were taken, if that became of it.
-///
-/// # Errors
-/// `AllocError` where a request for memory was refused.
-pub(crate) fn note_taken(
+// The command comes last of the calls of its process that were taken, if that became of it.
+fn note_taken(
     taken: &mut Calls,
     alloc: Global,
     tried: Option<Option<u16>>,

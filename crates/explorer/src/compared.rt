@@ -3,9 +3,9 @@ ghost use Rattle.std.specs.Prelude.{[], string_bytes, IfOk};
 ghost use Rattle.std.specs.Option.{option_map};
 ghost use Rattle.explorer.specs.Comparisons.{breaks_in_run, IsCompared};
 
+use crate::answers::run_answers;
 use crate::expectations::breaks;
 use crate::report::push_lines;
-use crate::run_answers::run_answers;
 use lockscript::refused_line::RefusedLine;
 use lockscript::script_line::ScriptLine;
 use messages::entry::Entry;

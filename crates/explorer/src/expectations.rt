@@ -1,6 +1,5 @@
 //! What comments of a script expect of its calls.
-ghost use Rattle.std.specs.Prelude.{◌≡◌, option_map, slice_get, string_bytes, Some, IfOk};
-ghost use Rattle.explorer.specs.Answers.{answer_text};
+ghost use Rattle.std.specs.Prelude.{◌≡◌, option_map, slice_get, Some, IfOk};
 ghost use Rattle.explorer.specs.Expectations.{begins, breaks, expected, is_broken, is_broken_at, words_in, words_of};
 
 use crate::answer::{Answer, push_answer};
@@ -107,27 +106,12 @@ pub(crate) fn is_broken(
 ) -> Result<bool, AllocError>
     ensures { IfOk result (λ broken. broken ≡ is_broken (option_map (λ w. w.now) words.entry) answer.now) }
 {
-    match words {
-        Some(words) => is_other(alloc, words, answer),
-        None => Ok(false),
-    }
-}
-
-// Whether the text of the answer begins otherwise.
-fn is_other(alloc: Global, words: &str, answer: &Answer) -> Result<bool, AllocError>
-    ensures { IfOk result (λ other. other ≡ is_broken (Some words.now) answer.now) }
-{
-    let told = told(alloc, answer)?;
-    Ok(!begins(words, told.as_str()))
-}
-
-// The text of the answer.
-fn told(alloc: Global, answer: &Answer) -> Result<String, AllocError>
-    ensures { IfOk result (λ told. string_bytes told ≡ answer_text answer.now) }
-{
+    let Some(words) = words else {
+        return Ok(false);
+    };
     let mut told = String::new(alloc);
     push_answer(&mut told, answer)?;
-    Ok(told)
+    Ok(!begins(words, told.as_str()))
 }
 
 // Whether a text begins with these words.

@@ -15,6 +15,7 @@ use crate::answer::Answer;
 use crate::answers::answers;
 use crate::expectations::breaks;
 use crate::explored::Explored;
+use crate::open_lines::open_in_each;
 use crate::outcome::Outcome;
 use crate::report::report;
 use crate::schedule::schedule;
@@ -53,8 +54,10 @@ pub fn explore<W: Watcher>(
     let outcomes = outcomes(alloc, text, script, first, count, failures, watcher)?;
     let ordered = ordered(outcomes)?;
     let outcomes = ordered.as_slice();
+    let lines = script.lines();
+    let open = open_in_each(alloc, lines, outcomes)?;
     Ok(Explored {
-        text: report(alloc, text, script.lines(), outcomes, count)?,
+        text: report(alloc, text, lines, outcomes, open.as_slice(), count)?,
         breaks: some_breaks(outcomes),
     })
 }
@@ -63,12 +66,7 @@ pub fn explore<W: Watcher>(
 fn some_breaks(outcomes: &[Outcome]) -> bool
     ensures { result ≡ list_any (λ o. o.breaks) outcomes.now }
 {
-    for outcome in outcomes {
-        if outcome.breaks() {
-            return true;
-        }
-    }
-    false
+    outcomes.iter().any(|outcome| outcome.breaks())
 }
 
 // The outcomes by their ranks.
@@ -186,14 +184,9 @@ fn add_new(
 fn position_of(outcomes: &[Outcome], answers: &[Answer]) -> Option<usize>
     ensures { MatchOption result (All (λ o. o.answers ≢ answers.now) outcomes.now) (λ index. (index < length outcomes.now) × HoldsAt (λ o. o.answers ≡ answers.now) outcomes.now index) }
 {
-    let mut index = 0usize;
-    for outcome in outcomes {
-        if same(outcome.answers(), answers) {
-            return Some(index);
-        }
-        index += 1;
-    }
-    None
+    outcomes
+        .iter()
+        .position(|outcome| same(outcome.answers(), answers))
 }
 
 // Whether both are the same answers.

@@ -17,7 +17,7 @@ ghost use Rattle.explorer.specs.Indexes.{CannotGoOn, HoldsOfCaller, KnowsCalls, 
 ghost use Rattle.explorer.specs.Schedules.{calls_in, calls_of, Follows};
 
 use crate::calls::Calls;
-use crate::follows::following_call;
+use crate::follows::next_call;
 use crate::told::Told;
 use crate::tries::{Tries, tries};
 use cluster_core::world::World;
@@ -62,8 +62,8 @@ fn ready_in(
     told: &Told<'_>,
     world: &World,
 ) -> Option<Command>
-    ensures follows { (failures : Bool) (taken : List Command) → KnowsLines calls.now lines.now → KnowsCalls made.now taken → IfSome result (Follows failures lines.now taken) }
-    ensures none { result ≡ None → (taken : List Command) → KnowsLines calls.now lines.now → KnowsCalls made.now taken → AreServed lines.now → (node pid : ℕ) → (calls_in node pid lines.now ≡ []) ⊎ CannotGoOn lines.now taken tries.now told.now (world_state world.now) node pid }
+    ensures follows { (failures : Bool) (taken : List Command) → KnowsLines calls.now lines.now → KnowsCalls made.now taken → AreServed lines.now → IfSome result (Follows failures lines.now taken) }
+    ensures none { result ≡ None → (taken : List Command) → KnowsLines calls.now lines.now → KnowsCalls made.now taken → (node pid : ℕ) → (calls_in node pid lines.now ≡ []) ⊎ CannotGoOn lines.now taken tries.now told.now (world_state world.now) node pid }
 {
     for line in lines {
         match ready_at(calls, made, tries, told, world, &line.command()) {
@@ -83,8 +83,8 @@ fn ready_at(
     world: &World,
     command: &Command,
 ) -> Option<Command>
-    ensures follows { (failures : Bool) (lines : List LineFields) (taken : List Command) → KnowsLines calls.now lines → KnowsCalls made.now taken → IfSome result (Follows failures lines taken) }
-    ensures none { result ≡ None → (lines : List LineFields) (taken : List Command) → KnowsLines calls.now lines → KnowsCalls made.now taken → AreServed lines → HoldsOfCaller (CannotGoOn lines taken tries.now told.now (world_state world.now)) command.now }
+    ensures follows { (failures : Bool) (lines : List LineFields) (taken : List Command) → KnowsLines calls.now lines → KnowsCalls made.now taken → AreServed lines → IfSome result (Follows failures lines taken) }
+    ensures none { result ≡ None → (lines : List LineFields) (taken : List Command) → KnowsLines calls.now lines → KnowsCalls made.now taken → HoldsOfCaller (CannotGoOn lines taken tries.now told.now (world_state world.now)) command.now }
 {
     let Command::Call { node, pid, .. } = command else {
         return None;
@@ -92,7 +92,7 @@ fn ready_at(
     if waits(tries, told, world, *node, *pid) {
         return None;
     }
-    following_call(calls, made, *node, *pid)
+    next_call(calls, made, *node, *pid)
 }
 
 // Whether the last call that was made of the process is open.
@@ -119,13 +119,7 @@ fn is_open_after(made: &[Option<u16>], told: &Told<'_>, world: &World, node: u8,
 fn count_taken(made: &[Option<u16>]) -> usize
     ensures { result ≡ count_taken made.now }
 {
-    let mut taken = 0;
-    for refusal in made {
-        if refusal.is_none() {
-            taken += 1;
-        }
-    }
-    taken
+    made.iter().filter(|refusal| refusal.is_none()).count()
 }
 
 // Whether the call at the index, of those of the process that were taken, has no reply, and its node was not

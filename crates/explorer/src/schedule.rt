@@ -74,8 +74,10 @@ pub fn schedule(
     ensures full { IfErr result (λ error. error ≡ JournalFull → HasFullSchedule failures script.now) }
 {
     let shape = script.shape();
+    let lines = script.lines();
     let mut player = Player::new(alloc, shape)?;
-    let commands = choose(alloc, failures, script.lines(), seed, &mut player)?;
+    let mut chooser = Chooser::new(alloc, lines, seed, failures);
+    let commands = choose(alloc, failures, lines, &mut chooser, &mut player)?;
     Ok(finished(shape, commands, player))
 }
 
@@ -89,26 +91,8 @@ fn finished(shape: Shape, commands: Vec<Command>, player: Player) -> Scheduled
     Scheduled::new(commands, player.finish(shape))
 }
 
-// Chooses line after line from where the player stands, by the chance of a seed, and carries each out.
+// Chooses line after line from where the player stands, and carries each out.
 fn choose(
-    alloc: Global,
-    failures: bool,
-    lines: &[ScriptLine],
-    seed: u32,
-    player: &mut Player,
-) -> Result<Vec<Command>, PlayError>
-    ensures of_script { IfOk result (λ made. IsScheduleOf failures lines.now made.items) }
-    ensures few { IfOk result (λ made. length made.items ≤ most_lines) }
-    ensures runs { IfOk result (λ made. RunsTo (progress player.old) (numbered made.items) (Some (progress player.new))) }
-    ensures ended { IfOk result (λ made. (shape : ShapeFields) → IsEnded lines.now made.items (played_of shape (progress player.new))) }
-    ensures full { IfErr result (λ error. error ≡ JournalFull → IsFullFrom failures lines.now (progress player.old)) }
-{
-    let mut chooser = Chooser::new(alloc, lines, seed, failures);
-    choose_lines(alloc, failures, lines, &mut chooser, player)
-}
-
-// The same, with the chooser given.
-fn choose_lines(
     alloc: Global,
     failures: bool,
     lines: &[ScriptLine],
@@ -202,7 +186,8 @@ fn wanted_line(
     chooser: &mut Chooser<'_>,
     run: &Run,
 ) -> Result<Option<Command>, AllocError>
-    requires { KnowsLines calls.now lines.now }
+    requires lines { KnowsLines calls.now lines.now }
+    requires served { AreServed lines.now }
     ensures { IfOk result (λ next. (taken : List Command) → KnowsCalls made.now taken → IfSome next (Follows failures lines.now taken)) }
 {
     match chooser.next(run)? {

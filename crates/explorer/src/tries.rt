@@ -4,20 +4,21 @@ ghost use Rattle.lockscript.specs.declared.refused_line.RefusedLine.{RefusedLine
 ghost use Rattle.explorer.specs.Answers.{calls_by};
 ghost use Rattle.explorer.specs.ByProcess.{list_in};
 ghost use Rattle.explorer.specs.Indexes.{KnowsRefusals, KnowsTries};
+ghost use Rattle.explorer.specs.Schedules.{numbered};
 
 use crate::by_process::{ByProcess, add};
 use lockscript::refused_line::RefusedLine;
-use lockscript::script_line::Command;
+use lockscript::script_line::{Command, ScriptLine};
 use std::alloc::{AllocError, Global};
 use std::collections::HashMap;
 
-/// By a process: of each call that a schedule makes of it the number of its refusal, or none where it was taken.
+/// By a process: of each call that is made of it the number of its refusal, or none where it was taken.
 pub(crate) type Tries = ByProcess<Option<u16>>;
 
 // By the number of a line: the number of its refusal.
 type Refusals = HashMap<u64, u16>;
 
-/// What became of the calls that the commands make, where these lines of them were refused.
+/// What became of the calls that the commands of a schedule make, where these lines of it were refused.
 ///
 /// # Errors
 /// `AllocError` where a request for memory was refused.
@@ -26,7 +27,7 @@ pub(crate) fn tries(
     refused: &[RefusedLine],
     commands: &[Command],
 ) -> Result<Tries, AllocError>
-    ensures { IfOk result (λ made. KnowsTries made refused.now commands.now) }
+    ensures { IfOk result (λ made. KnowsTries made refused.now (numbered commands.now)) }
 {
     let refusals = refusals(alloc, refused)?;
     let mut made = HashMap::new(alloc);
@@ -39,11 +40,29 @@ pub(crate) fn tries(
     Ok(made)
 }
 
-/// The number of the refusal of each line, of equal lines the first.
+/// What became of the calls that the lines of a script make in a run of it, where these of them were refused.
 ///
 /// # Errors
 /// `AllocError` where a request for memory was refused.
-pub(crate) fn refusals(alloc: Global, refused: &[RefusedLine]) -> Result<Refusals, AllocError>
+pub(crate) fn line_tries(
+    alloc: Global,
+    refused: &[RefusedLine],
+    lines: &[ScriptLine],
+) -> Result<Tries, AllocError>
+    ensures { IfOk result (λ made. KnowsTries made refused.now lines.now) }
+{
+    let refusals = refusals(alloc, refused)?;
+    let mut made = HashMap::new(alloc);
+    for line in lines {
+        let refusal = refusals.get(&u64::from(line.number())).copied();
+        let command = line.command();
+        add_try(&mut made, alloc, refusal, &command)?;
+    }
+    Ok(made)
+}
+
+// The number of the refusal of each line, of equal lines the first.
+fn refusals(alloc: Global, refused: &[RefusedLine]) -> Result<Refusals, AllocError>
     ensures { IfOk result (λ refusals. KnowsRefusals refusals refused.now) }
 {
     let mut refusals = HashMap::new(alloc);

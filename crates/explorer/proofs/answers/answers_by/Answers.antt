@@ -1,11 +1,11 @@
-use Rattle.std.proofs.Common.{◌∙◌, ◌+◌, ◌++◌, [], List, Option, ℕ, length, drop, take, ap, sym}
-use Rattle.std.specs.Prelude.{if◌then◌else◌, false}
-use Rattle.std.specs.Option.{option_map_or}
+use Rattle.std.proofs.Common.{◌≡◌, ◌∙◌, ◌+◌, ◌++◌, [], List, length, drop, take, ap, arith, sym}
+use Rattle.std.proofs.lemmas.Grind.{common_steps}
+use Rattle.std.proofs.lemmas.List.{append-nil}
 use Rattle.model.specs.declared.op.Op.{Op}
 use Rattle.messages.specs.Entries.{EntryFields}
 use Rattle.lockscript.specs.declared.script_line.Command.{Command}
 use Rattle.lockscript.specs.Scripts.{LineFields}
-use Rattle.explorer.specs.Answers.{answer_behind, answers_behind, count_taken, is_taken}
+use Rattle.explorer.specs.Answers.{answer_behind, answers_behind, count_taken}
 use Rattle.explorer.specs.ByProcess.{list_in}
 use Rattle.explorer.specs.Indexes.{answer_by, next_try}
 use Rattle.explorer.specs.Schedules.{calls_of, op_of}
@@ -19,9 +19,9 @@ loop-line-preserved c =
     let i = c.loop-line.line-index in
     let l = c.line-item.result in
     let command = c.command-command.result in
-    let made = c.in_ok-tries.tries in
+    let tries = c.args.tries.now in
     let known = c.loop-line.earlier in
-    let tried = next_try made known command in
+    let tried = next_try tries known command in
     let noted = c.in_ok-answer.ensures in
     let taken = c.loop-line.taken in
     let earlier = commands_of (take i lines) in
@@ -36,18 +36,28 @@ loop-line-preserved c =
           ∙ sym (ap (calls_of node pid) more);
       counted = λ node pid.
           let ops = list_in taken node pid in
-          let ts = list_in made node pid in
+          let ts = list_in tries node pid in
           ap length (noted.taken node pid)
-          ∙ taken-next made known ops node pid command (inv.counted node pid)
+          ∙ taken-next tries known ops node pid command (inv.counted node pid)
           ∙ sym (ap (λ (os : List Op). count_taken (take (length os) ts)) (noted.earlier node pid));
-      answered =
+      answered = λ made refused knows.
           let here =
           noted.answer
           ∙ ap (λ (es : List EntryFields). answer_by es taken tried command) c.in_ok-told.ensures
-          ∙ answer-here made known taken earlier command c.args.commands.now c.args.refused.now entries c.in_ok-tries.ensures inv.known inv.counted
-          ∙ ap (λ (d : Command). answer_behind earlier d c.args.commands.now c.args.refused.now entries) c.command-command.ensures.value in
+          ∙ answer-here tries known taken earlier command made refused entries knows inv.known inv.counted
+          ∙ ap (λ (d : Command). answer_behind earlier d made refused entries) c.command-command.ensures.value in
           let before =
-          ap (λ (ls : List LineFields). c.loop-line.answers.items ++ answers_behind earlier ls c.args.commands.now c.args.refused.now entries) (sym (drop_here lines i l c.loop-line-test.true c.line-item.is))
-          ∙ inv.answered in
-          answers-next earlier _ l (drop (i + 1) lines) c.args.commands.now c.args.refused.now entries c.loop-line.answers.items c.push.new.self.items c.in_ok-answer.answer _ c.in_ok-push.ensures.items here more before;
+          ap (λ (ls : List LineFields). c.loop-line.answers.items ++ answers_behind earlier ls made refused entries) (sym (drop_here lines i l c.loop-line-test.true c.line-item.is))
+          ∙ inv.answered made refused knows in
+          answers-next earlier _ l (drop (i + 1) lines) made refused entries c.loop-line.answers.items c.push.new.self.items c.in_ok-answer.answer _ c.in_ok-push.ensures.items here more before;
     }
+
+pub returns : goal.returns
+returns c made refused knows =
+    let lines = c.args.lines.now in
+    let i = c.loop-line.line-index in
+    let answers = c.loop-line.answers.items in
+    let none : drop i lines ≡ [] = grind (arith, common_steps, c.loop-line-test.false, c.loop-line.auto.line-index-end) in
+    sym (append-nil answers)
+    ∙ ap (λ (ls : List LineFields). answers ++ answers_behind (commands_of (take i lines)) ls made refused c.args.entries.now) (sym none)
+    ∙ c.loop-line.invariant.answered made refused knows

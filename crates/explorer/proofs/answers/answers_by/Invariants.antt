@@ -1,13 +1,16 @@
-use Rattle.std.proofs.Common.{◌≡◌, ◌++◌, ℕ, [], drop, length, map, take}
+use Rattle.std.proofs.Common.{◌≡◌, ◌++◌, ℕ, List, [], drop, length, take}
+use Rattle.lockscript.specs.declared.refused_line.RefusedLine.{RefusedLine}
 use Rattle.lockscript.specs.Scripts.{LineFields}
 use Rattle.explorer.specs.Answers.{answers_behind, count_taken}
 use Rattle.explorer.specs.ByProcess.{list_in}
-use Rattle.explorer.specs.Indexes.{KnowsCalls}
+use Rattle.explorer.specs.Indexes.{KnowsCalls, KnowsTries}
+use Rattle.explorer.proofs.Walks.{commands_of}
 use Rattle.explorer.proofs.answers.answers_by.Given as goal
 
 abbrev pub invariant-loop-line : goal.invariant-loop-line
 invariant-loop-line l = record {
-  known : KnowsCalls l.earlier (map (λ (line : LineFields). line.command) (take l.line-index l.lines));
+  known : KnowsCalls l.earlier (commands_of (take l.line-index l.lines));
   counted : (node pid : ℕ) → length (list_in l.taken node pid) ≡ count_taken (take (length (list_in l.earlier node pid)) (list_in l.tries node pid));
-  answered : l.answers.items ++ answers_behind (map (λ (line : LineFields). line.command) (take l.line-index l.lines)) (drop l.line-index l.lines) l.commands l.refused l.entries ≡ answers_behind [] l.lines l.commands l.refused l.entries;
+  answered : (made : List LineFields) (refused : List RefusedLine) → KnowsTries l.tries refused made
+      → l.answers.items ++ answers_behind (commands_of (take l.line-index l.lines)) (drop l.line-index l.lines) made refused l.entries ≡ answers_behind [] l.lines made refused l.entries;
 }

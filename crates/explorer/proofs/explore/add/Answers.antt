@@ -1,4 +1,4 @@
-use Rattle.std.proofs.Common.{◌≡◌, ◌<◌, ℕ, List, [], ◌∷◌, length, false, ap, arith, refl, sym, ◌∙◌}
+use Rattle.std.proofs.Common.{◌<◌, ℕ, List, [], ◌∷◌, length, false, ap, arith, refl, sym, ◌∙◌}
 use Rattle.std.specs.Prelude.{slice_index_or}
 use Rattle.explorer.specs.Outcomes.{OutcomeParts}
 use Rattle.explorer.proofs.MetOutcomes.{outcomes-push, outcomes-set}

@@ -13,6 +13,5 @@ returns-clause-explored g c = record {
       record { came = met.came; of_seeds = met.of_seeds; of_script = met.of_script; outcomes_of = outcomes-ordered c.args.first met.came _ _ c.in_ok-ordered.ensures.same met.outcomes_of };
   counted = sum_by-IsPermutation (λ o. length o.seeds) _ _ c.in_ok-ordered.ensures.same ∙ c.in_ok-outcomes.ensures.counted;
   ordered = c.in_ok-ordered.ensures.ordered;
-  told = rw (← c.as_slice-outcomes.ensures.value, ← c.lines.ensures) c.in_ok-report.ensures;
   judged = rw (← c.as_slice-outcomes.ensures.value) c.some_breaks.ensures;
 }

@@ -15,4 +15,4 @@ returns-clause-ended c none shape node pid =
     let made = c.in_ok-tries.ensures node pid ∙ ap (λ (rs : List RefusedLine). tries rs node pid (numbered commands)) c.refused.ensures in
     let entries = c.in_ok-told.ensures ∙ c.entries.ensures ∙ ap (λ (r : RunFields). r.entries) c.run-run.ensures in
     let world = ap world_state (c.world.ensures.value ∙ ap (λ (r : RunFields). r.world) c.run-run.ensures) in
-    none-goes-on c.args.lines.now commands node pid _ _ _ (c.requires.in_order node pid) (c.ready_in.ensures.none none commands c.requires.lines c.requires.made c.requires.served node pid) (played_of shape (progress c.args.player.now)) made entries world
+    none-goes-on c.args.lines.now commands node pid _ _ _ (c.requires.in_order node pid) (c.ready_in.ensures.none none commands c.requires.lines c.requires.made node pid) (played_of shape (progress c.args.player.now)) made entries world

@@ -10,21 +10,21 @@ use Rattle.explorer.proofs.Left.{calls-more, held-next}
 use Rattle.explorer.proofs.ready.ready_in.Goals as goal
 
 pub loop-line-preserved : goal.loop-line-preserved
-loop-line-preserved c taken calls made served node pid =
+loop-line-preserved c taken calls made node pid =
     let lines = c.args.lines.now in
     let i = c.loop-line.line-index in
     let l = c.line-item.result in
     let Stops : ℕ → ℕ → Type 0 = CannotGoOn lines taken c.args.tries.now c.args.told.now (world_state c.args.world.now) in
-    let here = subst (HoldsOfCaller Stops) c.command.ensures.value (c.ready_at.ensures.none c.in-None.is lines taken calls made served) in
-    let next = held-next Stops node pid l.command (calls_in node pid (take i lines)) here (c.loop-line.invariant taken calls made served node pid) in
+    let here = subst (HoldsOfCaller Stops) c.command.ensures.value (c.ready_at.ensures.none c.in-None.is lines taken calls made) in
+    let next = held-next Stops node pid l.command (calls_in node pid (take i lines)) here (c.loop-line.invariant taken calls made node pid) in
     subst (λ (ops : List Op). ops ≡ [] ⊎ Stops node pid) (sym (calls-more node pid lines i l c.loop-line-test.true c.line-item.is)) next
 
 pub returns-in-Some-clause-follows : goal.returns-in-Some-clause-follows
-returns-in-Some-clause-follows c failures taken calls made = c.in-Some.ensures.follows failures c.args.lines.now taken calls made
+returns-in-Some-clause-follows c failures taken calls made served = c.in-Some.ensures.follows failures c.args.lines.now taken calls made served
 
 pub returns-clause-none : goal.returns-clause-none
-returns-clause-none c same taken calls made served node pid =
+returns-clause-none c same taken calls made node pid =
     let lines = c.args.lines.now in
     let Stops : ℕ → ℕ → Type 0 = CannotGoOn lines taken c.args.tries.now c.args.told.now (world_state c.args.world.now) in
     let all : take c.loop-line.line-index lines ≡ lines = grind (arith, common_steps, c.loop-line-test.false, c.loop-line.auto.line-index-end) in
-    subst (λ (ls : List LineFields). calls_in node pid ls ≡ [] ⊎ Stops node pid) all (c.loop-line.invariant taken calls made served node pid)
+    subst (λ (ls : List LineFields). calls_in node pid ls ≡ [] ⊎ Stops node pid) all (c.loop-line.invariant taken calls made node pid)

@@ -25,11 +25,11 @@ pub returns-clause-ended : goal.returns-clause-ended
 returns-clause-ended c =
     let commands = c.in_ok-commands.commands.items in
     let played = played_of c.shape-shape.result (progress c.choose.new.player) in
-    let ended = subst (λ (ls : List LineFields). IsEnded ls commands played) c.lines.ensures (c.in_ok-commands.ensures.ended c.shape-shape.result) in
+    let ended = subst (λ (ls : List LineFields). IsEnded ls commands played) c.lines-lines.ensures (c.in_ok-commands.ensures.ended c.shape-shape.result) in
     let of_commands = subst (λ (cs : List Command). IsEnded c.args.script.now.lines cs played) (sym c.finished.ensures.commands) ended in
     subst (λ (p : PlayedState). IsEnded c.args.script.now.lines c.finished.result.commands p) (sym c.finished.ensures.played) of_commands
 
 pub returns-in_err-commands-clause-full : goal.returns-in_err-commands-clause-full
 returns-in_err-commands-clause-full c =
     let p = err_from_is_err_and c.from_residual-in_err-commands.result c.from_residual-in_err-commands.ensures.1 in
-    rw (p.1, p.2, ← c.shape-shape.ensures, ← c.in_ok-player.ensures.first, ← c.lines.ensures) c.in_err-commands.ensures.full
+    rw (p.1, p.2, ← c.shape-shape.ensures, ← c.in_ok-player.ensures.first, ← c.lines-lines.ensures) c.in_err-commands.ensures.full

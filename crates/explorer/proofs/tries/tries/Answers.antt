@@ -6,7 +6,7 @@ use Rattle.lockscript.specs.declared.script_line.Command.TheVariants.{Call}
 use Rattle.explorer.specs.Answers.{tries}
 use Rattle.explorer.specs.ByProcess.{list_in}
 use Rattle.explorer.specs.Schedules.{line_of}
-use Rattle.explorer.proofs.Walks.{drop_at, tries-next}
+use Rattle.explorer.proofs.Walks.{drop_at, tries-on}
 use Rattle.explorer.proofs.tries.tries.Goals as goal
 
 pub loop-command-preserved : goal.loop-command-preserved
@@ -23,5 +23,6 @@ loop-command-preserved c = record {
       let before =
       ap (λ (cs : List Command). old ++ tries refused node pid (map line_of (enumerate_from number cs))) (sym (drop_at commands i (Call 0 0 Spawn) c.loop-command-test.true))
       ∙ c.loop-command.invariant.made node pid in
-      tries-next refused node pid number command old (list_in c.add_try.new.tries node pid) c.copied-refusal.result (drop (i + 1) commands) _ (c.in_ok-add_try.ensures node pid) code before;
+      let rest = map line_of (enumerate_from (number + 1) (drop (i + 1) commands)) in
+      tries-on refused node pid (line_of (number, command)) old (list_in c.add_try.new.tries node pid) c.copied-refusal.result rest _ (c.in_ok-add_try.ensures node pid) code before;
 }

@@ -3,7 +3,7 @@ use Rattle.player.specs.Parts.{progress}
 use Rattle.player.specs.Progress.{RunsTo}
 use Rattle.explorer.specs.Indexes.{KnowsCalls}
 use Rattle.explorer.specs.Schedules.{most_lines, numbered, IsScheduleOf}
-use Rattle.explorer.proofs.schedule.choose_lines.Given as goal
+use Rattle.explorer.proofs.schedule.choose.Given as goal
 
 abbrev pub invariant-loop-number : goal.invariant-loop-number
 invariant-loop-number l = record {

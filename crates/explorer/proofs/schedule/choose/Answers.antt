@@ -4,7 +4,7 @@ use Rattle.model.specs.declared.op.Op.{Op}
 use Rattle.explorer.specs.Schedules.{calls_of, op_of}
 use Rattle.explorer.proofs.Orders.{carried-on, few-more, schedule-none, schedule-on}
 use Rattle.explorer.proofs.Walks.{calls-push}
-use Rattle.explorer.proofs.schedule.choose_lines.Goals as goal
+use Rattle.explorer.proofs.schedule.choose.Goals as goal
 
 pub loop-number-init : goal.loop-number-init
 loop-number-init c = record {
