@@ -1,8 +1,7 @@
 -- How many bad lines are told.
-use Rattle.std.proofs.Common.{◌≡◌, ℕ, zero, suc, codes, decimal, ◌+◌, ◌<◌, ◌≤◌, List, [], ◌∷◌, ◌++◌, length, min, refl, sym, ap, ◌∙◌, arith, length-append}
+use Rattle.std.proofs.Common.{◌≡◌, ℕ, ◌+◌, ◌<◌, ◌≤◌, List, [], ◌∷◌, ◌++◌, length, min, sym, ap, ◌∙◌, arith, length-append}
 use Rattle.std.proofs.lemmas.List.{length-map, length-take, map-append, take-append-le, take_all}
 use Rattle.diagnosis.specs.BadLines.{Tells}
-use Rattle.diagnosis.specs.Reports.{more_line}
 use Rattle.diagnosis.specs.declared.script_fault.ScriptFault.{ScriptFault}
 
 abbrev line_of : ScriptFault → ℕ
@@ -32,12 +31,3 @@ tells-counted numbers told others number many tells =
       lines = tells.lines ∙ sym (take-append-le 100 numbers (number ∷ []) long);
       others = omega (arith, tells.others, long, length-append numbers (number ∷ []));
     }
-
--- nothing is said of no more bad lines
-pub more_line-none : (path : List ℕ) (others : ℕ) → others ≤ 0 → more_line path others ≡ []
-more_line-none path zero none = refl
-more_line-none path (suc n) none = absurd (omega (arith, none))
-
-pub more_line-some : (path : List ℕ) (others : ℕ) → 0 < others → more_line path others ≡ path ++ codes ": more bad lines: " ++ decimal others ++ codes "\n"
-more_line-some path zero some = absurd (omega (arith, some))
-more_line-some path (suc n) some = refl

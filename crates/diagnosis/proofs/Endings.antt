@@ -44,7 +44,7 @@ all-known : (text : List ℕ) (kept kept' : List (ℕ × List ℕ)) (rest : List
     → KnowsBad text kept' (passed + 1) numbers → AreBadLines text numbers
 all-known text kept kept' rest passed numbers before no_feed knows = record {
   rising = knows.rising;
-  bad = λ n. (knows.sound n, λ bad. knows.complete n (within-end text kept rest passed n before no_feed bad) bad);
+  bad = λ n. (λ among. ((knows.known n).0 among).1, λ bad. (knows.known n).1 (within-end text kept rest passed n before no_feed bad, bad));
 }
 
 -- bad lines are told where there are some
@@ -129,9 +129,7 @@ pub told-refused : (text : List ℕ) (old : Place) (rest : List ℕ) (told : Lis
     → HasRead text old.number old.is_first rest told others → StaysAt old rest rest' new → EndsBadly new.is_first rest'
     → ((numbers : List ℕ) → Tells numbers told others → Tells (numbers ++ new.number ∷ []) told' others') → HasTold text told' others'
 told-refused text old rest told others rest' new told' others' read stays ends adds =
-    let bad = subst (λ (p : Place). EndsBadly p.is_first rest) stays.2 (subst (λ (r : List ℕ). EndsBadly new.is_first r) stays.1 ends) in
-    let tells = subst (λ (p : Place). (numbers : List ℕ) → Tells numbers told others → Tells (numbers ++ p.number ∷ []) told' others') stays.2 adds in
-    told-at_end text old.number old.is_first rest told others told' others' read stays.0 bad tells
+    told-at_end text old.number old.is_first rest told others told' others' read stays.0 (rw (stays.1, stays.2) at ends) (rw stays.2 at adds)
 
 -- nothing is left
 pub told-taken : (text : List ℕ) (old : Place) (rest : List ℕ) (told : List ScriptFault) (others : ℕ) (rest' : List ℕ) (new : Place)

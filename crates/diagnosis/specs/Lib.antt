@@ -1,5 +1,4 @@
 pub mod BadLines
 pub mod Places
 pub mod Reports
-pub mod Verdicts
 pub mod JournalReports

@@ -36,12 +36,8 @@ pub enum Expected {
     Policy,
     /// Just this word.
     Word(&'static str),
-    /// A number within limits, by what it numbers.
-    Number {
-        name: &'static str,
-        least: u64,
-        most: u64,
-    },
+    /// A number, by what it numbers, from the least to the greatest.
+    Number(&'static str, u64, u64),
     /// A number of 64 bits that may be negative, by what it is.
     Offset(&'static str),
     /// No more words.
@@ -53,9 +49,9 @@ impl Expected {
     pub(crate) fn operands(self, word: &str) -> Option<&'static [Expected]> {
         match self {
             Expected::Word(expected) => (word == expected).then_some(NOTHING),
-            Expected::Number { least, most, .. } => number_of(word, least, most).map(|_| NOTHING),
+            Expected::Number(_, least, most) => number_of(word, least, most).map(|_| NOTHING),
             Expected::Offset(_) => offset_of(word).map(|_| NOTHING),
-            _ => form_in(self.forms(), word).map(|form| form.operands),
+            _ => form_in(self.forms(), word).map(|form| form.1),
         }
     }
 
@@ -97,7 +93,7 @@ impl Expected {
     fn hint_of_rule(self, word: &str) -> Option<Hint> {
         match self {
             Expected::ClusterLine => Some(Hint::ClusterLineFirst),
-            Expected::Number { .. } => Hint::of_number(word),
+            Expected::Number(..) => Hint::of_number(word),
             Expected::Offset(name) if name == LENGTH_NAME => Hint::of_length(word),
             Expected::Offset(_) => Hint::of_number(word),
             _ => None,
@@ -131,11 +127,6 @@ impl Expected {
 
 /// As it is told.
 impl Display for Expected {
-    ghost use Rattle.std.specs.Prelude.{Some};
-    ghost use Rattle.diagnosis.specs.Reports.{expected_text};
-
-    ghost output = { λ expected. Some (expected_text expected) };
-
     fn fmt<W: Write>(&self, f: &mut Formatter<W>) -> fmt::Result {
         match self {
             Expected::ScriptLine => f.write_str("a line of a script"),
@@ -147,7 +138,7 @@ impl Display for Expected {
             Expected::Access => f.write_str("\"r\", \"w\" or \"rw\""),
             Expected::Policy => f.write_str("\"wide\" or \"exact\""),
             Expected::Word(word) => write!(f, "\"{word}\""),
-            Expected::Number { name, least, most } => write!(f, "{name} from {least} to {most}"),
+            Expected::Number(name, least, most) => write!(f, "{name} from {least} to {most}"),
             Expected::Offset(name) => {
                 write!(f, "{name} from -9223372036854775808 to 9223372036854775807")
             }

@@ -1,8 +1,7 @@
 //! The faults of a text.
-ghost use Rattle.std.specs.Prelude.{◌≡◌, ◌↔◌, ◌+◌, ◌<◌, ◌^◌, ◌++◌, ◌∷◌, [], ℕ, List, slice_get, string_bytes, IfOk, IfSome, OnOk};
+ghost use Rattle.std.specs.Prelude.{◌≡◌, ◌↔◌, ◌+◌, ◌<◌, ◌^◌, ◌++◌, ◌∷◌, [], ℕ, List, slice_get, IfOk, IfSome, OnOk};
 ghost use Rattle.lockscript.specs.Scripts.{HasScript, IsFirstBad};
 ghost use Rattle.diagnosis.specs.BadLines.{Tells, TellsBadLines};
-ghost use Rattle.diagnosis.specs.Reports.{report_text};
 
 use crate::bad_line::BadLine;
 use crate::place::Place;
@@ -56,12 +55,11 @@ impl<'a> Faults<'a> {
     ///
     /// # Errors
     /// `AllocError` where a request for memory was refused.
-    pub fn report(&self, alloc: Global, path: &str) -> Result<String, AllocError>
-        ensures { IfOk result (λ report. string_bytes report ≡ report_text path.now self.now.told.items self.now.more) }
-    {
+    pub fn report(&self, alloc: Global, path: &str) -> Result<String, AllocError> {
         let mut out = String::new(alloc);
         for fault in &self.told {
-            fault.push_line(path, &mut out)?;
+            let (line, column, reason) = (fault.line, fault.column, fault.reason);
+            writeln!(out, "{path}:{line}:{column}: {reason}")?;
         }
         if self.more > 0 {
             let more = self.more;

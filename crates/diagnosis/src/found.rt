@@ -31,11 +31,6 @@ impl<'a> Found<'a> {
 
 /// As it is told.
 impl Display for Found<'_> {
-    ghost use Rattle.std.specs.Prelude.{Some};
-    ghost use Rattle.diagnosis.specs.Reports.{found_text};
-
-    ghost output = { λ found. Some (found_text found) };
-
     fn fmt<W: Write>(&self, f: &mut Formatter<W>) -> fmt::Result {
         match self {
             Found::Word(word) => write!(f, "\"{word}\""),

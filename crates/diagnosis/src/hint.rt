@@ -53,11 +53,6 @@ impl Hint {
 
 /// As it is told.
 impl Display for Hint {
-    ghost use Rattle.std.specs.Prelude.{Some};
-    ghost use Rattle.diagnosis.specs.Reports.{hint_text};
-
-    ghost output = { λ hint. Some (hint_text hint) };
-
     fn fmt<W: Write>(&self, f: &mut Formatter<W>) -> fmt::Result {
         match self {
             Hint::Meant(word) => write!(f, "did you mean \"{word}\"?"),

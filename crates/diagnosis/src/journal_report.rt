@@ -1,12 +1,10 @@
 //! Reports on texts that are to be journals.
-ghost use Rattle.std.specs.Prelude.{◌≡◌, ◌↔◌, string_bytes, IfOk, IsTrue};
-ghost use Rattle.texts.specs.LineFeeds.{line_feeds};
-ghost use Rattle.diagnosis.specs.JournalReports.{BeginsAsJournal, IsJournalReport, ends_a_line, journal_reason, journal_report_text};
+ghost use Rattle.std.specs.Prelude.{◌↔◌, IfOk, IsTrue};
+ghost use Rattle.diagnosis.specs.JournalReports.{BeginsAsJournal, IsJournalReport};
 
 use journal_text::parse::measure;
 use lockscript::error::ParseError;
 use std::alloc::{AllocError, Global};
-use std::fmt::Write;
 use texts::text::after;
 
 /// Whether the text begins as that of a journal, so that it is no script.
@@ -27,53 +25,27 @@ pub fn journal_report(alloc: Global, path: &str, text: &str) -> Result<Option<St
 {
     match measure(text) {
         Ok(_) => Ok(None),
-        Err(ParseError::BadLine(line)) => Ok(Some(report_of(alloc, path, text, line)?)),
+        Err(ParseError::BadLine(line)) => {
+            let reason = reason_of(text, line);
+            Ok(Some(format!(in alloc; "{path}:{line}: {reason}\n")?))
+        }
         Err(ParseError::NoMemory) => Err(AllocError),
     }
 }
 
-// The report of the line of this number.
-fn report_of(alloc: Global, path: &str, text: &str, line: u64) -> Result<String, AllocError>
-    ensures { IfOk result (λ told. string_bytes told ≡ journal_report_text path.now text.now line) }
-{
-    let mut report = String::new(alloc);
-    report.push_str(path)?;
-    write!(report, ":{line}: ")?;
-    report.push_str(reason_of(text, line))?;
-    report.push_str("\n")?;
-    Ok(report)
-}
-
-// Why the line of this number is the first that may not stand there.
-#[tactic(auto, unfolding(crate::specs::JournalReports::journal_reason))]
-fn reason_of(text: &str, line: u64) -> &'static str
-    ensures { result.now ≡ journal_reason text.now line }
-{
-    if line <= line_feeds(text) {
+// Why the line of this number is the first that may not stand there: it ends with a line feed, or it is missing, or it
+// has no line feed.
+fn reason_of(text: &str, line: u64) -> &'static str {
+    let feeds = text
+        .as_bytes()
+        .iter()
+        .filter(|byte| **byte == b'\n')
+        .count();
+    if line <= feeds as u64 {
         "no journal has this line here"
-    } else if ends_a_line(text) {
+    } else if text.is_empty() || text.ends_with('\n') {
         "the journal was cut off before this line: its last line is \"end COUNT\""
     } else {
         "this line has no line feed, as where the journal was cut off in it"
-    }
-}
-
-// How many line feeds the text has.
-fn line_feeds(text: &str) -> u64
-    ensures { result ≡ line_feeds text.now }
-{
-    text.as_bytes()
-        .iter()
-        .filter(|byte| **byte == b'\n')
-        .count() as u64
-}
-
-// Whether the text is whole lines: its last byte, if it has one, is a line feed.
-fn ends_a_line(text: &str) -> bool
-    ensures { result ≡ ends_a_line text.now }
-{
-    match text.as_bytes().last() {
-        Some(byte) => *byte == b'\n',
-        None => true,
     }
 }

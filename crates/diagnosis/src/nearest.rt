@@ -19,10 +19,10 @@ pub(crate) fn nearest(
     let mut least = word.chars().count().max(3) / 3;
     let mut found = None;
     for form in forms {
-        let distance = distance(alloc, word, form.word)?;
-        if distance <= least && distance < form.word.len() {
+        let distance = distance(alloc, word, form.0)?;
+        if distance <= least && distance < form.0.len() {
             least = distance.saturating_sub(1);
-            found = Some(form.word);
+            found = Some(form.0);
         }
     }
     Ok(found)

@@ -70,11 +70,6 @@ impl<'a> Reason<'a> {
 
 /// As it is told.
 impl Display for Reason<'_> {
-    ghost use Rattle.std.specs.Prelude.{Some};
-    ghost use Rattle.diagnosis.specs.Reports.{reason_text};
-
-    ghost output = { λ reason. Some (reason_text reason) };
-
     fn fmt<W: Write>(&self, f: &mut Formatter<W>) -> fmt::Result {
         match self {
             Reason::Unexpected {

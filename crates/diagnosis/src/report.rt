@@ -1,6 +1,5 @@
 //! Reports on texts that are to be scripts.
-ghost use Rattle.std.specs.Prelude.{◌↔◌, IfOk, IsNone};
-ghost use Rattle.lockscript.specs.Scripts.{HasScript};
+ghost use Rattle.std.specs.Prelude.{IfOk};
 ghost use Rattle.diagnosis.specs.Reports.{IsReport};
 
 use crate::faults::Faults;
@@ -13,8 +12,7 @@ use std::alloc::{AllocError, Global};
 /// # Errors
 /// `AllocError` where a request for memory was refused.
 pub fn report(alloc: Global, path: &str, text: &str) -> Result<Option<String>, AllocError>
-    ensures none { IfOk result (λ report. IsNone report ↔ HasScript text.now) }
-    ensures report { IfOk result (IsReport path.now text.now) }
+    ensures { IfOk result (IsReport path.now text.now) }
 {
     let faults = Faults::of(alloc, text)?;
     if faults.told.is_empty() {

@@ -1,7 +1,4 @@
 //! What is said of a script.
-ghost use Rattle.std.specs.Prelude.{◌≡◌, string_bytes, IfOk};
-ghost use Rattle.diagnosis.specs.Verdicts.{verdict_text};
-
 use lockscript::script::Script;
 use std::alloc::{AllocError, Global};
 
@@ -10,9 +7,7 @@ use std::alloc::{AllocError, Global};
 ///
 /// # Errors
 /// `AllocError` where a request for memory was refused.
-pub fn verdict(alloc: Global, script: &Script) -> Result<String, AllocError>
-    ensures { IfOk result (λ text. string_bytes text ≡ verdict_text script.now.lines) }
-{
+pub fn verdict(alloc: Global, script: &Script) -> Result<String, AllocError> {
     match script.bad_line_on_threads() {
         None => String::from_str(alloc, "script yes\nthreads yes\n"),
         Some(number) => format!(in alloc; "script yes\nthreads no {number}\n"),

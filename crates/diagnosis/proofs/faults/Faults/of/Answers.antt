@@ -11,7 +11,7 @@ loop-place-preserved-in-Continue-1 c =
     let old = c.loop-place.reader in
     let new = c.next_line.new.self in
     read-refused c.args.text.now old.place old.rest.now c.loop-place.faults.told.items c.loop-place.faults.more c.in-Some.place c.in-Some.line.now new.rest.now new.place
-    c.add.new.self.told.items c.add.new.self.more c.loop-place.invariant c.in-Some.ensures c.if-refuses.ensures c.in_ok-add.ensures
+    c.loop-place.invariant c.in-Some.ensures c.add.new.self.told.items c.add.new.self.more c.if-refuses.ensures c.in_ok-add.ensures
 
 pub loop-place-preserved : goal.loop-place-preserved
 loop-place-preserved c =
