@@ -1,15 +1,15 @@
 -- Drafts that get more bytes.
-use Rattle.std.proofs.Common.{◌≡◌, ℕ, ◌+◌, List, [], ◌∷◌, ◌++◌, codes, length, reverse, refl, sym, ◌∙◌, ap, subst, append_assoc, append-nil, Result, Ok, Err}
+use Rattle.std.proofs.Common.{◌≡◌, ℕ, ◌+◌, List, [], ◌∷◌, ◌++◌, codes, length, reverse, refl, sym, ◌∙◌, ap, subst, append_assoc, append-nil, Some, Result, Ok, Err}
 use Rattle.std.specs.Prelude.{◌≢◌, IfOk, OnOk}
 use Rattle.std.proofs.lemmas.List.{reverse-append}
 use Rattle.journal_text.specs.Journals.{end_text, entries_text, entry_text, head_text, journal_text}
 use Rattle.messages.specs.declared.entry.Entry.{Entry}
 use Rattle.messages.specs.declared.version.Version.{Version}
 use Rattle.messages.specs.Shapes.{ShapeFields}
-use Rattle.command_line.specs.Tasks.{Task}
+use Rattle.command_line.specs.Tasks.{Task, journal_path}
 use Rattle.replay.specs.declared.fault.Fault.{Fault}
 use Rattle.replay.specs.declared.fault.Fault.TheVariants as fault
-use Rattle.replay.specs.Commands.{HasJournalFor, IsFault, IsInputFault}
+use Rattle.replay.specs.Commands.{HasRunOf, IsFault, IsInputFault}
 use Rattle.replay.specs.Faults.{IsUnwritten}
 use Rattle.replay.specs.Stores.{Adds, Drafted, Files, SameFiles, SameOthers}
 use Rattle.replay.proofs.Stores.{others-after, same-after}
@@ -59,14 +59,14 @@ ok_both (Ok value) P Q first second = (first, second)
 ok_both (Err error) P Q first second = tt
 
 -- why the journal that is made beside what a run shows took no file's place is a fault of the run
-pub journal_fault : (old begun new : Files) (RanShort : Type 0) (Refuses : List ℕ → Type 0) (task : Task) (path : List ℕ) (f : Fault) → SameFiles old begun → HasJournalFor old task path → IsInputFault old RanShort Refuses task fault.NoMemory → IsUnwritten begun Refuses path new f → (f ≢ fault.CannotWriteOutput) × IsFault old RanShort Refuses task new f
-journal_fault old begun new RanShort Refuses task path (fault.CannotWrite named reason) same has short is =
+pub journal_fault : (old begun new : Files) (RanShort : Type 0) (Refuses : List ℕ → Type 0) (task : Task) (path : List ℕ) (f : Fault) → SameFiles old begun → journal_path task ≡ Some path → HasRunOf old task → IsInputFault old RanShort Refuses task fault.NoMemory → IsUnwritten begun Refuses path new f → (f ≢ fault.CannotWriteOutput) × IsFault old RanShort Refuses task new f
+journal_fault old begun new RanShort Refuses task path (fault.CannotWrite named reason) same owed has short is =
     let at = sym is.0 in
-    (λ e. absurd (cc), (subst (HasJournalFor old task) at has, subst Refuses at is.1, subst (SameOthers old new) at (others-after old begun new path same is.2)))
-journal_fault old begun new RanShort Refuses task path fault.NoMemory same has short is = (λ e. absurd (cc), (short, same-after old begun new same is))
-journal_fault old begun new RanShort Refuses task path (fault.BadLine line) same has short is = absurd is
-journal_fault old begun new RanShort Refuses task path (fault.CannotRead named reason) same has short is = absurd is
-journal_fault old begun new RanShort Refuses task path fault.CannotWriteOutput same has short is = absurd is
-journal_fault old begun new RanShort Refuses task path fault.JournalFull same has short is = absurd is
-journal_fault old begun new RanShort Refuses task path fault.OldJournal same has short is = absurd is
-journal_fault old begun new RanShort Refuses task path (fault.Faulty report) same has short is = absurd is
+    (λ e. absurd (cc), (owed ∙ ap (λ (p : List ℕ). Some p) at, has, subst Refuses at is.1, subst (SameOthers old new) at (others-after old begun new path same is.2)))
+journal_fault old begun new RanShort Refuses task path fault.NoMemory same owed has short is = (λ e. absurd (cc), (short, same-after old begun new same is))
+journal_fault old begun new RanShort Refuses task path (fault.BadLine line) same owed has short is = absurd is
+journal_fault old begun new RanShort Refuses task path (fault.CannotRead named reason) same owed has short is = absurd is
+journal_fault old begun new RanShort Refuses task path fault.CannotWriteOutput same owed has short is = absurd is
+journal_fault old begun new RanShort Refuses task path fault.JournalFull same owed has short is = absurd is
+journal_fault old begun new RanShort Refuses task path fault.OldJournal same owed has short is = absurd is
+journal_fault old begun new RanShort Refuses task path (fault.Faulty report) same owed has short is = absurd is

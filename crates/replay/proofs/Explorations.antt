@@ -21,8 +21,8 @@ explore-fault failures old new RanShort Refuses task path text (BadLine line) ho
 explore-fault failures old new RanShort Refuses task path text (CannotRead named reason) holds utf8 same input is = absurd is
 explore-fault failures old new RanShort Refuses task path text (CannotWrite named reason) holds utf8 same input is = absurd is
 explore-fault failures old new RanShort Refuses task path text CannotWriteOutput holds utf8 same input is = absurd is
-explore-fault failures old new RanShort Refuses task path text NoMemory holds utf8 same input is = (λ e. absurd (cc), (input NoMemory (inr (is.0, (text, holds, utf8, is.1))), same))
-explore-fault failures old new RanShort Refuses task path text JournalFull holds utf8 same input is = (λ e. absurd (cc), (input JournalFull (is.0, (text, holds, utf8, is.1), is.2), same))
+explore-fault failures old new RanShort Refuses task path text NoMemory holds utf8 same input is = (λ e. absurd (cc), (input NoMemory (inr (text, holds, utf8, is)), same))
+explore-fault failures old new RanShort Refuses task path text JournalFull holds utf8 same input is = (λ e. absurd (cc), (input JournalFull (text, holds, utf8, is), same))
 explore-fault failures old new RanShort Refuses task path text OldJournal holds utf8 same input is = absurd is
 explore-fault failures old new RanShort Refuses task path text (Faulty report) holds utf8 same input is = absurd is
 

@@ -1,22 +1,17 @@
 -- Lemmas on histories that are judged.
-use Rattle.std.proofs.Common.{◌≡◌, ◌≢◌, ◌<◌, ◌≤◌, ℕ, ◌+◌, List, length, take, get_or, Option, Some, None, inl, inr, refl, sym, subst}
-use Rattle.std.specs.Prelude.{◌⊎◌, ⊤, All, Any, String}
+use Rattle.std.proofs.Common.{◌≡◌, ◌<◌, ◌≤◌, ℕ, ◌+◌, List, length, take, get_or, Option, Some, None, inl, inr, refl, sym, subst}
+use Rattle.std.specs.Prelude.{◌⊎◌, All, Any, String}
 use Rattle.std.specs.Global.{Global}
 use Rattle.std.proofs.lemmas.List.{take_all}
 use Rattle.std.proofs.lemmas.List.Elements.{All-more, All-weaker}
-use Rattle.command_line.specs.JudgeTasks.{JudgeTask}
-use Rattle.command_line.specs.Tasks.{judge}
 use Rattle.history_text.specs.declared.rule.Allowed.{Allowed}
 use Rattle.judgements.specs.declared.outcome.Outcome.{Outcome}
 use Rattle.judgements.specs.declared.outcome.Outcome.TheVariants as outcome
-use Rattle.replay.specs.declared.fault.Fault.{Fault}
-use Rattle.replay.specs.declared.fault.Fault.TheVariants.{BadLine, CannotRead, CannotWrite, CannotWriteOutput, NoMemory, JournalFull, OldJournal, Faulty}
 use Rattle.replay.specs.declared.shown.Shown.{Shown}
 use Rattle.replay.specs.declared.shown.Shown.TheVariants.{Text, Wanting, Partial, Noted, Undecided, Yes, No}
-use Rattle.replay.specs.Commands.{IsFault}
-use Rattle.replay.specs.Judging.{AreJudged, HasHistoryAt, HasTextAt, IsJudgeFault, IsNotJudged, IsSaidIn, IsSaidOf, IsUnreadAs, shown_of}
+use Rattle.replay.specs.Judging.{AreJudged, HasHistoryAt, IsSaidIn, IsSaidOf, shown_of}
 use Rattle.replay.specs.Stores.{Files, SameFiles}
-use Rattle.replay.proofs.Stores.{had-no_text, had-text, same-after}
+use Rattle.replay.proofs.Stores.{had-text, same-after}
 
 -- what is said of a text is said of a history
 history-said : (allowed : Allowed) (orders : Option (List ℕ)) (old : Files) (said : Outcome) (path : List ℕ) → IsSaidOf allowed orders old said path → HasHistoryAt allowed old path
@@ -57,19 +52,6 @@ judged-all allowed orders old new outcome.Yes count paths text whole far = subst
 judged-all allowed orders old new outcome.Unknown count paths text whole far = subst (All (HasHistoryAt allowed old)) (take_all count paths whole) far.read
 judged-all allowed orders old new outcome.No count paths text whole far = (subst (All (HasHistoryAt allowed old)) (take_all count paths whole) far.read, far.contradicted refl)
 
--- one of them is not judged
-pub not-judged : (old mid : Files) (RanShort : Type 0) (count : ℕ) (paths : List (List ℕ)) (path : List ℕ) (orders : Option (List ℕ)) (fault : Fault) → count < length paths → path ≡ get_or paths count path → SameFiles old mid
-    → IsNotJudged mid RanShort path fault → IsJudgeFault old RanShort paths orders fault
-not-judged old mid RanShort count paths path orders (BadLine line) lt at same is = absurd is
-not-judged old mid RanShort count paths path orders (CannotRead named reason) lt at same is = inl (count, path, lt, sym at, (is.0, had-no_text old mid path same is.1))
-not-judged old mid RanShort count paths path orders (CannotWrite named reason) lt at same is = absurd is
-not-judged old mid RanShort count paths path orders CannotWriteOutput lt at same is = absurd is
-not-judged old mid RanShort count paths path orders NoMemory lt at same (inl ran) = inl ran
-not-judged old mid RanShort count paths path orders NoMemory lt at same (inr has) = inr (count, path, lt, sym at, had-text old mid path (λ text. ⊤) same has)
-not-judged old mid RanShort count paths path orders JournalFull lt at same is = absurd is
-not-judged old mid RanShort count paths path orders OldJournal lt at same is = absurd is
-not-judged old mid RanShort count paths path orders (Faulty report) lt at same is = (count, path, lt, sym at, had-text old mid path (λ text. ⊤) same is)
-
 -- what is so of the files as they were, where none has changed
 any-had : (P Q : List ℕ → Type 0) (paths : List (List ℕ)) → ((path : List ℕ) → P path → Q path) → Any P paths → Any Q paths
 any-had P Q paths same any = (any.0, any.1, any.2, any.3, same any.1 any.4)
@@ -85,29 +67,3 @@ had-judged allowed orders old new paths (Partial text told) same is = is
 had-judged allowed orders old new paths (Noted text told) same is = is
 had-judged allowed orders old new paths Yes same is = is
 had-judged allowed orders old new paths (No position) same is = is
-
--- and by orders
-pub had-fault : (old new : Files) (RanShort : Type 0) (paths : List (List ℕ)) (orders : Option (List ℕ)) (fault : Fault) → SameFiles old new → IsJudgeFault new RanShort paths None fault → IsJudgeFault old RanShort paths orders fault
-had-fault old new RanShort paths orders (BadLine line) same is = absurd is
-had-fault old new RanShort paths orders (CannotRead named reason) same (inl is) =
-    inl (any-had (IsUnreadAs new named.now) (IsUnreadAs old named.now) paths (λ path unread. (unread.0, had-no_text old new path same unread.1)) is)
-had-fault old new RanShort paths orders (CannotRead named reason) same (inr is) = absurd is
-had-fault old new RanShort paths orders (CannotWrite named reason) same is = absurd is
-had-fault old new RanShort paths orders CannotWriteOutput same is = absurd is
-had-fault old new RanShort paths orders NoMemory same (inl ran) = inl ran
-had-fault old new RanShort paths orders NoMemory same (inr is) = inr (any-had (HasTextAt new) (HasTextAt old) paths (λ path has. had-text old new path (λ text. ⊤) same has) is)
-had-fault old new RanShort paths orders JournalFull same is = absurd is
-had-fault old new RanShort paths orders OldJournal same is = absurd is
-had-fault old new RanShort paths orders (Faulty report) same is = any-had (HasTextAt new) (HasTextAt old) paths (λ path has. had-text old new path (λ text. ⊤) same has) is
-
--- why histories are not judged is a fault of the judgement
-pub judge-fault : (old new : Files) (RanShort : Type 0) (Refuses : List ℕ → Type 0) (t : JudgeTask) (fault : Fault) → SameFiles old new → IsJudgeFault old RanShort t.histories t.explains fault
-    → (fault ≢ CannotWriteOutput) × IsFault old RanShort Refuses (judge t) new fault
-judge-fault old new RanShort Refuses t (BadLine line) same is = absurd is
-judge-fault old new RanShort Refuses t (CannotRead named reason) same is = (λ e. absurd (cc), (is, same))
-judge-fault old new RanShort Refuses t (CannotWrite named reason) same is = absurd is
-judge-fault old new RanShort Refuses t CannotWriteOutput same is = absurd is
-judge-fault old new RanShort Refuses t NoMemory same is = (λ e. absurd (cc), (is, same))
-judge-fault old new RanShort Refuses t JournalFull same is = absurd is
-judge-fault old new RanShort Refuses t OldJournal same is = absurd is
-judge-fault old new RanShort Refuses t (Faulty report) same is = (λ e. absurd (cc), (is, same))

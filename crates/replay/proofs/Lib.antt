@@ -1,9 +1,9 @@
 pub mod Counting
 pub mod Sections
 pub mod Stores
+pub mod Paths
 pub mod Drafts
 pub mod ThreadLines
-pub mod Faults
 pub mod Audits
 pub mod Journals
 pub mod LaterRuns
@@ -16,4 +16,4 @@ pub mod Checks
 pub mod Judging
 pub mod RecordedHistories
 pub mod AllowedRules
-pub mod FaultLines
+pub mod Tools

@@ -1,6 +1,6 @@
 -- What a status tells of refused words.
-use Rattle.std.specs.Prelude.{◌≡◌, ◌⊎◌, ◌<◌, ℕ, List, Option}
-use Rattle.std.proofs.Common.{arith, inl, inr, sym, ◌∙◌}
+use Rattle.std.specs.Prelude.{◌≡◌, ◌⊎◌, ℕ, List, Option}
+use Rattle.std.proofs.Common.{inl, inr, sym, ◌∙◌}
 use Rattle.command_line.specs.Words.{AsksForHelp, IsRefusal}
 use Rattle.command_line.specs.declared.refusal.Refusal.{Refusal}
 use Rattle.command_line.specs.declared.refusal.Refusal.TheVariants.{Help, Wrong, NotText, NoMemory}
@@ -9,7 +9,6 @@ use Rattle.replay.specs.declared.fault.Fault.TheVariants.{BadLine, CannotRead, C
 use Rattle.replay.specs.declared.fault.Fault.TheVariants as fault
 use Rattle.replay.specs.declared.shown.Shown.{Shown}
 use Rattle.replay.specs.Commands.{Leaves}
-use Rattle.replay.specs.Faults.{fault_line}
 use Rattle.replay.specs.Refusals.{IsHelp, refusal_status, refusal_text}
 use Rattle.replay.specs.Statuses.{status_of}
 
@@ -32,16 +31,6 @@ refused-short words (Help text) status A F E B Failed Told Same T is help refuse
 refused-short words (Wrong text) status A F E B Failed Told Same T is help refused four = absurd (let two : 2 ≡ 4 = sym (refused (λ h. h)).0 ∙ four in cc (two))
 refused-short words NotText status A F E B Failed Told Same T is help refused four = absurd is
 refused-short words NoMemory status A F E B Failed Told Same T is help refused four = let told = refused (λ h. h) in (told.1, told.2)
-
--- refused words that end with more than 2 are told by the line of a fault with that status
-pub refused-told : (r : Refusal) (status : ℕ) (A F E B Failed Same : Type 0) (T : List ℕ → Type 0) → (IsHelp r → ((status ≡ 0) × A × F × E) ⊎ ((status ≡ 3) × B × Failed × T (fault_line CannotWriteOutput))) → (¬ (IsHelp r) → (status ≡ refusal_status r) × Same × T (refusal_text r)) → 2 < status → (f : Fault) × (status ≡ status_of f) × T (fault_line f)
-refused-told (Help text) status A F E B Failed Same T help refused more = elim (help tt) [
-  | inl shown ↦ absurd (let zero = shown.0 in omega (arith, more, zero))
-  | inr failed ↦ (CannotWriteOutput, failed.0, failed.3)
-]
-refused-told (Wrong text) status A F E B Failed Same T help refused more = absurd (let two = (refused (λ h. h)).0 in omega (arith, more, two))
-refused-told NotText status A F E B Failed Same T help refused more = absurd (let two = (refused (λ h. h)).0 in omega (arith, more, two))
-refused-told NoMemory status A F E B Failed Same T help refused more = let told = refused (λ h. h) in (fault.NoMemory, told.0, told.2)
 
 -- a fault with status 4 leaves nothing on the writer
 pub short-leaves : {O : Type 0} (IsDone : Shown → Type 0) (taken : O → Option (List ℕ)) (has_failed : O → Type 0) (old new : O) (f : Fault) → status_of f ≡ 4 → Leaves IsDone taken has_failed old new f → new ≡ old

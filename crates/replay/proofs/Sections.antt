@@ -14,7 +14,6 @@ use Rattle.player.specs.Played.{PlayedState}
 use Rattle.replay.specs.Audits.{IsHistoryText}
 use Rattle.replay.specs.Commands.{IsRunText}
 use Rattle.replay.specs.Scripts.{IsListing, IsListingBegun}
-use Rattle.replay.specs.Tellings.{open_section}
 
 -- what begins as a listing does, and goes on with the history, is the listing
 whole_listing : (refused : List RefusedLine) (entries : List Entry) (tokens : List TokenRun) (locks : List HeldLock) (history : List Item) (start text : List ℕ) → start ≡ listing_start refused entries tokens locks → text ≡ start ++ history_text history → text ≡ listing_text refused entries tokens locks history
@@ -31,11 +30,10 @@ listing_goes_on played start told text begun h is = record {
   sections = whole_listing played.refused played.journal.entries begun.tokens begun.locks h.0 start text begun.start (is ∙ ap (λ (bytes : List ℕ). start ++ bytes) h.3);
 }
 
--- so is it with the section of open calls behind it
-pub run_shown : (played : PlayedState) (with_open : Bool) (j : JournalFields) (start told text behind whole : List ℕ) → IsListingBegun played start → j ≡ played.journal → IsHistoryText j told → text ≡ start ++ told → behind ≡ open_section with_open j → whole ≡ text ++ behind → IsRunText played with_open false whole
-run_shown played with_open j start told text behind whole begun same h text_is behind_is is =
-    let history = subst (λ (i : JournalFields). IsHistoryText i told) same h in
-    (text, listing_goes_on played start told text begun history text_is, is ∙ ap (λ (bytes : List ℕ). text ++ bytes) (behind_is ∙ ap (open_section with_open) same))
+-- so is it with what is told of open calls behind it
+pub run_shown : (played : PlayedState) (with_open : Bool) (j : JournalFields) (start told text behind whole : List ℕ) → IsListingBegun played start → j ≡ played.journal → IsHistoryText j told → text ≡ start ++ told → (with_open ≡ false → behind ≡ []) → whole ≡ text ++ behind → IsRunText played with_open false whole
+run_shown played with_open j start told text behind whole begun same h text_is none is =
+    (text, listing_goes_on played start told text begun (subst (λ (i : JournalFields). IsHistoryText i told) same h) text_is, (behind, none, is))
 
 -- what stands at one more entry
 pub items_go_on : (first : Option Item) (rest : List (Option Item)) → flat_map history_line (items_in (first ∷ rest)) ≡ flat_map history_line (cons_option first []) ++ flat_map history_line (items_in rest)

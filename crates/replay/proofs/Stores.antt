@@ -1,8 +1,9 @@
 -- Lemmas on what stores hold.
-use Rattle.std.proofs.Common.{◌≢◌, ℕ, List, Option, Some, None, sym, ap, inl, inr}
-use Rattle.std.specs.Prelude.{◌↔◌}
-use Rattle.command_line.specs.Tasks.{Task, run, threads, audit, history, explain, open_calls, check, picture, from_strace, recorded_history, explore, schedule, judge, journal_path}
-use Rattle.replay.specs.Commands.{SameButJournal}
+use Rattle.std.proofs.Common.{◌≡◌, ◌≢◌, ℕ, List, Option, Some, None, String, sym, subst, ap, inl, inr}
+use Rattle.std.specs.Prelude.{◌↔◌, IsUtf8, string_bytes}
+use Rattle.std.specs.Global.{Global}
+use Rattle.std.proofs.lemmas.Str.{IsUtf8-string_bytes}
+use Rattle.replay.specs.Commands.{SameBut}
 use Rattle.replay.specs.Stores.{Files, HasNoText, HasText, SameFiles, SameOthers}
 
 pub same : (files : Files) → SameFiles files files
@@ -32,19 +33,10 @@ had-no_text old new path same (inl none) = inl ((same path None).0 none)
 had-no_text old new path same (inr no_text) = inr (no_text.0, (same path (Some no_text.0)).0 no_text.1, no_text.2)
 
 -- a file that is not that of the journal is as it was
-pub same-unless : (old new : Files) (task : Task) (path : List ℕ) (file : Option (List ℕ)) → SameButJournal task old new → journal_path task ≢ Some path → new path file ↔ old path file
-same-unless old new (run script after None compares with_open quiet) path file kept owing_nothing = kept path file
-same-unless old new (run script after (Some other) compares with_open quiet) path file kept owing_nothing = kept path file (λ is. owing_nothing (ap (λ (p : List ℕ). Some p) (sym is)))
-same-unless old new (threads script seed may_stop no_join None) path file kept owing_nothing = kept path file
-same-unless old new (threads script seed may_stop no_join (Some other)) path file kept owing_nothing = kept path file (λ is. owing_nothing (ap (λ (p : List ℕ). Some p) (sym is)))
-same-unless old new (audit journal) path file kept owing_nothing = kept path file
-same-unless old new (history journal as_clients) path file kept owing_nothing = kept path file
-same-unless old new (explain journal name) path file kept owing_nothing = kept path file
-same-unless old new (open_calls journal) path file kept owing_nothing = kept path file
-same-unless old new (check scripts journal) path file kept owing_nothing = kept path file
-same-unless old new (picture journal name from to format) path file kept owing_nothing = kept path file
-same-unless old new (from_strace recording nodes places) path file kept owing_nothing = kept path file
-same-unless old new (recorded_history words) path file kept owing_nothing = kept path file
-same-unless old new (explore script seeds first failures) path file kept owing_nothing = kept path file
-same-unless old new (schedule script seed failures) path file kept owing_nothing = kept path file
-same-unless old new (judge t) path file kept owing_nothing = kept path file
+pub same-unless : (old new : Files) (to : Option (List ℕ)) (path : List ℕ) (file : Option (List ℕ)) → SameBut to old new → to ≢ Some path → new path file ↔ old path file
+same-unless old new None path file kept other = kept path file
+same-unless old new (Some named) path file kept other = kept path file (λ is. other (ap (λ (p : List ℕ). Some p) (sym is)))
+
+-- the text that was read of a file is its text
+pub text-held : (Holds : Option (List ℕ) → Type 0) (text : String Global) (bytes : List ℕ) → bytes ≡ string_bytes text → Holds (Some (string_bytes text)) → Holds (Some bytes) × IsUtf8 bytes
+text-held Holds text bytes is holds = (subst (λ (b : List ℕ). Holds (Some b)) (sym is) holds, subst IsUtf8 (sym is) (IsUtf8-string_bytes text))

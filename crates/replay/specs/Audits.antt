@@ -13,7 +13,7 @@ use Rattle.lockscript.specs.Listing.{history_text}
 use Rattle.replay.specs.declared.audit.Audited.{Audited}
 use Rattle.replay.specs.declared.audit.Audited.TheVariants.{Run, Wrong}
 use Rattle.replay.specs.declared.shown.Shown.{Shown}
-use Rattle.replay.specs.declared.shown.Shown.TheVariants.{Text, Wanting, Partial, Noted, Undecided, Yes, No}
+use Rattle.replay.specs.declared.shown.Shown.TheVariants.{Text, Yes, No}
 use Rattle.replay.specs.Stores.{HasText}
 
 -- the file writes a journal of these entries, whether they are a run or not
@@ -59,11 +59,7 @@ IsVerdict j (Some position) = IsFirstWrong j.shape j.entries position
 abbrev pub IsAudit : JournalFields → Shown → Type 0
 IsAudit j Yes = IsRun j.shape j.entries
 IsAudit j (No position) = IsFirstWrong j.shape j.entries position
-IsAudit j (Text text) = ⊥
-IsAudit j (Wanting text) = ⊥
-IsAudit j (Partial text told) = ⊥
-IsAudit j (Noted text told) = ⊥
-IsAudit j (Undecided text) = ⊥
+IsAudit j shown = ⊥
 
 -- the text is the one history of the run
 abbrev pub IsHistoryText : JournalFields → List ℕ → Type 0
@@ -76,10 +72,6 @@ IsHistoryUnless false j text = IsHistoryText j text
 
 -- what is shown for the history of the entries, as it is or as clients saw it: it, where they are a run, or the first wrong one
 abbrev pub IsHistory : Bool → JournalFields → Shown → Type 0
-IsHistory as_clients j Yes = ⊥
-IsHistory as_clients j (Wanting text) = ⊥
-IsHistory as_clients j (Partial text told) = ⊥
-IsHistory as_clients j (Noted text told) = ⊥
-IsHistory as_clients j (Undecided text) = ⊥
-IsHistory as_clients j (No position) = IsFirstWrong j.shape j.entries position
 IsHistory as_clients j (Text text) = IsRun j.shape j.entries × IsHistoryUnless as_clients j (string_bytes text)
+IsHistory as_clients j (No position) = IsFirstWrong j.shape j.entries position
+IsHistory as_clients j shown = ⊥

@@ -12,10 +12,9 @@ use Rattle.player.specs.Played.{ComesTo, PlayedState}
 use Rattle.replay.specs.declared.fault.Fault.{Fault}
 use Rattle.replay.specs.declared.fault.Fault.TheVariants.{BadLine, NoMemory, JournalFull}
 use Rattle.replay.specs.declared.shown.Shown.{Shown}
-use Rattle.replay.specs.declared.shown.Shown.TheVariants.{Text, Wanting, Partial, Noted, Undecided, Yes, No}
+use Rattle.replay.specs.declared.shown.Shown.TheVariants.{Text, Wanting}
 use Rattle.replay.specs.Faults.{IsFileFault}
 use Rattle.replay.specs.Stores.{HasText}
-use Rattle.replay.specs.Threads.{IsTaken}
 
 -- the text is a script of a schedule of this one, which comes to something, and makes all calls that it can
 abbrev pub IsScheduleText : Bool → ScriptFields → List ℕ → Type 0
@@ -25,26 +24,17 @@ IsScheduleText failures s text =
 -- what is shown of a schedule of the script that a text writes
 abbrev pub IsScheduled : Bool → List ℕ → Shown → Type 0
 IsScheduled failures text (Text shown) = (s : ScriptFields) × IsForThreads text s × IsScheduleText failures s (string_bytes shown)
-IsScheduled failures text (Wanting shown) = ⊥
-IsScheduled failures text (Partial shown told) = ⊥
-IsScheduled failures text (Noted shown told) = ⊥
-IsScheduled failures text (Undecided shown) = ⊥
-IsScheduled failures text Yes = ⊥
-IsScheduled failures text (No position) = ⊥
+IsScheduled failures text shown = ⊥
 
--- what is shown of the outcomes of the script that a text writes, under schedules of so many seeds from the first on, where none breaks what is expected or one does
-abbrev pub ShowsOutcomes : Bool → ℕ → ℕ → List ℕ → Bool → List ℕ → Type 0
-ShowsOutcomes failures first seeds text breaks shown =
-    (s : ScriptFields) × IsForThreads text s × ((e : Explored) × Explores failures s text first seeds e × (e.breaks ≡ breaks) × (shown ≡ string_bytes e.text))
+-- the script that a text writes has outcomes under schedules of so many seeds from the first on, of which none breaks what is expected or one does
+abbrev pub HasOutcomes : Bool → ℕ → ℕ → List ℕ → Bool → Type 0
+HasOutcomes failures first seeds text breaks = (s : ScriptFields) × IsForThreads text s × ((e : Explored) × Explores failures s text first seeds e × (e.breaks ≡ breaks))
 
+-- what is shown of them: a text, of which nothing is said
 abbrev pub IsExplored : Bool → ℕ → ℕ → List ℕ → Shown → Type 0
-IsExplored failures first seeds text (Text shown) = ShowsOutcomes failures first seeds text false (string_bytes shown)
-IsExplored failures first seeds text (Wanting shown) = ShowsOutcomes failures first seeds text true (string_bytes shown)
-IsExplored failures first seeds text (Partial shown told) = ⊥
-IsExplored failures first seeds text (Noted shown told) = ⊥
-IsExplored failures first seeds text (Undecided shown) = ⊥
-IsExplored failures first seeds text Yes = ⊥
-IsExplored failures first seeds text (No position) = ⊥
+IsExplored failures first seeds text (Text shown) = HasOutcomes failures first seeds text false
+IsExplored failures first seeds text (Wanting shown) = HasOutcomes failures first seeds text true
+IsExplored failures first seeds text shown = ⊥
 
 -- why no schedule is shown of the script that a text writes: a bad line, or one that threads don't take; memory is short, of one that threads take; or a schedule of such a one fills the journal
 abbrev pub IsExploreTextFault : Bool → List ℕ → Fault → Type 0
@@ -53,13 +43,6 @@ IsExploreTextFault failures text NoMemory = (s : ScriptFields) × IsForThreads t
 IsExploreTextFault failures text JournalFull = (s : ScriptFields) × IsForThreads text s × HasFullSchedule failures s
 IsExploreTextFault failures text fault = ⊥
 
--- the same of the script of a file
-abbrev pub ExploreFault : Bool → (Option (List ℕ) → Type 0) → Fault → Type 0
-ExploreFault failures Holds (BadLine line) = HasText Holds (λ text. IsBadOnThreads text line)
-ExploreFault failures Holds NoMemory = IsTaken Holds
-ExploreFault failures Holds JournalFull = (s : ScriptFields) × HasText Holds (λ text. IsForThreads text s) × HasFullSchedule failures s
-ExploreFault failures Holds fault = ⊥
-
--- that, or the file has no text, or memory is short where `RanShort` says it
+-- that is so of the text of the file, or it has none, or memory is short where `RanShort` says it
 abbrev pub IsExploreFault : Bool → (Option (List ℕ) → Type 0) → Type 0 → List ℕ → Fault → Type 0
-IsExploreFault failures Holds RanShort path = IsFileFault Holds RanShort path (ExploreFault failures Holds)
+IsExploreFault failures Holds RanShort path = IsFileFault Holds RanShort path (λ fault. HasText Holds (λ text. IsExploreTextFault failures text fault))

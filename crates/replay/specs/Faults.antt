@@ -1,10 +1,7 @@
 -- What a fault of a part is to the command, what it says of a file, and the line that tells of it.
-use Rattle.std.specs.Prelude.{◌≡◌, ℕ, ◌<◌, ◌⊎◌, ⊤, List, ◌++◌, codes, decimal, length, string_bytes, Option, None, Some, String}
-use Rattle.std.specs.Global.{Global}
+use Rattle.std.specs.Prelude.{◌≡◌, ℕ, ◌<◌, ◌⊎◌, List, ◌++◌, codes, decimal, length, string_bytes, Option}
 use Rattle.cluster_core.specs.Journals.{JournalFields}
 use Rattle.cluster_core.specs.World.{journal_limit}
-use Rattle.diagnosis.specs.JournalReports.{BeginsAsJournal, IsJournalReport}
-use Rattle.diagnosis.specs.Reports.{IsReport}
 use Rattle.journal_text.specs.Readings as readings
 use Rattle.lockscript.specs.declared.error.ParseError.{ParseError}
 use Rattle.lockscript.specs.declared.error.ParseError.TheVariants as parse
@@ -29,12 +26,6 @@ fault_of_parse (parse.BadLine line) = BadLine line
 abbrev pub fault_of_play : PlayError → Fault
 fault_of_play play.NoMemory = NoMemory
 fault_of_play play.JournalFull = JournalFull
-
--- why the bytes of the file of this path are not there: it can't be read, or memory is short
-abbrev pub IsUnread : (Option (List ℕ) → Type 0) → Type 0 → List ℕ → Fault → Type 0
-IsUnread Holds RanShort path (CannotRead named reason) = (named.now ≡ path) × Holds None
-IsUnread Holds RanShort path NoMemory = RanShort
-IsUnread Holds RanShort path fault = ⊥
 
 -- why the text of the file of this path is not there: it has none, or memory is short
 abbrev pub IsTextless : (Option (List ℕ) → Type 0) → Type 0 → List ℕ → Fault → Type 0
@@ -75,28 +66,6 @@ ThreadsFault Holds fault = ⊥
 -- that, or the file has no text, or memory is short where `RanShort` says it
 abbrev pub IsThreadsFault : (Option (List ℕ) → Type 0) → Type 0 → List ℕ → Fault → Type 0
 IsThreadsFault Holds RanShort path = IsFileFault Holds RanShort path (ThreadsFault Holds)
-
--- what is wrong in the text of a file of this path: of one that begins as a journal its first bad line, and of another its bad lines as a script
-abbrev pub IsFaulty : List ℕ → List ℕ → String Global → Type 0
-IsFaulty path text report =
-    (BeginsAsJournal text × IsJournalReport path text (Some report))
-    ⊎ (¬ (BeginsAsJournal text) × ¬ (scripts.HasScript text) × IsReport path text (Some report))
-
--- why the text is not said to be a script or a journal: what is wrong is reported, or memory is short for it
-abbrev pub IsCheckTextFault : List ℕ → List ℕ → Fault → Type 0
-IsCheckTextFault path text (Faulty report) = IsFaulty path text report
-IsCheckTextFault path text NoMemory = ⊤
-IsCheckTextFault path text fault = ⊥
-
--- why the file is not said to be a script or a journal: something is wrong in its text, which is reported, or memory is short for it
-abbrev pub CheckFault : (Option (List ℕ) → Type 0) → List ℕ → Fault → Type 0
-CheckFault Holds path (Faulty report) = HasText Holds (λ text. IsFaulty path text report)
-CheckFault Holds path NoMemory = HasText Holds (λ text. ⊤)
-CheckFault Holds path fault = ⊥
-
--- that, or the file has no text, or memory is short where `RanShort` says it
-abbrev pub IsCheckFault : (Option (List ℕ) → Type 0) → Type 0 → List ℕ → Fault → Type 0
-IsCheckFault Holds RanShort path = IsFileFault Holds RanShort path (CheckFault Holds path)
 
 -- why the journal that the text writes is not audited: a bad line, or too many entries; memory is short for the audit of one that has not too many
 abbrev pub IsTextFault : List ℕ → Fault → Type 0

@@ -1,5 +1,5 @@
--- What is said of histories of files, and why nothing is.
-use Rattle.std.specs.Prelude.{◌≡◌, ◌⊎◌, ⊤, ℕ, false, fold, List, All, Any, Option, Some, None, String}
+-- What is said of histories of files.
+use Rattle.std.specs.Prelude.{◌≡◌, ◌⊎◌, ℕ, false, fold, List, All, Any, Contains, Option, Some, None, String}
 use Rattle.std.specs.Global.{Global}
 use Rattle.command_line.specs.declared.rule.Rule.{Rule as Asked}
 use Rattle.command_line.specs.declared.rule.Rule.TheVariants as asked
@@ -12,16 +12,9 @@ use Rattle.history_text.specs.Histories.{IsHistoryOf}
 use Rattle.judgements.specs.declared.outcome.Outcome.{Outcome}
 use Rattle.judgements.specs.declared.outcome.Outcome.TheVariants as outcome
 use Rattle.judgements.specs.Judgements.{IsJudgement, IsOrdered}
-use Rattle.replay.specs.declared.fault.Fault.{Fault}
-use Rattle.replay.specs.declared.fault.Fault.TheVariants.{CannotRead, NoMemory, Faulty}
 use Rattle.replay.specs.declared.shown.Shown.{Shown}
-use Rattle.replay.specs.declared.shown.Shown.TheVariants.{Text, Wanting, Partial, Noted, Undecided, Yes, No}
-use Rattle.replay.specs.Stores.{Files, HasNoText, HasText}
-
--- this holds of the path, if there is one
-abbrev pub HoldsOf : (List ℕ → Type 0) → Option (List ℕ) → Type 0
-HoldsOf Is None = ⊥
-HoldsOf Is (Some path) = Is path
+use Rattle.replay.specs.declared.shown.Shown.TheVariants.{Text, Wanting, Undecided}
+use Rattle.replay.specs.Stores.{Files, HasText}
 
 -- the rule of a history that a word of a command line asks for
 abbrev pub rule_of : Asked → Rule
@@ -47,10 +40,6 @@ allowed_of rules = fold with_asked no_rule rules
 abbrev pub HasHistoryAt : Allowed → Files → List ℕ → Type 0
 HasHistoryAt allowed old path = HasText (old path) (λ text. (history : History) × IsHistoryOf allowed text history)
 
--- the file has any text
-abbrev pub HasTextAt : Files → List ℕ → Type 0
-HasTextAt old path = HasText (old path) (λ text. ⊤)
-
 -- this is said of the history that a text writes, and is so; where a file of orders is given, it is said by these
 abbrev pub IsSaidIn : Allowed → Option (List ℕ) → List ℕ → Outcome → Type 0
 IsSaidIn allowed None text said = IsJudgement allowed text said
@@ -71,25 +60,8 @@ abbrev pub AreJudged : Files → Allowed → List (List ℕ) → Option (List �
 AreJudged old allowed paths orders (Text text) = All (IsSaidOf allowed orders old outcome.Yes) paths
 AreJudged old allowed paths orders (Wanting text) = All (HasHistoryAt allowed old) paths × Any (IsSaidOf allowed orders old outcome.No) paths
 AreJudged old allowed paths orders (Undecided text) = All (HasHistoryAt allowed old) paths
-AreJudged old allowed paths orders (Partial text told) = ⊥
-AreJudged old allowed paths orders (Noted text told) = ⊥
-AreJudged old allowed paths orders Yes = ⊥
-AreJudged old allowed paths orders (No position) = ⊥
+AreJudged old allowed paths orders shown = ⊥
 
--- the file of this path has no text, and is the one that is named
-abbrev pub IsUnreadAs : Files → List ℕ → List ℕ → Type 0
-IsUnreadAs old named path = (named ≡ path) × HasNoText (old path)
-
--- why the history of a file is not judged
-abbrev pub IsNotJudged : Files → Type 0 → List ℕ → Fault → Type 0
-IsNotJudged old RanShort path (CannotRead named reason) = IsUnreadAs old named.now path
-IsNotJudged old RanShort path NoMemory = RanShort ⊎ HasTextAt old path
-IsNotJudged old RanShort path (Faulty report) = HasTextAt old path
-IsNotJudged old RanShort path fault = ⊥
-
--- why histories are not judged: one of them, or the file of orders, has no text; the text of one is no history, or the orders are none of it, which is reported; or memory is short, where `RanShort` says it or for what one holds
-abbrev pub IsJudgeFault : Files → Type 0 → List (List ℕ) → Option (List ℕ) → Fault → Type 0
-IsJudgeFault old RanShort paths orders (CannotRead named reason) = Any (IsUnreadAs old named.now) paths ⊎ HoldsOf (IsUnreadAs old named.now) orders
-IsJudgeFault old RanShort paths orders NoMemory = RanShort ⊎ Any (HasTextAt old) paths
-IsJudgeFault old RanShort paths orders (Faulty report) = Any (HasTextAt old) paths
-IsJudgeFault old RanShort paths orders fault = ⊥
+-- the path is that of a history, or of the orders
+abbrev pub IsJudgedWith : List (List ℕ) → Option (List ℕ) → List ℕ → Type 0
+IsJudgedWith paths orders path = Contains paths path ⊎ (orders ≡ Some path)

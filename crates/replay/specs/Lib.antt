@@ -11,7 +11,7 @@ pub mod Recordings
 pub mod RecordedHistories
 pub mod Audits
 pub mod Faults
-pub mod FaultLines
+pub mod ToolFaults
 pub mod Tellings
 pub mod Checks
 pub mod Judging

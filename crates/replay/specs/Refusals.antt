@@ -6,9 +6,7 @@ use Rattle.command_line.specs.declared.refusal.Refusal.TheVariants.{Help, Wrong,
 -- the words ask for help, or for the version
 abbrev pub IsHelp : Refusal → Type 0
 IsHelp (Help text) = ⊤
-IsHelp (Wrong text) = ⊥
-IsHelp NotText = ⊥
-IsHelp NoMemory = ⊥
+IsHelp refusal = ⊥
 
 -- what is shown
 abbrev pub refusal_text : Refusal → List ℕ
@@ -26,7 +24,6 @@ refusal_status NoMemory = 4
 
 -- why the words could not be read; what they say is not known then
 abbrev pub AreUnread : Refusal → Type 0
-AreUnread (Help text) = ⊥
-AreUnread (Wrong text) = ⊥
 AreUnread NotText = ⊤
 AreUnread NoMemory = ⊤
+AreUnread refusal = ⊥

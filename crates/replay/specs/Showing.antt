@@ -16,12 +16,10 @@ shown_text (No position) = codes "audit no " ++ decimal position ++ codes "\n"
 -- the exit status: 1 where a journal is none of a run, or lacks a receipt or what was asked for, a run was ended as stuck, an outcome breaks what is expected, a part of a recording is left out, a picture lacks entries that were asked for, a reply of a run is not the one that is expected, or a history is contradicted; 5 where it is not known whether one is
 abbrev pub shown_status : Shown → ℕ
 shown_status (Text text) = 0
-shown_status (Wanting text) = 1
-shown_status (Partial text told) = 1
 shown_status (Noted text told) = 0
-shown_status (Undecided text) = 5
 shown_status Yes = 0
-shown_status (No position) = 1
+shown_status (Undecided text) = 5
+shown_status shown = 1
 
 -- what a second writer gets beside it, unless it fails: of a run that was ended as stuck the lines of its open calls, of a recording its notes, of a picture what it lacks, of a run that is compared what was expected otherwise, of a script its warnings; else nothing
 abbrev pub TellsBeside : {E : Type 0} → (E → Option (List ℕ)) → (E → Type 0) → E → E → Shown → Type 0

@@ -12,7 +12,7 @@ use Rattle.lockscript.specs.Scripts.{ScriptFields}
 use Rattle.message_text.specs.Names.{call_text}
 use Rattle.lockscript.specs.ThreadLines.{IsForThreads}
 use Rattle.replay.specs.declared.shown.Shown.{Shown}
-use Rattle.replay.specs.declared.shown.Shown.TheVariants.{Text, Wanting, Partial, Noted, Undecided, Yes, No}
+use Rattle.replay.specs.declared.shown.Shown.TheVariants.{Text, Wanting, Partial}
 use Rattle.replay.specs.Counts.{IsCount}
 use Rattle.replay.specs.Scripts.{IsListing}
 use Rattle.replay.specs.Stores.{HasText}
@@ -77,7 +77,4 @@ abbrev pub ShowsThreads : ThreadedFields → Shown → Type 0
 ShowsThreads t (Text text) = (t.stuck ≡ []) × (t.held ≡ t.answered) × (string_bytes text ≡ threads_text t)
 ShowsThreads t (Wanting text) = (t.stuck ≡ []) × (t.held ≢ t.answered) × (string_bytes text ≡ threads_text t)
 ShowsThreads t (Partial text told) = (t.stuck ≢ []) × (string_bytes text ≡ threads_text t) × (string_bytes told ≡ t.stuck)
-ShowsThreads t (Noted text told) = ⊥
-ShowsThreads t (Undecided text) = ⊥
-ShowsThreads t Yes = ⊥
-ShowsThreads t (No position) = ⊥
+ShowsThreads t shown = ⊥

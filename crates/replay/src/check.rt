@@ -1,16 +1,16 @@
 //! What is wrong in scripts or journals of files, and whether a journal can be written to another.
-ghost use Rattle.std.specs.Prelude.{◌≡◌, ◌≢◌, ◌⊎◌, false, map, option_map, IfErr, IfOk};
+ghost use Rattle.std.specs.Prelude.{◌≡◌, ◌≢◌, ◌⊎◌, Any, Contains, IsSomeAnd, map, option_map, IfErr, IfOk};
 ghost use Rattle.command_line.specs.Tasks.{check};
-ghost use Rattle.replay.specs.declared.fault.Fault.TheVariants.{CannotWriteOutput, NoMemory};
-ghost use Rattle.replay.specs.Checks.{AreChecked, AreCheckFault, IsChecksFault, IsTrialFault};
+ghost use Rattle.replay.specs.declared.fault.Fault.TheVariants.{CannotWriteOutput};
+ghost use Rattle.replay.specs.Checks.{AreChecked, IsAtFault};
 ghost use Rattle.replay.specs.Commands.{Does, IsFault};
 ghost use Rattle.replay.specs.Stores.{SameFiles};
+ghost use Rattle.replay.specs.ToolFaults.{IsReportOf, IsToolFault};
 
 use crate::check_reports::{push_fault, push_reason};
-use crate::check_text::checked_at;
 use crate::fault::Fault;
 use crate::reason::Reason;
-use crate::several::several_checked;
+use crate::several::all_checked;
 use crate::shown::Shown;
 use crate::store::{Store, StoreError};
 use player::watcher::Watcher;
@@ -29,11 +29,11 @@ pub(crate) fn check<'a, S: Store, V: Watcher>(
     ensures fault { IfErr result (λ fault. (fault ≢ CannotWriteOutput)
         × IsFault (S.holds store.old) (S.ran_short store.new) (S.refuses store.new) (check (map (λ path. path.now) paths.now) (option_map (λ file. file.now) journal.entry)) (S.holds store.new) fault) }
 {
-    all_checked(alloc, store, paths, journal, watcher)
+    checked_beside_trial(alloc, store, paths, journal, watcher)
 }
 
 // The same, by what is known of the files.
-fn all_checked<'a, S: Store, V: Watcher>(
+fn checked_beside_trial<'a, S: Store, V: Watcher>(
     alloc: Global,
     store: &mut S,
     paths: &[&'a str],
@@ -41,33 +41,16 @@ fn all_checked<'a, S: Store, V: Watcher>(
     watcher: &mut V,
 ) -> Result<Shown, Fault<'a>>
     ensures done { IfOk result (AreChecked (S.holds store.old) (map (λ path. path.now) paths.now)) }
-    ensures fault { IfErr result (IsChecksFault (S.holds store.old) (S.ran_short store.new) (S.refuses store.new) (map (λ path. path.now) paths.now) (option_map (λ file. file.now) journal.entry)) }
+    ensures fault { IfErr result (IsToolFault (S.holds store.old) (Contains (map (λ path. path.now) paths.now))
+        (Any (IsAtFault (S.holds store.old)) (map (λ path. path.now) paths.now) ⊎ IsSomeAnd (option_map (λ file. file.now) journal.entry) (S.refuses store.new))) }
     ensures files { SameFiles (S.holds store.old) (S.holds store.new) }
 {
-    match looked_at(alloc, store, paths, watcher) {
+    match all_checked(alloc, store, paths, watcher) {
         Ok(shown) => {
             tried(alloc, store, journal, None)?;
             Ok(shown)
         }
         Err(fault) => Err(beside_trial(alloc, store, journal, fault)),
-    }
-}
-
-// What is shown of the files, one or several.
-fn looked_at<'a, S: Store, V: Watcher>(
-    alloc: Global,
-    store: &mut S,
-    paths: &[&'a str],
-    watcher: &mut V,
-) -> Result<Shown, Fault<'a>>
-    ensures done { IfOk result (AreChecked (S.holds store.old) (map (λ path. path.now) paths.now)) }
-    ensures fault { IfErr result (AreCheckFault (S.holds store.old) (S.ran_short store.new) (map (λ path. path.now) paths.now)) }
-    ensures files { SameFiles (S.holds store.old) (S.holds store.new) }
-{
-    if paths.len() == 1 {
-        checked_at(alloc, store, paths[0], watcher)
-    } else {
-        several_checked(alloc, store, paths, watcher)
     }
 }
 
@@ -78,23 +61,16 @@ fn beside_trial<'a, S: Store>(
     journal: Option<&'a str>,
     fault: Fault<'a>,
 ) -> Fault<'a>
-    ensures fault { ((result ≡ fault.entry) × (fault.entry ≡ NoMemory → store.new ≡ store.old)) ⊎ IsTrialFault (S.ran_short store.new) (S.refuses store.new) (option_map (λ file. file.now) journal.entry) result }
+    ensures fault { (result ≡ fault.entry) ⊎ IsReportOf (IsSomeAnd (option_map (λ file. file.now) journal.entry) (S.refuses store.new)) result }
     ensures files { SameFiles (S.holds store.old) (S.holds store.new) }
 {
-    if is_short(&fault) {
+    if matches!(&fault, Fault::NoMemory) {
         return fault;
     }
     match tried(alloc, store, journal, Some(&fault)) {
         Ok(()) => fault,
         Err(other) => other,
     }
-}
-
-// Whether memory was short.
-fn is_short(fault: &Fault<'_>) -> bool
-    ensures { result ≡ false → fault.now ≢ NoMemory }
-{
-    matches!(fault, Fault::NoMemory)
 }
 
 // Whether a journal could be written to the file, if one is named. Where it could not, that is told behind the fault that
@@ -105,7 +81,7 @@ fn tried<'a, S: Store>(
     journal: Option<&'a str>,
     found: Option<&Fault<'a>>,
 ) -> Result<(), Fault<'a>>
-    ensures fault { IfErr result (IsTrialFault (S.ran_short store.new) (S.refuses store.new) (option_map (λ file. file.now) journal.entry)) }
+    ensures fault { IfErr result (IsReportOf (IsSomeAnd (option_map (λ file. file.now) journal.entry) (S.refuses store.new))) }
     ensures files { SameFiles (S.holds store.old) (S.holds store.new) }
 {
     let Some(file) = journal else {

@@ -1,4 +1,4 @@
-//! What is told of files that are checked, one behind the other.
+//! What is told of several files, one behind the other.
 use crate::fault::Fault;
 use crate::reason::Reason;
 use itoa::Buffer;
@@ -42,11 +42,25 @@ pub(crate) fn push_reason(
     out.push_str("\n")
 }
 
-/// Writes each line of a text behind the path of its file.
+/// Writes a text, each line of it behind the path of its file if that is to stand there.
 ///
 /// # Errors
 /// `AllocError` where a request for memory was refused.
-pub(crate) fn push_lines(out: &mut String, path: &str, text: &str) -> Result<(), AllocError> {
+pub(crate) fn push_named(
+    out: &mut String,
+    path: &str,
+    text: &str,
+    named: bool,
+) -> Result<(), AllocError> {
+    if named {
+        push_lines(out, path, text)
+    } else {
+        out.push_str(text)
+    }
+}
+
+// Writes each line of a text behind the path of its file.
+fn push_lines(out: &mut String, path: &str, text: &str) -> Result<(), AllocError> {
     for line in text.lines() {
         writeln!(out, "{path}: {line}")?;
     }

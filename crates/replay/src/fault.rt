@@ -1,12 +1,11 @@
 //! Why a command was not done.
-ghost use Rattle.std.specs.Prelude.{◌≡◌, ◌++◌, ℕ, List, codes};
+ghost use Rattle.std.specs.Prelude.{◌≡◌};
 ghost use Rattle.replay.specs.declared.fault.Fault.TheVariants.{NoMemory};
-ghost use Rattle.replay.specs.FaultLines.{IsFaultLine};
 ghost use Rattle.replay.specs.Faults.{fault_line, fault_of_parse, fault_of_play};
 ghost use Rattle.replay.specs.Outputs.{Writes};
 ghost use Rattle.replay.specs.Statuses.{status_of};
 
-use crate::output::{Output, WriteFailed, put_line, put_pair};
+use crate::output::{Output, WriteFailed, put_line};
 use crate::reason::Reason;
 use itoa::Buffer;
 use lockscript::error::ParseError;
@@ -76,9 +75,7 @@ impl Fault<'_> {
     ///
     /// # Errors
     /// Where the writer fails, which took a beginning of the line.
-    pub fn write_reasoned<E: Output>(&self, err: &mut E) -> Result<(), WriteFailed>
-        ensures { (text : List ℕ) × IsFaultLine self.now text × Writes (E.taken err.old) (E.taken err.new) (E.has_failed err.new) text result }
-    {
+    pub fn write_reasoned<E: Output>(&self, err: &mut E) -> Result<(), WriteFailed> {
         match self {
             Fault::CannotRead(path, reason) => put_reason(err, "cannot read ", path, *reason),
             Fault::CannotWrite(path, reason) => put_reason(err, "cannot write ", path, *reason),
@@ -93,16 +90,17 @@ fn put_reason<E: Output>(
     start: &str,
     path: &str,
     reason: Reason,
-) -> Result<(), WriteFailed>
-    ensures { (why : List ℕ) × Writes (E.taken err.old) (E.taken err.new) (E.has_failed err.new) (start.now ++ path.now ++ codes ": " ++ why ++ codes "\n") result }
-{
+) -> Result<(), WriteFailed> {
     let mut line_room = Buffer::new();
     let mut column_room = Buffer::new();
     let words = reason.words(&mut line_room, &mut column_room);
-    put_pair(err, start, path)?;
+    err.put(start.as_bytes())?;
+    err.put(path.as_bytes())?;
     err.put(b": ")?;
-    put_pair(err, words.front, words.line)?;
-    put_pair(err, words.between, words.column)?;
+    err.put(words.front.as_bytes())?;
+    err.put(words.line.as_bytes())?;
+    err.put(words.between.as_bytes())?;
+    err.put(words.column.as_bytes())?;
     err.put(b"\n")
 }
 

@@ -1,6 +1,6 @@
 //! Reading the files that commands read.
-ghost use Rattle.std.specs.Prelude.{◌≡◌, string_bytes, IfErr, IfOk, Some};
-ghost use Rattle.replay.specs.Faults.{IsTextless, IsUnread};
+ghost use Rattle.std.specs.Prelude.{string_bytes, IfErr, IfOk, Some};
+ghost use Rattle.replay.specs.Faults.{IsTextless};
 ghost use Rattle.replay.specs.Stores.{SameFiles};
 
 use crate::fault::Fault;
@@ -8,19 +8,6 @@ use crate::reason::{Reason, not_text_behind};
 use crate::store::{Store, StoreError};
 use std::alloc::Global;
 use std::string::FromUtf8Error;
-
-// The bytes of a file.
-fn bytes_of<'a, S: Store>(alloc: Global, store: &mut S, path: &'a str) -> Result<Vec<u8>, Fault<'a>>
-    ensures bytes { IfOk result (λ bytes. S.holds store.old path.now (Some bytes.items)) }
-    ensures fault { IfErr result (IsUnread (S.holds store.old path.now) (S.ran_short store.new) path.now) }
-    ensures files { SameFiles (S.holds store.old) (S.holds store.new) }
-{
-    match store.read(alloc, path) {
-        Ok(bytes) => Ok(bytes),
-        Err(StoreError::NoMemory) => Err(Fault::NoMemory),
-        Err(StoreError::Failed(reason)) => Err(Fault::CannotRead(path, reason)),
-    }
-}
 
 // The text of a file.
 pub(crate) fn text_of<'a, S: Store>(
@@ -32,7 +19,11 @@ pub(crate) fn text_of<'a, S: Store>(
     ensures fault { IfErr result (IsTextless (S.holds store.old path.now) (S.ran_short store.new) path.now) }
     ensures files { SameFiles (S.holds store.old) (S.holds store.new) }
 {
-    let bytes = bytes_of(alloc, store, path)?;
+    let bytes = match store.read(alloc, path) {
+        Ok(bytes) => bytes,
+        Err(StoreError::NoMemory) => return Err(Fault::NoMemory),
+        Err(StoreError::Failed(reason)) => return Err(Fault::CannotRead(path, reason)),
+    };
     match String::from_utf8(bytes) {
         Ok(text) => Ok(text),
         Err(error) => Err(Fault::CannotRead(path, not_text_in(&error))),

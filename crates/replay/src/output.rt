@@ -86,17 +86,6 @@ pub(crate) fn put_line<O: Output>(out: &mut O, start: &str, end: &str) -> Result
     out.put(b"\n")
 }
 
-/// Writes two parts, one behind the other.
-///
-/// # Errors
-/// Where the writer fails, which took a beginning of them.
-pub(crate) fn put_pair<O: Output>(out: &mut O, start: &str, end: &str) -> Result<(), WriteFailed>
-    ensures { Writes (O.taken out.old) (O.taken out.new) (O.has_failed out.new) (start.now ++ end.now) result }
-{
-    out.put(start.as_bytes())?;
-    out.put(end.as_bytes())
-}
-
 /// Writes all of the text, and sends it on.
 ///
 /// # Errors

@@ -1,10 +1,8 @@
 //! Doing what a command line asks for.
-ghost use Rattle.std.specs.Prelude.{◌≡◌, ◌≢◌, ◌≤◌, ◌<◌, ◌⊎◌, ℕ, List, None, Some, IfErr, IfOk, OnErr, OnOk};
+ghost use Rattle.std.specs.Prelude.{◌≡◌, ◌≢◌, ◌≤◌, ◌<◌, ◌⊎◌, false, IfErr, IfOk, OnOk};
 ghost use Rattle.std.specs.Io.KnownBytes.{Appends};
-ghost use Rattle.command_line.specs.Tasks.{task_of};
-ghost use Rattle.replay.specs.declared.fault.Fault.TheVariants.{CannotWriteOutput};
-ghost use Rattle.replay.specs.Commands.{Does, IsCheck, IsFault, IsJudge, Leaves, SameButJournal, Shows, TellsFault};
-ghost use Rattle.replay.specs.FaultLines.{IsFaultLine, IsFaultOf, says_why};
+ghost use Rattle.command_line.specs.Tasks.{journal_path, task_of};
+ghost use Rattle.replay.specs.Commands.{Does, IsCheck, IsFault, IsJudge, Leaves, SameBut, Shows, TellsFault, says_why};
 ghost use Rattle.replay.specs.Faults.{fault_line};
 ghost use Rattle.replay.specs.Outputs.{WritesOrFails};
 ghost use Rattle.replay.specs.Showing.{TellsBeside, shown_text};
@@ -74,12 +72,12 @@ pub fn perform<
         (TellsBeside E.taken E.has_failed err.old err.new) result }
     ensures quiet { result ≡ 0 → (err.new ≡ err.old) ⊎ IsCheck (task_of line.now) }
 
-    // Else the status and a line on the second writer tell of the first fault.
+    // Else the status tells of the first fault, and, of commands whose lines are fixed, a line on the second writer.
     ensures fault { 1 < result → result ≢ 5 → TellsFault (IsFault (S.holds store.old) (S.ran_short store.new) (S.refuses store.new) (task_of line.now) (S.holds store.new))
         (Leaves (Does (S.holds store.old) (task_of line.now) (S.holds store.new)) O.taken O.has_failed out.old out.new)
-        (λ fault. (text : List ℕ) × IsFaultOf (task_of line.now) fault text × WritesOrFails (E.taken err.old) (E.taken err.new) (E.has_failed err.new) text) result }
+        (λ fault. says_why (task_of line.now) ≡ false → WritesOrFails (E.taken err.old) (E.taken err.new) (E.has_failed err.new) (fault_line fault)) result }
 
-    ensures files { SameButJournal (task_of line.now) (S.holds store.old) (S.holds store.new) }
+    ensures files { SameBut (journal_path (task_of line.now)) (S.holds store.old) (S.holds store.new) }
 {
     match done(rt, alloc, line, store, out, watcher) {
         Ok(shown) => {
@@ -93,7 +91,7 @@ pub fn perform<
 // Writes why the line was not done, with the reason where such lines say it, and answers the exit status.
 fn report_of<E: Output>(line: &Line<'_>, fault: &Fault<'_>, err: &mut E) -> u8
     ensures status { result ≡ status_of fault.now }
-    ensures told { (text : List ℕ) × IsFaultOf (task_of line.now) fault.now text × WritesOrFails (E.taken err.old) (E.taken err.new) (E.has_failed err.new) text }
+    ensures told { says_why (task_of line.now) ≡ false → WritesOrFails (E.taken err.old) (E.taken err.new) (E.has_failed err.new) (fault_line fault.now) }
 {
     if says_why(line) {
         report_with_reason(fault, err)
@@ -131,8 +129,7 @@ pub(crate) fn report<E: Output>(fault: &Fault<'_>, err: &mut E) -> u8
 
 // The same, with the reason behind the path of a file.
 fn report_with_reason<E: Output>(fault: &Fault<'_>, err: &mut E) -> u8
-    ensures status { result ≡ status_of fault.now }
-    ensures told { (text : List ℕ) × IsFaultLine fault.now text × WritesOrFails (E.taken err.old) (E.taken err.new) (E.has_failed err.new) text }
+    ensures { result ≡ status_of fault.now }
 {
     let _ = fault.write_reasoned(err);
     fault.status()

@@ -1,12 +1,11 @@
 //! The script of a recording of lock calls.
-ghost use Rattle.std.specs.Prelude.{◌≡◌, ◌≢◌, ⊤, false, List, IfErr, IfOk, OnOk};
+ghost use Rattle.std.specs.Prelude.{◌≡◌, ⊤, false, IfErr, IfOk, OnOk};
 ghost use Rattle.std.specs.List.{list_any};
 ghost use Rattle.std.specs.Option.{option_map};
-ghost use Rattle.command_line.specs.Tasks.{from_strace};
-ghost use Rattle.replay.specs.declared.fault.Fault.TheVariants.{CannotWriteOutput};
-ghost use Rattle.replay.specs.Commands.{Does, IsFault};
-ghost use Rattle.recordings.specs.Places.{PlacingFields, is_past};
-ghost use Rattle.replay.specs.Recordings.{ArePlaced, IsMade, IsMisplaced, IsRecorded, IsShortOr, LacksNodes};
+ghost use Rattle.recordings.specs.Places.{is_past};
+ghost use Rattle.replay.specs.Recordings.{ArePlaced, IsMade, IsRecorded};
+ghost use Rattle.replay.specs.Stores.{HasTextAt, SameFiles};
+ghost use Rattle.replay.specs.ToolFaults.{IsReportOf, IsToolFault};
 
 use crate::fault::Fault;
 use crate::input::text_of;
@@ -36,9 +35,9 @@ pub(crate) fn recorded<'a, S: Store>(
     nodes: u8,
     places: Option<&str>,
 ) -> Result<Shown, Fault<'a>>
-    ensures done { IfOk result (Does (S.holds store.old) (from_strace path.now nodes (option_map (λ words. words.now) places.entry)) (S.holds store.new)) }
-    ensures fault { IfErr result (λ fault. (fault ≢ CannotWriteOutput)
-        × IsFault (S.holds store.old) (S.ran_short store.new) (S.refuses store.new) (from_strace path.now nodes (option_map (λ words. words.now) places.entry)) (S.holds store.new) fault) }
+    ensures done { IfOk result (λ shown. HasTextAt (S.holds store.old) path.now × IsRecorded nodes (option_map (λ words. words.now) places.entry) shown) }
+    ensures fault { IfErr result (IsToolFault (S.holds store.old) (λ file. file ≡ path.now) ⊤) }
+    ensures files { SameFiles (S.holds store.old) (S.holds store.new) }
 {
     let text = text_of(alloc, store, path)?;
     recorded_in(alloc, text.as_str(), nodes, places)
@@ -52,7 +51,7 @@ fn recorded_in<'a>(
     places: Option<&str>,
 ) -> Result<Shown, Fault<'a>>
     ensures done { IfOk result (IsRecorded nodes (option_map (λ words. words.now) places.entry)) }
-    ensures fault { IfErr result (IsShortOr (IsMisplaced nodes (option_map (λ words. words.now) places.entry))) }
+    ensures fault { IfErr result (IsReportOf ⊤) }
 {
     let placings = placings_in(alloc, places)?;
     made_of(alloc, text, nodes, placings.as_slice())
@@ -61,7 +60,7 @@ fn recorded_in<'a>(
 // The placings that the words write.
 fn placings_in<'a>(alloc: Global, places: Option<&str>) -> Result<Vec<Placing>, Fault<'a>>
     ensures value { IfOk result (λ placings. ArePlaced (option_map (λ words. words.now) places.entry) placings.items) }
-    ensures fault { IfErr result (IsShortOr ((placings : List PlacingFields) → ArePlaced (option_map (λ words. words.now) places.entry) placings → ⊥)) }
+    ensures fault { IfErr result (IsReportOf ⊤) }
 {
     let Some(words) = places else {
         return Ok(Vec::new(alloc));
@@ -82,7 +81,7 @@ fn made_of<'a>(
 ) -> Result<Shown, Fault<'a>>
     ensures done { IfOk result (IsMade nodes placings.now) }
     ensures placed { OnOk result (list_any (is_past nodes) placings.now ≡ false) }
-    ensures fault { IfErr result (IsShortOr (LacksNodes nodes placings.now)) }
+    ensures fault { IfErr result (IsReportOf ⊤) }
 {
     let made = match script_of(alloc, text, nodes, placings) {
         Ok(made) => made,
@@ -102,7 +101,7 @@ fn made_of<'a>(
 
 /// The fault that this line tells.
 pub(crate) fn told<'a>(alloc: Global, line: &str) -> Fault<'a>
-    ensures { IsShortOr ⊤ result }
+    ensures { IsReportOf ⊤ result }
 {
     match String::from_str(alloc, line) {
         Ok(line) => Fault::Faulty(line),

@@ -1,11 +1,8 @@
 //! The history of clients of recordings of lock calls.
-ghost use Rattle.std.specs.Prelude.{◌≢◌, ⊤, map, IfErr, IfOk, MatchOption, OnOk};
-ghost use Rattle.command_line.specs.Tasks.{recorded_history};
-ghost use Rattle.replay.specs.declared.fault.Fault.TheVariants.{CannotWriteOutput};
-ghost use Rattle.replay.specs.Commands.{Does, IsFault};
-ghost use Rattle.replay.specs.RecordedHistories.{AreRecorded, HasRecordingIn, IsNotRecorded, IsPathIn, IsRecordedFault, IsRecordedShown, NamesNoMachine};
-ghost use Rattle.replay.specs.Recordings.{IsShortOr};
+ghost use Rattle.std.specs.Prelude.{⊤, map, IfErr, IfOk, IfSome, OnOk};
+ghost use Rattle.replay.specs.RecordedHistories.{AreRecorded, HasRecordingIn, IsPathIn, IsRecordedShown, IsRecordingOf};
 ghost use Rattle.replay.specs.Stores.{SameFiles};
+ghost use Rattle.replay.specs.ToolFaults.{IsReportOf, IsToolFault};
 
 use crate::fault::Fault;
 use crate::input::text_of;
@@ -49,9 +46,9 @@ pub(crate) fn recorded_history<'a, S: Store>(
     store: &mut S,
     words: &[&'a str],
 ) -> Result<Shown, Fault<'a>>
-    ensures done { IfOk result (Does (S.holds store.old) (recorded_history (map (λ word. word.now) words.now)) (S.holds store.new)) }
-    ensures fault { IfErr result (λ fault. (fault ≢ CannotWriteOutput)
-        × IsFault (S.holds store.old) (S.ran_short store.new) (S.refuses store.new) (recorded_history (map (λ word. word.now) words.now)) (S.holds store.new) fault) }
+    ensures done { IfOk result (λ shown. AreRecorded (S.holds store.old) (map (λ word. word.now) words.now) × IsRecordedShown shown) }
+    ensures fault { IfErr result (IsToolFault (S.holds store.old) (IsRecordingOf (map (λ word. word.now) words.now)) ⊤) }
+    ensures files { SameFiles (S.holds store.old) (S.holds store.new) }
 {
     let recordings = all_read(alloc, store, words)?;
     history_shown(alloc, recordings.as_slice())
@@ -64,7 +61,7 @@ fn all_read<'a, S: Store>(
     words: &[&'a str],
 ) -> Result<Vec<Recorded<'a>>, Fault<'a>>
     ensures done { IfOk result (λ recordings. AreRecorded (S.holds store.old) (map (λ word. word.now) words.now)) }
-    ensures fault { IfErr result (IsRecordedFault (S.holds store.old) (map (λ word. word.now) words.now)) }
+    ensures fault { IfErr result (IsToolFault (S.holds store.old) (IsRecordingOf (map (λ word. word.now) words.now)) ⊤) }
     ensures files { SameFiles (S.holds store.old) (S.holds store.new) }
 {
     let is_alone = words.len() == 1;
@@ -84,7 +81,7 @@ fn read_at<'a, S: Store>(
     is_alone: bool,
 ) -> Result<Recorded<'a>, Fault<'a>>
     ensures done { OnOk result (HasRecordingIn (S.holds store.old) is_alone word.now) }
-    ensures fault { IfErr result (IsNotRecorded (S.holds store.old) is_alone word.now) }
+    ensures fault { IfErr result (IsToolFault (S.holds store.old) (IsPathIn is_alone word.now) ⊤) }
     ensures files { SameFiles (S.holds store.old) (S.holds store.new) }
 {
     let Some(named) = named_in(word, is_alone) else {
@@ -96,7 +93,7 @@ fn read_at<'a, S: Store>(
 
 // What the word names.
 fn named_in<'a>(word: &'a str, is_alone: bool) -> Option<Named<'a>>
-    ensures { MatchOption result (NamesNoMachine is_alone word.entry.now) (λ named. IsPathIn is_alone word.entry.now named.path.now) }
+    ensures { IfSome result (λ named. IsPathIn is_alone word.entry.now named.path.now) }
 {
     if is_alone {
         return Some(Named {
@@ -114,7 +111,7 @@ fn named_in<'a>(word: &'a str, is_alone: bool) -> Option<Named<'a>>
 // The history of these recordings, as it is shown.
 fn history_shown<'a>(alloc: Global, recordings: &[Recorded<'_>]) -> Result<Shown, Fault<'a>>
     ensures done { IfOk result IsRecordedShown }
-    ensures fault { IfErr result (IsShortOr ⊤) }
+    ensures fault { IfErr result (IsReportOf ⊤) }
 {
     let traces = traces_of(alloc, recordings)?;
     match history_of(alloc, traces.as_slice()) {
@@ -154,7 +151,7 @@ fn traces_of<'r>(
 
 // The line of why no history is made of these recordings.
 fn fault_of<'a>(alloc: Global, recordings: &[Recorded<'_>], error: HistoryError) -> Fault<'a>
-    ensures { IsShortOr ⊤ result }
+    ensures { IsReportOf ⊤ result }
 {
     match error {
         HistoryError::NoMemory => Fault::NoMemory,
@@ -185,7 +182,7 @@ fn told_at<'a>(
     line: u64,
     reason: &str,
 ) -> Fault<'a>
-    ensures { IsShortOr ⊤ result }
+    ensures { IsReportOf ⊤ result }
 {
     let path = match recordings.get(recording) {
         Some(recorded) => recorded.named.path,

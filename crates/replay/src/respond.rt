@@ -1,17 +1,15 @@
 //! The program as a function of its words.
-ghost use Rattle.std.specs.Prelude.{◌≡◌, ◌≢◌, ◌≤◌, ◌<◌, ◌↔◌, ◌⊎◌, ℕ, ⊤, List, Option, Some, map};
+ghost use Rattle.std.specs.Prelude.{◌≡◌, ◌≢◌, ◌≤◌, ◌<◌, ◌↔◌, ◌⊎◌, ℕ, false, List, Option, Some, map};
 ghost use Rattle.std.specs.Io.KnownBytes.{Appends};
 ghost use Rattle.command_line.specs.Tasks.{journal_path, Task};
 ghost use Rattle.command_line.specs.Words.{AreWrong, AsksFor, AsksForHelp};
-ghost use Rattle.replay.specs.declared.fault.Fault.{Fault};
 ghost use Rattle.replay.specs.declared.fault.Fault.TheVariants.{CannotWriteOutput, NoMemory};
-ghost use Rattle.replay.specs.Commands.{Does, IsCheck, IsFault, IsJudge, Leaves, Shows, TellsFault};
-ghost use Rattle.replay.specs.FaultLines.{IsFaultLine, IsFaultOf};
+ghost use Rattle.replay.specs.Commands.{Does, IsCheck, IsFaultOrShort, IsJudge, Leaves, Shows, TellsFault, says_why};
 ghost use Rattle.replay.specs.Faults.{fault_line};
 ghost use Rattle.replay.specs.Outputs.{AppendsPart, WritesOrFails};
 ghost use Rattle.replay.specs.Showing.{TellsBeside};
 ghost use Rattle.replay.specs.Refusals.{IsHelp, refusal_status, refusal_text};
-ghost use Rattle.replay.specs.Statuses.{status_of, IsStatus};
+ghost use Rattle.replay.specs.Statuses.{IsStatus};
 
 use crate::fault::Fault;
 use crate::output::{Output, put_all, put_line};
@@ -57,18 +55,16 @@ pub fn respond<
     ensures undecided { result ≡ 5 → (task : Task) × AsksFor (map W.text words.now) task × IsJudge task × O.is_flushed out.new
         × Shows (Does (S.holds store.old) task (S.holds store.new)) (O.taken out.old) (O.taken out.new) (TellsBeside E.taken E.has_failed err.old err.new) result }
     ensures fault { (task : Task) → AsksFor (map W.text words.now) task
-        → 2 < result → result ≢ 5 → TellsFault (IsFault (S.holds store.old) ⊤ (S.refuses store.new) task (S.holds store.new))
+        → 2 < result → result ≢ 5 → TellsFault (IsFaultOrShort (S.holds store.old) (S.ran_short store.new) (S.refuses store.new) task (S.holds store.new))
         (Leaves (Does (S.holds store.old) task (S.holds store.new)) O.taken O.has_failed out.old out.new)
-        (λ fault. (text : List ℕ) × IsFaultOf task fault text × WritesOrFails (E.taken err.old) (E.taken err.new) (E.has_failed err.new) text) result }
+        (λ fault. says_why task ≡ false → WritesOrFails (E.taken err.old) (E.taken err.new) (E.has_failed err.new) (fault_line fault)) result }
 
-    // The status tells what the words are, and a fault is told by its line.
+    // The status tells what the words are.
     ensures zero { result ≡ 0 → AsksForHelp (map W.text words.now) ⊎ ((task : Task) × AsksFor (map W.text words.now) task) }
     ensures one { result ≡ 1 → (task : Task) × AsksFor (map W.text words.now) task }
     ensures shown { result ≤ 1 → O.is_flushed out.new }
     ensures quiet { result ≡ 0 → (err.new ≡ err.old) ⊎ ((task : Task) × AsksFor (map W.text words.now) task × IsCheck task) }
     ensures wrong { result ≡ 2 → AreWrong (map W.text words.now) × (out.new ≡ out.old) }
-    ensures told { 2 < result → result ≢ 5 → (fault : Fault) × (result ≡ status_of fault)
-        × ((text : List ℕ) × ((text ≡ fault_line fault) ⊎ IsFaultLine fault text) × WritesOrFails (E.taken err.old) (E.taken err.new) (E.has_failed err.new) text) }
 
     // Words that ask for nothing to be done end so only where the help that they ask for could not be
     // written, or where memory was short for them.

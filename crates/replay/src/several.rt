@@ -1,9 +1,10 @@
-//! Several files that are checked together.
-ghost use Rattle.std.specs.Prelude.{◌≡◌, ◌⊎◌, map, IfErr, IfOk};
-ghost use Rattle.replay.specs.Checks.{AreGood, IsSeveralFault};
+//! Files that are checked together.
+ghost use Rattle.std.specs.Prelude.{Any, Contains, map, IfErr, IfOk};
+ghost use Rattle.replay.specs.Checks.{AreChecked, IsAtFault};
 ghost use Rattle.replay.specs.Stores.{SameFiles};
+ghost use Rattle.replay.specs.ToolFaults.{IsToolFault};
 
-use crate::check_reports::{push_fault, push_lines};
+use crate::check_reports::{push_fault, push_named};
 use crate::check_text::checked_at;
 use crate::fault::Fault;
 use crate::shown::Shown;
@@ -11,10 +12,11 @@ use crate::store::Store;
 use player::watcher::Watcher;
 use std::alloc::{AllocError, Global};
 
-// What came of the files so far: what is shown of good ones, their warnings, what is wrong with others, and whether
-// there are any.
+// What came of the files so far: what is shown of good ones, behind their paths if these are to stand there, their
+// warnings, what is wrong with others, and whether there are any.
 #[derive(Drop)]
 pub(crate) struct Looked {
+    named: bool,
     told: String,
     warnings: String,
     report: String,
@@ -22,15 +24,17 @@ pub(crate) struct Looked {
 }
 
 impl Looked {
-    ghost use Rattle.std.specs.Prelude.{◌≡◌, ◌≢◌, ◌⊎◌, true, false, IfErr, IfOk, OnOk};
+    ghost use Rattle.std.specs.Prelude.{◌≡◌, ◌≢◌, ◌⊎◌, ⊤, true, false, IfErr, IfOk, OnOk};
     ghost use Rattle.replay.specs.declared.fault.Fault.TheVariants.{NoMemory};
-    ghost use Rattle.replay.specs.Checks.{IsAtFault, IsGood, IsReported, IsTextShown, MayRunShort};
+    ghost use Rattle.replay.specs.Checks.{IsAtFault, IsGood, IsTextShown};
     ghost use Rattle.replay.specs.Stores.{SameFiles};
+    ghost use Rattle.replay.specs.ToolFaults.{IsReportOf};
 
-    fn new(alloc: Global) -> Looked
+    fn new(alloc: Global, named: bool) -> Looked
         ensures { result.is_bad ≡ false }
     {
         Looked {
+            named,
             told: String::new(alloc),
             warnings: String::new(alloc),
             report: String::new(alloc),
@@ -48,7 +52,7 @@ impl Looked {
     ) -> Result<(), Fault<'a>>
         ensures good { OnOk result (self.new.is_bad ≡ false → (self.old.is_bad ≡ false) × IsGood (S.holds store.old) path.now) }
         ensures bad { OnOk result (self.new.is_bad ≡ true → (self.old.is_bad ≡ true) ⊎ IsAtFault (S.holds store.old) path.now) }
-        ensures short { IfErr result (λ fault. (fault ≡ NoMemory) × (S.ran_short store.new ⊎ MayRunShort (S.holds store.old) path.now)) }
+        ensures short { IfErr result (λ fault. fault ≡ NoMemory) }
         ensures files { SameFiles (S.holds store.old) (S.holds store.new) }
     {
         match checked_at(alloc, store, path, watcher) {
@@ -63,10 +67,10 @@ impl Looked {
     {
         match shown {
             Shown::Noted { text, told } => {
-                push_lines(&mut self.told, path, text)?;
+                push_named(&mut self.told, path, text, self.named)?;
                 self.warnings.push_str(told)
             }
-            Shown::Text(text) => push_lines(&mut self.told, path, text),
+            Shown::Text(text) => push_named(&mut self.told, path, text, self.named),
             Shown::Wanting(_)
             | Shown::Partial { .. }
             | Shown::Undecided(_)
@@ -91,7 +95,7 @@ impl Looked {
     // What is shown of all, or what is wrong.
     fn into_shown<'a>(self) -> Result<Shown, Fault<'a>>
         ensures good { IfOk result (λ shown. (self.is_bad ≡ false) × IsTextShown shown) }
-        ensures bad { IfErr result (λ fault. (self.is_bad ≡ true) × IsReported fault) }
+        ensures bad { IfErr result (λ fault. (self.is_bad ≡ true) × IsReportOf ⊤ fault) }
     {
         if self.is_bad {
             return Err(Fault::Faulty(self.report));
@@ -106,18 +110,19 @@ impl Looked {
     }
 }
 
-/// What is shown of several files; or what is wrong with those with which something is, one behind the other.
-pub(crate) fn several_checked<'a, S: Store, V: Watcher>(
+/// What is shown of files, of several behind their paths; or what is wrong with those with which something is, one behind
+/// the other.
+pub(crate) fn all_checked<'a, S: Store, V: Watcher>(
     alloc: Global,
     store: &mut S,
     paths: &[&'a str],
     watcher: &mut V,
 ) -> Result<Shown, Fault<'a>>
-    ensures done { IfOk result (AreGood (S.holds store.old) (map (λ path. path.now) paths.now)) }
-    ensures fault { IfErr result (IsSeveralFault (S.holds store.old) (S.ran_short store.new) (map (λ path. path.now) paths.now)) }
+    ensures done { IfOk result (AreChecked (S.holds store.old) (map (λ path. path.now) paths.now)) }
+    ensures fault { IfErr result (IsToolFault (S.holds store.old) (Contains (map (λ path. path.now) paths.now)) (Any (IsAtFault (S.holds store.old)) (map (λ path. path.now) paths.now))) }
     ensures files { SameFiles (S.holds store.old) (S.holds store.new) }
 {
-    let mut looked = Looked::new(alloc);
+    let mut looked = Looked::new(alloc, paths.len() > 1);
     for path in paths {
         looked.look(alloc, store, *path, watcher)?;
     }

@@ -1,14 +1,14 @@
 //! What is shown of each command.
 ghost use Rattle.std.specs.Prelude.{◌≢◌, None, Some, IfErr, IfOk};
 ghost use Rattle.std.specs.Option.{option_map};
-ghost use Rattle.command_line.specs.Tasks.{picture_task_of, run, run_task_of, task_of, threads_task_of};
+ghost use Rattle.command_line.specs.Tasks.{run, run_task_of, task_of, threads_task_of};
 ghost use Rattle.replay.specs.declared.fault.Fault.TheVariants.{CannotWriteOutput};
 ghost use Rattle.replay.specs.Commands.{Does, IsFault};
 
 use crate::audit::{audit, history};
 use crate::behind::{run_behind, run_behind_with_journal};
 use crate::check::check;
-use crate::draw::{draw, window};
+use crate::draw::draw;
 use crate::explain::{explain, open_calls};
 use crate::explored::{explored, scheduled};
 use crate::fault::Fault;
@@ -23,7 +23,6 @@ use crate::wanted::Wanted;
 use actors::manner::Manner;
 use actors::run_watcher::RunWatcher;
 use command_line::line::Line;
-use command_line::picture_line::PictureLine;
 use command_line::run_line::{RunLine, ThreadsLine};
 use player::watcher::Watcher;
 use std::alloc::Global;
@@ -60,7 +59,7 @@ pub(crate) fn shown_of<'a, R: Threads + Wait + Clock + Sync, S: Store, V: Watche
             ref scripts,
             journal,
         } => check(alloc, store, scripts.as_slice(), journal, watcher),
-        Line::Picture(asked) => picture_shown(alloc, store, asked),
+        Line::Picture(asked) => draw(alloc, store, asked),
         Line::FromStrace {
             recording,
             nodes,
@@ -166,26 +165,5 @@ fn threads_shown<'a, R: Threads + Wait + Clock + Sync, S: Store, V: Watcher + Ru
     let (script, journal) = (asked.script, asked.journal);
     play_on_threads(
         rt, alloc, store, script, asked.seed, manner, journal, watcher,
-    )
-}
-
-// What is shown of the entries of a journal that are drawn.
-fn picture_shown<'a, S: Store>(
-    alloc: Global,
-    store: &mut S,
-    asked: PictureLine<'a>,
-) -> Result<Shown, Fault<'a>>
-    ensures done { IfOk result (Does (S.holds store.old) (picture_task_of asked.entry) (S.holds store.new)) }
-    ensures fault { IfErr result (λ fault. (fault ≢ CannotWriteOutput)
-        × IsFault (S.holds store.old) (S.ran_short store.new) (S.refuses store.new) (picture_task_of asked.entry) (S.holds store.new) fault) }
-{
-    let drawn = window(asked.from, asked.to);
-    draw(
-        alloc,
-        store,
-        asked.journal,
-        asked.around,
-        &drawn,
-        asked.format,
     )
 }

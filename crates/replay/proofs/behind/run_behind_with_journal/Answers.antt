@@ -29,4 +29,4 @@ returns-in_err-committed-clause-fault g c =
     let went = behind.2.1 in
     let has = uncompared-behind (holds c.args.store.now c.args.path.now) behind.0 c.args.wanted.expect went.0 _ went.1 in
     let task = run c.args.path.now (Some c.args.after.now) (Some c.args.file.now) c.args.wanted.expect c.args.wanted.open c.args.wanted.quiet in
-    rw (p.1, p.2) (journal_fault (holds c.args.store.now) (holds c.begin-draft.new.self) (holds c.committed.new.store) _ _ task c.args.file.now _ files (refl, (behind.0, behind.1, (_, has))) (inl (inr (behind.0, behind.1))) c.in_err-committed.ensures.fault)
+    rw (p.1, p.2) (journal_fault (holds c.args.store.now) (holds c.begin-draft.new.self) (holds c.committed.new.store) _ _ task c.args.file.now _ files refl (behind.0, behind.1, (_, has)) (inl (inr (behind.0, behind.1))) c.in_err-committed.ensures.fault)

@@ -1,10 +1,10 @@
-use Rattle.std.proofs.Common.{◌≢◌, ℕ, List, IsUtf8, Some, subst, sym}
+use Rattle.std.proofs.Common.{◌≢◌}
 use Rattle.std.proofs.lemmas.Result.{IfErr-weaker}
-use Rattle.std.proofs.lemmas.Str.{IsUtf8-string_bytes}
 use Rattle.command_line.specs.Tasks.{schedule}
 use Rattle.replay.specs.declared.fault.Fault.TheVariants.{CannotWriteOutput}
 use Rattle.replay.specs.Commands.{IsFault}
 use Rattle.replay.specs.Explorations.{IsExploreTextFault}
+use Rattle.replay.proofs.Stores.{text-held}
 use Rattle.replay.proofs.Explorations.{explore-fault}
 use Rattle.replay.proofs.explored.scheduled.Goals as goal
 
@@ -17,7 +17,6 @@ returns-clause-fault g c =
     let Refuses = g.S.Store.refuses c.text_of.new.store in
     let task = schedule c.args.path.now c.args.seed c.args.failures in
     let text = c.as_str.result.now in
-    let held = subst (λ (bytes : List ℕ). old c.args.path.now (Some bytes)) (sym c.as_str.ensures.value) c.in_ok-text.ensures.text in
-    let utf8 = subst IsUtf8 (sym c.as_str.ensures.value) (IsUtf8-string_bytes c.in_ok-text.text) in
+    let held = text-held (old c.args.path.now) c.in_ok-text.text c.as_str.result.now c.as_str.ensures.value c.in_ok-text.ensures.text in
     IfErr-weaker c.scheduled_in.result (IsExploreTextFault c.args.failures text) (λ fault. (fault ≢ CannotWriteOutput) × IsFault old RanShort Refuses task new fault)
-    (λ fault is. explore-fault c.args.failures old new RanShort Refuses task c.args.path.now text fault held utf8 c.text_of.ensures.files (λ f input. input) is) c.scheduled_in.ensures.fault
+    (λ fault is. explore-fault c.args.failures old new RanShort Refuses task c.args.path.now text fault held.0 held.1 c.text_of.ensures.files (λ f input. input) is) c.scheduled_in.ensures.fault

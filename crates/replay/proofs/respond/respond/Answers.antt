@@ -1,20 +1,16 @@
-use Rattle.std.proofs.Common.{◌≡◌, ◌<◌, ℕ, List, map, arith, inl, inr, refl, subst, sym, ◌∙◌}
-use Rattle.std.specs.Prelude.{⊤}
+use Rattle.std.proofs.Common.{◌≡◌, ◌<◌, ℕ, false, List, map, arith, inl, inr, refl, subst, sym, ◌∙◌}
 use Rattle.std.specs.Io.KnownBytes.{Appends}
-use Rattle.command_line.specs.Tasks.{Task, task_of}
+use Rattle.command_line.specs.Tasks.{Task, journal_path, task_of}
 use Rattle.command_line.specs.declared.refusal.Refusal.{Refusal}
 use Rattle.command_line.proofs.CommandLine.{asks_one, asks_refused}
 use Rattle.replay.specs.declared.fault.Fault.{Fault}
 use Rattle.replay.specs.declared.fault.Fault.TheVariants.{CannotWriteOutput, NoMemory}
-use Rattle.replay.specs.Commands.{Does, IsFault, Leaves, Shows, TellsFault}
-use Rattle.replay.specs.FaultLines.{IsFaultOf, says_why}
+use Rattle.replay.specs.Commands.{Does, IsFaultOrShort, Leaves, Shows, TellsFault, says_why}
 use Rattle.replay.specs.Faults.{fault_line}
 use Rattle.replay.specs.Outputs.{AppendsPart, WritesOrFails}
 use Rattle.replay.specs.Showing.{TellsBeside}
 use Rattle.replay.specs.Refusals.{IsHelp, refusal_status, refusal_text}
-use Rattle.replay.proofs.FaultLines.{either-line, short-line}
-use Rattle.replay.proofs.Faults.{fault-weaker, short-memory}
-use Rattle.replay.proofs.Refused.{refused-short, refused-told, refused-unshown, short-leaves}
+use Rattle.replay.proofs.Refused.{refused-short, refused-unshown, short-leaves}
 use Rattle.replay.proofs.Stores.{same, same-unless}
 use Rattle.replay.proofs.respond.respond.Goals as goal
 
@@ -30,28 +26,28 @@ returns-in-Ok-clause-fault g c = λ task asks failed known.
     let old = g.S.Store.holds c.args.store.now in
     let new = g.S.Store.holds c.perform.new.store in
     let Refuses = g.S.Store.refuses c.perform.new.store in
-    let Told : Task → Fault → Type 0 = λ t fault. (text : List ℕ) × IsFaultOf t fault text × WritesOrFails (g.E.Output.taken c.args.err.now) (g.E.Output.taken c.perform.new.err) (g.E.Output.has_failed c.perform.new.err) text in
-    let P : Task → Type 0 = λ t. TellsFault (IsFault old ⊤ Refuses t new) (Leaves (Does old t new) g.O.Output.taken g.O.Output.has_failed c.args.out.now c.perform.new.out) (Told t) c.perform.result in
+    let RanShort = g.S.Store.ran_short c.perform.new.store in
+    let Told : Task → Fault → Type 0 = λ t fault. says_why t ≡ false → WritesOrFails (g.E.Output.taken c.args.err.now) (g.E.Output.taken c.perform.new.err) (g.E.Output.has_failed c.perform.new.err) (fault_line fault) in
+    let P : Task → Type 0 = λ t. TellsFault (IsFaultOrShort old RanShort Refuses t new) (Leaves (Does old t new) g.O.Output.taken g.O.Output.has_failed c.args.out.now c.perform.new.out) (Told t) c.perform.result in
     let fails : 1 < c.perform.result = omega (arith, failed) in
     let told = c.perform.ensures.fault fails known in
     let asked = task_of c.in-Ok.line in
-    subst P (asks_one words asked task c.in-Ok.ensures.asked asks) (told.0, fault-weaker old new (g.S.Store.ran_short c.perform.new.store) Refuses asked told.0 told.1, told.2, told.3, told.4)
+    subst P (asks_one words asked task c.in-Ok.ensures.asked asks) (told.0, inl told.1, told.2, told.3, told.4)
 
 pub returns-in-Ok-clause-files : goal.returns-in-Ok-clause-files
 returns-in-Ok-clause-files g c = λ path file owing_nothing.
     let words = map g.W.AsStr.text c.args.words.now in
-    same-unless (g.S.Store.holds c.args.store.now) (g.S.Store.holds c.perform.new.store) (task_of c.in-Ok.line) path file c.perform.ensures.files
+    same-unless (g.S.Store.holds c.args.store.now) (g.S.Store.holds c.perform.new.store) (journal_path (task_of c.in-Ok.line)) path file c.perform.ensures.files
     (owing_nothing (task_of c.in-Ok.line) c.in-Ok.ensures.asked)
 
 pub returns-in-Err-clause-fault : goal.returns-in-Err-clause-fault
 returns-in-Err-clause-fault g c = λ task asks failed known.
     let words = map g.W.AsStr.text c.args.words.now in
     let old = g.S.Store.holds c.args.store.now in
-    let Refuses = g.S.Store.refuses c.args.store.now in
     let P : Refusal → Type 0 = λ r. ¬ (IsHelp r) → (c.refuse.result ≡ refusal_status r) × (c.refuse.new.out ≡ c.args.out.now)
     × WritesOrFails (g.E.Output.taken c.args.err.now) (g.E.Output.taken c.refuse.new.err) (g.E.Output.has_failed c.refuse.new.err) (refusal_text r) in
     let told = subst P (asks_refused words task c.in-Err.refusal asks c.in-Err.ensures.refused) c.refuse.ensures.refused (λ help. help) in
-    (NoMemory, (short-memory old Refuses task, same old), told.1, (fault_line NoMemory, short-line (says_why task), told.2), told.0)
+    (NoMemory, inr (refl, same old), told.1, (λ fixed. told.2), told.0)
 
 pub returns-in-Ok-clause-unshown : goal.returns-in-Ok-clause-unshown
 returns-in-Ok-clause-unshown g c = λ three. inl (task_of c.in-Ok.line, c.in-Ok.ensures.asked)
@@ -80,20 +76,6 @@ returns-in-Err-clause-short g c = λ four.
     let T : List ℕ → Type 0 = λ t. WritesOrFails (g.E.Output.taken c.args.err.now) (g.E.Output.taken c.refuse.new.err) (g.E.Output.has_failed c.refuse.new.err) t in
     let told = refused-short words c.in-Err.refusal c.refuse.result (Appends (taken c.args.out.now) (taken c.refuse.new.out) text) (g.O.Output.is_flushed c.refuse.new.out) (c.refuse.new.err ≡ c.args.err.now) (AppendsPart (taken c.args.out.now) (taken c.refuse.new.out) text) (g.O.Output.has_failed c.refuse.new.out) (T (fault_line CannotWriteOutput)) (c.refuse.new.out ≡ c.args.out.now) T c.in-Err.ensures.refused c.refuse.ensures.help c.refuse.ensures.refused four in
     (told.0, inr told.1)
-
-pub returns-in-Err-clause-told : goal.returns-in-Err-clause-told
-returns-in-Err-clause-told g c = λ more known.
-    let taken = g.O.Output.taken in
-    let text = refusal_text c.in-Err.refusal in
-    let T : List ℕ → Type 0 = λ t. WritesOrFails (g.E.Output.taken c.args.err.now) (g.E.Output.taken c.refuse.new.err) (g.E.Output.has_failed c.refuse.new.err) t in
-    let said = refused-told c.in-Err.refusal c.refuse.result (Appends (taken c.args.out.now) (taken c.refuse.new.out) text) (g.O.Output.is_flushed c.refuse.new.out) (c.refuse.new.err ≡ c.args.err.now) (AppendsPart (taken c.args.out.now) (taken c.refuse.new.out) text) (g.O.Output.has_failed c.refuse.new.out) (c.refuse.new.out ≡ c.args.out.now) T c.refuse.ensures.help c.refuse.ensures.refused more in
-    (said.0, said.1, (fault_line said.0, inl refl, said.2))
-
-pub returns-in-Ok-clause-told : goal.returns-in-Ok-clause-told
-returns-in-Ok-clause-told g c = λ more known.
-    let fails : 1 < c.perform.result = omega (arith, more) in
-    let told = c.perform.ensures.fault fails known in
-    (told.0, told.4, (told.3.0, either-line (says_why (task_of c.in-Ok.line)) told.0 told.3.0 told.3.1, told.3.2))
 
 pub returns-in-Ok-clause-quiet : goal.returns-in-Ok-clause-quiet
 returns-in-Ok-clause-quiet g c = λ zero. elim (c.perform.ensures.quiet zero) [

@@ -1,17 +1,15 @@
-use Rattle.std.proofs.Common.{◌∙◌, ap, subst, string_bytes}
+use Rattle.std.proofs.Common.{◌∙◌, subst, string_bytes}
 use Rattle.cluster_core.specs.Journals.{JournalFields}
 use Rattle.journal_text.specs.Journals.{journal_text}
 use Rattle.journal_text.specs.Readings.{WritesJournal}
 use Rattle.player.specs.Parts.{state_of}
-use Rattle.replay.specs.Tellings.{open_section}
 use Rattle.replay.proofs.Sections.{run_shown}
 use Rattle.replay.proofs.run.listing_and_journal.Goals as goal
 
 pub returns-clause-listing : goal.returns-clause-listing
 returns-clause-listing g c =
     let told = c.in_ok-push_history_and_journal.ensures.history in
-    let behind = c.deref.ensures ∙ (c.in_ok-open.ensures ∙ ap (open_section c.args.with_open) c.journal.ensures) in
-    run_shown (state_of c.args.played) c.args.with_open c.in_ok-text.run' (string_bytes c.in_ok-text.text) told.0 (string_bytes c.push_history_and_journal.new.out) c.deref.result.now (string_bytes c.push_str.new.self) c.in_ok-text.ensures.text c.in_ok-text.ensures.run told.1 told.2 behind c.in_ok-push_str.ensures.bytes
+    run_shown (state_of c.args.played) c.args.with_open c.in_ok-text.run' (string_bytes c.in_ok-text.text) told.0 (string_bytes c.push_history_and_journal.new.out) c.deref.result.now (string_bytes c.push_str.new.self) c.in_ok-text.ensures.text c.in_ok-text.ensures.run told.1 told.2 (λ e. c.deref.ensures ∙ c.in_ok-open.ensures e) c.in_ok-push_str.ensures.bytes
 
 pub returns-clause-read : goal.returns-clause-read
 returns-clause-read g c =

@@ -27,4 +27,4 @@ returns-in_err-committed-clause-fault g c =
     let came = c.in_ok-played.ensures.run in
     let has = uncompared (holds c.args.store.now c.args.path.now) c.args.wanted.expect came.0 _ came.1 in
     let task = run c.args.path.now None (Some c.args.file.now) c.args.wanted.expect c.args.wanted.open c.args.wanted.quiet in
-    rw (p.1, p.2) (journal_fault (holds c.args.store.now) (holds c.begin-draft.new.self) (holds c.committed.new.store) _ _ task c.args.file.now _ files (refl, (_, has)) (inr (has.0, has.1)) c.in_err-committed.ensures.fault)
+    rw (p.1, p.2) (journal_fault (holds c.args.store.now) (holds c.begin-draft.new.self) (holds c.committed.new.store) _ _ task c.args.file.now _ files refl (_, has) (inr (has.0, has.1)) c.in_err-committed.ensures.fault)

@@ -23,4 +23,4 @@ returns-in_err-committed-clause-fault g c =
     let files = same-after (holds c.args.store.now) (holds c.threaded_of.new.store) (holds c.begin-draft.new.self) c.threaded_of.ensures.files c.begin-draft.ensures.files in
     let taken = c.in_ok-threaded.ensures.taken in
     let task = threads c.args.path.now c.args.seed c.args.manner.may_stop c.args.manner.no_join (Some c.args.file.now) in
-    rw (p.1, p.2) (journal_fault (holds c.args.store.now) (holds c.begin-draft.new.self) (holds c.committed.new.store) _ _ task c.args.file.now _ files (refl, taken) (inr taken) c.in_err-committed.ensures.fault)
+    rw (p.1, p.2) (journal_fault (holds c.args.store.now) (holds c.begin-draft.new.self) (holds c.committed.new.store) _ _ task c.args.file.now _ files refl taken (inr taken) c.in_err-committed.ensures.fault)
