@@ -1,4 +1,4 @@
--- When two ask alike, by the order of pairs of numbers.
+-- Two commands have one asker exactly if the order of pairs of numbers says so.
 use Rattle.std.specs.Prelude.{ℕ, ◌==◌, ◌&&◌, ◌||◌, not, Bool, List, [], ◌∷◌, filter}
 use Rattle.std.specs.Ordering.{nat_cmp, ordering_then, is_lt, is_eq}
 use Rattle.std.specs.declared.cmp.Ordering.{Ordering}

@@ -1,4 +1,4 @@
--- What is awaited of later lines, and lines that were passed one after the other.
+-- The declarations that are awaited of later lines, as lines are passed.
 use Rattle.std.specs.Prelude.{◌≡◌, ◌⊎◌, ℕ, ◌+◌, ◌≤◌, ◌==◌, ◌&&◌, ◌||◌, not, nat_lt, Bool, true, false, if◌then◌else◌, max, List, [], ◌∷◌, Some, None, Option, Result, Ok, Err, IfOk, unwrap_or, get_or, length, ◌<◌}
 use Rattle.std.specs.BTreeMap as tree
 use Rattle.std.specs.BTreeMap.{BTreeMap}
@@ -52,7 +52,7 @@ declares_sooner n a b le (Learn file m incarnation) o h = h
 declares_sooner n a b le (FailServer m) o h = h
 declares_sooner n a b le (StartServer m) o h = h
 
--- one that is declared failed from a position on is so from an earlier one on
+-- a node that is declared failed behind a position is declared failed behind an earlier one
 pub fails_sooner : (is_between : Command → Bool) (n a b : ℕ) → a ≤ b → (ls : List PlayedLine) → fails_in is_between n b ls ≡ true → fails_in is_between n a ls ≡ true
 fails_sooner is_between n a b le [] h = h
 fails_sooner is_between n a b le (l ∷ ls) h =
@@ -63,7 +63,7 @@ fails_sooner is_between n a b le (l ∷ ls) h =
 here : (n : ℕ) → (n == n) ≡ true
 here n = grind (arith, nat_tests)
 
--- what is awaited once one more is: that, and what was
+-- the declarations that are awaited after one more is, if they come, come before as well
 pub met_by_one : (is_between : Command → Bool) (old new : BTreeMap ℕ ℕ) (node least : ℕ) → ((n : ℕ) → tree.get nat_cmp new n ≡ (if n == node then Some (max least (unwrap_or (tree.get nat_cmp old node) 0)) else tree.get nat_cmp old n)) → (behind : List PlayedLine) → AreMet is_between new behind → (fails_in is_between node least behind ≡ true) × AreMet is_between old behind
 met_by_one is_between old new node least step behind met =
     let k = unwrap_or (tree.get nat_cmp old node) 0 in
@@ -82,7 +82,7 @@ met_by_one is_between old new node least step behind met =
 none_some : {X : Type 0} (o : Option X) (x : X) → o ≡ None → o ≡ Some x → ⊥
 none_some o x n s = cc
 
--- what is awaited before a line, if the line does its part and the rest is met behind it
+-- the awaited declarations come before a line, if the line makes its own and the rest come behind it
 pub met_past : (is_between : Command → Bool) (old new : BTreeMap ℕ ℕ) (l : PlayedLine) (behind : List PlayedLine) → (is_between l.line.command ≡ true → (n : ℕ) → tree.get nat_cmp old n ≡ None) → ((n least : ℕ) → tree.get nat_cmp old n ≡ Some least → (declares n least l.line.command l.outcome ≡ true) ⊎ (tree.get nat_cmp new n ≡ Some least)) → AreMet is_between new behind → AreMet is_between old (l ∷ behind)
 met_past is_between old new l behind parted step met = λ n least is. ⊎_elim
     (λ p. absurd (none_some (tree.get nat_cmp old n) least (parted p n) is))
@@ -92,7 +92,7 @@ met_past is_between old new l behind parted step met = λ n least is. ⊎_elim
     (step n least is))
     (cases_Bool (is_between l.line.command))
 
--- what holds of the value where there is one, and so what follows
+-- what follows from a fact of a good result holds of the result
 pub if_ok : {A E : Type 0} (r : Result A E) (P Q : A → Type 0) → ((a : A) → P a → Q a) → IfOk r P → IfOk r Q
 if_ok (Ok a) P Q f p = f a p
 if_ok (Err e) P Q f p = p
@@ -100,7 +100,7 @@ if_ok (Err e) P Q f p = p
 pub call_may : (is_between : Command → Bool) (shape : ShapeFields) (m : ClusterMembers) (command : Command) (n pid : ℕ) (op : Op) (o : LineOutcome) (behind : List PlayedLine) → command ≡ Call n pid op → MayCallCome is_between shape m.nodes n pid op o behind → MayCome is_between shape m command o behind
 call_may is_between shape m command n pid op o behind e h = subst (λ (k : Command). MayCome is_between shape m k o behind) (sym e) h
 
--- one more line may come to what it did
+-- one more line may have its outcome
 pub all_past : (is_between : Command → Bool) (shape : ShapeFields) (m m' : ClusterMembers) (old new : BTreeMap ℕ ℕ) (lines : List PlayedLine) (i : ℕ) (x : PlayedLine) → i < length lines → x ≡ get_or lines i x → m' ≡ after_line shape m x → ((behind : List PlayedLine) → AreMet is_between new behind → MayCome is_between shape m x.line.command x.outcome behind × AreMet is_between old (x ∷ behind)) → AreMet is_between new (drop (i + 1) lines) → MayAllCome is_between shape m' (drop (i + 1) lines) → AreMet is_between old (drop i lines) × MayAllCome is_between shape m (drop i lines)
 all_past is_between shape m m' old new lines i x lt is members may met rest =
     let r = may (drop (i + 1) lines) met in

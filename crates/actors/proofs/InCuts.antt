@@ -1,4 +1,4 @@
--- Lines that were passed one after the other are barred where they were left.
+-- The lines that were left, as lines are passed one after the other.
 use Rattle.std.specs.Prelude.{◌≡◌, ◌≢◌, ℕ, ◌+◌, ◌<◌, Bool, true, false, List, [], ◌∷◌, ◌++◌, Some, All, slice_get, if◌then◌else◌}
 use Rattle.std.specs.List.{Contains}
 use Rattle.std.proofs.Common.{ap, sym, subst, ◌∙◌, ◌⊎◌, arith, ⊎_elim, inl, inr, refl}
@@ -10,11 +10,11 @@ use Rattle.actors.specs.declared.played_line.PlayedLine.{PlayedLine}
 use Rattle.actors.specs.Cuts.{IsBarred, is_open}
 use Rattle.actors.specs.Lines.{asker}
 
--- one of the first so many lines is an open call of this one
+-- one of the first lines is an open call of this process
 abbrev pub Opened : List PlayedLine → ℕ → ℕ × ℕ → Type 0
 Opened lines count a = (i : ℕ) × (l : PlayedLine) × (i < count) × (slice_get lines i ≡ Some l) × (is_open l.outcome ≡ true) × (asker l.line.command ≡ a)
 
--- and a line that parts phases stands behind one of them
+-- a line that separates phases stands behind an open call of the first lines
 abbrev pub Over : (Command → Bool) → List PlayedLine → ℕ → Type 0
 Over is_between lines count = (i : ℕ) × (l : PlayedLine) × (k : ℕ) × (n : PlayedLine) × (i < k) × (k < count) × (slice_get lines i ≡ Some l) × (is_open l.outcome ≡ true) × (slice_get lines k ≡ Some n) × (is_between n.line.command ≡ true)
 
@@ -23,7 +23,7 @@ pub record Passed (is_between : Command → Bool) (lines : List PlayedLine) (cou
   pub is_over : over ≡ true → Over is_between lines count
   pub barred : (j : ℕ) (m : PlayedLine) → j < count → slice_get lines j ≡ Some m → m.outcome ≡ Left → IsBarred is_between lines j m
 
--- the next line is passed too
+-- the next line is passed as well
 pub record Passes (is_between : Command → Bool) (askers : List (ℕ × ℕ)) (over : Bool) (line : PlayedLine) (askers' : List (ℕ × ℕ)) (over' : Bool) : Type 0 where
   pub over_by : over' ≡ true → (over ≡ true) ⊎ ((is_between line.line.command ≡ true) × (askers ≢ []))
   pub left_by : line.outcome ≡ Left → (over' ≡ true) ⊎ Contains askers (asker line.line.command)

@@ -1,4 +1,4 @@
--- When two commands of a script are one, and two lines, and two that were asked for.
+-- The derived `==` of commands, of lines and of what was asked for.
 use Rattle.std.specs.Prelude.{ℕ, ◌&&◌, ◌==◌}
 use Rattle.std.proofs.Common.{◌≡◌, Decides, rules, arith, refl}
 use Rattle.std.proofs.lemmas.Bool.{false≢true}
@@ -40,7 +40,7 @@ command_eq-Decides _ _ = (λ h. absurd (false≢true h), λ e. cc)
 asked_parts : (a b : Asked) → derived_of_asked.ghosts.eq a b ≡ ((a.index == b.index) && derived.ghosts.eq a.command b.command)
 asked_parts a b = search rules
 
--- so is that of what was asked for
+-- the derived `==` of commands with indexes is equality
 pub asked_eq-Decides : (a b : Asked) → Decides (derived_of_asked.ghosts.eq a b) (a ≡ b)
 asked_eq-Decides a b =
     Decides-at _ _ (asked_parts a b)
@@ -50,7 +50,7 @@ asked_eq-Decides a b =
 line_parts : (a b : LineFields) → derived_of_lines.ghosts.eq a b ≡ ((a.number == b.number) && derived.ghosts.eq a.command b.command)
 line_parts a b = search rules
 
--- and that of lines
+-- the derived `==` of lines is equality
 pub line_eq-Decides : (a b : LineFields) → Decides (derived_of_lines.ghosts.eq a b) (a ≡ b)
 line_eq-Decides a b =
     Decides-at _ _ (line_parts a b)

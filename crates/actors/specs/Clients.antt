@@ -1,10 +1,10 @@
--- Clients.
+-- The clients of processes.
 use Rattle.std.specs.Prelude.{◌≡◌, ℕ}
 use Rattle.model.specs.Limits.{ProcessFields}
 use Rattle.model.specs.declared.op.Op.{Op}
 use Rattle.book.specs.Fields.{ReceiptFields}
 
--- a process that makes calls, and the position of the last reply that it has got or was told of; 0 with none
+-- a client: its process, and the position of the last reply that it has got or was told of, 0 for none
 pub record ClientFields : Type 0 where
   pub process : ProcessFields
   pub last : ℕ

@@ -1,4 +1,4 @@
--- Refusals of calls, and their numbers.
+-- The refusals of calls, and their numbers.
 use Rattle.std.specs.Prelude.{ℕ}
 use Rattle.messages.specs.declared.refusal.StepError.{StepError}
 use Rattle.messages.specs.declared.refusal.StepError.TheVariants as step
@@ -7,7 +7,7 @@ use Rattle.book.specs.declared.commit_error.CommitError.TheVariants as commit
 use Rattle.actors.specs.declared.call_error.CallError.{CallError}
 use Rattle.actors.specs.declared.call_error.CallError.TheVariants.{NoMemory, Busy, Stranger, Fenced, JournalFull, Killed, Closed, Unanswered, Spent, Stale}
 
--- the number by which listings know it
+-- the number that listings show for the refusal
 abbrev pub number_of : CallError → ℕ
 number_of NoMemory = 3
 number_of Busy = 13
@@ -20,14 +20,14 @@ number_of (Unanswered at) = 18
 number_of Spent = 19
 number_of Stale = 20
 
--- a refusal of the node's step, as one of the call
+-- a refusal of the node's step, as a refusal of the call
 abbrev pub rejected_by : StepError → CallError
 rejected_by step.NoMemory = NoMemory
 rejected_by step.Busy = Busy
 rejected_by step.Stranger = Stranger
 rejected_by step.Spent = Spent
 
--- a refusal of the commit of the node's step, as one of the call
+-- a refusal of the commit of the node's step, as a refusal of the call
 abbrev pub refused_by : CommitError → CallError
 refused_by commit.NoMemory = NoMemory
 refused_by commit.Stranger = Stranger

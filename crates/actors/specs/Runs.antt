@@ -1,4 +1,4 @@
--- What came of a script on threads.
+-- The result of running a script on threads.
 use Rattle.std.specs.Prelude.{◌≡◌, ◌≤◌, Bool, false, List, All, filter_map, length}
 use Rattle.model.specs.declared.call.CallId.{CallId}
 use Rattle.book.specs.Fields.{ReceiptFields}
@@ -12,7 +12,7 @@ use Rattle.actors.specs.Cuts.{AreBarred, IsUnanswered, is_cut, killed_by, open_b
 use Rattle.actors.specs.Denials.{MayAllCome, first_of}
 use Rattle.actors.specs.Lines.{AreLinesOf, ArePhases, Fits, parts, receipt_in, refused_in}
 
--- the journal of the run, the script's lines with what each came to, the receipts of the calls that were answered, the refused lines, and the calls that are open where the run was ended as stuck
+-- the result of a run: the journal, the lines with their outcomes, the receipts, the refused lines, and the calls that are open where it was ended as stuck
 pub record ThreadRunFields : Type 0 where
   pub journal : JournalFields
   pub lines : List PlayedLine
@@ -20,7 +20,9 @@ pub record ThreadRunFields : Type 0 where
   pub refused : List RefusedLine
   pub open_calls : List CallId
 
--- the run is of the script: its cluster is the script's, each line came to what it may, also as the failures and starts before it have it and those behind a call in its phase, the lines made the entries that were asked for, each phase stands after the one before, where a line of failures or starts parts phases unless it doesn't join the clients, no entry answers a call that ended without a reply, and the receipts, the refused lines and the open calls are theirs, in order of the lines; only one that may stop where it is stuck has open calls, which no entry answers, and lines that were left for them
+-- The run is of the script and its cluster. Each line has an outcome that fits it and may come of the lines around it. The lines made the entries that lines
+-- can ask for, in phases. No entry answers a call that ended without a reply. Receipts, refused lines and open calls are the lines', in their order. Only a run
+-- that may stop where it is stuck has open calls, which no entry answers, and lines left behind them.
 pub record IsOfScript (script : ScriptFields) (no_join may_stop : Bool) (run : ThreadRunFields) : Type 0 where
   pub shape : run.journal.shape ≡ script.shape
   pub lines : AreLinesOf script.lines run.journal.entries run.lines
@@ -35,7 +37,7 @@ pub record IsOfScript (script : ScriptFields) (no_join may_stop : Bool) (run : T
   pub barred : AreBarred (parts no_join) run.lines
   pub whole : may_stop ≡ false → All (λ l. is_cut l.outcome ≡ false) run.lines
 
--- the journal of a run of the script's cluster, with one history, which has no room for another entry: what it was asked for is of lines of the script, of each who asks in their order
+-- the journal is of a run of the script's cluster, has one history and no room for another entry; lines of the script, of each process in order, made it
 pub record IsFullJournal (script : ScriptFields) (journal : JournalFields) : Type 0 where
   pub of_shape : journal.shape ≡ script.shape
   pub one_table : HasOneHistory journal.shape journal.entries

@@ -1,4 +1,4 @@
-//! What entries of a journal were asked for by.
+//! The entries of a journal that lines of a script asked for, and the processes that asked.
 ghost use Rattle.std.specs.Prelude.{◌≡◌, ◌↔◌, true, IfOk, IsTrue, filter, filter_map};
 ghost use Rattle.std.specs.List.Sorted.{IsSortedByKey};
 ghost use Rattle.std.specs.Ordering.{nat_cmp, ordering_then};
@@ -11,7 +11,7 @@ use messages::entry::Entry;
 use messages::event::Event;
 use std::alloc::{AllocError, Global};
 
-/// What a line of a script asks for, and the index of an entry that it made, from 0.
+/// The command of a script's line, and the index, from 0, of the entry that it made.
 #[derive(Clone, Copy, Debug, PartialEq, Eq)]
 pub struct Asked {
     pub index: usize,
@@ -19,7 +19,7 @@ pub struct Asked {
 }
 
 impl Asked {
-    // Who asks.
+    // The process that asks, as `asker_of` names it.
     fn asker(&self) -> (u8, u16)
         ensures { result ≡ asker self.now.command }
     {
@@ -27,7 +27,7 @@ impl Asked {
     }
 }
 
-/// Who asks: a process, by its node and its number; for other lines 0 and 0.
+/// The process that asks, by its node and its number, both from 1; 0 and 0 for a line that is no call.
 pub(crate) fn asker_of(command: &Command) -> (u8, u16)
     ensures { result ≡ asker command.now }
 {
@@ -37,7 +37,7 @@ pub(crate) fn asker_of(command: &Command) -> (u8, u16)
     }
 }
 
-// What a line asked for that made this event, if such a line can.
+// The command of a line that asks for this event, if a line can ask for it.
 fn asked_by(event: &Event) -> Option<Command>
     ensures { result ≡ asked_by event.now }
 {
@@ -55,7 +55,7 @@ fn asked_by(event: &Event) -> Option<Command>
     }
 }
 
-// The same of an entry with its index.
+// The command that asks for the entry's event, with the entry's index, if a line can ask for it.
 fn asked_at(index: usize, entry: &Entry) -> Option<Asked>
     ensures { result ≡ asked_at (index, entry.now) }
 {
@@ -63,7 +63,7 @@ fn asked_at(index: usize, entry: &Entry) -> Option<Asked>
     Some(Asked { index, command })
 }
 
-/// What the entries were asked for by, each with its index, in their order.
+/// The commands that ask for the entries' events, each with the index of its entry, in order.
 pub(crate) fn asked_in(alloc: Global, entries: &[Entry]) -> Result<Vec<Asked>, AllocError>
     ensures { IfOk result (λ asked. asked.items ≡ asked_in entries.now) }
 {
@@ -74,14 +74,14 @@ pub(crate) fn asked_in(alloc: Global, entries: &[Entry]) -> Result<Vec<Asked>, A
         .collect(alloc)
 }
 
-// What the lines asked for that made an entry, each with the entry's index, in their order.
+// The commands of the lines that made an entry, each with the index of its entry, in order.
 fn made_in(alloc: Global, lines: &[PlayedLine]) -> Result<Vec<Asked>, AllocError>
     ensures { IfOk result (λ made. made.items ≡ filter_map made_by lines.now) }
 {
     lines.iter().filter_map(|line| line.made()).collect(alloc)
 }
 
-/// The same, by who asks, and of each in the order that they had.
+/// The commands, sorted by the process that asks. Commands of one process keep their order.
 pub(crate) fn by_asker(asked: Vec<Asked>) -> Result<Vec<Asked>, AllocError>
     ensures same { IfOk result (λ sorted. (c : Command) → filter (has_asker c) sorted.items ≡ filter (has_asker c) asked.items) }
     ensures sorted { IfOk result (λ sorted. IsSortedByKey (λ one. asker one.command) (λ x y. ordering_then (nat_cmp x.0 y.0) (nat_cmp x.1 y.1)) sorted.items) }
@@ -91,15 +91,15 @@ pub(crate) fn by_asker(asked: Vec<Asked>) -> Result<Vec<Asked>, AllocError>
     Ok(sorted)
 }
 
-// Whether both are the same.
+// Whether both lists are equal.
 fn same(one: &[Asked], other: &[Asked]) -> bool
     ensures { IsTrue result ↔ (one.now ≡ other.now) }
 {
     one == other
 }
 
-/// Whether the entries that were asked for are those that the lines made, of each who asks in the order
-/// of the lines.
+/// Whether the entries that lines can ask for are exactly those that these lines made, those of each process in the
+/// order of its lines.
 pub(crate) fn are_made(
     alloc: Global,
     entries: &[Entry],

@@ -1,4 +1,4 @@
-//! Why a call has no receipt.
+//! The reasons why a call has no receipt.
 ghost use Rattle.std.specs.Prelude.{◌≡◌};
 ghost use Rattle.actors.specs.Numbers.{number_of, rejected_by, refused_by};
 
@@ -6,7 +6,7 @@ use book::commit_error::CommitError;
 use messages::refusal::StepError;
 use thiserror::Error;
 
-/// Why a call of a client has no receipt.
+/// The reason why a call of a client has no receipt.
 #[derive(Clone, Copy, Debug, PartialEq, Eq, Error)]
 pub enum CallError {
     /// A request for memory was refused.
@@ -15,30 +15,29 @@ pub enum CallError {
     /// The process has an open call, or another client.
     #[error("the process has an open call or another client")]
     Busy,
-    /// A number outside the shape of the cluster.
+    /// The call names a number outside the shape of the cluster.
     #[error("not of this cluster")]
     Stranger,
     /// The node was declared failed before it took the call.
     #[error("the node was declared failed")]
     Fenced,
-    /// The journal has as many entries as it may.
+    /// The journal has 1,048,576 entries, the most that it may have.
     #[error("the journal is full")]
     JournalFull,
-    /// The node took the call, which is the entry at this position, from 1, and was declared failed or its
-    /// process ended while the call was open.
+    /// The node took the call, as the entry at this position, from 1. Then the node was declared failed, or the
+    /// process ended, while the call was open.
     #[error("the call ended without a reply")]
     Killed { call_at: u32 },
     /// The worker ended before it took the call.
     #[error("the worker has ended")]
     Closed,
-    /// The node took the call, which is the entry at this position, from 1, and its worker ended while the
-    /// call was open.
+    /// The node took the call, as the entry at this position, from 1. Then its worker ended while the call was open.
     #[error("the worker has ended while the call was open")]
     Unanswered { call_at: u32 },
-    /// The node has no number left.
+    /// The node has no number left for a call.
     #[error("no number is left")]
     Spent,
-    /// What the client was told stands past the end of the journal: it is of another one.
+    /// The client was told of a receipt past the end of the journal: one of another cluster.
     #[error("told of another journal")]
     Stale,
 }
@@ -71,7 +70,7 @@ impl From<CommitError> for CallError {
 }
 
 impl CallError {
-    /// The number by which listings know the refusal: 3 or 13 to 20.
+    /// The number that listings show for the refusal: 3 or 13 to 20.
     pub fn number(self) -> u16
         ensures { result ≡ number_of self }
     {

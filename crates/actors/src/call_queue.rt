@@ -1,4 +1,4 @@
-//! The calls of a process in a phase.
+//! The calls that a process makes in a phase, in order.
 use crate::call_error::CallError;
 use crate::client::Client;
 use crate::gate::Gate;
@@ -10,8 +10,8 @@ use std::alloc::{AllocError, Global};
 use std::collections::VecDeque;
 use trail::name::Name;
 
-/// A call that is to be made: the index of its line in the script, what it asks, and the client that makes it and
-/// those behind it, where that is another than before.
+/// A call that is to be made: the index of its line in the script, its operation, and the client for this call and
+/// later ones, if it is another client than before.
 #[derive(Drop)]
 pub(crate) struct NextCall<'a, J: Name, G: Gate> {
     pub(crate) index: usize,
@@ -19,9 +19,9 @@ pub(crate) struct NextCall<'a, J: Name, G: Gate> {
     pub(crate) client: Option<Client<'a, J, G>>,
 }
 
-/// The calls that a process is still to make in a phase, in order; its client, while no call is under way;
-/// whether a call that is added needs another, and whether a thread makes them; what the calls so far came to,
-/// and why no more are made, if that was met.
+/// The calls that a process has still to make in a phase, in order, and its client while no call is open. It also
+/// knows whether the next call that is added needs a new client, whether a thread makes the calls, the outcomes so
+/// far, and why no more calls are made, if an error ended them.
 #[derive(Drop)]
 pub(crate) struct CallQueue<'a, J: Name, G: Gate> {
     calls: VecDeque<NextCall<'a, J, G>>,
@@ -33,7 +33,7 @@ pub(crate) struct CallQueue<'a, J: Name, G: Gate> {
 }
 
 impl<'a, J: Name, G: Gate> CallQueue<'a, J, G> {
-    /// No call, and no client.
+    /// A queue without calls and without a client.
     pub(crate) fn new(alloc: Global) -> CallQueue<'a, J, G> {
         CallQueue {
             calls: VecDeque::new(alloc),
@@ -45,31 +45,31 @@ impl<'a, J: Name, G: Gate> CallQueue<'a, J, G> {
         }
     }
 
-    /// Whether the next call that is added needs a client.
+    /// Whether the next call that is added needs a new client.
     pub(crate) fn needs_client(&self) -> bool {
         self.needs_client
     }
 
-    /// The client is gone, for calls that are added from here on: its node begins again.
+    /// Drops the client for calls that are added later: its node begins again.
     pub(crate) fn lose_client(&mut self) {
         self.needs_client = true;
     }
 
-    /// Adds a call, with its client if one is needed.
+    /// Adds a call, with a new client if it needs one.
     pub(crate) fn add(&mut self, call: NextCall<'a, J, G>) -> Result<(), AllocError> {
         self.calls.push_back(call)?;
         self.needs_client = false;
         Ok(())
     }
 
-    /// Whether a thread is to be started for the calls, which has them from here on.
+    /// Whether a thread has to be started for the calls. From then on the queue has a thread.
     pub(crate) fn begin(&mut self) -> bool {
         let begins = !self.has_thread && !self.calls.is_empty();
         self.has_thread = self.has_thread || begins;
         begins
     }
 
-    /// The next call for the thread: the index of its line, what it asks, and the client that makes it. With none
+    /// The next call for the thread: the index of its line, its operation, and the client that makes it. With `None`
     /// the thread has ended.
     pub(crate) fn next(&mut self) -> Option<(usize, Op, Client<'a, J, G>)> {
         let next = self.take_next();
@@ -87,8 +87,8 @@ impl<'a, J: Name, G: Gate> CallQueue<'a, J, G> {
         Some((index, op, client))
     }
 
-    /// Takes the client back, and keeps what its call came to. No more calls are made where that ends the run,
-    /// or has no answer since the run was ended.
+    /// Takes the client back, and notes the outcome of its call. The other calls are dropped where the outcome ends
+    /// the run, or the call stays open because the run was ended.
     pub(crate) fn end_call(
         &mut self,
         client: Client<'a, J, G>,
@@ -106,8 +106,8 @@ impl<'a, J: Name, G: Gate> CallQueue<'a, J, G> {
         }
     }
 
-    // Keeps what the call of the line at the index came to, unless that ends the run. Whether the next may be
-    // made.
+    // Notes the outcome of the call of the line at the index, unless it ends the run. Answers whether the next call
+    // may be made.
     fn keep(&mut self, index: usize, made: Result<Receipt, CallError>) -> Result<bool, PlayError> {
         let outcome = match made {
             Ok(receipt) => LineOutcome::Answered(receipt),
@@ -122,12 +122,12 @@ impl<'a, J: Name, G: Gate> CallQueue<'a, J, G> {
         }
     }
 
-    /// Whether it was met why no more calls are made.
+    /// Whether an error ended the calls.
     pub(crate) fn is_stopped(&self) -> bool {
         self.stopped.is_some()
     }
 
-    /// What the calls came to, each with the index of its line, and the client for later calls, if there is one.
+    /// The outcomes of the calls, each with the index of its line, and the client for later calls, if there is one.
     pub(crate) fn into_outcomes(
         self,
     ) -> Result<(Vec<(usize, LineOutcome)>, Option<Client<'a, J, G>>), PlayError> {

@@ -1,4 +1,4 @@
-//! Clients.
+//! The client of a process: it makes the process's calls and gets receipts.
 ghost use Rattle.std.specs.Prelude.{◌≡◌, ◌↔◌, IsTrue, IfOk, IfSome, OnErr, max, unwrap_or};
 ghost use Rattle.actors.specs.Clients.{ClientFields, IsMadeBy};
 
@@ -16,9 +16,9 @@ use std::marker::Model;
 use std::sync::Wait;
 use trail::name::Name;
 
-/// A process of a cluster that runs, as one who makes its calls, one after the other. A call that needs no other actor
-/// it may make itself, where the cluster's gate is open. Any other goes to the node's worker, which has where the answers to
-/// the client go, up to a call that fails; the next one tells another path.
+/// A process of a running cluster, which makes its calls one after the other. A call that needs no other actor the
+/// client may make itself, where the cluster's gate is open. Other calls go to the worker, which keeps the client's
+/// reply channel; after a failed call the client sends a new one.
 #[derive(Drop)]
 pub struct Client<'a, J: Name, G: Gate> {
     process: Process,
@@ -65,7 +65,7 @@ impl<'a, J: Name, G: Gate> Client<'a, J, G> {
         self.process
     }
 
-    /// The position of the last reply that the client has got or was told of, from 1; 0 with none.
+    /// The position of the last reply that the client has got or was told of, from 1; 0 where there is none.
     pub fn last(&self) -> u32
         ensures { result ≡ self.now.last }
     {
@@ -75,7 +75,7 @@ impl<'a, J: Name, G: Gate> Client<'a, J, G> {
         }
     }
 
-    /// Tells the client of a receipt of this cluster: its calls stand after that reply.
+    /// Tells the client of a receipt of this cluster. Its later calls stand after that reply.
     pub fn told(&mut self, receipt: &Receipt)
         ensures { self.new ≡ record self.old { last = max self.old.last receipt.now.reply_at } }
     {
@@ -84,7 +84,7 @@ impl<'a, J: Name, G: Gate> Client<'a, J, G> {
         }
     }
 
-    // The call, with what the client has seen.
+    // The question for the worker: the call, with what the client has seen.
     fn question(&self, op: Op, back: Option<Sender<Answer>>) -> Question
         ensures process { result.process ≡ self.now.process }
         ensures operation { result.op ≡ op }
@@ -98,18 +98,17 @@ impl<'a, J: Name, G: Gate> Client<'a, J, G> {
         }
     }
 
-    /// Makes a call and waits for its reply. The receipt is of this process and this operation, its
-    /// call stands after all that the client has seen, and the client has then seen its reply.
+    /// Makes a call and waits for its reply. The receipt is of this process and this operation. Its call stands after
+    /// all that the client has seen, and the client has then seen its reply.
     ///
     /// # Errors
-    /// `NoMemory` where a request for memory was refused; `JournalFull` where the journal has 1,048,576
-    /// entries; `Stranger` where the operation names a file outside the shape or a process outside 1 to
-    /// 256; `Fenced` where the incarnation of the process was declared failed before its node took the
-    /// call; `Busy` where the process has an open call; `Spent` where the node has no number left;
-    /// `Stale` where the client was told of another cluster's receipt; `Killed`, with where the call
-    /// stands, where the node was declared failed or the process ended while the call was open; `Unanswered`,
-    /// likewise, where the worker ended while it was open, and `Closed` where it ended before. The client has
-    /// then seen no more than before.
+    /// `NoMemory` where a request for memory was refused; `JournalFull` where the journal has 1,048,576 entries;
+    /// `Stranger` where the operation names a file outside the shape or a process outside 1 to 256; `Fenced` where
+    /// the incarnation of the process was declared failed before its node took the call; `Busy` where the process has
+    /// an open call; `Spent` where the node has no number left; `Stale` where the client was told of another
+    /// cluster's receipt; `Killed`, with the position of the call, where the node was declared failed or the process
+    /// ended while the call was open; `Unanswered`, with the position of the call, where the worker ended while the
+    /// call was open; `Closed` where the worker ended before. The client has then seen no more than before.
     pub fn call<R: Wait>(&mut self, rt: &R, op: Op) -> Result<Receipt, CallError>
         ensures made { IfOk result (IsMadeBy self.old op) }
         ensures seen { IfOk result (λ receipt. self.new ≡ record self.old { last = receipt.reply_at }) }
@@ -123,8 +122,8 @@ impl<'a, J: Name, G: Gate> Client<'a, J, G> {
         Ok(receipt)
     }
 
-    // Makes the call at the node's desk. None where it isn't made so. (The stamp of one that is made always gives its
-    // receipt.)
+    // Makes the call at the node's desk. `None` where it isn't made there. (The stamp of a call that is made there
+    // always gives its receipt.)
     fn make<R: Wait>(&self, rt: &R, op: Op) -> Option<Answer>
         ensures { IfSome result (λ answer. IfOk answer (IsMadeBy self.now op)) }
     {
@@ -155,7 +154,7 @@ impl<'a, J: Name, G: Gate> Client<'a, J, G> {
         Ok(receipt)
     }
 
-    // Where the answer to a call comes; and where it is to go, if the node's worker has no such path.
+    // The channel on which the answer comes, and its other end for the worker, if the worker has none of this client.
     fn path(&mut self) -> Result<(Receiver<Answer>, Option<Sender<Answer>>), CallError>
         ensures { self.new ≡ self.old }
     {
@@ -168,7 +167,7 @@ impl<'a, J: Name, G: Gate> Client<'a, J, G> {
         }
     }
 
-    // The receipt of the call, or why there is none. (No worker answers with the receipt of another.)
+    // The receipt of the call, or why there is none. (No worker answers with the receipt of another call.)
     fn wait_for_answer<R: Wait>(&self, rt: &R, answers: &Receiver<Answer>, op: Op) -> Answer
         ensures { IfOk result (IsMadeBy self.now op) }
     {
@@ -179,7 +178,7 @@ impl<'a, J: Name, G: Gate> Client<'a, J, G> {
         }
     }
 
-    // Whether the receipt is of a call of this process with this operation, made with what was seen.
+    // Whether the receipt is of a call of this process with this operation, made with all that the client had seen.
     fn has_made(&self, receipt: &Receipt, op: Op) -> bool
         ensures { IsTrue result ↔ IsMadeBy self.now op receipt.now }
     {
@@ -194,7 +193,7 @@ impl<'a, J: Name, G: Gate> Client<'a, J, G> {
     }
 }
 
-// Whether both ask the same.
+// Whether both operations are equal.
 fn same_op(one: &Op, other: &Op) -> bool
     ensures { IsTrue result ↔ (one.now ≡ other.now) }
 {

@@ -1,4 +1,4 @@
-//! A cluster on threads.
+//! A cluster that runs on threads.
 ghost use Rattle.std.specs.Prelude.{◌≡◌, ◌+◌, ◌≤◌, ◌↔◌, IfOk, IfErr, true, IsErrOf, length};
 ghost use Rattle.actors.specs.declared.call_error.CallError.TheVariants.{Stranger};
 ghost use Rattle.model.specs.Limits.{IsNumber, most_nodes, most_processes};
@@ -40,8 +40,8 @@ use std::thread::{Scope, Threads};
 use std::time::Clock;
 use trail::name::Name;
 
-/// A cluster that runs on threads, with the gate that is told of the steps that its clients make themselves. It has no desks where
-/// they may make none, as its actors' gate isn't open.
+/// A cluster that runs on threads, with the gate that is told of the steps that clients make themselves. Where
+/// clients may make none, because the actors' gate isn't open, it has no desks.
 #[derive(Drop)]
 pub struct Cluster<'a, J: Name, G: Gate> {
     alloc: Global,
@@ -59,55 +59,55 @@ pub struct Cluster<'a, J: Name, G: Gate> {
 }
 
 impl<'a, J: Name, G: Gate> Cluster<'a, J, G> {
-    // The place of the node.
+    // The place of the node, if the cluster has it.
     fn place(&self, node: u8) -> Option<&'a Mutex<Place<J>>> {
         self.places.get(usize::from(node).checked_sub(1)?)
     }
 
-    // Where the token server of the file stands as it begins again.
+    // The place for the file's token server as it begins again, if the cluster has it.
     fn server_place(&self, file: u16) -> Option<&'a Mutex<Option<Rebuilt<J>>>> {
         self.rebuilt.get(usize::from(file).checked_sub(1)?)
     }
 
-    /// Where memory is taken.
+    /// The allocator from which memory is taken.
     pub(crate) fn alloc(&self) -> Global {
         self.alloc
     }
 
-    /// The workers end, before they take another letter. Calls that are open then are answered `Unanswered`,
-    /// and those that are made later `Closed`. (One that a client is just making itself may still be answered.)
+    /// Ends the workers before they take another letter. Calls that are open then are answered `Unanswered`, and
+    /// later ones `Closed`. (A call that a client is just making itself may still be answered.)
     pub(crate) fn stop(&self) {
         self.halt.set();
     }
 
-    /// Whether the workers end, or have ended, as too many requests for memory were refused.
+    /// Whether the workers end, or have ended, because too many requests for memory were refused.
     pub(crate) fn is_short(&self) -> bool {
         self.halt.is_short()
     }
 
-    /// Whether the calls that so many processes have open can't be answered any more, the token servers of
-    /// these files being declared failed.
+    /// Whether the open calls of that many processes can't be answered any more, where the token servers of these
+    /// files are declared failed.
     pub(crate) fn is_stuck<R: Wait>(&self, rt: &R, processes: usize, failed: &[u16]) -> bool {
         is_stuck(self.alloc, self.book.lock(rt).entries(), processes, failed)
     }
 
-    /// How many entries the journal has so far.
+    /// The number of entries of the journal.
     pub(crate) fn len<R: Wait>(&self, rt: &R) -> u32 {
         self.book.lock(rt).len()
     }
 
-    // The mailbox of the token server of the file.
+    // The mailbox of the token server of the file, if the cluster has it.
     fn server_mailbox(&self, file: u16) -> Option<&'a Mailbox> {
         self.mailboxes
             .get(index_of(self.nodes, Actor::Server(file))?)
     }
 
-    /// A client of a process of the node's live incarnation, which has seen nothing.
+    /// A client of a process of the node's live incarnation, which has seen nothing of the journal.
     ///
     /// # Errors
-    /// In this order: `Stranger` where the node is outside the shape or the process outside 1 to 256;
-    /// `Fenced` while the node is declared failed; `Busy` where a client of that process of this
-    /// incarnation was handed out already; `NoMemory` where a request for memory was refused.
+    /// In this order: `Stranger` where the node is outside the shape or the process outside 1 to 256; `Fenced` while
+    /// the node is declared failed; `Busy` where a client of that process of this incarnation was handed out before;
+    /// `NoMemory` where a request for memory was refused.
     pub fn client<R: Wait>(&self, rt: &R, node: u8, pid: u16) -> Result<Client<'a, J, G>, CallError>
         ensures process { IfOk result (λ client. (client.process.node ≡ node) × (client.process.pid ≡ pid)) }
         ensures fresh { IfOk result (λ client. client.last ≡ 0) }
@@ -128,13 +128,13 @@ impl<'a, J: Name, G: Gate> Cluster<'a, J, G> {
         Ok(Client::new(self.alloc, process, &mailbox.letters, direct))
     }
 
-    // What a client needs for calls at the desk of the node at the index.
+    // The parts that a client needs to make calls at the desk of the node at the index.
     fn direct(&self, index: usize) -> Option<Direct<'a, J, G>> {
         let desk = self.desks.get(index)?;
         Some(Direct::new(self.alloc, desk, self.book, self.gate, self.halt))
     }
 
-    /// Declares the node failed, and each server is sent word of it.
+    /// Declares the node failed, and sends each token server word of it.
     ///
     /// # Errors
     /// Those of `Book::declare`: `JournalFull`, `Stranger`, `NotAlive` or `NoMemory`.
@@ -154,8 +154,8 @@ impl<'a, J: Name, G: Gate> Cluster<'a, J, G> {
         Ok(stamp)
     }
 
-    /// The node that was declared failed begins again. Its worker takes the new seat before its next
-    /// letter. The position of the entry is answered, from 1.
+    /// Restarts the node, which was declared failed. Its worker takes the new seat before its next letter. Gives the
+    /// position of the entry, from 1.
     ///
     /// # Errors
     /// Those of `Book::restart`: `JournalFull`, `Stranger`, `NotDead`, `TooManyRestarts` or `NoMemory`.
@@ -173,7 +173,7 @@ impl<'a, J: Name, G: Gate> Cluster<'a, J, G> {
         Ok(position)
     }
 
-    // The node's new seat, and the position of the entry.
+    // The new seat of the node, and the position of the entry.
     fn restart_in_book<R: Wait>(&self, rt: &R, node: u8) -> Result<(Seat<J>, u32), Refused>
         ensures position { IfOk result (λ r. IsNumber journal_limit r.1) }
         ensures refused { IfErr result (λ e. may_refuse_start e ≡ true) }
@@ -194,9 +194,9 @@ impl<'a, J: Name, G: Gate> Cluster<'a, J, G> {
         self.book.lock(rt).fail_server(self.alloc, file)
     }
 
-    /// The token server of the file, which was declared failed, begins again. Its worker takes the new
-    /// seat before its next letter, and sends what it asks the nodes. The position of the entry is
-    /// answered, from 1.
+    /// Starts the token server of the file again, which was declared failed. Its worker takes the new seat before its
+    /// next letter, and sends the messages in which the server asks the nodes for their tokens. Gives the position of
+    /// the entry, from 1.
     ///
     /// # Errors
     /// Those of `Book::start_server`: `JournalFull`, `Stranger`, `NotDead`, `TooManyRestarts` or `NoMemory`.
@@ -211,8 +211,7 @@ impl<'a, J: Name, G: Gate> Cluster<'a, J, G> {
         Ok(position)
     }
 
-    // The token server of the file begins again, and stands where its worker finds it: the position of the
-    // entry.
+    // Rebuilds the token server of the file, and puts it where its worker finds it. Gives the position of the entry.
     fn rebuild<R: Wait>(&self, rt: &R, file: u16) -> Result<u32, Refused>
         ensures position { IfOk result (IsNumber journal_limit) }
         ensures refused { IfErr result (λ e. may_refuse_start e ≡ true) }
@@ -227,7 +226,8 @@ impl<'a, J: Name, G: Gate> Cluster<'a, J, G> {
         Ok(position)
     }
 
-    // The server's new seat with what it asks the nodes, and the position of the entry.
+    // The new seat of the token server, with the messages in which it asks the nodes for their tokens, and the
+    // position of the entry.
     fn rebuild_in_book<R: Wait>(&self, rt: &R, file: u16) -> Result<(Rebuilt<J>, u32), Refused>
         ensures position { IfOk result (λ r. IsNumber journal_limit r.1) }
         ensures refused { IfErr result (λ e. may_refuse_start e ≡ true) }
@@ -238,13 +238,14 @@ impl<'a, J: Name, G: Gate> Cluster<'a, J, G> {
     }
 }
 
-/// Runs a cluster of the shape on threads for as long as the body does, which is lent it. Each actor
-/// has a thread, a mailbox and a weather, nodes first. Where the gate is open, as it is asked once, a call that needs no other
-/// actor may be made on the thread of who calls, and the gate isn't told of it. The body's result comes with the journal. Its book
-/// has no trail, so at each step the seat's state is compared with the book's copy (that of `run_threads` has one).
+/// Runs a cluster of the shape on threads for as long as the body runs, which gets the cluster. Each actor has a
+/// thread, a mailbox and a weather, nodes first. The gate is asked once whether it is open. If it is, a call that
+/// needs no other actor may be made on the caller's thread, and the gate isn't told of it. The body's result comes
+/// with the journal. The book has no trail, so each commit compares the seat's state with the book's copy (the book
+/// of `run_threads` has one).
 ///
-/// Where a hundred requests for memory are refused one after the other, with no step between them, the
-/// threads of the actors end: calls that are open then are answered `Unanswered`, and later ones `Closed`.
+/// Where a hundred requests for memory are refused one after the other, with no step between them, the threads of the
+/// actors end: calls that are open then are answered `Unanswered`, and later ones `Closed`.
 ///
 /// # Errors
 /// `AllocError` where a request for memory or for a thread was refused.
@@ -265,7 +266,7 @@ pub fn with_cluster<
     requires each { length weathers.items ≡ shape.nodes + shape.files }
     requires body { F.IsAlwaysCallable body }
 
-    // One table explains every reply, and ends as what the nodes hold.
+    // One table explains every reply, and ends with what the nodes hold.
     ensures one_table { IfOk result (λ made. HasOneHistory made.1.shape made.1.entries) }
 {
     let (book, seats) = Book::new(alloc, shape, None)?;
@@ -275,8 +276,8 @@ pub fn with_cluster<
     Ok((made, journal))
 }
 
-/// What a cluster begins with beside its book and its workers: a mailbox and a desk for each actor, nodes first, a
-/// place for each node, and one for each server as it begins again.
+/// The parts of a cluster beside its book and its workers: a mailbox and a desk for each actor, nodes first, a place
+/// for each node, and a place for each token server as it begins again.
 #[derive(Drop)]
 pub(crate) struct Begun<J: Name> {
     alloc: Global,
@@ -293,7 +294,7 @@ pub(crate) struct Begun<J: Name> {
 }
 
 impl<J: Name> Begun<J> {
-    /// What the threads share.
+    /// The parts that the threads share.
     pub(crate) fn shared<'a, G>(
         &'a self,
         book: &'a Mutex<Book<J>>,
@@ -313,8 +314,8 @@ impl<J: Name> Begun<J> {
         }
     }
 
-    /// What is lent to whoever calls the nodes, with the gate that is told of the steps that clients make themselves, which
-    /// they may if it is open to them.
+    /// The cluster that is lent to callers of the nodes. Its gate is told of the steps that clients make themselves,
+    /// which they may if the gate is open to them.
     pub(crate) fn cluster<'a, G: Gate>(
         &'a self,
         book: &'a Mutex<Book<J>>,
@@ -336,7 +337,7 @@ impl<J: Name> Begun<J> {
     }
 }
 
-/// What a cluster of the shape begins with on these seats, and a worker for each.
+/// The parts of a cluster of the shape on these seats, and a worker for each seat.
 ///
 /// # Errors
 /// `AllocError` where a request for memory was refused.
@@ -364,7 +365,7 @@ pub(crate) fn begin<J: Name, W: Weather>(
     Ok((begun, workers))
 }
 
-// A desk for each seat.
+// The desks, one for each seat.
 fn desks_of<J: Name>(alloc: Global, seats: Vec<Seat<J>>) -> Result<Vec<Desk<J>>, AllocError> {
     let mut desks = Vec::new(alloc);
     for seat in seats {
@@ -373,8 +374,8 @@ fn desks_of<J: Name>(alloc: Global, seats: Vec<Seat<J>>) -> Result<Vec<Desk<J>>,
     Ok(desks)
 }
 
-// Starts the threads, calls the body and stops the threads. (As `run_on` of `threads.rt`, which takes no body: a bound on one can't
-// name a trail.)
+// Starts the threads, calls the body and stops the threads. (It does what `run_on` of `threads.rt` does, which takes
+// no body: a bound on a body can't name a trail.)
 fn run_body<
     G: Gate + Sync,
     W: Weather + Send,
@@ -409,7 +410,7 @@ fn run_body<
     })
 }
 
-/// Starts the pacer and the workers. False where a thread can't be made.
+/// Starts the pacer and the workers. `false` where a thread can't be made.
 pub(crate) fn start_all<
     's,
     'b: 's,
@@ -431,7 +432,7 @@ pub(crate) fn start_all<
     all
 }
 
-// Starts a worker. False where its thread can't be made.
+// Starts a worker. `false` where its thread can't be made.
 fn start<
     's,
     'b: 's,
@@ -449,7 +450,7 @@ fn start<
     started
 }
 
-// So many mailboxes, and where the letters of each come out.
+// That many mailboxes, and the receiving end of each.
 fn mailboxes_of(
     alloc: Global,
     count: usize,
@@ -480,7 +481,7 @@ fn workers_of<J: Name, W: Weather>(
     Ok(workers)
 }
 
-// The places of so many nodes that begin.
+// The places of that many nodes, as they begin.
 fn places_of<J: Name>(alloc: Global, nodes: u8) -> Result<Vec<Mutex<Place<J>>>, AllocError>
     ensures { IfOk result (λ places. length places.items ≡ nodes) }
 {
@@ -491,7 +492,7 @@ fn places_of<J: Name>(alloc: Global, nodes: u8) -> Result<Vec<Mutex<Place<J>>>, 
     Ok(places)
 }
 
-// For each of so many token servers a place for it as it begins again.
+// A place for each of that many token servers, for when it begins again.
 fn server_places_of<J: Name>(
     alloc: Global,
     files: u16,

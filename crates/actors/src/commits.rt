@@ -1,4 +1,4 @@
-//! Commits to the book that threads share.
+//! The commit of a step to the book that threads share.
 ghost use Rattle.std.specs.Prelude.{◌≡◌, IfOk};
 ghost use Rattle.book.specs.Commits.{Names, IsStepFrom};
 
@@ -15,8 +15,8 @@ use std::alloc::Global;
 use std::sync::{Mutex, Wait};
 use trail::name::Name;
 
-/// Commits a step that the seat prepared, under the lock of the book. The gate is told before that is taken, and once it was given
-/// back.
+/// Commits a step that the seat prepared, under the lock of the book. The gate is told before the lock is taken, and
+/// after it is given back.
 pub(crate) fn commit<J: Name, G: Gate, R: Wait>(
     rt: &R,
     alloc: Global,

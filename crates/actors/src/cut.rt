@@ -1,4 +1,4 @@
-//! Calls of entries, and runs that were ended as stuck.
+//! The names of calls by their entries, and the lines that a run left when it was ended as stuck.
 ghost use Rattle.std.specs.Prelude.{◌≡◌, ◌≢◌, ◌⊎◌, ◌↔◌, ◌++◌, ◌∷◌, [], true, IfOk, IsTrue, Some, if◌then◌else◌};
 ghost use Rattle.std.specs.List.{Contains};
 ghost use Rattle.actors.specs.declared.line_outcome.LineOutcome.TheVariants.{Left};
@@ -10,15 +10,15 @@ use messages::entry::Entry;
 use model::call::CallId;
 use std::alloc::{AllocError, Global};
 
-/// The name of the call that is the entry at the position, from 1.
+/// The name of the call that the entry at the position, from 1, makes.
 pub(crate) fn name_at(entries: &[Entry], position: u32) -> Option<CallId>
     ensures { result ≡ name_at entries.now position }
 {
     entries.get(position.saturating_sub(1) as usize)?.call()
 }
 
-// What of the lines so far bars others: who has an open call, and whether one was open before a line that
-// parts phases.
+// The reasons, among the lines so far, why later lines may be left: the processes that have an open call, and whether
+// a call was open before a line that separates phases.
 #[derive(Drop)]
 struct Bars {
     askers: Vec<(u8, u16)>,
@@ -26,7 +26,7 @@ struct Bars {
 }
 
 impl Bars {
-    // Passes the next line. False where it was left, and nothing bars it.
+    // Passes the next line. `false` where the line was left without a reason.
     fn pass(&mut self, no_join: bool, line: &PlayedLine) -> Result<bool, AllocError>
         ensures over { IfOk result (λ may. self.new.is_over ≡ true ↔ ((self.old.is_over ≡ true) ⊎ ((parts no_join line.now.line.command ≡ true) × (self.old.askers.items ≢ [])))) }
         ensures left { IfOk result (λ may. may ≡ true ↔ (line.now.outcome ≡ Left → (self.new.is_over ≡ true) ⊎ Contains self.old.askers.items (asker line.now.line.command))) }
@@ -44,14 +44,15 @@ impl Bars {
     }
 }
 
-// Whether the one is among those.
+// Whether the process is in the list.
 fn has(askers: &[(u8, u16)], asker: (u8, u16)) -> bool
     ensures { IsTrue result ↔ Contains askers.now asker }
 {
     askers.contains(&asker)
 }
 
-/// Whether each line that was left stands behind an open call, of its process or before a line that parts phases.
+/// Whether each line that was left stands behind an open call of its process, or behind one before a line that
+/// separates phases.
 pub(crate) fn are_barred(
     alloc: Global,
     no_join: bool,

@@ -1,4 +1,5 @@
-//! Whether lines that were played may have come to what they did, as failures and starts have it.
+//! The test whether lines of a script may have their outcomes, by the failures and starts before each, and by those
+//! behind a call in its phase.
 ghost use Rattle.std.specs.Prelude.{◌≡◌, ◌⊎◌, ℕ, Bool, List, ◌∷◌, Some, None, Ok, Err, max, unwrap_or, if◌then◌else◌, ◌==◌, true, false, IfOk, IfErr, OnOk, OnErr, IsTrue};
 ghost use Rattle.std.specs.BTreeMap as tree;
 ghost use Rattle.std.specs.Ordering.{nat_cmp};
@@ -25,21 +26,21 @@ use model::op::Op;
 use std::alloc::{AllocError, Global};
 use std::collections::BTreeMap;
 
-// Whether the number is one of those from 1 to the most.
+// Whether the number is from 1 to `most`.
 fn is_number(most: u16, number: u16) -> bool
     ensures { result ≡ is_within most number }
 {
     1 <= number && number <= most
 }
 
-// Whether the node is of the cluster, and the process one that a node can have.
+// Whether the cluster has the node, and a node can have the process.
 fn has_process(shape: Shape, node: u8, pid: u16) -> bool
     ensures { result ≡ has_process shape node pid }
 {
     is_number(u16::from(shape.nodes()), u16::from(node)) && is_number(MOST_PROCESSES, pid)
 }
 
-// Whether the file and the process that the operation names are ones that there can be.
+// Whether the file and the process that the operation names are within the shape's limits.
 fn is_in_shape(shape: Shape, op: &Op) -> bool
     ensures { result ≡ is_in_shape shape op.now }
 {
@@ -50,15 +51,15 @@ fn is_in_shape(shape: Shape, op: &Op) -> bool
     }
 }
 
-// Whether all that the call names is of the cluster.
+// Whether the cluster has all that the call names.
 fn has_call(shape: Shape, node: u8, pid: u16, op: &Op) -> bool
     ensures { result ≡ has_call shape node pid op.now }
 {
     has_process(shape, node, pid) && is_in_shape(shape, op)
 }
 
-// The members of a cluster behind the lines that were passed; and of each node that has still to be declared failed
-// in the phase, behind which position.
+// The members of a cluster behind the lines that were passed, and the nodes that have still to be declared failed in
+// the phase, each with the position behind which that has to be.
 #[derive(Drop)]
 struct Passed {
     members: Members,
@@ -66,7 +67,7 @@ struct Passed {
 }
 
 impl Passed {
-    // No line was passed.
+    // The members before any line was passed.
     fn new(alloc: Global, shape: Shape) -> Result<Passed, AllocError>
         ensures members { IfOk result (λ p. members_of p.members ≡ first_of shape) }
     {
@@ -76,7 +77,7 @@ impl Passed {
         })
     }
 
-    // Makes the failure or the start that the line asks for.
+    // Makes the failure or the start of the line's command.
     fn change(&mut self, shape: Shape, command: Command) -> Result<(), Refused>
         ensures ok { OnOk result (changed_by shape (members_of self.old.members) command ≡ Ok (members_of self.new.members)) }
         ensures err { IfErr result (λ why. changed_by shape (members_of self.old.members) command ≡ Err why) }
@@ -103,7 +104,7 @@ impl Passed {
         Ok(())
     }
 
-    // Makes the failure or the start, if it was made. Whether it may have come to this.
+    // Makes the failure or the start, if its outcome says that it was made. Answers whether the outcome may be.
     fn pass_change(&mut self, shape: Shape, command: Command, outcome: &LineOutcome) -> bool
         ensures may { IsTrue result → MayChangeCome (changed_by shape (members_of self.old.members) command) outcome.now }
         ensures members { IsTrue result → members_of self.new.members ≡ if_made (members_of self.old.members) (changed_by shape (members_of self.old.members) command) outcome.now }
@@ -119,7 +120,7 @@ impl Passed {
         }
     }
 
-    // The node has still to be declared failed in the phase, by an entry behind this position.
+    // Notes that the node has still to be declared failed in the phase, by an entry behind this position.
     fn expect(&mut self, node: u8, after: u32) -> Result<(), AllocError>
         ensures members { self.new.members ≡ self.old.members }
         ensures awaited { OnOk result ((n : ℕ) → tree.get nat_cmp self.new.awaited n ≡ (if n == node then Some (max after (unwrap_or (tree.get nat_cmp self.old.awaited node) 0)) else tree.get nat_cmp self.old.awaited n)) }
@@ -132,7 +133,7 @@ impl Passed {
         Ok(())
     }
 
-    // The line may have declared a node failed that has to be. False where that stands too early.
+    // Notes a line that declares a node failed which has to be. `false` where its entry stands too early.
     fn meet(&mut self, command: Command, outcome: &LineOutcome) -> bool
         ensures members { self.new.members ≡ self.old.members }
         ensures awaited { IsTrue result → (n after : ℕ) → tree.get nat_cmp self.old.awaited n ≡ Some after → (declares n after command outcome.now ≡ true) ⊎ (tree.get nat_cmp self.new.awaited n ≡ Some after) }
@@ -146,8 +147,8 @@ impl Passed {
         }
     }
 
-    // Whether the call of the process may have come to this. Where that wants its node declared failed behind it, this is
-    // awaited from here on.
+    // Whether the call of the process may have this outcome. If the outcome needs its node declared failed behind the
+    // call, that is noted.
     fn pass_call(
         &mut self,
         shape: Shape,
@@ -171,7 +172,8 @@ impl Passed {
         }
     }
 
-    // The same of a call that was denied.
+    // Whether the call of the process may have been denied so. If the denial needs its node declared failed behind
+    // the call, that is noted.
     fn pass_denied(
         &mut self,
         shape: Shape,
@@ -199,21 +201,21 @@ impl Passed {
         }
     }
 
-    // Whether nothing is awaited.
+    // Whether no node has still to be declared failed.
     fn is_met(&self) -> bool
         ensures { IsTrue result → (n : ℕ) → tree.get nat_cmp self.now.awaited n ≡ None }
     {
         self.awaited.is_empty()
     }
 
-    // Whether the line parts no phases, or nothing is awaited.
+    // Whether the line separates no phases, or no node has still to be declared failed.
     fn may_part(&self, no_join: bool, line: &PlayedLine) -> bool
         ensures { IsTrue result → parts no_join line.now.line.command ≡ true → (n : ℕ) → tree.get nat_cmp self.now.awaited n ≡ None }
     {
         !line.parts(no_join) || self.is_met()
     }
 
-    // Passes the next line. False where it can't have come to this.
+    // Passes the next line. `false` where it can't have its outcome.
     fn pass(&mut self, shape: Shape, no_join: bool, line: &PlayedLine) -> Result<bool, AllocError>
         ensures members { IfOk result (λ may. may ≡ true → members_of self.new.members ≡ after_line shape (members_of self.old.members) line.now) }
         ensures may { IfOk result (λ may. may ≡ true → (behind : List PlayedLine) → AreMet (parts no_join) self.new.awaited behind → MayCome (parts no_join) shape (members_of self.old.members) line.now.line.command line.now.outcome behind × AreMet (parts no_join) self.old.awaited (line.now ∷ behind)) }
@@ -229,8 +231,8 @@ impl Passed {
     }
 }
 
-/// Whether each line may have come to what it says, as the failures and starts before it have it, and those behind a
-/// call in its phase.
+/// Whether each line may have its outcome, by the failures and starts before it, and by those behind a call in its
+/// phase.
 pub(crate) fn may_all_come(
     alloc: Global,
     shape: Shape,
@@ -248,7 +250,7 @@ pub(crate) fn may_all_come(
     Ok(passed.is_met())
 }
 
-// Whether token servers may fail and begin again.
+// Refuses where token servers of the shape's version don't fail and begin again.
 fn rebuilds(shape: Shape) -> Result<(), Refused>
     ensures yes { OnOk result (may_rebuild shape.version ≡ true) }
     ensures no { IfErr result (λ why. (why ≡ refusal.Stranger) × (may_rebuild shape.version ≡ false)) }

@@ -1,9 +1,9 @@
-//! Desks: where the steps of an actor are made.
+//! Desks: the places where the steps of actors are made.
 use book::seat::Seat;
 use std::sync::Mutex;
 use trail::name::Name;
 
-/// What lies at the desk of an actor: its seat, and whether calls are open at the node, as its worker knows.
+/// The work at the desk of an actor: its seat, and whether calls are open at the node, as its worker knows.
 #[derive(Drop)]
 pub(crate) struct Work<J: Name> {
     pub(crate) seat: Seat<J>,
@@ -11,7 +11,7 @@ pub(crate) struct Work<J: Name> {
 }
 
 impl<J: Name> Work<J> {
-    /// The work of the seat's actor, at which no call is open.
+    /// The work of the seat's actor, without open calls.
     pub(crate) fn new(seat: Seat<J>) -> Work<J> {
         Work {
             seat,
@@ -20,6 +20,6 @@ impl<J: Name> Work<J> {
     }
 }
 
-/// Where the steps of an actor are made, by one thread at a time. The worker takes the work for each letter, and a client of a
-/// node for a call that needs no other actor.
+/// The place where the steps of an actor are made, by one thread at a time. The worker takes the work for each
+/// letter, and a client of a node for a call that needs no other actor.
 pub(crate) type Desk<J> = Mutex<Work<J>>;

@@ -1,4 +1,4 @@
-//! Calls that a client makes at its node's desk.
+//! The calls that a client makes at its node's desk, on its own thread.
 ghost use Rattle.std.specs.Prelude.{◌≡◌, IfSome};
 ghost use Rattle.messages.specs.declared.event.Event.TheVariants.{Call};
 
@@ -19,8 +19,8 @@ use std::alloc::Global;
 use std::sync::{Mutex, Wait};
 use trail::name::Name;
 
-/// What a client needs to do its calls at its node's desk, on its own thread: the desk, the book, the gate, and whether the
-/// workers are to end.
+/// The parts that a client needs to make calls at its node's desk, on its own thread: the desk, the book, the gate,
+/// and whether the workers are to end.
 #[derive(Drop)]
 pub(crate) struct Direct<'a, J: Name, G: Gate> {
     alloc: Global,
@@ -31,7 +31,7 @@ pub(crate) struct Direct<'a, J: Name, G: Gate> {
 }
 
 impl<'a, J: Name, G: Gate> Direct<'a, J, G> {
-    /// The calls at that desk.
+    /// The parts for calls at that desk.
     pub(crate) fn new(
         alloc: Global,
         desk: &'a Desk<J>,
@@ -48,9 +48,9 @@ impl<'a, J: Name, G: Gate> Direct<'a, J, G> {
         }
     }
 
-    /// Makes a call of the process with what its client has seen, if the step answers it and sends no message, and the
-    /// node has no open call that it may help. None where it isn't made, for whatever reason: the worker makes it then, or
-    /// tells why not.
+    /// Makes a call of the process, with what its client has seen, if the step answers the call and sends no message,
+    /// and the node has no open call that the step may help. `None` where the call isn't made, for whatever reason:
+    /// the worker then makes it, or says why not.
     pub(crate) fn make<R: Wait>(
         &self,
         rt: &R,
@@ -78,8 +78,8 @@ impl<'a, J: Name, G: Gate> Direct<'a, J, G> {
         self.step(rt, &mut work.seat, event, seen)
     }
 
-    // The step of the seat at the call, prepared without the book's lock and committed, if it answers the call and sends no
-    // message.
+    // Prepares the step of the seat at the call without the book's lock, and commits it, if it answers the call and
+    // sends no message.
     fn step<R: Wait>(
         &self,
         rt: &R,

@@ -1,4 +1,4 @@
-//! Journals that have no room.
+//! The test whether a journal is that of a script and has no room for another entry.
 ghost use Rattle.std.specs.Prelude.{◌≡◌, true, List, IfOk};
 ghost use Rattle.actors.specs.declared.played_line.PlayedLine.{PlayedLine};
 ghost use Rattle.actors.specs.Lines.{AreLinesOf};
@@ -17,8 +17,8 @@ use lockscript::script_line::{Command, ScriptLine};
 use messages::entry::Entry;
 use std::alloc::{AllocError, Global};
 
-/// Whether the journal of a run of the script has no room, and is by lines of the script: a lock says
-/// nothing of the book that it gives back, so that is looked at. False where memory is short for it.
+/// Whether the journal is of a run of the script and has no room for another entry. Contracts know nothing of the
+/// book that a lock gives back, so this is tested here. `false` also where memory is short for the test.
 pub(crate) fn is_full(alloc: Global, script: &Script, journal: &Journal) -> bool
     requires shape { journal.now.shape ≡ script.now.shape }
     requires one_table { HasOneHistory journal.now.shape journal.now.entries }
@@ -33,7 +33,7 @@ pub(crate) fn is_full(alloc: Global, script: &Script, journal: &Journal) -> bool
     )
 }
 
-// Whether the entries that were asked for are by lines of the script.
+// Whether the entries that lines can ask for were made by lines of the script.
 fn is_by_lines(alloc: Global, script: &[ScriptLine], entries: &[Entry]) -> Result<bool, AllocError>
     ensures { IfOk result (λ is. is ≡ true → (lines : List PlayedLine) × AreLinesOf script.now entries.now lines) }
 {
@@ -41,8 +41,8 @@ fn is_by_lines(alloc: Global, script: &[ScriptLine], entries: &[Entry]) -> Resul
     are_lines_of(alloc, script, entries, lines.as_slice())
 }
 
-// The lines of a script, of which some made the entries: for each that was asked for the next line of who
-// asked that asks for it.
+// The lines of the script, with the entries that some of them made. Each entry that a line can ask for goes to the
+// next line of the same process with the same command.
 fn lines_behind(
     alloc: Global,
     script: &[ScriptLine],
@@ -66,7 +66,7 @@ fn lines_behind(
     Ok(lines)
 }
 
-// What the lines ask for, each with its index in the place of an entry's.
+// The commands of the lines, each with the index of its line in the place of an entry's.
 fn commands_of(alloc: Global, script: &[ScriptLine]) -> Result<Vec<Asked>, AllocError> {
     let asked = |(index, line): (usize, &ScriptLine)| Asked {
         index,
@@ -75,7 +75,7 @@ fn commands_of(alloc: Global, script: &[ScriptLine]) -> Result<Vec<Asked>, Alloc
     script.iter().enumerate().map(asked).collect(alloc)
 }
 
-// What a line came to that made this entry, of which nothing else is known.
+// The outcome of a line that made this entry, of which nothing else is known.
 fn made_at(one: &Asked) -> LineOutcome {
     let position = u32::try_from(one.index)
         .unwrap_or(u32::MAX)

@@ -1,28 +1,29 @@
-//! Gates.
+//! Gates: where a test can hold an actor between preparing and committing a step.
 use messages::actor::Actor;
 
-/// A moment in the work of an actor.
+/// A moment in the work of an actor, of which a gate is told.
 #[derive(Clone, Copy, Debug, PartialEq, Eq)]
 pub enum Point {
-    /// The actor has prepared a step, which it will commit, and holds no lock but that of its own seat.
+    /// The actor has prepared a step, which it will commit. It holds no lock but that of its own seat.
     Prepared(Actor),
-    /// The actor has committed the step as the entry at this position, from 1, and holds no lock but that of its own
+    /// The actor has committed the step as the entry at this position, from 1. It holds no lock but that of its own
     /// seat. No message of the step was sent, and no call was answered.
     Committed(Actor, u32),
 }
 
-/// What is told of each such moment. The actor waits there until `at` returns.
+/// The trait of what is told of each such moment. The actor waits there until `at` returns.
 pub trait Gate {
     fn at(&self, point: Point);
 
-    /// Whether it is open to clients, as is asked once, when the cluster begins. A client may then make a call that needs no
-    /// other actor on its own thread. The gate of `run_threads` is told of such a step too, that of `with_cluster` isn't.
+    /// Whether the gate is open to clients. It is asked once, when the cluster begins. If it is open, a client may
+    /// make a call that needs no other actor on its own thread. The gate of `run_threads` is told of such a step too,
+    /// that of `with_cluster` isn't.
     fn is_open(&self) -> bool {
         false
     }
 }
 
-/// A gate at which no actor waits.
+/// A gate at which no actor waits. It is not open to clients.
 #[derive(Clone, Copy, Debug, Default, PartialEq, Eq)]
 pub struct OpenGate;
 

@@ -1,11 +1,11 @@
-//! What ends the workers of a cluster.
+//! The flags that end the workers of a cluster.
 use std::sync::atomic::{AtomicU64, Ordering};
 
-// So many requests for memory may be refused one after the other with no step between them.
+// This many requests for memory may be refused one after the other, with no step between them.
 const MOST_REFUSED: u64 = 100;
 
-/// Whether the workers of a cluster are to end, how many requests for memory were refused since the last
-/// step, and whether those were too many: then no step can be expected any more, and the workers are to end.
+/// Whether the workers of a cluster are to end; how many requests for memory were refused since the last step; and
+/// whether those were too many. In that case no step can be expected any more, and the workers are to end.
 #[derive(Drop)]
 pub(crate) struct Halt {
     is_set: AtomicU64,
@@ -14,7 +14,7 @@ pub(crate) struct Halt {
 }
 
 impl Halt {
-    /// The workers go on.
+    /// The flags of workers that go on.
     pub(crate) fn new() -> Halt {
         Halt {
             is_set: AtomicU64::new(0),
@@ -23,7 +23,7 @@ impl Halt {
         }
     }
 
-    /// The workers are to end.
+    /// Says that the workers are to end.
     pub(crate) fn set(&self) {
         self.is_set.store(1, Ordering::SeqCst);
     }
@@ -33,20 +33,20 @@ impl Halt {
         self.is_set.load(Ordering::SeqCst) != 0
     }
 
-    /// Whether the workers are to end as too many requests for memory were refused.
+    /// Whether the workers are to end because too many requests for memory were refused.
     pub(crate) fn is_short(&self) -> bool {
         self.is_short.load(Ordering::SeqCst) != 0
     }
 
-    /// A step was taken. (Where no request was refused before it, nothing is written: workers and clients read what
-    /// lies beside it at each letter and call, and a write would take it from their caches.)
+    /// Notes that a step was taken. (Where no request was refused before it, nothing is written: workers and clients
+    /// read what lies beside it at each letter and call, and a write would take it from their caches.)
     pub(crate) fn note_step(&self) {
         if self.refused.load(Ordering::SeqCst) != 0 {
             self.refused.store(0, Ordering::SeqCst);
         }
     }
 
-    /// A request for memory was refused.
+    /// Notes that a request for memory was refused.
     pub(crate) fn note_refused(&self) {
         if self.refused.fetch_add(1, Ordering::SeqCst) >= MOST_REFUSED {
             self.is_short.store(1, Ordering::SeqCst);

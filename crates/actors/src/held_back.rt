@@ -1,8 +1,8 @@
-//! Messages that are held back.
+//! The messages of an actor that its weather holds back.
 use messages::message::Message;
 use std::alloc::{AllocError, Global};
 
-// A message, and after how many ticks it goes.
+// A message, and the number of ticks after which it goes.
 #[derive(Drop)]
 struct Held {
     ticks: u32,
@@ -16,14 +16,14 @@ pub(crate) struct HeldBack {
 }
 
 impl HeldBack {
-    /// No message is held back.
+    /// No held messages.
     pub(crate) fn new(alloc: Global) -> HeldBack {
         HeldBack {
             messages: Vec::new(alloc),
         }
     }
 
-    /// Holds a message back for so many ticks.
+    /// Holds a copy of the message back for that many ticks.
     pub(crate) fn hold(
         &mut self,
         alloc: Global,
@@ -35,7 +35,7 @@ impl HeldBack {
         Ok(())
     }
 
-    /// A tick has passed.
+    /// Counts a tick for each held message.
     pub(crate) fn pass_tick(&mut self) {
         for held in self.messages.iter_mut() {
             held.ticks = held.ticks.saturating_sub(1);
@@ -50,7 +50,7 @@ impl HeldBack {
         self.messages.is_empty()
     }
 
-    /// Takes out the first message whose ticks have passed.
+    /// Takes out the first message whose ticks have passed, if there is one.
     pub(crate) fn take_due(&mut self) -> Option<Message> {
         let index = self.messages.iter().position(|held| held.ticks == 0)?;
         let Held { message, .. } = self.messages.remove(index);

@@ -1,4 +1,6 @@
-//! The actors of a cluster on threads, each with a mailbox, and the clients that call them.
+//! The actors of a cluster on threads, each with a mailbox and a worker, the clients that call them, and scripts that
+//! are run on them. It knows nothing of the rules by which an actor takes a step, of files of the operating system or
+//! of printed text.
 #![tactic(auto)]
 
 pub mod asked;

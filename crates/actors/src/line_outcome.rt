@@ -1,4 +1,4 @@
-//! What lines of a script come to.
+//! The outcome of a script's line.
 ghost use Rattle.std.specs.Prelude.{◌≡◌};
 ghost use Rattle.actors.specs.Cuts.{is_cut, is_open, killed_by, open_by};
 ghost use Rattle.actors.specs.Lines.{begins, code_of, ends, receipt_of};
@@ -10,20 +10,20 @@ use messages::entry::Entry;
 use messages::refusal::Refused;
 use model::call::CallId;
 
-/// What a line of a script comes to on threads.
+/// The outcome of a script's line, as it is run on threads.
 #[derive(Clone, Copy, Debug)]
 pub enum LineOutcome {
     /// The call was answered.
     Answered(Receipt),
-    /// The call has no receipt. Where it is `Killed`, its node took it.
+    /// The call has no receipt, for this reason. Where it is `Killed`, its node took the call.
     Denied(CallError),
-    /// The failure or the start is the entry at this position, from 1.
+    /// The failure or the start was made, as the entry at this position, from 1.
     Made(u32),
-    /// The failure or the start was refused.
+    /// The failure or the start was refused, for this reason.
     Refused(Refused),
-    /// Nothing came of the line itself: `settle` only waits for the calls of its phase.
+    /// The line was `settle`, which only waits for the calls of its phase.
     Settled,
-    /// The call, which is the entry at this position, from 1, was open when the run was ended as stuck.
+    /// The call was made, as the entry at this position, from 1, and was open when the run was ended as stuck.
     Open(u32),
     /// The run was ended before the line's turn came.
     Left,
@@ -40,7 +40,7 @@ impl LineOutcome {
         }
     }
 
-    /// The number by which listings know the refusal, if the line was refused.
+    /// The number that listings show for the refusal, if the line was refused.
     pub fn code(&self) -> Option<u16>
         ensures { result ≡ code_of self.now }
     {
@@ -51,7 +51,7 @@ impl LineOutcome {
         }
     }
 
-    /// The position of the entry that the line made, from 1, if it made one.
+    /// The position, from 1, of the entry that the line made, if it made one.
     pub fn begins(&self) -> Option<u32>
         ensures { result ≡ begins self.now }
     {
@@ -63,8 +63,8 @@ impl LineOutcome {
         }
     }
 
-    /// The position, from 1, of the last entry of what the line came to, if it made one: of a call that of
-    /// its reply, or its own where it has none.
+    /// The position, from 1, of the last entry that belongs to the line: of a call, its reply, or the call itself
+    /// where it has no reply. `None` where the line made no entry.
     pub fn ends(&self) -> Option<u32>
         ensures { result ≡ ends self.now }
     {
@@ -83,7 +83,7 @@ impl LineOutcome {
         matches!(self, LineOutcome::Open(_))
     }
 
-    /// The name of the call that was open when the run of these entries was ended.
+    /// The name, in these entries, of the line's call, if it was open when the run was ended.
     pub(crate) fn open_call(&self, entries: &[Entry]) -> Option<CallId>
         ensures { result ≡ open_by entries.now self.now }
     {
@@ -93,7 +93,7 @@ impl LineOutcome {
         }
     }
 
-    /// The name of the call that ended without a reply in a run of these entries.
+    /// The name, in these entries, of the line's call, if it ended without a reply.
     pub(crate) fn killed_call(&self, entries: &[Entry]) -> Option<CallId>
         ensures { result ≡ killed_by entries.now self.now }
     {
@@ -103,7 +103,7 @@ impl LineOutcome {
         }
     }
 
-    /// Whether it is that of a run which was ended as stuck.
+    /// Whether only a run that was ended as stuck has such an outcome.
     pub fn is_cut(&self) -> bool
         ensures { result ≡ is_cut self.now }
     {

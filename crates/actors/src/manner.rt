@@ -1,7 +1,7 @@
-//! How scripts are run on threads.
+//! The ways in which a script is run on threads.
 
-/// How a script is run on threads: whether lines of failures and starts are made beside open calls, and whether
-/// the run is ended where it is stuck.
+/// The way in which a script is run on threads. `no_join`: lines of failures and starts are made while calls are
+/// open; `may_stop`: the run is ended where it is stuck.
 #[derive(Clone, Copy, Debug, PartialEq, Eq)]
 pub struct Manner {
     pub no_join: bool,

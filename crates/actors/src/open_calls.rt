@@ -14,8 +14,8 @@ use model::process::Process;
 use std::alloc::{AllocError, Global};
 use std::mem;
 
-/// A call that its node took and has not answered, with its process, when it is tried again, and whether its last try
-/// asked for no token: then a lock of its own node is in the way.
+/// A call that its node took and has not answered: its process, its stamp, when it is tried again, and whether its
+/// last try asked for no token. In that case a lock of its own node blocks it.
 #[derive(Drop)]
 pub(crate) struct OpenCall {
     process: Process,
@@ -41,21 +41,21 @@ impl OpenCall {
         self.process
     }
 
-    /// That the call ended without a reply.
+    /// The answer that the call ended without a reply.
     pub(crate) fn killed(&self) -> CallError {
         CallError::Killed {
             call_at: self.stamp.position(),
         }
     }
 
-    /// That the worker ended while the call was open.
+    /// The answer that the worker ended while the call was open.
     pub(crate) fn unanswered(&self) -> CallError {
         CallError::Unanswered {
             call_at: self.stamp.position(),
         }
     }
 
-    // Whether this is the number of the call.
+    // Whether the call has this number.
     fn has_number(&self, number: u32) -> bool {
         match self.stamp.outcome().call {
             Some(name) => name.number == number,
@@ -63,7 +63,7 @@ impl OpenCall {
         }
     }
 
-    // The step may have tried the call again.
+    // Notes a step of the node, which may have tried the call again.
     fn note(&mut self, step: &Stamp) {
         let event = step.event();
         if retried(event) == Some(self.process.pid) {
@@ -75,7 +75,7 @@ impl OpenCall {
     }
 }
 
-/// Whether a call that asks this may give up a lock.
+/// Whether a call with this operation may give up a lock.
 pub(crate) fn may_release(op: &Op) -> bool {
     match op {
         Op::Unlock { .. } | Op::Close { .. } | Op::Exit => true,
@@ -84,7 +84,7 @@ pub(crate) fn may_release(op: &Op) -> bool {
     }
 }
 
-// The process whose call is tried again at the event.
+// The process whose call the event tries again, if it is a retry.
 fn retried(event: &Event) -> Option<u16> {
     match event {
         Event::Retry { pid, .. } => Some(*pid),
@@ -92,7 +92,7 @@ fn retried(event: &Event) -> Option<u16> {
     }
 }
 
-// The number of the call for which the event brings a token.
+// The number of the call for which the event delivers a grant, if it delivers one.
 fn granted(event: &Event) -> Option<u32> {
     match event {
         Event::Deliver(message) => asker(message.get()),
@@ -100,7 +100,7 @@ fn granted(event: &Event) -> Option<u32> {
     }
 }
 
-// The number of the call for which the message is a grant.
+// The number of the call for which the message is a grant, if it is one.
 fn asker(message: &Message) -> Option<u32> {
     match message {
         Message::Grant { call, .. } => Some(call.number),
@@ -115,7 +115,7 @@ pub(crate) struct OpenCalls {
 }
 
 impl OpenCalls {
-    /// No call is open.
+    /// No open calls.
     pub(crate) fn new(alloc: Global) -> OpenCalls {
         OpenCalls {
             calls: Vec::new(alloc),
@@ -129,14 +129,14 @@ impl OpenCalls {
         self.calls.reserve(1)
     }
 
-    /// The call is open from here on.
+    /// Adds the call, for which there is room.
     pub(crate) fn add(&mut self, call: OpenCall)
         requires { vec_len self.old.calls < vec_capacity self.old.calls }
     {
         self.calls.push_reserved(call);
     }
 
-    /// Takes out the call that the step answers, and makes its receipt.
+    /// Takes out the call that the step answers, if there is one, and makes its receipt.
     pub(crate) fn take_answered(&mut self, reply: &Stamp) -> Option<(OpenCall, Receipt)> {
         for index in 0..self.calls.len() {
             if let Some(receipt) = Receipt::of(&self.calls[index].stamp, reply) {
@@ -146,7 +146,7 @@ impl OpenCalls {
         None
     }
 
-    /// Takes out the call of the process. There is then as much room as before.
+    /// Takes out the call of the process, if there is one. There is then as much room as before.
     pub(crate) fn take_of(&mut self, pid: u16) -> Option<OpenCall>
         ensures fewer { vec_len self.new.calls ≤ vec_len self.old.calls }
         ensures room { vec_capacity self.new.calls ≡ vec_capacity self.old.calls }
@@ -168,14 +168,14 @@ impl OpenCalls {
         self.calls.is_empty()
     }
 
-    /// The node has done this step, which may have tried calls again.
+    /// Notes a step of the node, which may have tried calls again.
     pub(crate) fn note(&mut self, step: &Stamp) {
         for call in self.calls.iter_mut() {
             call.note(step);
         }
     }
 
-    /// A tick has passed for the call at the index. Whether it is time to try it again.
+    /// Counts a tick for the call at the index. Answers whether it is time to try the call again.
     pub(crate) fn pass_tick(&mut self, index: usize) -> bool {
         match self.calls.get_mut(index) {
             Some(call) => call.patience.pass_tick(),
@@ -183,14 +183,14 @@ impl OpenCalls {
         }
     }
 
-    /// The open call of the process was refused memory, and waits as if for the first time.
+    /// Lets the open call of the process wait as if for the first time: memory for a try was refused.
     pub(crate) fn wait_anew(&mut self, pid: u16) {
         if let Some(call) = self.calls.iter_mut().find(|call| call.process.pid == pid) {
             call.patience = Patience::new();
         }
     }
 
-    /// Whether a lock of its own node is in the way of the call at the index.
+    /// Whether a lock of its own node blocks the call at the index.
     pub(crate) fn is_blocked_here(&self, index: usize) -> bool {
         match self.calls.get(index) {
             Some(call) => call.blocked_here,
@@ -198,7 +198,7 @@ impl OpenCalls {
         }
     }
 
-    /// The process whose call stands at the index.
+    /// The process of the call at the index.
     pub(crate) fn pid_at(&self, index: usize) -> Option<u16> {
         let call = self.calls.get(index)?;
         Some(call.process.pid)

@@ -1,4 +1,4 @@
-//! Messages of an actor on their way.
+//! The messages of an actor on their way, through its weather.
 use crate::held_back::HeldBack;
 use crate::shared::Shared;
 use crate::weather::{Fate, Weather};
@@ -8,7 +8,7 @@ use std::alloc::Global;
 use std::sync::Wait;
 use trail::name::Name;
 
-/// The messages of an actor on their way: the weather that they meet, and those that are held back.
+/// The messages of an actor on their way: its weather, and the messages that the weather holds back.
 #[derive(Drop)]
 pub(crate) struct Outgoing<W: Weather> {
     weather: W,
@@ -16,7 +16,7 @@ pub(crate) struct Outgoing<W: Weather> {
 }
 
 impl<W: Weather> Outgoing<W> {
-    /// No message is on its way.
+    /// No messages on their way.
     pub(crate) fn new(alloc: Global, weather: W) -> Outgoing<W> {
         Outgoing {
             weather,
@@ -29,7 +29,7 @@ impl<W: Weather> Outgoing<W> {
         self.held.is_empty()
     }
 
-    /// Sends the messages of a step, each as the weather has it.
+    /// Sends the messages of a step, each as the weather decides.
     pub(crate) fn send_all<J: Name, G, R: Wait>(
         &mut self,
         rt: &R,
@@ -41,7 +41,7 @@ impl<W: Weather> Outgoing<W> {
         }
     }
 
-    // Sends a message as the weather has it. One for which there is no memory is lost.
+    // Sends a message as the weather decides. A message for which there is no memory is lost.
     fn send<J: Name, G, R: Wait>(&mut self, rt: &R, shared: &Shared<'_, J, G>, message: &Message) {
         match self.weather.fate(message) {
             Fate::Pass | Fate::Hold(0) => shared.send(rt, message),
@@ -56,7 +56,7 @@ impl<W: Weather> Outgoing<W> {
         }
     }
 
-    /// A tick has passed: the messages whose ticks are over go.
+    /// Counts a tick, and sends the held messages whose ticks have passed.
     pub(crate) fn pass_tick<J: Name, G, R: Wait>(&mut self, rt: &R, shared: &Shared<'_, J, G>) {
         self.held.pass_tick();
         for _ in 0..self.held.len() {

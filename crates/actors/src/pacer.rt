@@ -1,4 +1,4 @@
-//! The pacer.
+//! The pacer, which sends ticks to the workers.
 use crate::shared::Shared;
 use std::sync::Wait;
 use std::sync::atomic::Ordering;
@@ -6,8 +6,9 @@ use std::thread;
 use std::time::{Clock, Duration};
 use trail::name::Name;
 
-/// Sends each mailbox whose worker waits for it a tick a millisecond at most, the next only when the
-/// last one came back. As the workers are to end, it sends each one that they wake at, until none works.
+/// Sends each mailbox whose worker waits for one a tick, at most one each millisecond, and the next only when the
+/// worker has given the last one back. Once the workers are to end, sends each a tick that wakes it, until no worker
+/// works.
 pub(crate) fn pace<J: Name, G, R: Wait + Clock>(rt: &R, shared: &Shared<'_, J, G>) {
     for _ in rt.forever() {
         thread::sleep(rt, Duration::from_millis(1));

@@ -1,14 +1,14 @@
-//! When to try again.
+//! The time after which an actor tries something again, counted in ticks.
 ghost use Rattle.std.specs.Prelude.{◌≡◌};
 ghost use Rattle.actors.specs.Distances.{after_tick, at_first, is_due, next_distance};
 
-// How many ticks pass before the first try, and at most between two.
+// The number of ticks before the first try, and the greatest number between two tries.
 const FIRST_TICKS: u32 = 16;
 
 const MOST_TICKS: u32 = 256;
 
-/// How many ticks pass before something is tried again: 16 at first, after each try twice as many as
-/// before it, and 256 at most, so that tries don't come faster than they are dealt with.
+/// The ticks that pass before something is tried again: 16 at first, after each try twice as many as before it, and
+/// 256 at most, so that tries don't come faster than they are dealt with.
 #[derive(Clone, Copy)]
 pub(crate) struct Patience {
     between: u32,
@@ -26,7 +26,7 @@ impl Patience {
         }
     }
 
-    /// A tick has passed. Whether it is time for a try.
+    /// Counts a tick. Answers whether it is time for a try.
     pub(crate) fn pass_tick(&mut self) -> bool
         ensures due { result ≡ is_due self.old }
         ensures next { self.new ≡ after_tick self.old }

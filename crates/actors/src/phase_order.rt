@@ -1,11 +1,11 @@
-//! Whether lines that were played are phases.
+//! The test whether lines of a script stand in phases.
 ghost use Rattle.std.specs.Prelude.{◌≡◌, ◌<◌, ℕ, max, Some, unwrap_or, if◌then◌else◌, IfSome, IsTrue};
 ghost use Rattle.actors.specs.Lines.{ArePhases, begins, ends, parts};
 
 use crate::played_line::PlayedLine;
 
-// Up to which position the lines that were looked at stand, from 1, and those of them up to the last that
-// parts phases; 0 for none.
+// The greatest position, from 1, of an entry of the lines so far, and that of the lines up to the last one that
+// separates phases; 0 where there is none.
 #[derive(Clone, Copy)]
 struct Known {
     all: u32,
@@ -13,7 +13,8 @@ struct Known {
 }
 
 impl Known {
-    // The same with the next line, which may part phases. None where its entry stands before what precedes it.
+    // The positions with the next line, which may separate phases. `None` where the line's entry stands before those
+    // that have to precede it.
     fn with(&self, no_join: bool, played: &PlayedLine) -> Option<Known>
         ensures all { IfSome result (λ k. k.all ≡ max self.now.all (unwrap_or (ends played.now.outcome) 0)) }
         ensures earlier { IfSome result (λ k. k.earlier ≡ (if parts no_join played.now.line.command then k.all else self.now.earlier)) }
@@ -30,7 +31,7 @@ impl Known {
     }
 }
 
-/// Whether the lines are phases, each of which stands after the one before.
+/// Whether the lines stand in phases, each phase after the one before it.
 pub(crate) fn are_phases(no_join: bool, lines: &[PlayedLine]) -> bool
     ensures { IsTrue result → ArePhases (parts no_join) lines.now }
 {

@@ -1,4 +1,4 @@
-//! The phases of a script.
+//! The phases of a script, run one after the other on a cluster.
 use crate::call_error::CallError;
 use crate::call_queue::NextCall;
 use crate::client::Client;
@@ -24,10 +24,10 @@ use std::time::Clock;
 use std::{mem, thread};
 use trail::name::Name;
 
-/// The phases of a script on a cluster: how it is run, and whether the run was ended where it was stuck; the lines
-/// so far with what they came to, and the index of the first of the phase; the parts of the phase, with where that
-/// of each process stands, the clients that make no call in it, each by its process, the last receipt of the
-/// earlier phases, and the files whose token servers are declared failed.
+/// The phases of a script on a cluster. It knows how the script is run and whether the run was ended as stuck; the
+/// lines so far with their outcomes, and the index of the first line of the phase; the parts of the phase, and the
+/// place of each process's part; the clients, by process, that make no call in it; the last receipt of earlier
+/// phases; and the files whose token servers are declared failed.
 #[derive(Drop)]
 pub(crate) struct Phases<'a, 'b, J: Name, G: Gate> {
     alloc: Global,
@@ -44,7 +44,7 @@ pub(crate) struct Phases<'a, 'b, J: Name, G: Gate> {
 }
 
 impl<'a, 'b, J: Name + Send + Sync, G: Gate + Sync> Phases<'a, 'b, J, G> {
-    /// No line was taken.
+    /// The phases before any line was taken.
     pub(crate) fn new(cluster: &'b Cluster<'a, J, G>, manner: Manner) -> Phases<'a, 'b, J, G> {
         let alloc = cluster.alloc();
         Phases {
@@ -62,12 +62,12 @@ impl<'a, 'b, J: Name + Send + Sync, G: Gate + Sync> Phases<'a, 'b, J, G> {
         }
     }
 
-    /// Takes a line: one that parts phases ends the phase and is done, and another goes into it. Once they are
-    /// over, each line is left. The watcher is told meanwhile how far the run is.
+    /// Takes a line. A line that separates phases ends the phase and is made; any other goes into the phase. After
+    /// the run was ended as stuck, each line is left. The watcher is told meanwhile how far the run is.
     ///
     /// # Errors
-    /// `NoMemory` where a request for memory or for a thread was refused; `JournalFull` where the run needs more entries
-    /// than a journal may have.
+    /// `NoMemory` where a request for memory or for a thread was refused; `JournalFull` where the run needs more
+    /// entries than a journal may have.
     pub(crate) fn take<R: Threads + Wait + Clock + Sync, V: RunWatcher>(
         &mut self,
         rt: &R,
@@ -94,7 +94,7 @@ impl<'a, 'b, J: Name + Send + Sync, G: Gate + Sync> Phases<'a, 'b, J, G> {
         Ok(())
     }
 
-    // The process of a line in the phase has a part in it.
+    // Adds a part for the process of a line in the phase, if it has none.
     fn add(&mut self, command: Command) -> Result<(), PlayError> {
         let Command::Call { node, pid, .. } = command else {
             return Ok(());
@@ -111,14 +111,14 @@ impl<'a, 'b, J: Name + Send + Sync, G: Gate + Sync> Phases<'a, 'b, J, G> {
         }
     }
 
-    // The line at the index came to this.
+    // Notes the outcome of the line at the index.
     fn note(&mut self, index: usize, outcome: LineOutcome) {
         if let Some(line) = self.lines.get_mut(index) {
             line.outcome = outcome;
         }
     }
 
-    // Makes the line at the index, which is no call, beside these parts.
+    // Makes the line at the index, which is no call, beside these parts. Notes its outcome.
     fn make<R: Wait>(
         &mut self,
         rt: &R,
@@ -131,7 +131,7 @@ impl<'a, 'b, J: Name + Send + Sync, G: Gate + Sync> Phases<'a, 'b, J, G> {
         Ok(())
     }
 
-    // Does what a line that is no call asks for.
+    // Makes the failure or start of a line that is no call.
     fn change<R: Wait>(
         &mut self,
         rt: &R,
@@ -153,13 +153,13 @@ impl<'a, 'b, J: Name + Send + Sync, G: Gate + Sync> Phases<'a, 'b, J, G> {
         }
     }
 
-    // Declares the node failed: the position of the entry.
+    // Declares the node failed. Gives the position of the entry.
     fn declare<R: Wait>(&self, rt: &R, node: u8) -> Result<u32, Refused> {
         let stamp = self.cluster.declare(rt, node)?;
         Ok(stamp.position())
     }
 
-    // Declares the token server of the file failed: the position of the entry.
+    // Declares the token server of the file failed. Gives the position of the entry.
     fn fail_server<R: Wait>(&mut self, rt: &R, file: u16) -> Result<u32, Refused> {
         self.failed.reserve(1)?;
         let stamp = self.cluster.fail_server(rt, file)?;
@@ -167,14 +167,14 @@ impl<'a, 'b, J: Name + Send + Sync, G: Gate + Sync> Phases<'a, 'b, J, G> {
         Ok(stamp.position())
     }
 
-    // The token server of the file begins again: the position of the entry.
+    // Starts the token server of the file again. Gives the position of the entry.
     fn start_server<R: Wait>(&mut self, rt: &R, file: u16) -> Result<u32, Refused> {
         let position = self.cluster.start_server(rt, file)?;
         self.failed.retain(|failed| *failed != file);
         Ok(position)
     }
 
-    // The node begins again, whose clients are gone: the position of the entry.
+    // Restarts the node, whose clients are gone. Gives the position of the entry.
     fn restart<R: Wait>(
         &mut self,
         rt: &R,
@@ -189,7 +189,7 @@ impl<'a, 'b, J: Name + Send + Sync, G: Gate + Sync> Phases<'a, 'b, J, G> {
         Ok(position)
     }
 
-    // The client of the process, after all earlier phases: the one that it has, or else a new one.
+    // The client of the process, which has seen all earlier phases: the one that waits, or else a new one.
     fn client<R: Wait>(
         &mut self,
         rt: &R,
@@ -206,12 +206,12 @@ impl<'a, 'b, J: Name + Send + Sync, G: Gate + Sync> Phases<'a, 'b, J, G> {
         Ok(client)
     }
 
-    /// Ends the phase: the calls of each part are made on a thread of its own, and all are waited for. Where one
-    /// stops before its end, or has no thread, the cluster ends, so that the others wait for nothing of it; so it
-    /// does where the parts are stuck, if they may be ended then.
+    /// Ends the phase: makes the calls of each part on a thread of its own, and waits for all. Where one stops before
+    /// its end, or has no thread, the cluster ends, so that the others don't wait for it. If the manner allows, the
+    /// cluster ends as well where the parts are stuck.
     ///
     /// # Errors
-    /// As `take` has it.
+    /// As `take`.
     pub(crate) fn join<R: Threads + Wait + Clock + Sync, V: RunWatcher>(
         &mut self,
         rt: &R,
@@ -233,7 +233,7 @@ impl<'a, 'b, J: Name + Send + Sync, G: Gate + Sync> Phases<'a, 'b, J, G> {
         Ok(())
     }
 
-    // Plays the parts of the phase, on threads that have ended when it comes back.
+    // Plays the parts of the phase on threads, which have ended when it returns.
     fn play_all<R: Threads + Wait + Clock + Sync, V: RunWatcher>(
         &mut self,
         rt: &R,
@@ -258,9 +258,9 @@ impl<'a, 'b, J: Name + Send + Sync, G: Gate + Sync> Phases<'a, 'b, J, G> {
         })
     }
 
-    // Makes the lines of the phase in their order, each that is no call when no call before it can be answered
-    // without it. Waits for no call at the end, but for their being stuck where that ends the run, and for all where
-    // somebody is told how far the run is.
+    // Makes the lines of the phase in order. A line that is no call is made when no call before it can be answered
+    // without it. At the end waits until all calls are answered or stuck, if being stuck ends the run; until all are
+    // answered, if somebody watches the run; else not at all.
     fn play_on<'s, E, R: Threads + Wait + Clock + Sync, V: RunWatcher>(
         &mut self,
         scope: &Scope<'s, E>,
@@ -289,8 +289,8 @@ impl<'a, 'b, J: Name + Send + Sync, G: Gate + Sync> Phases<'a, 'b, J, G> {
         Ok(())
     }
 
-    // Adds the call of the line at the index to the part of its process. It is refused where that can have no
-    // client.
+    // Adds the call of the line at the index to the part of its process. The call is refused where the process can
+    // have no client.
     fn queue<R: Wait>(
         &mut self,
         stage: &Stage<'_, 'a, J, G, R>,
@@ -318,7 +318,7 @@ impl<'a, 'b, J: Name + Send + Sync, G: Gate + Sync> Phases<'a, 'b, J, G> {
         Ok(())
     }
 
-    // The part of the process, of those of the phase, if it has one.
+    // The part of the process in the phase, if it has one.
     fn part_of<'p>(
         &self,
         parts: &'p [Part<'a, J, G>],
@@ -337,7 +337,7 @@ impl<'a, 'b, J: Name + Send + Sync, G: Gate + Sync> Phases<'a, 'b, J, G> {
         }
     }
 
-    // Takes in a part that was played.
+    // Notes the outcomes of a part that was played, and keeps its client.
     fn end(&mut self, part: Part<'a, J, G>) -> Result<(), PlayError> {
         let (outcomes, client) = part.into_outcomes()?;
         for (index, outcome) in outcomes.iter() {
@@ -351,7 +351,7 @@ impl<'a, 'b, J: Name + Send + Sync, G: Gate + Sync> Phases<'a, 'b, J, G> {
         Ok(())
     }
 
-    // Keeps the receipt of a call if it is the last so far.
+    // Keeps the receipt of a call, if its reply stands behind that of the last one kept.
     fn see(&mut self, outcome: &LineOutcome) {
         let Some(receipt) = outcome.receipt() else {
             return;
@@ -362,7 +362,7 @@ impl<'a, 'b, J: Name + Send + Sync, G: Gate + Sync> Phases<'a, 'b, J, G> {
         }
     }
 
-    /// The lines with what they came to.
+    /// The lines with their outcomes.
     pub(crate) fn into_lines(self) -> Vec<PlayedLine> {
         self.lines
     }

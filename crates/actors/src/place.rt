@@ -1,4 +1,4 @@
-//! Places of nodes.
+//! The place of a node: what a running cluster knows of it.
 ghost use Rattle.std.specs.Prelude.{◌≡◌, ◌≢◌, ◌≤◌, Err, None, Some, [], false, true, IfErr, IfOk};
 ghost use Rattle.book.specs.States.{incarnation_of};
 ghost use Rattle.actors.specs.declared.call_error.CallError.TheVariants.{Fenced, Stranger};
@@ -8,8 +8,8 @@ use book::seat::Seat;
 use std::alloc::Global;
 use trail::name::Name;
 
-/// What a cluster that runs knows of a node: its last incarnation and whether that one is alive, the
-/// processes of it that have a client, and the seat of an incarnation that the worker has not taken.
+/// The knowledge that a running cluster has of a node: its last incarnation and whether that one is alive, the
+/// processes that have a client, and the seat of an incarnation that the worker has not taken.
 #[derive(Drop)]
 pub(crate) struct Place<J: Name> {
     incarnation: u16,
@@ -30,7 +30,7 @@ impl<J: Name> Place<J> {
         }
     }
 
-    /// The process has a client from here on, of the incarnation that is answered.
+    /// Hands out a client of the process. Gives the incarnation that it is of.
     ///
     /// # Errors
     /// In this order: `Fenced` while the node is declared failed; `Busy` where the process has a client already;
@@ -54,7 +54,7 @@ impl<J: Name> Place<J> {
         Ok(self.incarnation)
     }
 
-    /// The node is declared failed in the incarnation that is answered.
+    /// Notes that the node is declared failed. Gives the incarnation that failed.
     pub(crate) fn end(&mut self) -> u16
         ensures value { result ≡ self.old.incarnation }
         ensures ended { self.new.alive ≡ false }
@@ -63,7 +63,7 @@ impl<J: Name> Place<J> {
         self.incarnation
     }
 
-    /// The node begins again, on this seat, and no process has a client.
+    /// Notes that the node begins again, on this seat, and that no process has a client.
     pub(crate) fn begin(&mut self, seat: Seat<J>)
         ensures { (self.new.incarnation ≡ incarnation_of seat.state) × (self.new.alive ≡ true) × (self.new.clients.items ≡ []) × (self.new.seat ≡ Some seat) }
     {
@@ -73,7 +73,7 @@ impl<J: Name> Place<J> {
         self.seat = Some(seat);
     }
 
-    /// The seat that waits for the worker.
+    /// Takes the seat that waits for the worker, if there is one.
     pub(crate) fn take_seat(&mut self) -> Option<Seat<J>>
         ensures taken { result ≡ self.old.seat }
         ensures none { self.new.seat ≡ None }

@@ -1,4 +1,4 @@
-//! Lines of a script with what they came to.
+//! A line of a script with its outcome.
 ghost use Rattle.std.specs.Prelude.{◌≡◌, ◌↔◌, IsTrue};
 ghost use Rattle.actors.specs.declared.line_outcome.LineOutcome.TheVariants.{Left};
 ghost use Rattle.actors.specs.Lines.{Fits, asker, is_call, is_change, made_by, may_be_denied, may_be_refused, parts, receipt_in, refused_in};
@@ -12,7 +12,7 @@ use lockscript::refused_line::RefusedLine;
 use lockscript::script_line::{Command, ScriptLine};
 use messages::refusal::Refused;
 
-/// A line of a script, and what it came to on threads.
+/// A line of a script, and its outcome on threads.
 #[derive(Clone, Copy, Debug)]
 pub struct PlayedLine {
     pub line: ScriptLine,
@@ -30,14 +30,14 @@ impl PlayedLine {
         }
     }
 
-    /// The receipt of a call that was answered.
+    /// The receipt of the line's call, if it was answered.
     pub(crate) fn receipt(&self) -> Option<Receipt>
         ensures { result ≡ receipt_in self.now }
     {
         self.outcome.receipt()
     }
 
-    /// The line with the number of its refusal, if it was refused.
+    /// The number of the line and that of its refusal, if it was refused.
     pub(crate) fn refused(&self) -> Option<RefusedLine>
         ensures { result ≡ refused_in self.now }
     {
@@ -48,7 +48,7 @@ impl PlayedLine {
         })
     }
 
-    /// What the line asked for, with the index of the entry that it made, if it made one.
+    /// The command of the line with the index of the entry that it made, if it made one.
     pub(crate) fn made(&self) -> Option<Asked>
         ensures { result ≡ made_by self.now }
     {
@@ -59,7 +59,7 @@ impl PlayedLine {
         })
     }
 
-    /// Who asks: a process, by its node and its number; for other lines 0 and 0.
+    /// The process that asks, by its node and its number, both from 1; 0 and 0 for a line that is no call.
     pub(crate) fn asker(&self) -> (u8, u16)
         ensures { result ≡ asker self.now.line.command }
     {
@@ -73,7 +73,7 @@ impl PlayedLine {
         matches!(self.outcome, LineOutcome::Left)
     }
 
-    /// Whether the line parts phases.
+    /// Whether the line separates phases.
     pub(crate) fn parts(&self, no_join: bool) -> bool
         ensures { result ≡ parts no_join self.now.line.command }
     {
@@ -84,7 +84,7 @@ impl PlayedLine {
         }
     }
 
-    /// Whether the line may come to this.
+    /// Whether the line may have its outcome.
     pub(crate) fn fits(&self) -> bool
         ensures { IsTrue result ↔ Fits self.now.line.command self.now.outcome }
     {
@@ -101,7 +101,7 @@ impl PlayedLine {
     }
 }
 
-// Whether the line asks for the receipt's call.
+// Whether the command is the receipt's call.
 fn is_call_of(command: &Command, receipt: &Receipt) -> bool
     ensures { IsTrue result ↔ (command.now ≡ Call receipt.now.call.node receipt.now.pid receipt.now.op) }
 {
@@ -113,7 +113,7 @@ fn is_call_of(command: &Command, receipt: &Receipt) -> bool
     same_command(command, &call)
 }
 
-// Whether both ask for the same.
+// Whether both commands are equal.
 fn same_command(one: &Command, other: &Command) -> bool
     ensures { IsTrue result ↔ (one.now ≡ other.now) }
 {
@@ -126,7 +126,7 @@ fn is_call(command: &Command) -> bool
     matches!(command, Command::Call { .. })
 }
 
-// Whether it is a failure or a start.
+// Whether the command is a failure or a start.
 fn is_change(command: &Command) -> bool
     ensures { result ≡ is_change command.now }
 {
@@ -145,7 +145,7 @@ fn is_settle(command: &Command) -> bool
     same_command(command, &Command::Settle)
 }
 
-// Whether a call may be denied so while the run goes on.
+// Whether a call may be denied for this reason while the run goes on.
 fn may_be_denied(why: CallError) -> bool
     ensures { result ≡ may_be_denied why }
 {
@@ -156,7 +156,7 @@ fn may_be_denied(why: CallError) -> bool
     }
 }
 
-// Whether a failure or a start may be refused so while the run goes on.
+// Whether a failure or a start may be refused for this reason while the run goes on.
 fn may_be_refused(why: Refused) -> bool
     ensures { result ≡ may_be_refused why }
 {

@@ -1,9 +1,10 @@
-//! Token servers that begin again.
+//! A token server that begins again, as its worker finds it.
 use book::seat::Seat;
 use book::stamp::Stamp;
 use trail::name::Name;
 
-/// A token server that was rebuilt, for its worker: its seat, and the stamp of what it asks the nodes.
+/// A token server that was rebuilt, for its worker: its seat, and the stamp with the messages in which it asks the
+/// nodes for their tokens.
 #[derive(Drop)]
 pub(crate) struct Rebuilt<J: Name> {
     pub(crate) seat: Seat<J>,

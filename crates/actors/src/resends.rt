@@ -1,4 +1,4 @@
-//! When a server sends again.
+//! The time at which a token server sends its commands again.
 ghost use Rattle.std.specs.Prelude.{◌≡◌, ◌&&◌, false};
 ghost use Rattle.actors.specs.Distances.{at_first, is_answer, is_due, noted, rests, ticked};
 
@@ -6,8 +6,8 @@ use crate::patience::Patience;
 use messages::event::Event;
 use messages::message::Message;
 
-/// When a server sends again what has no answer: not before a step of it may have sent something, and
-/// then when it has waited long enough for an answer.
+/// The time at which a token server sends again what has no answer: only after a step that may have sent something,
+/// and when it has waited long enough for an answer.
 #[derive(Clone, Copy)]
 pub(crate) struct Resends {
     needed: bool,
@@ -32,7 +32,7 @@ impl Resends {
         self.needed
     }
 
-    /// The server has done a step at this event. An answer to it lets it wait anew.
+    /// Notes a step of the server at this event. After an answer to a command the server waits anew.
     pub(crate) fn note(&mut self, event: &Event)
         ensures { self.new ≡ noted self.old event.now }
     {
@@ -42,7 +42,7 @@ impl Resends {
         self.needed = true;
     }
 
-    /// A tick has passed. Whether it is time to send again.
+    /// Counts a tick. Answers whether it is time to send again.
     pub(crate) fn pass_tick(&mut self) -> bool
         ensures due { result ≡ (self.old.needed && is_due self.old.patience) }
         ensures next { self.new ≡ ticked self.old }
@@ -50,14 +50,14 @@ impl Resends {
         self.needed && self.patience.pass_tick()
     }
 
-    /// It was refused memory, and waits as if for the first time.
+    /// Lets the server wait as if for the first time: memory for a resend was refused.
     pub(crate) fn wait_anew(&mut self)
         ensures { self.new ≡ record self.old { patience = at_first } }
     {
         self.patience = Patience::new();
     }
 
-    /// There is nothing to send again before the next step.
+    /// Notes that there is nothing to send again before the next step.
     pub(crate) fn end(&mut self)
         ensures { self.new ≡ rests self.old.patience }
     {
@@ -65,7 +65,7 @@ impl Resends {
     }
 }
 
-// Whether the event brings a node's answer to a command.
+// Whether the event delivers a node's answer to a command.
 fn is_answer(event: &Event) -> bool
     ensures { result ≡ is_answer event.now }
 {

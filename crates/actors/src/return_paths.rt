@@ -1,4 +1,4 @@
-//! Where answers go.
+//! The channels on which a node's worker answers its clients.
 use crate::call_error::CallError;
 use crate::letter::Answer;
 use crossbeam_channel::Sender;
@@ -7,23 +7,24 @@ use std::alloc::Global;
 use std::collections::BTreeMap;
 use std::sync::Wait;
 
-/// Where the answers to the clients of a node go, each by the incarnation and the number of its process. A client hands that
-/// over with a question and keeps nothing of it: so where the worker ends, it sees that no answer comes any more.
+/// The channels for answers to the clients of a node, each by the incarnation and the number of its process. A client
+/// hands its sending end over with a question and keeps none: so it sees that no answer comes any more where the
+/// worker ends.
 #[derive(Drop)]
 pub(crate) struct ReturnPaths {
     paths: BTreeMap<(u16, u16), Sender<Answer>>,
 }
 
 impl ReturnPaths {
-    /// None is known.
+    /// No channels.
     pub(crate) fn new(alloc: Global) -> ReturnPaths {
         ReturnPaths {
             paths: BTreeMap::new(alloc),
         }
     }
 
-    /// Answers to the process go there from here on, if another path is told than before. False where memory for it was
-    /// refused, which is answered.
+    /// Keeps the channel for answers to the process, if a new one came. `false` where memory for it was refused; the
+    /// process is answered that.
     pub(crate) fn learn<R: Wait>(
         &mut self,
         rt: &R,

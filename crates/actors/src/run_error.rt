@@ -1,4 +1,4 @@
-//! Why there was no run.
+//! The reasons why a script's run on threads did not come to its end.
 ghost use Rattle.std.specs.Prelude.{◌≡◌};
 ghost use Rattle.actors.specs.declared.run_error.RunError.TheVariants.{NoMemory};
 
@@ -7,21 +7,21 @@ use std::alloc::{AllocError, AllocFailed};
 use std::fmt;
 use thiserror::Error;
 
-/// Why a cluster did not run to its end.
+/// The reason why a run on threads did not come to its end.
 #[derive(Drop, Error)]
 pub enum RunError {
     /// A request for memory or for a thread was refused.
     #[error("no memory")]
     NoMemory,
-    /// The first line of the script that threads don't take, by its number, from 1.
+    /// The number, from 1, of the first line of the script that can't be run on threads.
     #[error("bad line {0}")]
     BadLine(u32),
-    /// The run needs more entries than a journal may have: this one has no room for another.
+    /// The run needs more entries than a journal may have. This journal has no room for another.
     #[error("journal full")]
     JournalFull(Journal),
 }
 
-// The entries of a full journal are left out.
+// The entries of a full journal are not printed.
 impl fmt::Debug for RunError {
     fn fmt<W: fmt::Write>(&self, f: &mut fmt::Formatter<W>) -> fmt::Result {
         match self {

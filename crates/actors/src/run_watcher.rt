@@ -1,10 +1,10 @@
-//! How far a run on threads is.
+//! The watcher that is told how far a run on threads is.
 
-/// Who is told how far a run on threads is.
+/// The trait of what is told how far a run on threads is.
 pub trait RunWatcher {
-    /// Whether anybody looks at what is told.
+    /// Whether anybody looks at what the watcher is told.
     fn is_watched(&self) -> bool;
 
-    /// So many calls are open, and the journal has so many entries.
+    /// Tells the watcher how many calls are open, and how many entries the journal has.
     fn tell(&mut self, open: u64, entries: u64);
 }

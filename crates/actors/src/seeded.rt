@@ -1,4 +1,4 @@
-//! The weather of a seed.
+//! The weather that a seed gives: messages are lost, doubled and held back by chance.
 ghost use Rattle.std.specs.Prelude.{◌≡◌};
 ghost use Rattle.rand_pcg.specs.Pcg.{pcg32};
 ghost use Rattle.actors.specs.Weathers.{fate_of, weather_of};
@@ -10,8 +10,8 @@ use rand_core::utils::NextWord;
 use rand_pcg::Lcg64Xsh32;
 use std::marker::Model;
 
-/// Loses, doubles and holds back messages by chance, the same ones for the same seed: of sixteen words of
-/// a generator one loses a message, one sends it twice, and two hold it back for four ticks.
+/// A weather that loses, doubles and holds back messages by chance, always the same ones for the same seed. Of
+/// sixteen words of a generator one loses a message, one sends it twice, and two hold it back for four ticks.
 #[derive(Drop)]
 pub struct Seeded {
     words: Lcg64Xsh32,
@@ -26,7 +26,7 @@ impl Model for Seeded {
 }
 
 impl Seeded {
-    /// The weather of an actor, by its place from 1, nodes first and then token servers.
+    /// The weather of an actor, by its index from 1, nodes first and then token servers.
     pub fn new(seed: u32, actor: u32) -> Seeded
         ensures { result ≡ weather_of seed actor }
     {

@@ -1,4 +1,4 @@
-//! What the threads of a cluster share.
+//! The parts of a cluster that its threads share.
 use crate::desk::Desk;
 use crate::halt::Halt;
 use crate::letter::Letter;
@@ -16,8 +16,8 @@ use std::sync::{Mutex, Wait};
 use std::thread;
 use trail::name::Name;
 
-/// The mailbox of an actor, and whether it takes a tick: 0 where its worker waits for one, and 1 where
-/// one is on its way or the worker needs none.
+/// The mailbox of an actor, and whether it takes a tick: 0 where its worker waits for one, 1 where one is on its way
+/// or the worker needs none.
 #[derive(Drop)]
 pub(crate) struct Mailbox {
     pub(crate) letters: Sender<Letter>,
@@ -33,8 +33,8 @@ impl Mailbox {
         }
     }
 
-    /// Sends a tick if the worker waits for one, or if all workers are to end. One whose sending is
-    /// refused is sent at the next call.
+    /// Sends a tick if the worker waits for one, or if all workers are to end. If the sending is refused, the tick is
+    /// sent at the next call.
     pub(crate) fn tick<R: Wait>(&self, rt: &R, halt: &Halt) {
         if self.ticks.swap(1, Ordering::SeqCst) == 1 && !halt.is_set() {
             return;
@@ -45,12 +45,12 @@ impl Mailbox {
         }
     }
 
-    /// The worker waits for a tick.
+    /// Notes that the worker waits for a tick.
     pub(crate) fn take_ticks(&self) {
         self.ticks.store(0, Ordering::SeqCst);
     }
 
-    /// Sends a letter, again for as long as memory for it is refused, or up to the end of the workers.
+    /// Sends a letter. Tries again for as long as memory for it is refused, up to the end of the workers.
     pub(crate) fn send_surely<R: Wait>(&self, rt: &R, letter: Letter, halt: &Halt) {
         let mut letter = letter;
         for _ in rt.forever() {
@@ -67,8 +67,8 @@ impl Mailbox {
     }
 }
 
-/// What the threads of a cluster share: the book under its lock, the gate, and for each actor, nodes
-/// first, its mailbox and its desk; for each node its place; for each file its server that begins again, until its
+/// The parts of a cluster that its threads share: the book under its lock, and the gate; for each actor, nodes first,
+/// its mailbox and its desk; for each node its place; for each file its token server that begins again, until its
 /// worker takes that; whether the workers are to end; and how many work.
 #[derive(Drop)]
 pub(crate) struct Shared<'a, J: Name, G> {
@@ -85,12 +85,12 @@ pub(crate) struct Shared<'a, J: Name, G> {
 }
 
 impl<J: Name, G> Shared<'_, J, G> {
-    /// The mailbox of the actor.
+    /// The mailbox of the actor, if the cluster has it.
     pub(crate) fn mailbox(&self, actor: Actor) -> Option<&Mailbox> {
         self.mailboxes.get(index_of(self.nodes, actor)?)
     }
 
-    /// The desk of the actor.
+    /// The desk of the actor, if the cluster has it.
     pub(crate) fn desk(&self, actor: Actor) -> Option<&Desk<J>> {
         self.desks.get(index_of(self.nodes, actor)?)
     }
@@ -103,7 +103,7 @@ impl<J: Name, G> Shared<'_, J, G> {
         }
     }
 
-    /// Puts the message into the mailbox of its addressee. One for which there is no memory is lost.
+    /// Puts the message into the mailbox of its addressee. A message for which there is no memory is lost.
     pub(crate) fn deliver<R: Wait>(&self, rt: &R, message: Message) {
         let Some(mailbox) = self.mailbox(message.addressee()) else {
             return;
@@ -117,20 +117,20 @@ impl<J: Name, G> Shared<'_, J, G> {
         }
     }
 
-    /// The seat of a new incarnation of the node, which no worker has taken.
+    /// Takes the seat of a new incarnation of the node, if one waits for the worker.
     pub(crate) fn new_seat<R: Wait>(&self, rt: &R, node: u8) -> Option<Seat<J>> {
         let index = usize::from(node).checked_sub(1)?;
         self.places.get(index)?.lock(rt).take_seat()
     }
 
-    /// The token server of the file as it begins again, which no worker has taken.
+    /// Takes the token server of the file that begins again, if one waits for the worker.
     pub(crate) fn new_server<R: Wait>(&self, rt: &R, file: u16) -> Option<Rebuilt<J>> {
         let index = usize::from(file).checked_sub(1)?;
         self.rebuilt.get(index)?.lock(rt).take()
     }
 }
 
-/// The index of the actor among the mailboxes of a cluster with so many nodes.
+/// The index of the actor among the mailboxes of a cluster with that many nodes.
 pub(crate) fn index_of(nodes: u8, actor: Actor) -> Option<usize> {
     match actor {
         Actor::Node(node) => usize::from(node).checked_sub(1),

@@ -1,4 +1,4 @@
-//! Where a phase is played.
+//! The stage on which the threads of a phase play.
 use crate::cluster::Cluster;
 use crate::gate::Gate;
 use crate::part::Part;
@@ -14,7 +14,7 @@ use trail::name::Name;
 // The longest pause between two looks, in milliseconds.
 const LONGEST_PAUSE: u64 = 64;
 
-/// The parts of a phase, the cluster on which threads play them, and how many threads do.
+/// The parts of a phase, the cluster on which threads play them, and the number of threads that do.
 #[derive(Drop)]
 pub(crate) struct Stage<'s, 'a, J: Name, G: Gate, R> {
     pub(crate) rt: &'s R,
@@ -30,7 +30,7 @@ impl<'s, 'a: 's, J: Name + Send + Sync, G: Gate + Sync, R: Threads + Wait + Cloc
     G,
     R,
 > {
-    /// Starts a thread for each part that has calls to make, and no thread.
+    /// Starts a thread for each part that has calls to make and has no thread.
     pub(crate) fn start<E>(&self, scope: &Scope<'s, E>) -> Result<(), PlayError> {
         let (rt, cluster, playing) = (self.rt, self.cluster, self.playing);
         for part in self.parts {
@@ -46,9 +46,9 @@ impl<'s, 'a: 's, J: Name + Send + Sync, G: Gate + Sync, R: Threads + Wait + Cloc
         Ok(())
     }
 
-    /// Waits until each call is answered, or, if it may stop, until those that are open can't be answered any
-    /// more, the token servers of these files being declared failed: it looks again and again, at growing
-    /// distances, and tells the watcher. Whether calls are open then.
+    /// Waits until each call is answered; or, if it may stop, until the open calls can't be answered any more, where
+    /// the token servers of these files are declared failed. It looks again and again, at growing distances, and
+    /// tells the watcher. Answers whether calls are still open.
     pub(crate) fn wait<V: RunWatcher>(
         &self,
         may_stop: bool,
@@ -72,7 +72,7 @@ impl<'s, 'a: 's, J: Name + Send + Sync, G: Gate + Sync, R: Threads + Wait + Cloc
         false
     }
 
-    // Tells the watcher, if anybody looks, how far the run is, in which so many processes have a call open.
+    // Tells the watcher, if anybody looks, how far the run is. That many processes have an open call.
     fn tell<V: RunWatcher>(&self, processes: u64, watcher: &mut V) {
         if watcher.is_watched() {
             watcher.tell(processes, u64::from(self.cluster.len(self.rt)));

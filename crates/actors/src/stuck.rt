@@ -1,4 +1,4 @@
-//! When no open call can be answered any more.
+//! The test whether a run is stuck: no open call can be answered any more.
 use messages::command_number::CommandNumber;
 use messages::entry::Entry;
 use messages::event::Event;
@@ -8,8 +8,8 @@ use model::call::CallId;
 use model::host::Host;
 use std::alloc::{AllocError, Global};
 
-/// An open call as its node tried it again: of which process, and what was asked for, if a lock of its own
-/// node was not in its way.
+/// An open call as its node tried it again: its process, and the request that the try sent, if no lock of its own
+/// node blocked it.
 #[derive(Clone, Copy)]
 struct Try {
     node: u8,
@@ -17,8 +17,7 @@ struct Try {
     asked: Option<Request>,
 }
 
-/// A request for a token: at the server of which file, for which call, and whether that waits where a lock
-/// is in its way.
+/// A request for a token: the file of its token server, its call, and whether the call waits where a lock blocks it.
 #[derive(Clone, Copy)]
 struct Request {
     file: u16,
@@ -26,11 +25,12 @@ struct Request {
     waits: bool,
 }
 
-/// Whether the calls that so many processes have open can't be answered any more: since the last entry by
-/// which a lock may have come or gone each was tried again, and met a lock of its own node, or, as it waits
-/// for locks to go, twice one of another, or a server that is declared failed, which those of these files are.
-/// Only a call or a failure could then free one of them, and nobody makes a call. A call that does not wait
-/// is denied where it meets a lock, once it is told of it. False where memory is short for a look.
+/// Whether the open calls of that many processes can't be answered any more. The entries are looked at since the last
+/// one by which a lock may have come or gone. Since then each call was tried again, and a lock of its own node
+/// blocked it; or it waits, and a lock of another node blocked it twice; or it asked a token server that is declared
+/// failed, which those of these files are. Only a call or a failure could then free one of them, and nobody makes a
+/// call. A call that does not wait is denied once a lock that blocks it is reported. `false` also where memory is
+/// short for the test.
 pub(crate) fn is_stuck(alloc: Global, entries: &[Entry], processes: usize, failed: &[u16]) -> bool {
     let since = since_news(entries);
     match tries_in(alloc, since) {
@@ -41,7 +41,7 @@ pub(crate) fn is_stuck(alloc: Global, entries: &[Entry], processes: usize, faile
     }
 }
 
-// The entries behind the last by which a lock may have come or gone.
+// The entries behind the last one by which a lock may have come or gone.
 fn since_news(entries: &[Entry]) -> &[Entry] {
     let mut start = entries.len();
     for entry in entries.iter().rev() {
@@ -53,7 +53,7 @@ fn since_news(entries: &[Entry]) -> &[Entry] {
     entries.get(start..).unwrap_or(&[])
 }
 
-// Whether a lock may have come or gone by the entry, or a call have begun.
+// Whether a lock may have come or gone by the entry, or a call may have begun.
 fn is_news(entry: &Entry) -> bool {
     if entry.reply().is_some() {
         return true;
@@ -79,12 +79,12 @@ fn tries_in(alloc: Global, entries: &[Entry]) -> Result<Vec<Try>, AllocError> {
     Ok(tries)
 }
 
-// Whether both are of one process.
+// Whether both tries are of one process.
 fn is_of(one: &Try, other: &Try) -> bool {
     one.node == other.node && one.pid == other.pid
 }
 
-// The try that the entry is, if it is one.
+// The try that the entry makes, if it makes one.
 fn try_of(entry: &Entry) -> Option<Try> {
     match entry.event() {
         Event::Retry { node, pid } => Some(Try {
@@ -123,8 +123,8 @@ fn is_blocked(entries: &[Entry], one: &Try, failed: &[u16]) -> bool {
     }
 }
 
-// Whether the call has met a lock at two commands to one node. The first of them may have been an answer
-// that was sent again.
+// Whether locks blocked the call at two commands to one node. The first answer alone may have been one that was sent
+// again.
 fn has_met_locks(entries: &[Entry], call: &CallId) -> bool {
     let mut last: Option<(Host, CommandNumber)> = None;
     for (holder, number) in entries.iter().filter_map(|entry| conflict_of(entry, call)) {
@@ -138,7 +138,7 @@ fn has_met_locks(entries: &[Entry], call: &CallId) -> bool {
     false
 }
 
-// The node that tells by the entry that a lock of it is in the call's way, and at which command.
+// The node whose lock blocks the call, if the entry sends a conflict for it, and the number of the command.
 fn conflict_of(entry: &Entry, call: &CallId) -> Option<(Host, CommandNumber)> {
     entry
         .sends()

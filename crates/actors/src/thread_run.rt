@@ -1,4 +1,4 @@
-//! What came of a script on threads.
+//! The result of running a script on threads.
 ghost use Rattle.std.specs.Prelude.{◌≡◌, ◌↔◌, true, false, All, IfOk, IsTrue, filter_map, map};
 ghost use Rattle.lockscript.specs.Scripts.{LineFields};
 ghost use Rattle.actors.specs.Cuts.{AreBarred, IsUnanswered, is_cut, killed_by, open_by};
@@ -23,9 +23,9 @@ use model::call::CallId;
 use std::alloc::{AllocError, Global};
 use std::marker::Model;
 
-/// What came of a script on threads: the journal, the script's lines with what each came to, the receipts
-/// of the calls that were answered, the lines that were refused, and the calls that are open where the run
-/// was ended as stuck.
+/// The result of running a script on threads: the journal, the script's lines with their outcomes, the receipts of
+/// the calls that were answered, the lines that were refused, and the calls that are open where the run was ended as
+/// stuck.
 #[derive(Drop)]
 pub struct ThreadRun {
     journal: Journal,
@@ -44,11 +44,11 @@ impl Model for ThreadRun {
 }
 
 impl ThreadRun {
-    /// What came of the script by these lines.
+    /// The result of the script with these lines.
     ///
     /// # Errors
-    /// `AllocError` where a request for memory was refused, or the lines are not those of the script and the
-    /// journal, in phases: a lock says nothing of what it gives back, so all is looked at here.
+    /// `AllocError` where a request for memory was refused, or the lines are not those of the script and the journal,
+    /// in phases. Contracts know nothing of what a lock gives back, so all is tested here.
     pub(crate) fn new(
         alloc: Global,
         script: &Script,
@@ -77,21 +77,21 @@ impl ThreadRun {
         })
     }
 
-    /// What happened in the cluster.
+    /// The journal of the run.
     pub fn journal(&self) -> &Journal
         ensures { result.now ≡ self.now.journal }
     {
         &self.journal
     }
 
-    /// The same, without the rest.
+    /// The journal of the run, without the rest.
     pub fn into_journal(self) -> Journal
         ensures { result ≡ self.journal }
     {
         self.journal
     }
 
-    /// The lines of the script with what each came to, in order.
+    /// The lines of the script with their outcomes, in order.
     pub fn lines(&self) -> &[PlayedLine]
         ensures { result.now ≡ self.now.lines }
     {
@@ -105,14 +105,15 @@ impl ThreadRun {
         self.receipts.as_slice()
     }
 
-    /// The calls that are open, in order of their lines: some only where the run was ended as stuck.
+    /// The names of the calls that are open, in order of their lines. There are some only where the run was ended as
+    /// stuck.
     pub fn open_calls(&self) -> &[CallId]
         ensures { result.now ≡ self.now.open_calls }
     {
         self.open_calls.as_slice()
     }
 
-    /// The lines that were refused with the numbers of their refusals, in order of lines.
+    /// The lines that were refused, with the numbers of their refusals, in order of lines.
     pub fn refused(&self) -> &[RefusedLine]
         ensures { result.now ≡ self.now.refused }
     {
@@ -120,8 +121,8 @@ impl ThreadRun {
     }
 }
 
-// Whether the lines are those of the script in a run of these entries, which may have been ended with these
-// open calls.
+// Whether the lines are those of the script in a run of these entries, which may have been ended with these open
+// calls.
 fn are_of_script(
     alloc: Global,
     script: &Script,
@@ -174,14 +175,14 @@ fn are_cut_so(
     Ok(manner.may_stop || are_whole(lines))
 }
 
-// Whether no line is that of a run which was ended as stuck.
+// Whether no line has an outcome that only a run has which was ended as stuck.
 fn are_whole(lines: &[PlayedLine]) -> bool
     ensures { IsTrue result → All (λ l. is_cut l.outcome ≡ false) lines.now }
 {
     lines.iter().all(|line| !line.outcome.is_cut())
 }
 
-// The names of the calls that are open.
+// The names of the open calls among the lines.
 fn open_in(
     alloc: Global,
     entries: &[Entry],
@@ -195,7 +196,7 @@ fn open_in(
         .collect(alloc)
 }
 
-// The names of the calls that ended without a reply.
+// The names of the calls among the lines that ended without a reply.
 fn killed_in(
     alloc: Global,
     entries: &[Entry],
@@ -209,14 +210,14 @@ fn killed_in(
         .collect(alloc)
 }
 
-// Whether each line may have come to what it says.
+// Whether each line may have its outcome.
 fn all_fit(lines: &[PlayedLine]) -> bool
     ensures { IsTrue result → All (λ l. Fits l.line.command l.outcome) lines.now }
 {
     lines.iter().all(|line| line.fits())
 }
 
-/// Whether the lines are those of the script, and made the entries that were asked for.
+/// Whether the lines are those of the script, and made the entries that lines can ask for.
 pub(crate) fn are_lines_of(
     alloc: Global,
     script: &[ScriptLine],
@@ -232,14 +233,14 @@ pub(crate) fn are_lines_of(
     are_made(alloc, entries, lines)
 }
 
-// The lines, without what they came to.
+// The lines without their outcomes.
 fn bare_lines(alloc: Global, lines: &[PlayedLine]) -> Result<Vec<ScriptLine>, AllocError>
     ensures { IfOk result (λ bare. bare.items ≡ map (λ l. l.line) lines.now) }
 {
     lines.iter().map(|played| played.line).collect(alloc)
 }
 
-// Whether both are the same lines.
+// Whether both lists of lines are equal.
 fn same_lines(one: &[ScriptLine], other: &[ScriptLine]) -> bool
     ensures { IsTrue result ↔ (one.now ≡ other.now) }
 {

@@ -1,4 +1,4 @@
-//! Scripts on threads.
+//! The run of a script on threads.
 ghost use Rattle.std.specs.Prelude.{◌≡◌, ◌+◌, ◌↔◌, Some, IsErrOf, IsTrue, IfOk, length};
 ghost use Rattle.actors.specs.Runs.{IsFullJournal, IsOfScript};
 ghost use Rattle.actors.specs.declared.run_error.RunError.{RunError};
@@ -37,31 +37,29 @@ use std::thread::Threads;
 use std::time::Clock;
 use trail::name::Name;
 
-/// Runs a script on threads. Its lines are `call`, `settle`, `declare`, `restart`, `fail-server` and
-/// `start-server`; the calls between two of the other lines form a phase. In a phase each process has a
-/// client of its own, which makes its calls in order and waits for each reply. `settle` joins the
-/// clients; the lines of failures and starts join them first, and so does the end. A line that is
-/// refused, but for want of memory or of room in the journal, is listed and the run goes on. Messages
-/// meet the weather of the seed.
+/// Runs a script on threads. Its lines are `call`, `settle`, `declare`, `restart`, `fail-server` and `start-server`;
+/// the calls between two of the other lines form a phase. In a phase each process has a client of its own, which
+/// makes its calls in order and waits for each reply. `settle` joins the clients; the lines of failures and starts
+/// join them first, and so does the end. A line that is refused, but for want of memory or of room in the journal, is
+/// listed and the run goes on. Messages meet the weather of the seed.
 ///
-/// In a run with `no_join` the lines between two of `settle` form a phase. There a line of failures or
-/// starts waits only until no call before it can be answered without it, as below; the later calls of a
-/// process whose call is open wait behind that. A call that is open where its node is declared failed is
-/// `Killed`.
+/// In a run with `no_join` the lines between two of `settle` form a phase. There a line of failures or starts waits
+/// only until no call before it can be answered without it, as below; the later calls of a process whose call is open
+/// wait behind that call. A call that is open where its node is declared failed is `Killed`.
 ///
-/// A run that may stop where it is stuck is ended where the calls that are open can't be answered any more:
-/// each waits for a lock that somebody holds, or for a server that is declared failed, and no process is left
-/// to make a call. They stay open, and the lines behind them, of their processes and of later phases, are left.
+/// A run that may stop where it is stuck is ended where the open calls can't be answered any more: each waits for a
+/// lock that somebody holds, or for a token server that is declared failed, and no process is left to make a call.
+/// Those calls stay open. The lines behind them, of their processes and of later phases, are left.
 ///
 /// The watcher is told now and then how many calls are open, and how many entries the journal has.
 ///
-/// Besides what came of the lines it gives the world at the end of the journal, in which tokens of two nodes don't
-/// conflict, and tokens cover all locks.
+/// The result comes with the world at the end of the journal, in which tokens of two nodes don't conflict, and tokens
+/// cover all locks.
 ///
 /// # Errors
-/// `BadLine` with the number of the first line that is another, before anything runs; `NoMemory` where
-/// a request for memory or for a thread was refused; `JournalFull` with the journal where the run needs
-/// more entries than the 1,048,576 that a journal may have.
+/// `BadLine` with the number of the first line of another kind, before anything runs; `NoMemory` where a request for
+/// memory or for a thread was refused; `JournalFull` with the journal where the run needs more entries than the
+/// 1,048,576 that a journal may have.
 pub fn run_threads<G: Gate + Sync, R: Threads + Wait + Clock + Sync, V: RunWatcher>(
     rt: &R,
     alloc: Global,
@@ -71,17 +69,17 @@ pub fn run_threads<G: Gate + Sync, R: Threads + Wait + Clock + Sync, V: RunWatch
     manner: Manner,
     watcher: &mut V,
 ) -> Result<(ThreadRun, World), RunError>
-    // The run is of the script: each line has just one outcome, which is of what it asks, and the calls,
-    // failures and starts in the journal are those of its lines.
+    // The run is of the script: each line has one outcome, which is one of its command, and the calls, failures and
+    // starts in the journal are those of its lines.
     ensures of_script { IfOk result (λ made. IsOfScript script.now manner.no_join manner.may_stop made.0) }
 
-    // One table explains every reply, and ends as what the nodes hold.
+    // One table explains every reply, and ends with what the nodes hold.
     ensures one_table { IfOk result (λ made. HasOneHistory made.0.journal.shape made.0.journal.entries) }
     ensures leads { IfOk result (λ made. Leads (first_world made.0.journal.shape) made.0.journal.entries (world_state made.1)) }
     ensures safe { IfOk result (λ made. IsSafe (world_state made.1)) }
 
-    // Where it needs more entries, the journal of a run of the script's cluster has no room for another,
-    // and the calls, failures and starts in it are of lines of the script.
+    // A full journal is that of a run of the script's cluster, has no room for another entry, and its calls, failures
+    // and starts are of lines of the script.
     ensures full { (journal : JournalFields) → IsErrOf result (RunError.JournalFull journal) → IsFullJournal script.now journal }
     ensures bad_line { (number : _) → IsErrOf result (RunError.BadLine number) ↔ (bad_line script.now.lines ≡ Some number) }
 {
@@ -110,7 +108,7 @@ pub fn run_threads<G: Gate + Sync, R: Threads + Wait + Clock + Sync, V: RunWatch
     }
 }
 
-// The lines of a script with what they came to, the journal, and the world at its end.
+// The lines of a script with their outcomes, the journal, and the world at its end.
 #[derive(Drop)]
 struct Ended {
     lines: Result<Vec<PlayedLine>, PlayError>,
@@ -119,8 +117,8 @@ struct Ended {
 }
 
 impl Ended {
-    // The end of a run on this book. A lock says nothing of the book that it gives back, so its shape is looked at: an
-    // error where it is another.
+    // The end of a run on this book. Contracts know nothing of the book that a lock gives back, so its shape is
+    // tested: an error where it is another.
     fn of<J: Name>(
         book: Book<J>,
         shape: Shape,
@@ -143,7 +141,7 @@ impl Ended {
     }
 }
 
-// What came of a script that has no line of another kind.
+// The result of a script all of whose lines can be run on threads.
 fn run_script<
     J: Name + Send + Sync,
     G: Gate + Sync,
@@ -207,14 +205,14 @@ fn run_on<J: Name + Send + Sync, G: Gate + Sync, R: Threads + Wait + Clock + Syn
     })
 }
 
-// Whether both are the same shape.
+// Whether both shapes are equal.
 fn same_shape(one: &Shape, other: &Shape) -> bool
     ensures { IsTrue result ↔ (one.now ≡ other.now) }
 {
     one == other
 }
 
-// The weathers of the seed for so many actors.
+// The weathers of the seed for that many actors.
 fn weathers_of(alloc: Global, seed: u32, count: u32) -> Result<Vec<Seeded>, AllocError>
     ensures { IfOk result (λ weathers. length weathers.items ≡ count) }
 {
@@ -225,7 +223,7 @@ fn weathers_of(alloc: Global, seed: u32, count: u32) -> Result<Vec<Seeded>, Allo
     Ok(weathers)
 }
 
-// Runs the lines in order on a cluster that runs.
+// Runs the lines in order on a running cluster.
 fn run_lines<
     J: Name + Send + Sync,
     G: Gate + Sync,

@@ -1,4 +1,4 @@
-//! Calls to which no entry replies.
+//! The test whether calls have no reply in a journal.
 ghost use Rattle.std.specs.Prelude.{◌≡◌, true, false, All, IfOk, IsTrue, Some};
 ghost use Rattle.std.specs.HashSet.{contains};
 ghost use Rattle.model.specs.declared.call.CallId.{CallId};
@@ -23,14 +23,14 @@ pub(crate) fn are_unanswered(
     Ok(are_apart(entries, &kept))
 }
 
-// Whether no entry replies to any of these.
+// Whether no entry replies to any call of the set.
 fn are_apart(entries: &[Entry], kept: &HashSet<CallId>) -> bool
     ensures { IsTrue result → All (λ e. (call : CallId) (reply : Reply) → e.reply ≡ Some (call, reply) → contains derived.ghosts.eq kept.now call ≡ false) entries.now }
 {
     entries.iter().all(|entry| is_apart(entry, kept))
 }
 
-// The calls as a set.
+// The set of the calls.
 fn set_of(alloc: Global, calls: &[CallId]) -> Result<HashSet<CallId>, AllocError>
     ensures { IfOk result (λ kept. All (λ c. contains derived.ghosts.eq kept c ≡ true) calls.now) }
 {
@@ -41,7 +41,7 @@ fn set_of(alloc: Global, calls: &[CallId]) -> Result<HashSet<CallId>, AllocError
     Ok(kept)
 }
 
-// Whether the entry replies to none of these.
+// Whether the entry replies to no call of the set.
 fn is_apart(entry: &Entry, kept: &HashSet<CallId>) -> bool
     ensures { IsTrue result → (call : CallId) (reply : Reply) → entry.now.reply ≡ Some (call, reply) → contains derived.ghosts.eq kept.now call ≡ false }
 {

@@ -1,28 +1,28 @@
-//! Weathers: what becomes of messages on their way.
+//! Weathers, which decide what becomes of messages on their way.
 ghost use Rattle.std.specs.Prelude.{◌≡◌};
 ghost use Rattle.actors.specs.declared.weather.Fate.TheVariants.{Pass};
 
 use messages::message::Message;
 
-/// What becomes of a message that an actor sends.
+/// The fate of a message that an actor sends.
 #[derive(Clone, Copy, Debug, PartialEq, Eq)]
 pub enum Fate {
-    /// It goes at once.
+    /// The message goes at once.
     Pass,
-    /// It is lost.
+    /// The message is lost.
     Drop,
-    /// It goes at once, two times.
+    /// The message goes at once, twice.
     Twice,
-    /// It goes after so many ticks of the sender; with 0, at once.
+    /// The message goes after that many ticks of its sender; with 0, at once.
     Hold(u32),
 }
 
-/// Says what becomes of each message that one actor sends, in the order in which it sends them.
+/// The trait of a weather: it decides the fate of each message that one actor sends, in the order of sending.
 pub trait Weather: Drop {
     fn fate(&mut self, message: &Message) -> Fate;
 }
 
-/// Each message goes at once.
+/// The weather in which each message goes at once.
 #[derive(Clone, Copy, Debug, Default, PartialEq, Eq)]
 pub struct Fair;
 

@@ -1,4 +1,4 @@
-//! Workers.
+//! The worker of an actor: the thread that takes its letters and makes its steps.
 ghost use Rattle.std.specs.Prelude.{◌<◌, vec_len, OnOk};
 ghost use Rattle.std.specs.Vec.{vec_capacity};
 ghost use Rattle.book.specs.Commits.{Names, IsStepFrom};
@@ -33,13 +33,13 @@ use std::sync::atomic::Ordering;
 use std::time::{Clock, Duration};
 use trail::name::Name;
 
-// The longest sleep of a worker, in milliseconds. A letter wakes it, but where memory is refused there may be
-// none that tells it to end.
+// The longest sleep of a worker, in milliseconds. A letter wakes it; but where memory is refused, the letter that
+// tells it to end may not come.
 const LONGEST_SLEEP: u64 = 250;
 
-/// An actor at work: why no step of it is taken any more, if that was met; its messages on
-/// their way; its mailbox, and whether the last tick has not been given back; of a node where the answers to its
-/// clients go, and their open calls; and of a server when it sends again. Its seat is at its desk.
+/// The worker of an actor. It has the reason why no step is taken any more, if there is one; the messages on their
+/// way; the mailbox, and whether the last tick has not been given back. For a node it has the channels to its clients
+/// and their open calls; for a token server the time at which it sends again. The seat is at the actor's desk.
 #[derive(Drop)]
 pub(crate) struct Worker<W: Weather> {
     actor: Actor,
@@ -52,12 +52,12 @@ pub(crate) struct Worker<W: Weather> {
     resends: Resends,
 }
 
-// Why open calls are tried again.
+// The cause for which open calls are tried again.
 #[derive(Clone, Copy)]
 enum Cause {
-    // A tick: those for which it is time.
+    // A tick: the calls for which it is time are tried.
     Tick,
-    // The node may have given up a lock: those that a lock of it was in the way of.
+    // The node may have given up a lock: the calls that a lock of it blocks are tried.
     Release,
 }
 
@@ -91,7 +91,7 @@ impl<W: Weather> Worker<W> {
         shared.working.fetch_sub(1, Ordering::SeqCst);
     }
 
-    // Takes letters until the workers are to end, and has what lies at the desk for as long as one takes.
+    // Takes letters until the workers are to end. Holds the work at the desk while it takes one.
     fn work_at<J: Name, G: Gate, R: Wait + Clock>(
         &mut self,
         rt: &R,
@@ -110,7 +110,7 @@ impl<W: Weather> Worker<W> {
         }
     }
 
-    // The next letter; none where there will be no more, or the workers are to end.
+    // The next letter; `None` where no more will come, or the workers are to end.
     fn next_letter<J: Name, G: Gate, R: Wait + Clock>(
         &self,
         rt: &R,
@@ -154,7 +154,7 @@ impl<W: Weather> Worker<W> {
         }
     }
 
-    // The server begins again, on the seat that is answered, and asks the nodes for their tokens.
+    // Begins again as the token server in its new epoch, and asks the nodes for their tokens. Gives the new seat.
     fn begin_again<J: Name, G, R: Wait>(
         &mut self,
         rt: &R,
@@ -187,7 +187,7 @@ impl<W: Weather> Worker<W> {
         }
     }
 
-    // Gives the last tick back if there is something to do at the next.
+    // Gives the last tick back to the mailbox, if there is something to do at the next.
     fn ask_for_tick<J: Name, G>(&mut self, shared: &Shared<'_, J, G>) {
         let waits = !self.waiting.is_empty() || self.resends.are_needed();
         if !self.has_tick || (!waits && self.outgoing.is_empty()) {
@@ -199,7 +199,7 @@ impl<W: Weather> Worker<W> {
         }
     }
 
-    // Whether the node, which is in that incarnation, may take a call of the process, for which there is room then.
+    // Whether the node, in that incarnation, may take a call of the process. If it may, there is room for the call.
     fn admit(&mut self, process: Process, incarnation: u16) -> Result<(), CallError>
         ensures { OnOk result (vec_len self.new.waiting.calls < vec_capacity self.new.waiting.calls) }
     {
@@ -215,7 +215,7 @@ impl<W: Weather> Worker<W> {
         Ok(())
     }
 
-    // The node does the call of a question.
+    // Takes the question of a client: makes its call.
     fn take_question<J: Name, G: Gate, R: Wait>(
         &mut self,
         rt: &R,
@@ -243,7 +243,7 @@ impl<W: Weather> Worker<W> {
         }
     }
 
-    // The node takes a call of the process, for which there is room then, and its messages are sent.
+    // Makes the call of the process, for which there is room, and sends the messages of the step.
     fn begin<J: Name, G: Gate, R: Wait>(
         &mut self,
         rt: &R,
@@ -266,11 +266,11 @@ impl<W: Weather> Worker<W> {
         Ok(stamp)
     }
 
-    // The process has made the call of this step, which is answered or open from here on.
+    // Notes the call of this step of the process: it was answered, or is open from here on.
     fn open<R: Wait>(&mut self, rt: &R, process: Process, stamp: Stamp)
         requires { vec_len self.old.waiting.calls < vec_capacity self.old.waiting.calls }
     {
-        // A process that has an open call only exits, which ends the call without a reply.
+        // A process that has an open call can only exit, which ends that call without a reply.
         if let Some(ended) = self.waiting.take_of(process.pid) {
             let killed = Err(ended.killed());
             self.paths.answer(rt, ended.process(), killed);
@@ -281,7 +281,7 @@ impl<W: Weather> Worker<W> {
         }
     }
 
-    // The server learns of a declaration. One that is refused for want of memory comes again.
+    // Makes the token server learn of a declaration. If memory for it is refused, the letter comes again.
     fn learn<J: Name, G: Gate, R: Wait>(
         &mut self,
         rt: &R,
@@ -306,8 +306,8 @@ impl<W: Weather> Worker<W> {
         }
     }
 
-    // A turn has passed: messages that were held back go, a node tries open calls again, and a server
-    // sends again what has no answer, as far as it is time.
+    // Does what is due at a tick: messages that were held back go, a node tries open calls again, and a token server
+    // sends again what has no answer.
     fn take_tick<J: Name, G: Gate, R: Wait>(
         &mut self,
         rt: &R,
@@ -322,7 +322,7 @@ impl<W: Weather> Worker<W> {
         }
     }
 
-    // The node tries open calls again, in the order in which it took them.
+    // Tries open calls again, in the order in which the node took them.
     fn retry_all<J: Name, G: Gate, R: Wait>(
         &mut self,
         rt: &R,
@@ -349,7 +349,7 @@ impl<W: Weather> Worker<W> {
         }
     }
 
-    // The node tries an open call again. Where no step of this incarnation is taken any more, all end.
+    // Tries an open call again. Where no step of this incarnation is taken any more, all open calls end.
     fn retry<J: Name, G: Gate, R: Wait>(
         &mut self,
         rt: &R,
@@ -365,7 +365,7 @@ impl<W: Weather> Worker<W> {
         }
     }
 
-    // The server sends again what has no answer, if there is any and it is time.
+    // Sends again what has no answer, if there is any and it is time. (A token server's.)
     fn resend<J: Name, G: Gate, R: Wait>(
         &mut self,
         rt: &R,
@@ -383,7 +383,7 @@ impl<W: Weather> Worker<W> {
         }
     }
 
-    // The server sends what it prepared, if that is anything.
+    // Sends the messages of a prepared resend, if it has any.
     fn send_again<J: Name, G: Gate, R: Wait>(
         &mut self,
         rt: &R,
@@ -405,13 +405,13 @@ impl<W: Weather> Worker<W> {
         }
     }
 
-    // The server was refused memory as it would have sent again.
+    // Notes that memory was refused as the token server would have sent again.
     fn lack_memory<J: Name, G>(&mut self, shared: &Shared<'_, J, G>) {
         shared.halt.note_refused();
         self.resends.wait_anew();
     }
 
-    // The actor does a step; its messages are sent, and the call that it answers gets its receipt.
+    // Makes a step of the actor: sends its messages, and answers the call that it answers.
     fn step<J: Name, G: Gate, R: Wait>(
         &mut self,
         rt: &R,
@@ -429,14 +429,14 @@ impl<W: Weather> Worker<W> {
         Ok(())
     }
 
-    // The call that the step answers gets its receipt.
+    // Answers the call that the step answers with its receipt, if it answers one.
     fn answer_by<R: Wait>(&mut self, rt: &R, stamp: &Stamp) {
         if let Some((call, receipt)) = self.waiting.take_answered(stamp) {
             self.paths.answer(rt, call.process(), Ok(receipt));
         }
     }
 
-    // Each open call ends where the refusal says that no step of the seat is taken any more.
+    // Ends each open call, where the refusal says that no step of the seat is taken any more.
     fn end_at<R: Wait>(&mut self, rt: &R, alloc: Global, refusal: CallError) {
         match refusal {
             CallError::Fenced => self.kill_all(rt, alloc),
@@ -446,14 +446,14 @@ impl<W: Weather> Worker<W> {
         self.over = Some(refusal);
     }
 
-    // Each open call ends without a reply, as its node was declared failed.
+    // Ends each open call without a reply: its node was declared failed.
     fn kill_all<R: Wait>(&mut self, rt: &R, alloc: Global) {
         for call in self.waiting.take_all(alloc) {
             self.paths.answer(rt, call.process(), Err(call.killed()));
         }
     }
 
-    // The worker ends, and leaves each open call without an answer.
+    // Leaves each open call without an answer: the worker ends.
     fn leave_all<R: Wait>(&mut self, rt: &R, alloc: Global) {
         for call in self.waiting.take_all(alloc) {
             let unanswered = Err(call.unanswered());
@@ -461,7 +461,7 @@ impl<W: Weather> Worker<W> {
         }
     }
 
-    // Each open call ends without a reply.
+    // Ends each open call without a reply, for this reason.
     fn end_all<R: Wait>(&mut self, rt: &R, alloc: Global, why: CallError) {
         for call in self.waiting.take_all(alloc) {
             self.paths.answer(rt, call.process(), Err(why));
@@ -469,7 +469,7 @@ impl<W: Weather> Worker<W> {
     }
 }
 
-// Prepares a step of the seat without the book's lock, and commits it. That memory is refused for it is noted.
+// Prepares a step of the seat without the book's lock, and commits it. Notes it where memory is refused for that.
 fn commit_step<J: Name, G: Gate, R: Wait>(
     rt: &R,
     shared: &Shared<'_, J, G>,

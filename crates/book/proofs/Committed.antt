@@ -1,4 +1,4 @@
--- What a commit, declarations, failures and restarts do, put together.
+-- Commits, declarations, failures and restarts of a book: each with all that it makes.
 use Rattle.std.proofs.Common.{◌≡◌, ◌≢◌, ℕ, ◌+◌, ◌<◌, true, [], ◌∷◌, ◌++◌, length, sym, ap, ◌∙◌, subst, Result, Ok, Err}
 use Rattle.messages.specs.Messages.{sending}
 use Rattle.messages.specs.declared.actor.Actor.{Actor}
@@ -35,7 +35,7 @@ records b d event made went is =
     let same : q ≡ made = ok_is q made (sym (kept_taken (world_state b.world) event q went.1).1 ∙ is) in
     record { step = is; world = ap (λ (m : WorldState × Entry). m.0) same; entries = went.2 ∙ ap (λ (m : WorldState × Entry). b.entries ++ m.1 ∷ []) same }
 
--- and is not refused, where there is room
+-- an event that leads on is not refused, where there is room
 pub unrefused : (w : WorldState) (event : Event) (made : WorldState × Entry) (e : Refused) → w.length < journal_limit → next w event ≡ Ok made → kept_next w event ≡ Err e → ⊥
 unrefused w event made e room is refused =
     let both : ◌≡◌ {A = Result (WorldState × Entry) Refused} (Ok made) (Err e) = sym (kept_of w event (Ok made) room is) ∙ refused in
@@ -69,7 +69,7 @@ committed b d s r p seen t accepted is went becomes commits position said gave s
       stamps = λ x h. stays b.entries d.entries (made_by w p.event r.state p.outcome).1 x goes.entries h;
     }
 
--- what an event that a run took leaves of a book
+-- seats, stamps and fences of a book after it took an event
 turned : (b d : RunFields) (event : Event) (a : Actor) → GoesOn b event d
     → ((q : WorldState × Entry) (y : State) → next (world_state b.world) event ≡ Ok q → actor_of y ≢ a → HasState (world_state b.world) y → HasState q.0 y)
     → Turns b event a d
@@ -84,7 +84,7 @@ turned b d event a went others =
       others = λ x ne has. others q x.state step ne has;
     }
 
--- the stamp of its entry
+-- the stamp of the entry that an event made
 stamped : (b d : RunFields) (event : Event) (out : Outcome) (t : StampFields) (went : GoesOn b event d)
     → ((q : WorldState × Entry) → next (world_state b.world) event ≡ Ok q → (k : ℕ) × (q.1 ≡ entry event k out))
     → t.position ≡ length d.entries → t.event ≡ event → t.outcome ≡ out → t.seen ≡ 0 → IsLastStamp d event t
@@ -131,14 +131,14 @@ started b d f s t went actor commits stands position said gave seen_is =
       stamped b d (StartServer f) (sending (outstanding (next_server w f))) t went (started_entry w f) position said gave seen_is,
     )
 
--- a commit leaves the last spots of a book's actors right, where its own actor's is the new state's
+-- after a commit the spots are right, with the new state's spot for its actor
 pub committed_reached : (b d : RunFields) (s r : SeatFields) (p : PreparedFields) (seen : ℕ) (t : StampFields) (old new : LastSpots) → Commits b s p seen d r t → AreReached (world_state b.world) old → Noted old r.state new → AreReached (world_state d.world) new
 committed_reached b d s r p seen t old new made reached noted =
     let kept = actor_kept s.state p.event r.state p.outcome made.step in
     reached_noted (world_state b.world) (world_state d.world) old new r.state reached noted made.mine
     (λ y ne has. made.others (record { state = y; commits = 0 }) (λ e. ne (e ∙ sym kept)) has)
 
--- and so does a failure or a start, of which other actors' states are kept and its own actor's is forgotten
+-- after a failure or a start the spots are right, with none for its actor
 pub turned_reached : (b d : RunFields) (event : Event) (a : Actor) (old new : LastSpots) → GoesOn b event d → AreReached (world_state b.world) old → Forgotten old a new
     → ((q : WorldState × Entry) (y : State) → next (world_state b.world) event ≡ Ok q → actor_of y ≢ a → HasState (world_state b.world) y → HasState q.0 y)
     → AreReached (world_state d.world) new

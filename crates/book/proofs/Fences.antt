@@ -1,4 +1,4 @@
--- What was declared failed stays so.
+-- What was declared failed stays declared failed.
 use Rattle.std.proofs.Common.{◌≡◌, ℕ, ◌+◌, Bool, true, false, if◌then◌else◌, ◌&&◌, nat_le, nat_lt, refl, sym, ap, ◌∙◌, subst, arith, Ok}
 use Rattle.std.specs.Prelude.{◌==◌}
 use Rattle.std.proofs.lemmas.Bool.{and_parts, and_from}
@@ -18,7 +18,7 @@ use Rattle.book.specs.declared.state.State.{State}
 use Rattle.book.specs.declared.state.State.TheVariants.{OfNode, OfServer}
 use Rattle.book.specs.States.{is_declared}
 
--- a number below another, and up to it
+-- a number below another is below a greater one
 below_more : (i n m : ℕ) → m ≡ n → nat_lt i n ≡ true → nat_lt i (m + 1) ≡ true
 below_more i n m same h = grind (arith, nat_tests, same, h)
 
@@ -28,7 +28,7 @@ up_to i n h = grind (arith, nat_tests, h)
 below_next : (i n m : ℕ) → m ≡ n → nat_le i n ≡ true → nat_lt i (m + 1) ≡ true
 below_next i n m same h = grind (arith, nat_tests, same, h)
 
--- of a node that is in the incarnation n
+-- a node in the incarnation n, which is alive or not
 abbrev Is : Bool → ℕ → ℕ → Type 0
 Is there i n = (there && (nat_le 1 i && nat_lt i n)) ≡ true
 
@@ -38,7 +38,7 @@ declared_again there i n m same h =
     let numbers = and_parts (nat_le 1 i) _ parts.1 in
     and_from _ _ parts.0 (and_from _ _ numbers.0 (below_more i n m same numbers.1))
 
--- of a server in the epoch n, which works or not
+-- a token server in the epoch n, which works or not
 abbrev Was : Bool → ℕ → Bool → ℕ → Type 0
 Was there e works n = (there && (nat_le 1 e && (if works then nat_lt e n else nat_le e n))) ≡ true
 

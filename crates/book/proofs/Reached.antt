@@ -1,4 +1,4 @@
--- What commits and failures leave of the spots.
+-- The spots after commits and failures.
 use Rattle.std.proofs.Common.{◌≡◌, ◌≢◌, ◌⊎◌, inl, inr, ℕ, None, Some, [], ◌∷◌, ◌++◌, ap, sym, ◌∙◌}
 use Rattle.messages.specs.declared.actor.Actor.{Actor}
 use Rattle.cluster_core.specs.World.{WorldState}
@@ -8,11 +8,11 @@ use Rattle.book.specs.declared.state.State.{State}
 use Rattle.book.specs.States.{actor_of, HasState}
 use Rattle.book.specs.LastSpots.{LastSpots, place_of, IsLastSpot, AreReached, Noted, Forgotten}
 
--- what holds of the state that a spot tells holds of the state that stands there
+-- the state that stands at a spot is that of its actor in the world
 abbrev Stands : WorldState → ℕ → SpotFields State → Type 0
 Stands w i spot = (s : State) × (spot.item ≡ Some s) × (place_of (actor_of s) ≡ i) × HasState w s
 
--- an old spot of another actor
+-- an old spot of another actor is right after the event
 kept : (w v : WorldState) (a : Actor) (i : ℕ) (spot : SpotFields State) → ((y : State) → actor_of y ≢ a → HasState w y → HasState v y) → i ≢ place_of a → Stands w i spot → Stands v i spot
 kept w v a i spot others ne (y, is, at, has) = (y, is, at, others y (λ e. ne (sym at ∙ ap place_of e)) has)
 

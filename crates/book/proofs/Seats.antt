@@ -1,4 +1,4 @@
--- Seats of a book that begins, one by one.
+-- The first seats of a book, one by one.
 use Rattle.std.proofs.Common.{◌≡◌, ℕ, ◌+◌, ◌-◌, ◌<◌, inl, inr, true, false, nat_lt, if◌then◌else◌, List, [], ◌∷◌, ◌++◌, length, refl, sym, ap, ◌∙◌, subst, arith, length-append}
 use Rattle.std.proofs.lemmas.Bool.Decides.{nat_tests}
 use Rattle.messages.specs.Shapes.{ShapeFields}
@@ -13,7 +13,7 @@ use Rattle.book.specs.Seats.{actor_at, IsFirstSeat, AreFirst}
 pub none_first : (shape : ShapeFields) → AreFirst shape []
 none_first shape k s e = absurd (cc)
 
--- one more
+-- one first seat more
 pub one_first : (shape : ShapeFields) (seats : List SeatFields) (s : SeatFields) → AreFirst shape seats → IsFirstSeat shape (length seats) s → HasState (first_world shape) s.state → AreFirst shape (seats ++ s ∷ [])
 one_first shape seats s first is has k t e = elim (slice_get-push seats s k t e) [
   | inl old ↦ first k t old

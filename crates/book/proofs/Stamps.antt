@@ -1,4 +1,4 @@
--- Stamps of a longer journal.
+-- The stamps of a journal with one more entry.
 use Rattle.std.proofs.Common.{◌≡◌, ℕ, ◌+◌, ◌-◌, ◌<◌, List, [], ◌∷◌, ◌++◌, length, Some, sym, ap, ◌∙◌, arith, slice_get, length-append, subst}
 use Rattle.messages.specs.declared.entry.Entry.{Entry}
 use Rattle.cluster_core.specs.Next.{entry}
@@ -6,13 +6,13 @@ use Rattle.cluster_core.proofs.common.Places.{slice_get-keeps, slice_get-last}
 use Rattle.book.specs.Fields.{StampFields}
 use Rattle.book.specs.Receipts.{IsStampOf}
 
--- older ones
+-- a stamp of the journal is one of the longer journal
 pub stays : (entries fs : List Entry) (e : Entry) (o : StampFields) → fs ≡ entries ++ e ∷ [] → IsStampOf entries o → IsStampOf fs o
 stays entries fs e o is h =
     let P : List Entry → Type 0 = λ es. IsStampOf es o in
     subst P (sym is) (record { from_one = h.from_one; incarnation = h.incarnation; there = slice_get-keeps entries (e ∷ []) (o.position - 1) (entry o.event h.incarnation o.outcome) h.there })
 
--- and the one of the new entry
+-- a stamp of the new entry is one of the longer journal
 pub new_stamp : (entries fs : List Entry) (e : Entry) (k : ℕ) (o : StampFields) → fs ≡ entries ++ e ∷ [] → e ≡ entry o.event k o.outcome → o.position ≡ length fs → IsStampOf fs o
 new_stamp entries fs e k o is made at =
     let more : length fs ≡ length entries + 1 = ap length is ∙ length-append entries (e ∷ []) in

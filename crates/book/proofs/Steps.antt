@@ -1,4 +1,4 @@
--- What a planned step of an actor leads to, and what it leaves of the others.
+-- A planned step of an actor: what it leads to, and what it leaves of the others.
 use Rattle.std.proofs.Common.{◌≡◌, ◌≢◌, ℕ, true, if◌then◌else◌, refl, sym, ap, ◌∙◌, subst, Ok}
 use Rattle.messages.specs.declared.actor.Actor.TheVariants.{Node as ANode, Server as AServer}
 use Rattle.messages.specs.declared.event.Event.{Event}
@@ -37,7 +37,7 @@ leads (OfServer f s) event (OnServer e) (OfNode m t) o h is = absurd is
 leads (OfNode n s) event (OnServer e) t o h is = absurd h
 leads (OfServer f s) event (OnNode e) t o h is = absurd h
 
--- where its state stands, the world goes on by it
+-- where the actor is in the step's state, the world goes on by the step
 pub leads_on : (w : WorldState) (s : State) (event : Event) (e : Edit) (o : Outcome) → is_known w event ≡ true → HasState w s → Plans s event e o → (made : WorldState × Entry) × (next w event ≡ Ok made)
 leads_on w (OfNode n s) event (OnNode e) o known has h =
     let t : NodeState = reached s.value e.value in
@@ -55,7 +55,7 @@ abbrev pub MayStep : WorldState → Event → State → Outcome → Type 0
 MayStep w event (OfNode n s) o = NodeSteps w event n (node_state s.value) o
 MayStep w event (OfServer f s) o = ServerSteps w event f (server_state s.value) o
 
--- where its state stands, it may be taken
+-- where the actor is in the step's state, it may make the step
 pub may_step : (w : WorldState) (s : State) (event : Event) (t : State) (o : Outcome) → HasState w s → StepsTo s event t o → MayStep w event t o
 may_step w (OfNode n s) event (OfNode m t) o has h =
     let F : ℕ → Type 0 = λ k. NodeSteps w event k (node_state t.value) o in
@@ -68,17 +68,17 @@ may_step w (OfServer f s) event (OfServer g t) o has h =
 may_step w (OfNode n s) event (OfServer g t) o has h = absurd h
 may_step w (OfServer f s) event (OfNode m t) o has h = absurd h
 
--- and then comes next
+-- a step that the actor may make comes next
 pub comes_next : (w : WorldState) (event : Event) (t : State) (o : Outcome) → is_known w event ≡ true → MayStep w event t o → next w event ≡ Ok (made_by w event t o)
 comes_next w event (OfNode n t) o known may = node_next w event n (node_state t.value) o known may
 comes_next w event (OfServer f t) o known may = server_next w event f (server_state t.value) o known may
 
--- its entry is of its event and outcome
+-- the entry of a step is of its event and outcome
 pub made_entry : (w : WorldState) (event : Event) (t : State) (o : Outcome) → (k : ℕ) × ((made_by w event t o).1 ≡ entry event k o)
 made_entry w event (OfNode n t) o = (named_incarnation (w.nodes n) event, refl)
 made_entry w event (OfServer f t) o = (0, refl)
 
--- the next state stands there then
+-- after a step its actor is in the new state
 stands : (w : WorldState) (event : Event) (t : State) (o : Outcome) → MayStep w event t o → HasState (made_by w event t o).0 t
 stands w event (OfNode m t) o may = record {
   number = may.number;
@@ -94,7 +94,7 @@ stands w event (OfServer g t) o may = record {
 pub mine : (w v : WorldState) (event : Event) (t : State) (o : Outcome) → v ≡ (made_by w event t o).0 → MayStep w event t o → HasState v t
 mine w v event t o is may = let P : WorldState → Type 0 = λ x. HasState x t in subst P (sym is) (stands w event t o may)
 
--- and those of other actors as before
+-- after a step other actors are in their states as before
 others_stand : (w : WorldState) (event : Event) (t : State) (o : Outcome) (x : State) → actor_of x ≢ actor_of t → HasState w x → HasState (made_by w event t o).0 x
 others_stand w event (OfNode m t) o (OfNode k x) ne has = record {
   number = has.number;

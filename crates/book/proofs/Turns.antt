@@ -1,4 +1,4 @@
--- What declarations, failures and restarts leave of the actors.
+-- The actors after declarations, failures and restarts.
 use Rattle.std.proofs.Common.{◌≡◌, ◌≢◌, ℕ, ◌+◌, ◌≤◌, true, false, if◌then◌else◌, ◌&&◌, nat_le, nat_lt, [], refl, sym, ap, ◌∙◌, arith, Ok}
 use Rattle.std.specs.Prelude.{◌==◌}
 use Rattle.std.proofs.lemmas.Bool.{and_parts}
@@ -26,7 +26,7 @@ use Rattle.book.specs.States.{actor_of, incarnation_of, HasState, is_declared}
 pub declared_entry : (w : WorldState) (n : ℕ) (q : WorldState × Entry) → next w (Declare n) ≡ Ok q → (k : ℕ) × (q.1 ≡ entry (Declare n) k (sending []))
 declared_entry w n q h = declare_step w (λ p. (k : ℕ) × (p.1 ≡ entry (Declare n) k (sending []))) n q (λ m is alive. ((w.nodes m).incarnation, refl)) (next_taken w (Declare n) q h).1
 
--- other actors stay as they are
+-- a declaration leaves other actors as they are
 pub declared_others : (w : WorldState) (n : ℕ) (q : WorldState × Entry) (x : State) → next w (Declare n) ≡ Ok q → actor_of x ≢ ANode n → HasState w x → HasState q.0 x
 declared_others w n q (OfServer f x) h ne has = declare_step w (λ p. HasState p.0 (OfServer f x)) n q (λ m is alive. record { number = has.number; working = has.working; state = has.state }) (next_taken w (Declare n) q h).1
 declared_others w n q (OfNode k x) h ne has =
@@ -42,7 +42,7 @@ declared_others w n q (OfNode k x) h ne has =
 below_next : (i : ℕ) → 1 ≤ i → (nat_le 1 i && nat_lt i (i + 1)) ≡ true
 below_next i h = grind (arith, nat_tests, h)
 
--- the incarnation that was alive is fenced
+-- a declaration fences the incarnation that was alive
 pub declared_fences : (w : WorldState) (n : ℕ) (q : WorldState × Entry) (x : State) → next w (Declare n) ≡ Ok q → actor_of x ≡ ANode n → incarnation_of x ≡ (w.nodes n).incarnation → 1 ≤ incarnation_of x → is_declared q.0 x ≡ true
 declared_fences w n q (OfServer f x) h is same least = absurd (cc)
 declared_fences w n q (OfNode k x) h is same least =
@@ -70,7 +70,7 @@ restarted_others w n q (OfNode k x) h ne has =
     })
     (next_taken w (Restart n) q h).1
 
--- and the node that begins again stands there
+-- after a restart the node is in the state in which it begins
 pub restarted_mine : (w : WorldState) (n : ℕ) (q : WorldState × Entry) (s : NodeState) → next w (Restart n) ≡ Ok q → s ≡ q.0.nodes n → HasNode q.0 n s
 restarted_mine w n q s h stands =
     let known = (next_taken w (Restart n) q h).0 in
@@ -85,7 +85,7 @@ restarted_mine w n q s h stands =
 pub failed_entry : (w : WorldState) (f : ℕ) (q : WorldState × Entry) → next w (FailServer f) ≡ Ok q → (k : ℕ) × (q.1 ≡ entry (FailServer f) k (sending []))
 failed_entry w f q h = fail_step w (λ p. (k : ℕ) × (p.1 ≡ entry (FailServer f) k (sending []))) f q (λ g is works. ((w.servers g).epoch, refl)) (next_taken w (FailServer f) q h).1
 
--- other actors stay as they are
+-- a failure leaves other actors as they are
 pub failed_others : (w : WorldState) (f : ℕ) (q : WorldState × Entry) (x : State) → next w (FailServer f) ≡ Ok q → actor_of x ≢ AServer f → HasState w x → HasState q.0 x
 failed_others w f q (OfNode n x) h ne has = fail_step w (λ p. HasState p.0 (OfNode n x)) f q (λ g is works. record { number = has.number; alive = has.alive; state = has.state }) (next_taken w (FailServer f) q h).1
 failed_others w f q (OfServer k x) h ne has =
@@ -101,7 +101,7 @@ failed_others w f q (OfServer k x) h ne has =
 up_to_itself : (e : ℕ) → 1 ≤ e → (nat_le 1 e && nat_le e e) ≡ true
 up_to_itself e h = grind (arith, nat_tests, h)
 
--- the epoch that worked is fenced
+-- a failure fences the epoch that worked
 pub failed_fences : (w : WorldState) (f : ℕ) (q : WorldState × Entry) (x : State) → next w (FailServer f) ≡ Ok q → actor_of x ≡ AServer f → incarnation_of x ≡ (w.servers f).epoch → 1 ≤ incarnation_of x → is_declared q.0 x ≡ true
 failed_fences w f q (OfNode n x) h is same least = absurd (cc)
 failed_fences w f q (OfServer k x) h is same least =
@@ -137,7 +137,7 @@ started_others w f q (OfServer k x) h ne has =
     })
     (next_taken w (StartServer f) q h).1
 
--- and the server that begins again stands there
+-- after a start the token server is in the state in which it begins
 pub started_mine : (w : WorldState) (f : ℕ) (q : WorldState × Entry) (s : ServerState) → next w (StartServer f) ≡ Ok q → s ≡ q.0.servers f → HasServer q.0 f s
 started_mine w f q s h stands =
     let known = (next_taken w (StartServer f) q h).0 in

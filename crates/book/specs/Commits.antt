@@ -1,4 +1,4 @@
--- When a step is taken, when it is refused, and what it does.
+-- Commits: when a step is accepted, when it is refused, and what its commit makes of a book.
 use Rattle.std.specs.Prelude.{◌≡◌, ◌≢◌, ◌⊎◌, ℕ, ◌+◌, ◌<◌, ◌≤◌, true, false, length, Option, Some, None}
 use Rattle.cluster_core.specs.World.{journal_limit}
 use Rattle.cluster_core.specs.Next.{is_known}
@@ -11,7 +11,7 @@ use Rattle.book.specs.States.{actor_of, incarnation_of, Fits, Plans, StepsTo, Ha
 use Rattle.book.specs.Fields.{SeatFields, PreparedFields, StampFields}
 use Rattle.book.specs.Receipts.{IsStampOf}
 
--- the step names the seat's actor, its incarnation and its number of commits
+-- the step names the seat's actor, incarnation and number of commits
 abbrev pub Names : PreparedFields → SeatFields → Type 0
 Names p s = (p.actor ≡ actor_of s.state) × (p.incarnation ≡ incarnation_of s.state) × (p.commits ≡ s.commits)
 
@@ -19,7 +19,7 @@ Names p s = (p.actor ≡ actor_of s.state) × (p.incarnation ≡ incarnation_of 
 abbrev pub IsStepFrom : SeatFields → PreparedFields → Type 0
 IsStepFrom s p = Fits s.state p.edit × Plans s.state p.event p.edit p.outcome
 
--- the seat is of the book: its actor is alive, and in that state
+-- the seat is of the book: its actor is alive, and in the seat's state
 abbrev pub IsSeatOf : RunFields → SeatFields → Type 0
 IsSeatOf b s = HasState (world_state b.world) s.state
 
@@ -28,18 +28,18 @@ abbrev pub seen_at : Option ℕ → ℕ
 seen_at None = 0
 seen_at (Some position) = position
 
--- past the tests before the last one
+-- the step passes the first tests of a commit: there is room, it names the seat, its event is known, and its actor isn't fenced
 pub record Passes (b : RunFields) (s : SeatFields) (p : PreparedFields) : Type 0 where
   pub room : length b.entries < journal_limit
   pub named : Names p s
   pub known : is_known (world_state b.world) p.event ≡ true
   pub free : is_declared (world_state b.world) s.state ≡ false
 
--- the step may be taken
+-- the step is accepted
 abbrev pub Accepts : RunFields → SeatFields → PreparedFields → ℕ → Type 0
 Accepts b s p seen = Passes b s p × IsSeatOf b s × (seen ≤ length b.entries)
 
--- when each refusal comes; they exclude one another
+-- the condition of each refusal; no two hold at once
 abbrev pub Refuses : RunFields → SeatFields → PreparedFields → ℕ → CommitError → Type 0
 Refuses b s p seen JournalFull = journal_limit ≤ length b.entries
 Refuses b s p seen Stale = ((length b.entries < journal_limit) × (Names p s → ⊥)) ⊎ (Passes b s p × (IsSeatOf b s → length b.entries < seen))
@@ -47,7 +47,7 @@ Refuses b s p seen Stranger = (length b.entries < journal_limit) × Names p s ×
 Refuses b s p seen Fenced = (length b.entries < journal_limit) × Names p s × (is_known (world_state b.world) p.event ≡ true) × (is_declared (world_state b.world) s.state ≡ true)
 Refuses b s p seen NoMemory = Accepts b s p seen
 
--- the step is the next of the run and its entry the last; seats of other actors stay seats of the book, those that are fenced stay so, and older stamps stay stamps of it
+-- the step is next, its entry last; other actors' seats stay the book's, fenced seats stay fenced, and older stamps stay the book's
 pub record Commits (b : RunFields) (s : SeatFields) (p : PreparedFields) (seen : ℕ) (b' : RunFields) (s' : SeatFields) (t : StampFields) : Type 0 where
   pub accepted : Accepts b s p seen
   pub goes : Records b p.event (made_by (world_state b.world) p.event s'.state p.outcome) b'

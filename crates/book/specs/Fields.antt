@@ -1,4 +1,4 @@
--- Seats, steps, stamps and receipts as plain data.
+-- The fields of seats, prepared steps, stamps and receipts.
 use Rattle.std.specs.Prelude.{ℕ}
 use Rattle.model.specs.declared.call.CallId.{CallId}
 use Rattle.model.specs.declared.op.Op.{Op}
@@ -9,12 +9,12 @@ use Rattle.messages.specs.declared.outcome.Outcome.{Outcome}
 use Rattle.book.specs.declared.edit.Edit.{Edit}
 use Rattle.book.specs.declared.state.State.{State}
 
--- an actor's state, and how many commits it made from this seat
+-- a seat: the state of an actor, and the number of commits made from the seat
 pub record SeatFields : Type 0 where
   pub state : State
   pub commits : ℕ
 
--- whose step it is, after how many commits; its event, what it changes, and what it gives
+-- a prepared step: its actor, the seat's number of commits, its event, its change, and its outcome
 pub record PreparedFields : Type 0 where
   pub actor : Actor
   pub incarnation : ℕ
@@ -23,14 +23,14 @@ pub record PreparedFields : Type 0 where
   pub edit : Edit
   pub outcome : Outcome
 
--- where an entry stands, from 1; what it says; up to where its actor had seen the journal
+-- a stamp: the position of an entry, from 1; its event and outcome; the position up to which its actor had seen the journal
 pub record StampFields : Type 0 where
   pub position : ℕ
   pub event : Event
   pub outcome : Outcome
   pub seen : ℕ
 
--- a call with its process and its reply, and where both stand
+-- a receipt: a call with its process and its reply, and the positions of both
 pub record ReceiptFields : Type 0 where
   pub call : CallId
   pub pid : ℕ

@@ -1,4 +1,4 @@
--- What declarations and restarts of nodes do, and failures and starts of token servers.
+-- Declarations and restarts of nodes, and failures and starts of token servers, in a book.
 use Rattle.std.specs.Prelude.{◌≡◌, ◌≢◌, ℕ, ◌≤◌, true, length}
 use Rattle.messages.specs.declared.actor.Actor.{Actor}
 use Rattle.messages.specs.declared.actor.Actor.TheVariants.{Node as ANode, Server as AServer}
@@ -11,42 +11,42 @@ use Rattle.book.specs.Fields.{SeatFields, StampFields}
 use Rattle.book.specs.Receipts.{IsStampOf}
 use Rattle.book.specs.Commits.{IsSeatOf}
 
--- the book goes on by an event of this actor: seats that were fenced stay so, and stamps of the book and seats of other actors stay the book's
+-- the book goes on by an event of this actor: fenced seats stay fenced, and stamps of the book and seats of other actors stay the book's
 pub record Turns (b : RunFields) (event : Event) (a : Actor) (b' : RunFields) : Type 0 where
   pub goes : GoesOn b event b'
   pub fences : (o : SeatFields) → is_declared (world_state b.world) o.state ≡ true → is_declared (world_state b'.world) o.state ≡ true
   pub stamps : (o : StampFields) → IsStampOf b.entries o → IsStampOf b'.entries o
   pub others : (o : SeatFields) → actor_of o.state ≢ a → IsSeatOf b o → IsSeatOf b' o
 
--- the stamp is that of the last entry, which this event made, and saw nothing
+-- the stamp is of the last entry, which this event made; its actor had seen nothing
 pub record IsLastStamp (b : RunFields) (event : Event) (t : StampFields) : Type 0 where
   pub position : t.position ≡ length b.entries
   pub event_is : t.event ≡ event
   pub seen_is : t.seen ≡ 0
   pub stamped : IsStampOf b.entries t
 
--- each seat of the actor in this incarnation, or epoch, is fenced
+-- each seat of the actor in that incarnation, or epoch, is fenced
 abbrev pub AreFenced : RunFields → Actor → ℕ → Type 0
 AreFenced b a i = (s : SeatFields) → actor_of s.state ≡ a → incarnation_of s.state ≡ i → 1 ≤ incarnation_of s.state → is_declared (world_state b.world) s.state ≡ true
 
--- the seat is of the actor as it begins again
+-- the seat is that of the actor as it begins again
 pub record BeginsAgain (b : RunFields) (a : Actor) (s : SeatFields) : Type 0 where
   pub actor : actor_of s.state ≡ a
   pub commits : s.commits ≡ 0
   pub mine : IsSeatOf b s
 
--- the incarnation in which the node was alive is fenced from here on
+-- Declare: the incarnation in which the node was alive is fenced from here on
 abbrev pub Declared : RunFields → ℕ → RunFields → StampFields → Type 0
 Declared b n b' t = Turns b (Declare n) (ANode n) b' × IsLastStamp b' (Declare n) t × AreFenced b' (ANode n) ((world_state b.world).nodes n).incarnation
 
--- the node begins again
+-- Restart: the node begins again
 abbrev pub Restarted : RunFields → ℕ → RunFields → SeatFields → Type 0
 Restarted b n b' s = Turns b (Restart n) (ANode n) b' × BeginsAgain b' (ANode n) s
 
--- the epoch in which the server of the file worked is fenced from here on
+-- FailServer: the epoch in which the token server of the file worked is fenced from here on
 abbrev pub Failed : RunFields → ℕ → RunFields → StampFields → Type 0
 Failed b f b' t = Turns b (FailServer f) (AServer f) b' × IsLastStamp b' (FailServer f) t × AreFenced b' (AServer f) ((world_state b.world).servers f).epoch
 
--- the server of the file begins again, and the stamp has what it asks the nodes
+-- StartServer: the token server of the file begins again, and the stamp has the messages in which it asks the nodes for their tokens
 abbrev pub Started : RunFields → ℕ → RunFields → SeatFields → StampFields → Type 0
 Started b f b' s t = Turns b (StartServer f) (AServer f) b' × BeginsAgain b' (AServer f) s × IsLastStamp b' (StartServer f) t

@@ -1,4 +1,4 @@
-//! The book.
+//! The book: the journal that the actors of a cluster share.
 ghost use Rattle.std.specs.Prelude.{◌≡◌, ◌≢◌, ◌+◌, ◌-◌, ◌<◌, ◌≤◌, ◌++◌, ◌∷◌, [], ℕ, Ok, Err, Some, true, length, slice_get, IfOk, IfErr, IfSome, OnOk, OnErr, MatchResult, MatchBool, option_copied};
 ghost use Rattle.messages.specs.declared.event.Event.TheVariants.{Declare, Restart, FailServer, StartServer};
 ghost use Rattle.messages.specs.declared.refusal.Refused.{Refused};
@@ -47,8 +47,9 @@ use std::marker::Model;
 use token_server::server::Server;
 use trail::name::Name;
 
-/// The journal that the actors of a cluster share, and a copy of each actor's state after it: always a
-/// run. It is generic in the name of its trail, so that a place that a seat keeps is known to be one of the same trail.
+/// The journal that the actors of a cluster share, which is always a run, and a copy of each actor's state after it.
+/// The type is generic in the name of the book's trail, so that a spot that a seat keeps is known to be of the same
+/// trail.
 #[derive(Drop)]
 pub struct Book<J: Name> {
     run: Run,
@@ -67,7 +68,7 @@ impl<J: Name> Model for Book<J> {
     ghost invariant = { λ b. AreReached (world_state b.run.world) b.spots };
 }
 
-// The run goes on by an event that is known to lead on: only memory can be refused.
+// Makes the run go on by an event that is not refused. Only memory can be refused.
 fn take_next(run: &mut Run, alloc: Global, event: Event) -> Result<(), AllocError>
     requires room { length run.old.entries < journal_limit }
     requires leads_on { (made : WorldState × Entry) × (next (world_state run.old.world) event ≡ Ok made) }
@@ -84,7 +85,7 @@ fn take_next(run: &mut Run, alloc: Global, event: Event) -> Result<(), AllocErro
     }
 }
 
-// The state of a node that begins.
+// The state of a node of a cluster that begins.
 fn first_node_state(alloc: Global, shape: Shape, number: u8) -> Result<State, AllocError>
     requires { IsNumber shape.nodes number }
     ensures { IfOk result (λ state. HasState (first_world shape) state × (actor_of state ≡ ANode number)) }
@@ -94,7 +95,7 @@ fn first_node_state(alloc: Global, shape: Shape, number: u8) -> Result<State, Al
     Ok(State::OfNode { number, node })
 }
 
-// The state of a server that begins.
+// The state of a token server of a cluster that begins.
 fn first_server_state(alloc: Global, shape: Shape, file: u16) -> Result<State, AllocError>
     requires { IsNumber shape.files file }
     ensures { IfOk result (λ state. HasState (first_world shape) state × (actor_of state ≡ AServer file)) }
@@ -104,7 +105,7 @@ fn first_server_state(alloc: Global, shape: Shape, file: u16) -> Result<State, A
     Ok(State::OfServer { file, server })
 }
 
-// The seats of the nodes.
+// The first seats of the nodes.
 fn node_seats<J: Name>(alloc: Global, shape: Shape) -> Result<Vec<Seat<J>>, AllocError>
     ensures seats { IfOk result (λ seats. AreFirst shape seats.items) }
     ensures count { IfOk result (λ seats. length seats.items ≡ shape.nodes) }
@@ -117,7 +118,7 @@ fn node_seats<J: Name>(alloc: Global, shape: Shape) -> Result<Vec<Seat<J>>, Allo
     Ok(seats)
 }
 
-// Puts the seats of the servers after those of the nodes.
+// Appends the first seats of the token servers to those of the nodes.
 fn push_servers<J: Name>(
     alloc: Global,
     shape: Shape,
@@ -136,9 +137,9 @@ fn push_servers<J: Name>(
 }
 
 impl<J: Name> Book<J> {
-    /// A book with an empty journal, and the seats of its nodes and then of its servers, each by number
-    /// from 1. Without a trail each commit compares the seat's state with the book's copy. With one it does so
-    /// only where it doesn't know that they are one, as at a seat's first commit; a trail costs a place for each
+    /// A book with an empty journal, and the first seats: of its nodes and then of its token servers, each by number
+    /// from 1. Without a trail each commit compares the seat's state with the book's copy. With one it does so only
+    /// where the spots don't tell that both are equal, as at a seat's first commit; a trail costs a spot for each
     /// actor.
     ///
     /// # Errors
@@ -165,7 +166,8 @@ impl<J: Name> Book<J> {
         Ok((Book { run, spots }, seats))
     }
 
-    /// How many entries the journal has, which are a run that leads to the book's copies.
+    /// The number of entries of the journal, at most 1,048,576. The entries are a run, which leads to the book's
+    /// copies.
     pub fn len(&self) -> u32
         ensures value { result ≡ length self.now.entries }
         ensures within { result ≤ journal_limit }
@@ -175,24 +177,24 @@ impl<J: Name> Book<J> {
         self.run.len()
     }
 
-    /// The entries of the journal, which are a run.
+    /// The entries of the journal. They are a run.
     pub fn entries(&self) -> &[Entry]
         ensures { result.now ≡ self.now.entries }
     {
         self.run.entries()
     }
 
-    /// The step that was prepared from the seat is the next of the journal: its entry comes last, and
-    /// the seat's state and the book's copy of it are the step's. That other seats committed since is no
-    /// hindrance. `seen` is up to where the actor had seen the journal, if at all.
+    /// Commits the step that was prepared from the seat: it is the next of the run, its entry comes last, and the
+    /// seat's state and the book's copy become the step's. Commits from other seats since then don't hinder it.
+    /// `seen` marks the last entry that the actor has seen, if any.
     ///
     /// # Errors
-    /// In this order: `JournalFull` where the journal has 1,048,576 entries; `Stale` where the step names
-    /// another actor, incarnation or number of commits than the seat has; `Stranger` where the event names
-    /// what the cluster doesn't have, a message that was never sent, or an incarnation that wasn't
-    /// declared; `Fenced` where the seat's incarnation, or epoch, was declared failed; `Stale` where the seat's state
-    /// isn't the book's copy, or `seen` is past the last entry; `NoMemory` where a request for memory was
-    /// refused. The book and the seat are then as they were.
+    /// In this order: `JournalFull` where the journal has 1,048,576 entries; `Stale` where the step names another
+    /// actor, incarnation or number of commits than the seat has; `Stranger` where the event names what the cluster
+    /// doesn't have, a message that was never sent, or an incarnation that wasn't declared; `Fenced` where the seat's
+    /// incarnation, or epoch, was declared failed; `Stale` where the seat's state isn't the book's copy, or `seen` is
+    /// past the last entry; `NoMemory` where a request for memory was refused. The book and the seat are then as they
+    /// were.
     pub fn commit(
         &mut self,
         alloc: Global,
@@ -214,11 +216,12 @@ impl<J: Name> Book<J> {
         Ok(Stamp::new(self.run.len(), parts.told, outcome, seen))
     }
 
-    /// The node is declared failed: from here on each commit of its incarnation is refused.
+    /// Declares the node failed: from here on each commit of its incarnation is refused.
     ///
     /// # Errors
-    /// In this order: `JournalFull`; `Stranger` where there is no such node; `NotAlive` where it was
-    /// declared; `NoMemory`. The book is then as it was.
+    /// In this order: `JournalFull` where the journal has 1,048,576 entries; `Stranger` where there is no such node;
+    /// `NotAlive` where it was declared; `NoMemory` where a request for memory was refused. The book is then as it
+    /// was.
     pub fn declare(&mut self, alloc: Global, node: u8) -> Result<Stamp, Refused>
         ensures ok { IfOk result (λ t. Declared self.old node self.new t) }
         ensures err { IfErr result (λ e. e ≢ Refused.NoMemory → kept_next (world_state self.old.world) (Declare node) ≡ Err e) }
@@ -232,12 +235,13 @@ impl<J: Name> Book<J> {
         Ok(Stamp::new(position, Event::Declare { node }, outcome, 0))
     }
 
-    /// The node, which was declared failed, begins again: empty, in its next incarnation, whose seat this
-    /// is.
+    /// Restarts the node, which was declared failed: it begins again, empty, in its next incarnation. Gives the seat
+    /// of that incarnation.
     ///
     /// # Errors
-    /// In this order: `JournalFull`; `Stranger` where there is no such node; `NotDead` where it is alive;
-    /// `TooManyRestarts` where it had 65,535 incarnations; `NoMemory`. The book is then as it was.
+    /// In this order: `JournalFull` where the journal has 1,048,576 entries; `Stranger` where there is no such node;
+    /// `NotDead` where it is alive; `TooManyRestarts` where it had 65,535 incarnations; `NoMemory` where a request
+    /// for memory was refused. The book is then as it was.
     pub fn restart(&mut self, alloc: Global, node: u8) -> Result<Seat<J>, Refused>
         ensures ok { IfOk result (λ s. Restarted self.old node self.new s) }
         ensures err { IfErr result (λ e. e ≢ Refused.NoMemory → kept_next (world_state self.old.world) (Restart node) ≡ Err e) }
@@ -252,11 +256,12 @@ impl<J: Name> Book<J> {
         }))
     }
 
-    /// The token server of the file is declared failed: from here on each commit of its epoch is refused.
+    /// Declares the token server of the file failed: from here on each commit of its epoch is refused.
     ///
     /// # Errors
-    /// In this order: `JournalFull`; `Stranger` where there is no such file, or servers of a cluster of
-    /// that version don't fail; `NotAlive` where it was declared; `NoMemory`. The book is then as it was.
+    /// In this order: `JournalFull` where the journal has 1,048,576 entries; `Stranger` where there is no such file,
+    /// or servers of a cluster of that version don't fail; `NotAlive` where it was declared; `NoMemory` where a
+    /// request for memory was refused. The book is then as it was.
     pub fn fail_server(&mut self, alloc: Global, file: u16) -> Result<Stamp, Refused>
         ensures ok { IfOk result (λ t. Failed self.old file self.new t) }
         ensures err { IfErr result (λ e. e ≢ Refused.NoMemory → kept_next (world_state self.old.world) (FailServer file) ≡ Err e) }
@@ -270,12 +275,13 @@ impl<J: Name> Book<J> {
         Ok(Stamp::new(position, Event::FailServer { file }, outcome, 0))
     }
 
-    /// The token server of the file, which was declared failed, is rebuilt in its next epoch, whose seat
-    /// this is. The stamp has what it asks the nodes.
+    /// Starts the token server of the file again, which was declared failed: it is rebuilt in its next epoch. Gives
+    /// the seat of that epoch, and a stamp with the messages in which the server asks the nodes for their tokens.
     ///
     /// # Errors
-    /// In this order: `JournalFull`; `Stranger` as at `fail_server`; `NotDead` where it works;
-    /// `TooManyRestarts` where it had 65,535 epochs; `NoMemory`. The book is then as it was.
+    /// In this order: `JournalFull` where the journal has 1,048,576 entries; `Stranger` as at `fail_server`;
+    /// `NotDead` where it works; `TooManyRestarts` where it had 65,535 epochs; `NoMemory` where a request for memory
+    /// was refused. The book is then as it was.
     pub fn start_server(&mut self, alloc: Global, file: u16) -> Result<(Seat<J>, Stamp), Refused>
         ensures ok { IfOk result (λ r. Started self.old file self.new r.0 r.1) }
         ensures err { IfErr result (λ e. e ≢ Refused.NoMemory → kept_next (world_state self.old.world) (StartServer file) ≡ Err e) }
@@ -293,7 +299,8 @@ impl<J: Name> Book<J> {
         Ok((Seat::new(state), stamp))
     }
 
-    /// Whether the journal holds the receipt, as it does each that was made of two stamps of this book.
+    /// Whether the journal has the receipt's call and reply at its positions. It has those of each receipt made of
+    /// two stamps of this book.
     pub fn confirm(&self, receipt: &Receipt) -> bool
         ensures exact { MatchBool result (Holds self.now.entries receipt.now) (Holds self.now.entries receipt.now → ⊥) }
         ensures made { (call reply : StampFields) → IsStampOf self.now.entries call → IsStampOf self.now.entries reply → IsReceiptOf call reply receipt.now → result ≡ true }
@@ -301,8 +308,8 @@ impl<J: Name> Book<J> {
         holds(self.run.entries(), receipt)
     }
 
-    /// The journal and the world at its end. The journal is a run, so it has one history; the world, which holds the
-    /// actors' copies, is safe.
+    /// The journal, and the world at its end. The journal is a run, so it has one history. The world, which consists
+    /// of the actors' copies, is safe.
     pub fn into_journal(self) -> (Journal, World)
         ensures value { result.0 ≡ journal_of self }
         ensures leads { Leads (first_world result.0.shape) result.0.entries (world_state result.1) }

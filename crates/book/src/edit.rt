@@ -1,9 +1,9 @@
-//! What a step changes of its actor.
+//! The change that a step makes of its actor's state.
 use node_core::edit::Edit as NodeEdit;
 use token_server::change::Edit as ServerEdit;
 
-/// What a step changes of an actor's state: of a node, or of a token server. It fits that very state. (That
-/// of a node is in a box, since it is handed on by value; a server's has its own.)
+/// The change that a step makes of the state of a node or a token server. It fits the state from which it was
+/// planned. (A node's change is in a box, because it is handed on by value; a server's has a box inside.)
 #[derive(Drop)]
 pub(crate) enum Edit {
     Node(Box<NodeEdit>),

@@ -1,4 +1,4 @@
-//! Whether entries hold a receipt.
+//! The test whether entries have a receipt's call and reply.
 ghost use Rattle.std.specs.Prelude.{◌≡◌, ◌<◌, ◌≤◌, ◌-◌, ◌↔◌, IsTrue, IfSome, MatchOption, MatchBool, Some, None, slice_get};
 ghost use Rattle.book.specs.Receipts.{Holds, call_in};
 
@@ -8,7 +8,7 @@ use model::call::CallId;
 use model::op::Op;
 use model::reply::Reply;
 
-// The entry at a position, from 1.
+// The entry at a position, from 1, if there is one.
 fn entry_at(entries: &[Entry], position: u32) -> Option<&Entry>
     requires { 0 < position }
     ensures { MatchOption result (slice_get entries.now (position - 1) ≡ None) (λ e. slice_get entries.now (position - 1) ≡ Some e.now) }
@@ -16,21 +16,21 @@ fn entry_at(entries: &[Entry], position: u32) -> Option<&Entry>
     entries.get(position as usize - 1)
 }
 
-// Whether both ask the same.
+// Whether both operations are equal.
 fn same_op(one: &Op, other: &Op) -> bool
     ensures { IsTrue result ↔ (one.now ≡ other.now) }
 {
     one == other
 }
 
-// Whether both are the same reply to the same call, or none.
+// Whether both are equal replies to one call, or both are none.
 fn same_replies(one: &Option<(CallId, Reply)>, other: &Option<(CallId, Reply)>) -> bool
     ensures { IsTrue result ↔ (one.now ≡ other.now) }
 {
     one == other
 }
 
-// Whether the entry is of the receipt's call.
+// Whether the entry makes the receipt's call.
 fn is_its_call(entry: &Entry, receipt: &Receipt) -> bool
     ensures { IsTrue result ↔ (call_in entry.now.event entry.now.call ≡ Some (receipt.now.call, receipt.now.pid, receipt.now.op)) }
 {
@@ -47,7 +47,7 @@ fn is_its_reply(entry: &Entry, receipt: &Receipt) -> bool
     same_replies(&entry.reply(), &Some((receipt.call(), receipt.reply())))
 }
 
-/// Whether the entries have the receipt's call and its reply at the receipt's positions.
+/// Whether the entries have the receipt's call and reply at its positions.
 pub(crate) fn holds(entries: &[Entry], receipt: &Receipt) -> bool
     ensures exact { MatchBool result (Holds entries.now receipt.now) (Holds entries.now receipt.now → ⊥) }
     ensures ordered { (receipt.now.seen < receipt.now.call_at) × (receipt.now.call_at ≤ receipt.now.reply_at) }

@@ -1,4 +1,4 @@
-//! The last states of actors.
+//! The spots of the actors' last states in a book's trail.
 ghost use Rattle.std.specs.Prelude.{◌≡◌, IfOk, IfSome, Some};
 ghost use Rattle.book.specs.LastSpots.{IsLastSpot, Noted, Forgotten, place_of, AreReached};
 ghost use Rattle.book.specs.States.{actor_of};
@@ -12,8 +12,8 @@ use trail::name::Name;
 use trail::spot::Spot;
 use trail::trail::Trail;
 
-/// The trail of all states that were committed to a book, and for each actor where in it its last state stands, if that is
-/// known. So a seat whose state stands at that place has the state of the book's copy, and need not be compared with it.
+/// The trail of all states committed to a book, and for each actor the spot of its last state, if it is known. A seat
+/// whose state stands at that spot has the state of the book's copy, without a comparison of states.
 #[derive(Drop)]
 pub(crate) struct LastSpots<J: Name> {
     trail: Option<Trail<J, State>>,
@@ -28,7 +28,7 @@ impl<J: Name> Model for LastSpots<J> {
     ghost view = { λ s. s.last.items };
 }
 
-// The place of the actor among the spots.
+// The index of the actor among the spots.
 fn place_of(actor: Actor) -> usize
     ensures { result ≡ place_of actor }
 {
@@ -39,7 +39,8 @@ fn place_of(actor: Actor) -> usize
 }
 
 impl<J: Name> LastSpots<J> {
-    /// No actor's state is known. With a trail, the states of all nodes and of that many servers can become known.
+    /// The spots of actors of which none is known yet. With a trail, those of all nodes and of that many token
+    /// servers can become known.
     ///
     /// # Errors
     /// `AllocError` where a request for memory was refused.
@@ -59,14 +60,14 @@ impl<J: Name> LastSpots<J> {
         Ok(LastSpots { trail, last })
     }
 
-    /// Where the actor's state stands, if that is known.
+    /// The spot of the actor's last state, if it is known.
     pub(crate) fn at(&self, actor: Actor) -> Option<&Spot<J, State>>
         ensures { IfSome result (λ spot. IsLastSpot self.now (place_of actor) spot.now) }
     {
         self.last.get(place_of(actor))?.as_ref()
     }
 
-    /// The state is its actor's from here on: where it stands, if that can be known.
+    /// Notes the new state of its actor. Gives the state's spot, if it can be known.
     pub(crate) fn note(&mut self, state: &State) -> Option<Spot<J, State>>
         ensures spot { IfSome result (λ spot. spot.item ≡ Some state.now) }
         ensures noted { Noted self.old state.now self.new }
@@ -81,7 +82,7 @@ impl<J: Name> LastSpots<J> {
         spot
     }
 
-    /// The actor's state is no longer known.
+    /// Drops the actor's spot: its last state is known no longer.
     pub(crate) fn forget(&mut self, actor: Actor)
         ensures { Forgotten self.old actor self.new }
     {

@@ -1,4 +1,5 @@
-//! The journal that the actors of a cluster share, and the seats from which they commit their steps.
+//! The book, which is the journal that the actors of a cluster share, and the seats from which they commit their
+//! steps. It knows nothing of threads and locks, of files of the operating system or of printed text.
 #![tactic(auto)]
 
 pub mod book;

@@ -1,9 +1,9 @@
-//! Positions up to which a journal was seen.
+//! A mark: a position of a journal up to which somebody has seen it.
 ghost use Rattle.std.specs.Prelude.{◌≡◌};
 
 use std::marker::Model;
 
-/// A position in a journal, from 1. It is made by a stamp or a receipt alone.
+/// A position in a journal, from 1. Only a stamp or a receipt makes one.
 #[derive(Clone, Copy, Debug, PartialEq, Eq)]
 pub struct Mark {
     position: u32,
@@ -20,7 +20,7 @@ impl Model for Mark {
 }
 
 impl Mark {
-    /// The mark at a position.
+    /// The mark at that position, from 1.
     pub(crate) fn new(position: u32) -> Mark
         ensures { result ≡ position }
     {

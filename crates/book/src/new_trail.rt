@@ -1,4 +1,4 @@
-//! Trails for books.
+//! The trail for a new book.
 ghost use Rattle.std.specs.Prelude.{◌≡◌};
 
 use crate::state::State;
@@ -7,8 +7,8 @@ use trail::name::Name;
 use trail::trail::Trail;
 use trail::unnamed::Unnamed;
 
-/// An empty trail for the states that are committed to a book, by which a seat is known to have the state of the book's copy
-/// without being compared with it. It asks for no memory. Contracts see which one it is, by which a call picks its name.
+/// An empty trail for a new book. With a trail, a book tells by comparing two numbers that a seat is up to date. The
+/// name ties a seat to its book's trail, in proofs only. Making one takes no memory.
 #[derive(Drop)]
 pub struct NewTrail {
     states: Unnamed<State>,
@@ -23,14 +23,14 @@ impl Model for NewTrail {
 }
 
 impl NewTrail {
-    /// A new one.
+    /// A new trail, without a name.
     pub fn new() -> NewTrail {
         NewTrail {
             states: Unnamed::new(),
         }
     }
 
-    /// The trail under its name.
+    /// The trail under the name that the caller picked for it.
     pub(crate) fn named<J: Name>(self) -> Trail<J, State>
         requires { self ≡ J.trail }
     {

@@ -1,4 +1,4 @@
-//! Steps that were planned from a seat's state.
+//! A prepared step: planned from a seat's state, not yet committed.
 ghost use Rattle.std.specs.Prelude.{◌≡◌, ◌<◌, ◌↔◌, IsTrue};
 ghost use Rattle.book.specs.Commits.{Names};
 ghost use Rattle.book.specs.States.{actor_of, incarnation_of};
@@ -11,9 +11,9 @@ use messages::outcome::Outcome;
 use std::marker::Model;
 use trail::name::Name;
 
-/// A step of an actor that was planned from its seat's state, and may be committed from that seat: what it
-/// changes of that state, and what it gives. It has the event twice, for the entry and for the stamp, so that
-/// a commit moves it.
+/// A step of an actor that was planned from its seat's state and may be committed from that seat: its event, its
+/// change of the state, and its outcome. It has the event twice, for the entry and for the stamp, so that a commit
+/// needs no copy.
 #[derive(Drop)]
 pub struct Prepared {
     actor: Actor,
@@ -36,7 +36,7 @@ impl Model for Prepared {
     ghost invariant = { λ p. (p.told ≡ p.event) × (p.commits < 18446744073709551615) };
 }
 
-/// A step taken apart: its event twice, what it changes, and what it gives.
+/// The parts of a step: its event twice, its change, and its outcome.
 #[derive(Drop)]
 pub(crate) struct Parts {
     pub(crate) event: Event,
@@ -46,14 +46,14 @@ pub(crate) struct Parts {
 }
 
 impl Prepared {
-    /// What the step gives.
+    /// The outcome of the step.
     pub fn outcome(&self) -> &Outcome
         ensures { result.now ≡ self.now.outcome }
     {
         &self.outcome
     }
 
-    /// The step of a seat that had made fewer than the most commits.
+    /// The prepared step of a seat that made fewer than 18,446,744,073,709,551,615 commits.
     pub(crate) fn new<J: Name>(
         seat: &Seat<J>,
         events: (Event, Event),
@@ -83,7 +83,7 @@ impl Prepared {
         &self.event
     }
 
-    /// Whether the step names the seat's actor, its incarnation and its number of commits.
+    /// Whether the step names the seat's actor, incarnation and number of commits.
     pub(crate) fn names<J: Name>(&self, seat: &Seat<J>) -> bool
         ensures names { IsTrue result ↔ Names self.now seat.now }
         ensures unspent { self.now.commits < 18446744073709551615 }
@@ -93,7 +93,7 @@ impl Prepared {
             && self.commits == seat.commits()
     }
 
-    /// The event twice, what the step changes, and what it gives.
+    /// The parts of the step.
     pub(crate) fn into_parts(self) -> Parts
         ensures event { result.event ≡ self.event }
         ensures told { result.told ≡ self.event }

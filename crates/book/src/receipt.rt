@@ -1,4 +1,4 @@
-//! Receipts.
+//! A receipt: the proof of a call and its reply in a journal.
 ghost use Rattle.std.specs.Prelude.{◌≡◌, ◌<◌, ◌≤◌, ◌↔◌, IsTrue, MatchOption, Option, Some};
 ghost use Rattle.book.specs.Fields.{ReceiptFields};
 ghost use Rattle.book.specs.Receipts.{call_in, IsReceiptOf};
@@ -11,7 +11,7 @@ use model::op::Op;
 use model::reply::Reply;
 use std::marker::Model;
 
-/// A call with its process and its reply, and where both stand in the journal: the call after all that
+/// A call with its process and its reply, and the positions of both in the journal. The call stands after all that
 /// its client had seen, the reply not before the call.
 #[derive(Clone, Copy, Debug)]
 pub struct Receipt {
@@ -37,7 +37,8 @@ impl Model for Receipt {
     ghost inverse = { λ r. record { call = r.call; pid = r.pid; op = r.op; reply = r.reply; seen = r.seen; call_at = r.call_at; reply_at = r.reply_at } };
 }
 
-/// The call that an event with this name is: its name, its process, and what it asks.
+/// The name, the process and the operation of the call that the event makes, where `call` is its name. `None` where
+/// the event is no call or `call` is none.
 pub(crate) fn call_in(event: &Event, call: Option<CallId>) -> Option<(CallId, u16, Op)>
     ensures { result ≡ call_in event.now call }
 {
@@ -50,7 +51,7 @@ pub(crate) fn call_in(event: &Event, call: Option<CallId>) -> Option<(CallId, u1
     }
 }
 
-/// Whether both are one and the same call.
+/// Whether both name the same call.
 pub(crate) fn same_id(one: &CallId, other: &CallId) -> bool
     ensures { IsTrue result ↔ (one.now ≡ other.now) }
 {
@@ -58,8 +59,8 @@ pub(crate) fn same_id(one: &CallId, other: &CallId) -> bool
 }
 
 impl Receipt {
-    /// The receipt of a call and the reply to it. None exactly where the first is no call, or the second
-    /// doesn't reply to it or stands before it.
+    /// The receipt of a call and the reply to it. `None` exactly where the first stamp is of no call, or the second
+    /// has no reply to it or stands before it.
     pub fn of(call: &Stamp, reply: &Stamp) -> Option<Receipt>
         ensures { MatchOption result ((r : ReceiptFields) → IsReceiptOf call.now reply.now r → ⊥) (λ r. IsReceiptOf call.now reply.now r) }
     {
@@ -93,7 +94,7 @@ impl Receipt {
         self.pid
     }
 
-    /// What the call asks.
+    /// The operation of the call.
     pub fn op(&self) -> Op
         ensures { result ≡ self.now.op }
     {
@@ -106,14 +107,14 @@ impl Receipt {
         self.reply
     }
 
-    /// Up to where the client had seen the journal, 0 for nothing.
+    /// The position up to which the client had seen the journal, 0 for nothing.
     pub fn seen(&self) -> u32
         ensures { result ≡ self.now.seen }
     {
         self.seen
     }
 
-    /// Where the call stands, from 1.
+    /// The position of the call, from 1.
     pub fn call_at(&self) -> u32
         ensures value { result ≡ self.now.call_at }
         ensures after { self.now.seen < result }
@@ -121,7 +122,7 @@ impl Receipt {
         self.call_at
     }
 
-    /// Where the reply stands, from 1.
+    /// The position of the reply, from 1.
     pub fn reply_at(&self) -> u32
         ensures value { result ≡ self.now.reply_at }
         ensures order { self.now.call_at ≤ result }
@@ -129,7 +130,7 @@ impl Receipt {
         self.reply_at
     }
 
-    /// The position of the reply.
+    /// The mark at the position of the reply.
     pub fn mark(&self) -> Mark
         ensures { result ≡ self.now.reply_at }
     {

@@ -1,4 +1,4 @@
-//! Seats.
+//! A seat: the right to commit the steps of one actor.
 ghost use Rattle.std.specs.Prelude.{◌≡◌, ◌≢◌, ◌<◌, ◌≤◌, ◌+◌, IfOk, IfErr, IfSome, Err, Some};
 ghost use Rattle.book.specs.Commits.{Names, IsStepFrom};
 ghost use Rattle.book.specs.States.{actor_of, incarnation_of, Fits, Becomes, Rejects};
@@ -15,8 +15,8 @@ use std::marker::Model;
 use trail::name::Name;
 use trail::spot::Spot;
 
-/// The right to commit the steps of one actor, with its state, how many it committed, and where the last state that it
-/// committed stands in its book's trail, if that is known. It is generic in the name of that trail.
+/// The right to commit the steps of one actor: its state, the number of its commits, and the spot of the last
+/// committed state in the book's trail, if it is known. The type is generic in the name of that trail.
 #[derive(Drop)]
 pub struct Seat<J: Name> {
     state: State,
@@ -36,7 +36,7 @@ impl<J: Name> Model for Seat<J> {
 }
 
 impl<J: Name> Seat<J> {
-    /// The seat of an actor that committed nothing yet.
+    /// The seat of an actor that has committed nothing.
     pub(crate) fn new(state: State) -> Seat<J>
         ensures { result ≡ record { state = state; commits = 0 } }
     {
@@ -47,14 +47,14 @@ impl<J: Name> Seat<J> {
         }
     }
 
-    /// The actor.
+    /// The actor of the seat.
     pub fn actor(&self) -> Actor
         ensures { result ≡ actor_of self.now.state }
     {
         self.state.actor()
     }
 
-    /// The incarnation of a node, or the epoch of a server; from 1.
+    /// The incarnation of the node, or the epoch of the token server, from 1.
     pub fn incarnation(&self) -> u16
         ensures value { result ≡ incarnation_of self.now.state }
         ensures from_one { 1 ≤ result }
@@ -62,28 +62,28 @@ impl<J: Name> Seat<J> {
         self.state.incarnation()
     }
 
-    /// How many steps were committed from the seat.
+    /// The number of steps that were committed from the seat.
     pub fn commits(&self) -> u64
         ensures { result ≡ self.now.commits }
     {
         self.commits
     }
 
-    /// The state.
+    /// The state of the actor.
     pub(crate) fn state(&self) -> &State
         ensures { result.now ≡ self.now.state }
     {
         &self.state
     }
 
-    /// Where the state stands in the book's trail, if that is known.
+    /// The spot of the state in the book's trail, if it is known.
     pub(crate) fn spot(&self) -> Option<&Spot<J, State>>
         ensures { IfSome result (λ spot. spot.now.item ≡ Some self.now.state) }
     {
         self.spot.as_ref()
     }
 
-    /// The state stands there, if that is known.
+    /// Notes the spot of the state in the book's trail, if it is known.
     pub(crate) fn stand_at(&mut self, spot: Option<Spot<J, State>>)
         requires { IfSome spot (λ spot. spot.item ≡ Some self.old.state) }
         ensures { self.new ≡ self.old }
@@ -91,13 +91,13 @@ impl<J: Name> Seat<J> {
         self.spot = spot;
     }
 
-    /// The step of the seat's state at an event, planned. It takes no lock, costs what the step changes, and
-    /// the seat stays as it is.
+    /// Plans the actor's step at an event, from the seat's state. It takes no lock, its cost is that of the step's
+    /// change, and the seat stays as it is.
     ///
     /// # Errors
-    /// In this order: `Spent` where 18,446,744,073,709,551,615 steps were committed from the seat;
-    /// `Stranger` where the actor takes no such event; what the actor's step refuses, `Stranger`, `Busy` or
-    /// `Spent`; `NoMemory` where a request for memory was refused, which may come before the actor's `Spent`.
+    /// In this order: `Spent` where 18,446,744,073,709,551,615 steps were committed from the seat; `Stranger` where
+    /// the actor takes no such event; what the actor's step refuses, `Stranger`, `Busy` or `Spent`; `NoMemory` where
+    /// a request for memory was refused, which may come before the actor's `Spent`.
     pub fn prepare(&self, alloc: Global, event: Event) -> Result<Prepared, StepError>
         ensures event { IfOk result (λ p. p.event ≡ event) }
         ensures names { IfOk result (λ p. Names p self.now) }
@@ -105,7 +105,7 @@ impl<J: Name> Seat<J> {
         ensures spent { self.now.commits ≡ 18446744073709551615 → result ≡ Err StepError.Spent }
         ensures err { self.now.commits < 18446744073709551615 → IfErr result (λ e. e ≢ StepError.NoMemory → Rejects self.now.state event e) }
 
-        // Want of memory never stands in the place of a refusal, but of `Spent`.
+        // A refusal for want of memory takes the place of no other refusal but `Spent`.
         ensures refused { self.now.commits < 18446744073709551615 → (r : StepError) → r ≢ StepError.Spent → Rejects self.now.state event r → result ≡ Err r }
     {
         if self.commits == u64::MAX {
@@ -116,7 +116,7 @@ impl<J: Name> Seat<J> {
         Ok(Prepared::new(self, (event, told), edit, outcome))
     }
 
-    /// The actor makes a planned change, which gives this. Takes no memory.
+    /// Makes a planned change of the state, and gives the outcome back. Takes no memory.
     pub(crate) fn advance(&mut self, edit: Edit, outcome: Outcome) -> Outcome
         requires unspent { self.old.commits < 18446744073709551615 }
         requires fits { Fits self.old.state edit }

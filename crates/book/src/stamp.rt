@@ -1,4 +1,4 @@
-//! Stamps of entries.
+//! A stamp: what a commit gives.
 ghost use Rattle.std.specs.Prelude.{◌≡◌, ◌<◌};
 
 use crate::mark::Mark;
@@ -6,8 +6,8 @@ use messages::event::Event;
 use messages::outcome::Outcome;
 use std::marker::Model;
 
-/// What a commit gives: where its entry stands, from 1, what it says, and up to where its actor had seen
-/// the journal, which is before it; 0 for nothing.
+/// The stamp of a commit: the position of its entry, from 1, the entry's event and outcome, and the position up to
+/// which its actor had seen the journal, which is before the entry; 0 for nothing.
 #[derive(Drop)]
 pub struct Stamp {
     position: u32,
@@ -41,7 +41,7 @@ impl Stamp {
         }
     }
 
-    /// Where the entry stands, from 1.
+    /// The position of the entry, from 1.
     pub fn position(&self) -> u32
         ensures value { result ≡ self.now.position }
         ensures after { self.now.seen < result }
@@ -61,14 +61,14 @@ impl Stamp {
         &self.outcome
     }
 
-    /// Up to where the actor had seen the journal, 0 for nothing.
+    /// The position up to which the actor had seen the journal, 0 for nothing.
     pub fn seen(&self) -> u32
         ensures { result ≡ self.now.seen }
     {
         self.seen
     }
 
-    /// The position of the entry.
+    /// The mark at the position of the entry.
     pub fn mark(&self) -> Mark
         ensures { result ≡ self.now.position }
     {

@@ -1,4 +1,4 @@
-//! States of actors.
+//! The state of one actor, a node or a token server.
 ghost use Rattle.std.specs.Prelude.{◌≡◌, ◌≢◌, ◌≤◌, ◌↔◌, Ok, Err, IfOk, IfErr, IsTrue};
 ghost use Rattle.node_core.specs.Parts.{node_state};
 ghost use Rattle.token_server.specs.Parts.{server_state};
@@ -23,14 +23,14 @@ use token_server::change::Change as ServerChange;
 use token_server::event::ServerEvent;
 use token_server::server::Server;
 
-/// The state of one actor: a node by its number from 1, or the token server of a file by the file's.
+/// The state of one actor: a node by its number, from 1, or the token server of a file by the file's number, from 1.
 #[derive(Drop)]
 pub(crate) enum State {
     OfNode { number: u8, node: Box<Node> },
     OfServer { file: u16, server: Box<Server> },
 }
 
-// Whether the actor is the node with the number.
+// Whether the actor is the node with that number.
 fn is_node(number: u8, actor: Actor) -> bool
     ensures { result ≡ is_node number actor }
 {
@@ -40,7 +40,7 @@ fn is_node(number: u8, actor: Actor) -> bool
     }
 }
 
-// Whether the actor is the server of the file.
+// Whether the actor is the token server of that file.
 fn is_server(number: u16, actor: Actor) -> bool
     ensures { result ≡ is_server number actor }
 {
@@ -50,7 +50,7 @@ fn is_server(number: u16, actor: Actor) -> bool
     }
 }
 
-// What the node with the number will do at an event.
+// The planned step of the node at an event: its change and its outcome.
 fn planned_node(
     alloc: Global,
     number: u8,
@@ -79,7 +79,7 @@ fn planned_node(
     }
 }
 
-// What the server of the file will do at an event.
+// The planned step of the token server at an event: its change and its outcome.
 fn planned_server(
     alloc: Global,
     number: u16,
@@ -114,7 +114,7 @@ fn planned_server(
 impl State {
     ghost use Rattle.book.specs.States.{actor_of, incarnation_of, Fits, Plans, Becomes, Rejects, HasState, is_declared};
 
-    /// The actor.
+    /// The actor of the state.
     pub(crate) fn actor(&self) -> Actor
         ensures { result ≡ actor_of self.now }
     {
@@ -124,7 +124,7 @@ impl State {
         }
     }
 
-    /// The incarnation of a node, or the epoch of a server; from 1.
+    /// The incarnation of the node, or the epoch of the token server, from 1.
     pub(crate) fn incarnation(&self) -> u16
         ensures value { result ≡ incarnation_of self.now }
         ensures from_one { 1 ≤ result }
@@ -135,7 +135,7 @@ impl State {
         }
     }
 
-    /// What the actor will do at an event: what that changes of its state, and what it gives.
+    /// The planned step of the actor at an event: its change and its outcome.
     ///
     /// # Errors
     /// `Stranger` where the actor takes no such event; then those of the actor's plan.
@@ -158,7 +158,7 @@ impl State {
         }
     }
 
-    /// Makes a planned change, which gives this. Takes no memory.
+    /// Makes a planned change of the state, and gives the outcome back. Takes no memory.
     pub(crate) fn apply(&mut self, edit: Edit, outcome: Outcome) -> Outcome
         requires { Fits self.old edit }
         ensures state { Becomes self.old edit self.new }
@@ -179,7 +179,7 @@ impl State {
         }
     }
 
-    /// Whether the actor is in this state there, and alive.
+    /// Whether the actor is alive in the world, and in this state.
     pub(crate) fn stands_in(&self, world: &World) -> bool
         ensures { IsTrue result ↔ HasState (world_state world.now) self.now }
     {
@@ -189,7 +189,7 @@ impl State {
         }
     }
 
-    /// Whether the node's incarnation, or the server's epoch, was declared failed there.
+    /// Whether the node's incarnation, or the token server's epoch, was declared failed in the world.
     pub(crate) fn is_declared_in(&self, world: &World) -> bool
         ensures { result ≡ is_declared (world_state world.now) self.now }
     {

@@ -14,7 +14,7 @@ use cluster_core::run::Run;
 use cluster_core::world::{JOURNAL_LIMIT, World};
 use trail::name::Name;
 
-/// The position of a mark, 0 for none.
+/// The position of the mark, 0 for none.
 pub(crate) fn seen_of(seen: Option<&Mark>) -> u32
     ensures { result ≡ seen_at (option_copied seen.entry) }
 {
@@ -24,7 +24,8 @@ pub(crate) fn seen_of(seen: Option<&Mark>) -> u32
     }
 }
 
-// Whether the seat's actor is in its state there, and alive: known by where the state stands, or found by comparing.
+// Whether the seat's actor is alive in the world and in the seat's state. The spots tell it, or a comparison of
+// states does.
 fn stands<J: Name>(spots: &LastSpots<J>, seat: &Seat<J>, world: &World) -> bool
     requires { AreReached (world_state world.now) spots.now }
     ensures { IsTrue result ↔ HasState (world_state world.now) seat.now.state }
@@ -37,8 +38,7 @@ fn stands<J: Name>(spots: &LastSpots<J>, seat: &Seat<J>, world: &World) -> bool
     seat.state().stands_in(world)
 }
 
-/// Whether the run may go on by the step of the seat, whose actor has seen the journal up to that
-/// position.
+/// Whether the run may go on by the step of the seat, whose actor has seen the journal up to that position.
 ///
 /// # Errors
 /// Those of `Book::commit` but `NoMemory`, in their order.

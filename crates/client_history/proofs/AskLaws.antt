@@ -1,4 +1,4 @@
--- What a front knows once it asked some calls.
+-- What a front knows after it asked some calls.
 use Rattle.std.specs.Prelude.{IfSome}
 use Rattle.std.proofs.Common.{◌≡◌, ℕ, ◌+◌, ◌<◌, ◌≤◌, ◌⊎◌, inl, inr, ⊎_elim, Bool, true, false, List, length, slice_get, Option, None, Some, refl, sym, ap, subst, ◌∙◌, arith}
 use Rattle.std.proofs.lemmas.Option.{same_Some, slice_get_within}
@@ -17,7 +17,7 @@ use Rattle.client_history.proofs.Orders.{last_place}
 use Rattle.client_history.proofs.OwnQuestions.{asks_same}
 
 module _ (one : OpenCall) (old new : Front) (asks : AsksOnly one.call.act) where
-  -- a question that was taken is asked
+  -- after a front took a call that only asks, it asked the call
   pub taken_asked : ActStep the_file (held old.table) one.call.owner one.call.act (held new.table) → IsAlsoTaken one.index old.taken.items new.taken.items → IsAsked one old new
   taken_asked step also =
       let same : held new.table ≡ held old.table = asks_same (held old.table) (held new.table) one.call.owner one.call.act asks step in
@@ -28,7 +28,7 @@ module _ (one : OpenCall) (old new : Front) (asks : AsksOnly one.call.act) where
         asked = λ left asked next stepped. absurd (left.stays also.there);
       }
 
-  -- and so is one that may not be
+  -- after the table did not allow a call, the front asked the call
   pub refused_asked : ((next : Locks) → ActStep the_file (held old.table) one.call.owner one.call.act next → ⊥) → held new.table ≡ held old.table → new.taken.items ≡ old.taken.items → IsAsked one old new
   refused_asked never locks taken = record {
     locks = locks;
@@ -46,7 +46,7 @@ module _ (one : OpenCall) (old new : Front) (asks : AsksOnly one.call.act) where
   asked_by true step also never stays = taken_asked (step refl) (also refl)
   asked_by false step also never stays = refused_asked (never refl) (stays refl).0 (stays refl).1
 
--- what is left where more calls were taken is left where fewer were
+-- a call that is left where more were taken is left where fewer were
 pub left_before : (one : OpenCall) (taken more : List ℕ) → ((i : ℕ) → Stands taken i → Stands more i) → IsLeft one more → IsLeft one taken
 left_before one taken more kept left = record {
   stays = λ s. left.stays (kept one.index s);
@@ -65,7 +65,7 @@ pub record IsAskedTo (running : List OpenCall) (n : ℕ) (old new : Front) : Typ
   pub asked : (k : ℕ) (one : OpenCall) → k < n → slice_get running k ≡ Some one → IsLeft one new.taken.items → AsksOnly one.call.act → (next : Locks) → ActStep the_file (held old.table) one.call.owner one.call.act next → ⊥
 
 module _ (running : List OpenCall) (old new : Front) where
-  -- all of them
+  -- after the front asked all places, it asked the calls
   pub asked_all : (n : ℕ) → length running ≤ n → IsAskedTo running n old new → IsAskedOf running old new
   asked_all n all to = record {
     locks = to.locks;
@@ -74,7 +74,7 @@ module _ (running : List OpenCall) (old new : Front) where
     asked = λ k one at. let within = slice_get_within running k one at in to.asked k one (omega arith) at;
   }
 
-  -- one more
+  -- the front asks one call more
   pub asked_more : (mid : Front) (k : ℕ) (call : OpenCall) → slice_get running k ≡ Some call → IsAskedTo running k old mid → IsAsked call mid new → IsAskedTo running (k + 1) old new
   asked_more mid k call there to asks = record {
     locks = asks.locks ∙ to.locks;

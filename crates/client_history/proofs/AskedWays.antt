@@ -1,4 +1,4 @@
--- Questions that are asked on a way.
+-- Calls that only ask, taken on a way.
 use Rattle.std.proofs.Common.{◌≡◌, ℕ, ◌⊎◌, inl, inr, ⊎_elim, true, List, [], ◌∷◌, ◌++◌, slice_get, Some, refl, sym, subst, append_assoc, append-nil, arith}
 use Rattle.std.proofs.lemmas.Option.{none-some}
 use Rattle.model.specs.Locks.{Locks, no_locks}
@@ -18,7 +18,7 @@ use Rattle.client_history.proofs.Places.{stands_left, stands_split, stands_apart
 use Rattle.client_history.proofs.Steps.{leads_join}
 use Rattle.client_history.proofs.Ways.{asks_or_changes}
 
--- calls lead on without a question among them
+-- calls lead on as well without one among them that only asks
 without_question : (calls : List ClientCall) (h n : Locks) (before behind : List ℕ) (i : ℕ) (call : ClientCall) → slice_get calls i ≡ Some call → AsksOnly call.act → Leads calls h (before ++ (i ∷ behind)) n → Leads calls h (before ++ behind) n
 without_question calls h n [] behind i call there asks leads =
     let same = get_one calls i i leads.0 call refl leads.2 there in
@@ -32,7 +32,7 @@ abbrev pub MayBeAsked : List OpenCall → Locks → ℕ → Type 0
 MayBeAsked running h i = (k : ℕ) × (one : OpenCall) × (slice_get running k ≡ Some one) × (one.index ≡ i) × AsksOnly one.call.act × ActStep the_file h one.call.owner one.call.act h
 
 module _ (calls : List ClientCall) (begun over : List ℕ) (running : List OpenCall) (time : ℕ) (taken more : List ℕ) (h : Locks) where
-  -- on the way to a way of more: what was met of the rest and stays there, and what is still to be met
+  -- the way so far to one with more calls taken: the part of the rest that was met and stays, and the part still to be met
   record IsMetTo (way one two : List ℕ) : Type 0 where
     pub explains : IsExplainedBy time calls (way ++ (one ++ two))
     pub leads : Leads calls no_locks way h
@@ -44,7 +44,7 @@ module _ (calls : List ClientCall) (begun over : List ℕ) (running : List OpenC
 
   module _ (sound : AreSound calls) (are : AreOpenCalls calls begun over running) (added : (i : ℕ) → Stands more i → Stands taken i ⊎ MayBeAsked running h i) where
     module _ (way one two : List ℕ) (r : ℕ) (is : IsMetTo way one (r ∷ two)) where
-      -- one that isn't of more stays in the rest
+      -- a call that is not taken more stays in the rest
       stays_behind : (Stands more r → ⊥) → IsMetTo way (one ++ (r ∷ [])) two
       stays_behind other = record {
         explains = subst (λ (xs : List ℕ). IsExplainedBy time calls (way ++ xs)) (sym (append_assoc one (r ∷ []) two)) is.explains;
@@ -83,7 +83,7 @@ module _ (calls : List ClientCall) (begun over : List ℕ) (running : List OpenC
         moved = legal_explained calls way one two time r h call there is.explains is.leads none_ended follows_none none_own
             (call, h, there, asked.5, without_question calls h is.explains.legal.0 one two r call there asked.4 (leads_on calls way one two time r h call there is.explains is.leads))
 
-        -- one of more leads the way on
+        -- a call that is taken more leads the way on
         goes_first : IsMetTo (way ++ (r ∷ [])) one two
         goes_first = record {
           explains = subst (λ (xs : List ℕ). IsExplainedBy time calls xs) (sym (append_assoc way (r ∷ []) (one ++ two))) moved;
@@ -98,7 +98,7 @@ module _ (calls : List ClientCall) (begun over : List ℕ) (running : List OpenC
           changed = λ i c s at changes. stands_left way (r ∷ []) i (is.changed i c s at changes);
         }
 
-    -- once all is met, the way is one of more
+    -- after all of the rest is met, the way is one with more calls taken
     all_met : (way one : List ℕ) → IsMetTo way one [] → IsWay calls over time more h way one
     all_met way one is = record {
       explains = subst (λ (xs : List ℕ). IsExplainedBy time calls (way ++ xs)) (append-nil one) is.explains;
@@ -124,7 +124,7 @@ module _ (calls : List ClientCall) (begun over : List ℕ) (running : List OpenC
         (λ other. meet_all two (one ++ (r ∷ [])) way (stays_behind way one two r is other))
         (decide_stands more r)
 
-    -- where questions are asked, the way goes on by those of them that stand in the rest
+    -- where calls that only ask are taken, the way goes on by those of them that stand in the rest
     pub way_asked : ((i : ℕ) → Stands taken i → Stands more i) → (way rest : List ℕ) → IsWay calls over time taken h way rest → (longer : List ℕ) × (left : List ℕ) × IsWay calls over time more h longer left
     way_asked kept way rest is = meet_all rest [] way (record {
       explains = is.explains;

@@ -1,4 +1,4 @@
--- How the search goes on where a call begins.
+-- The search where a call begins.
 use Rattle.std.specs.Prelude.{IfSome}
 use Rattle.std.proofs.Common.{◌≡◌, ℕ, ◌+◌, ◌<◌, ◌≤◌, ◌⊎◌, inl, inr, ⊎_elim, ◌↔◌, List, [], ◌∷◌, ◌++◌, length, slice_get, Option, Some, sym, ap, subst, ◌∙◌, arith}
 use Rattle.std.proofs.lemmas.Bool.{cases_order}
@@ -45,7 +45,7 @@ module _ (calls : List ClientCall) (begun over : List ℕ) (running : List OpenC
   is_in_more : (i : ℕ) → IsIn running i → IsIn (running ++ one ∷ []) i
   is_in_more i is = let has = has_left running (one ∷ []) is.1 (is.0, is.2) in (has.0, is.1, has.1, is.3)
 
-  -- with one more call the open calls are so
+  -- the open calls with one more that begins
   opens_more : AreOpenCalls calls (one.index ∷ begun) over (running ++ one ∷ [])
   opens_more = record {
     there = λ k other at. ⊎_elim
@@ -84,20 +84,20 @@ module _ (calls : List ClientCall) (begun over : List ℕ) (running : List OpenC
         (λ e. asks.asked (subst (λ (o : OpenCall). IsLeft o next.taken.items) e left) (subst (λ (o : OpenCall). AsksOnly o.call.act) e only) n (subst (λ (o : OpenCall). ActStep the_file h o.call.owner o.call.act n) e step))
         (has_push running one other (k, at))
 
-    -- a front that asked the call is on a way
+    -- a front that asked the new call is on a way
     on_asked : IsOn calls over (running ++ one ∷ []) time next.taken.items (held next.table)
     on_asked =
         let goes = way_asked calls begun over (running ++ one ∷ []) time front.taken.items next.taken.items h sound opens added asks.kept on.way on.rest on.is_way in
         subst (λ (l : Locks). IsOn calls over (running ++ one ∷ []) time next.taken.items l) (sym asks.locks) (record { way = goes.0; rest = goes.1; is_way = goes.2; asked = each_asked })
 
-  -- once each front asked the call, the fronts cover what they did
+  -- after each front asked the call, the fronts cover what they covered
   covered_asked : (fronts more : List Front) → AreAskedFor one fronts more → IsCovered calls over running time fronts → IsCovered calls over (running ++ one ∷ []) time more
   covered_asked fronts more each is =
       let asked = each is.place is.front is.there in
       record { place = is.place; front = asked.0; there = asked.1; is_on = on_asked is.front asked.0 asked.2 is.is_on }
 
 module _ (calls : List ClientCall) (begins ends : List Moment) (next k : ℕ) (running : List OpenCall) (fronts : List Front) (timed : AreTimed calls begins ends) (reached : IsReached calls begins ends next k running fronts) (moment : Moment) (at : slice_get begins next ≡ Some moment) (x : ℕ) (call : ClientCall) (is : x ≡ moment.call) (there : slice_get calls x ≡ Some call) where
-  -- a call isn't over before it begins
+  -- a call is not over before it begins
   not_over : Stands reached.over x → ⊥
   not_over s =
       let past = (reached.are_over x).0 s in
@@ -108,7 +108,7 @@ module _ (calls : List ClientCall) (begins ends : List Moment) (next k : ℕ) (r
       let early = begin.2.before_end past.1.time (subst (λ (c : ClientCall). c.end ≡ Some past.1.time) same end.2) in
       absurd (omega arith)
 
-  -- nor does it begin after the end of one that isn't over
+  -- a call does not begin after the end of one that is not over
   begins_beside : (end : Moment) → slice_get ends k ≡ Some end → moment.time ≤ end.time → (j e : ℕ) (b : ClientCall) → slice_get calls j ≡ Some b → (Stands reached.over j → ⊥) → b.end ≡ Some e → call.begin ≤ e
   begins_beside end at_end low j e b at_b stays is_end =
       let place = timed.are_ends.all j e b at_b is_end in
@@ -129,7 +129,7 @@ module _ (time from : ℕ) (running0 : List OpenCall) (fronts0 : List Front) whe
     goes_not past = λ ends k end timed at_end same reached. let begin = timed.are_begins.each next moment at in let within = slice_get_within calls moment.call begin.0 begin.1 in absurd (omega arith)
 
     module _ (low : moment.time ≤ time) (one : OpenCall) (is : one.index ≡ moment.call) (there : slice_get calls moment.call ≡ Some one.call) (exits : IfSome one.exit (λ e. IsExitOf calls e one.call)) (more : List Front) (asked : AreAskedFor one fronts more) where
-      -- where a call has begun, and each front asked it, the search goes on
+      -- after a call has begun, and each front asked it, the search goes on
       pub goes_more : GoesTo time from running0 fronts0 (next + 1) (running ++ one ∷ []) more calls begins
       goes_more ends k end timed at_end same reached0 = record {
         begun = one.index ∷ reached.begun;
@@ -156,10 +156,10 @@ module _ (time from : ℕ) (running0 : List OpenCall) (fronts0 : List Front) whe
               (not_over calls begins ends next k running fronts timed reached moment at one.index one.call is within)
               (begins_beside calls begins ends next k running fronts timed reached moment at one.index one.call is within end at_end (omega arith))
 
--- moments behind a later one are later
+-- moments behind one that is later than a time are later than it
 pub later_behind : (moments : List Moment) (time n : ℕ) (moment : Moment) → slice_get moments n ≡ Some moment → time < moment.time → AreByTime moments → (k : ℕ) (other : Moment) → n ≤ k → slice_get moments k ≡ Some other → time < other.time
 later_behind moments time n moment at late by_time k other le at_other = let up = by_time n k moment other le at at_other in omega arith
 
--- behind the end of a list there are no moments
+-- behind the end of the list there is no moment
 pub later_past : (moments : List Moment) (time n : ℕ) → length moments ≤ n → AreByTime moments → (k : ℕ) (other : Moment) → n ≤ k → slice_get moments k ≡ Some other → time < other.time
 later_past moments time n past by_time k other le at_other = let within = slice_get_within moments k other at_other in absurd (omega arith)

@@ -1,4 +1,4 @@
--- What blocks.
+-- Locks that block.
 use Rattle.std.specs.Prelude.{◌≢◌}
 use Rattle.std.proofs.Common.{◌≡◌, ℕ, ◌+◌, ◌<◌, ◌≤◌, ⊎_elim, List, length, slice_get, get_or, Some, subst, ◌∙◌, ap, arith}
 use Rattle.std.proofs.lemmas.Option.{slice_get-get_or}
@@ -13,7 +13,7 @@ use Rattle.client_history.specs.declared.told_lock.ToldLock.{ToldLock}
 use Rattle.client_history.specs.Acts.{IsTold, IsBlocked}
 use Rattle.client_history.proofs.Orders.{last_place, get_one}
 
--- what is blocked is not free
+-- where a lock blocks, the span is not free
 pub blocked_is_not_free : (h : FileLocks) (owner : Owner) (s : Range) (mode : Mode) (lock : LockInfo) → s.lo ≤ s.hi → IsLowestBlocker h owner s mode lock → IsFree h owner s mode → ⊥
 blocked_is_not_free h owner s mode lock order b free = blocks_bars h owner s mode lock order b.blocks free
 
@@ -21,30 +21,30 @@ blocked_is_not_free h owner s mode lock order b free = blocks_bars h owner s mod
 abbrev pub Denies : Owner → Range → Mode → ToldLock → LockInfo → Type 0
 Denies owner s mode told lock = (lock.owner ≢ owner) × IsInWay s mode lock × IsTold told lock
 
--- none of the first locks does so
+-- none of the first k locks denies
 abbrev pub NoneDenies : List LockInfo → ℕ → Owner → Range → Mode → ToldLock → Type 0
 NoneDenies locks k owner s mode told = (j : ℕ) (lock : LockInfo) → j < k → slice_get locks j ≡ Some lock → Denies owner s mode told lock → ⊥
 
 module _ (locks : List LockInfo) (owner : Owner) (s : Range) (mode : Mode) (told : ToldLock) where
-  -- another doesn't either
+  -- one more lock that does not deny
   pub none_more : (k : ℕ) (lock : LockInfo) → NoneDenies locks k owner s mode told → slice_get locks k ≡ Some lock → (Denies owner s mode told lock → ⊥) → NoneDenies locks (k + 1) owner s mode told
   none_more k lock before at stays j other lt there denies = ⊎_elim
       (λ below. before j other below there denies)
       (λ e. stays (subst (Denies owner s mode told) (get_one locks j k other lock e there at) denies))
       (last_place j k lt)
 
-  -- past the end there is none
+  -- where none of all locks denies, none of fewer does
   pub none_enough : (k : ℕ) → length locks ≤ k → NoneDenies locks k owner s mode told → NoneDenies locks (length locks) owner s mode told
   none_enough k past before j lock lt at denies = before j lock (omega arith) at denies
 
   module _ (h : Locks) (file : ℕ) (all : IsListing (h file) locks) where
-    -- where none of all does so, nothing blocks
+    -- where no lock denies, none blocks
     pub none_blocks : NoneDenies locks (length locks) owner s mode told → IsBlocked h file owner s mode told → ⊥
     none_blocks none b =
         let at = all.complete b.lock b.blocks.region in
         none at.0 b.lock at.1 (slice_get-get_or locks at.0 b.lock at.1 ∙ ap Some at.2) (b.blocks.is_other, record { conflicts = b.blocks.conflicts; starts = b.blocks.starts; ends = b.blocks.ends }, b.named)
 
-    -- where one does so, it blocks
+    -- a lock that denies blocks
     pub one_blocks : (k : ℕ) (lock : LockInfo) → k < length locks → get_or locks k lock ≡ lock → Denies owner s mode told lock → IsBlocked h file owner s mode told
     one_blocks k lock lt at denies = record {
       lock = lock;
@@ -52,10 +52,10 @@ module _ (locks : List LockInfo) (owner : Owner) (s : Range) (mode : Mode) (told
       named = denies.2;
     }
 
--- what is free is not blocked
+-- where the span is free, no lock blocks
 pub free_not_blocked : (h : Locks) (file : ℕ) (owner : Owner) (s : Range) (mode : Mode) (told : ToldLock) → s.lo ≤ s.hi → IsFree (h file) owner s mode → IsBlocked h file owner s mode told → ⊥
 free_not_blocked h file owner s mode told order free b = blocks_bars (h file) owner s mode b.lock order b.blocks free
 
--- a lowest blocker of which that is told blocks
+-- a lowest blocker to which all that was told applies blocks
 pub lowest_blocks : (h : Locks) (file : ℕ) (owner : Owner) (s : Range) (mode : Mode) (told : ToldLock) (lock : LockInfo) → IsLowestBlocker (h file) owner s mode lock → IsTold told lock → IsBlocked h file owner s mode told
 lowest_blocks h file owner s mode told lock lowest named = record { lock = lock; blocks = lowest.blocks; named = named }

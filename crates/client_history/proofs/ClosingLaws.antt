@@ -1,4 +1,4 @@
--- What is over when a call ends, place by place.
+-- The calls that are over when a call ends, place by place.
 use Rattle.std.proofs.Common.{◌≡◌, ℕ, ◌+◌, ◌<◌, ◌≤◌, ⊎_elim, List, [], ◌∷◌, ◌++◌, length, slice_get, Some, sym, subst, arith}
 use Rattle.std.proofs.lemmas.Option.{none-some, slice_get_within}
 use Rattle.client_history.specs.declared.open_call.OpenCall.{OpenCall}
@@ -8,7 +8,7 @@ use Rattle.client_history.proofs.Orders.{last_place, get_one}
 use Rattle.client_history.proofs.Standing.{has_left, has_last, has_push}
 
 module _ (running : List OpenCall) (x : ℕ) where
-  -- what is over of the first so many
+  -- the list has those of the first n open calls that are over
   pub record OverTo (n : ℕ) (over : List ℕ) : Type 0 where
     pub each : (i : ℕ) → Stands over i → (k : ℕ) × (one : OpenCall) × (slice_get running k ≡ Some one) × (one.index ≡ i) × IsOverWith x one
     pub all : (k : ℕ) (one : OpenCall) → k < n → slice_get running k ≡ Some one → IsOverWith x one → Stands over one.index
@@ -17,7 +17,7 @@ module _ (running : List OpenCall) (x : ℕ) where
   over_none = record { each = λ i stands. absurd (none-some i stands.1); all = λ k one lt. absurd (omega arith) }
 
   module _ (n : ℕ) (over : List ℕ) (before : OverTo n over) (one : OpenCall) (at : slice_get running n ≡ Some one) where
-    -- another that is over
+    -- one more open call that is over
     pub over_more : IsOverWith x one → OverTo (n + 1) (over ++ one.index ∷ [])
     over_more is = record {
       each = λ i stands. ⊎_elim (λ old. before.each i old) (λ e. (n, one, at, sym e, is)) (has_push over one.index i stands);
@@ -27,7 +27,7 @@ module _ (running : List OpenCall) (x : ℕ) where
           (last_place k n lt);
     }
 
-    -- another that is not
+    -- one more open call that is not over
     pub over_same : (IsOverWith x one → ⊥) → OverTo (n + 1) over
     over_same not = record {
       each = before.each;
@@ -44,7 +44,7 @@ module _ (running : List OpenCall) (x : ℕ) where
   }
 
 module _ (running : List OpenCall) (over : List ℕ) where
-  -- the first so many but for those that are over
+  -- the list has the first n open calls without those that are over
   pub record WithoutTo (n : ℕ) (left : List OpenCall) : Type 0 where
     pub each : (k : ℕ) (one : OpenCall) → slice_get left k ≡ Some one → ((m : ℕ) × (slice_get running m ≡ Some one)) × (Stands over one.index → ⊥)
     pub all : (k : ℕ) (one : OpenCall) → k < n → slice_get running k ≡ Some one → (Stands over one.index → ⊥) → (m : ℕ) × (slice_get left m ≡ Some one)
@@ -53,7 +53,7 @@ module _ (running : List OpenCall) (over : List ℕ) where
   without_none = record { each = λ k one there. absurd (none-some one there); all = λ k one lt. absurd (omega arith) }
 
   module _ (n : ℕ) (left : List OpenCall) (before : WithoutTo n left) (one : OpenCall) (at : slice_get running n ≡ Some one) where
-    -- another that is left
+    -- one more open call that is left
     pub without_more : (Stands over one.index → ⊥) → WithoutTo (n + 1) (left ++ one ∷ [])
     without_more stays = record {
       each = λ k other there. ⊎_elim (λ old. before.each old.0 other old.1) (λ e. subst (λ (o : OpenCall). ((m : ℕ) × (slice_get running m ≡ Some o)) × (Stands over o.index → ⊥)) (sym e) ((n, at), stays)) (has_push left one other (k, there));
@@ -63,7 +63,7 @@ module _ (running : List OpenCall) (over : List ℕ) where
           (last_place k n lt);
     }
 
-    -- another that is over
+    -- one more open call that is over
     pub without_same : Stands over one.index → WithoutTo (n + 1) left
     without_same is = record {
       each = before.each;

@@ -23,38 +23,38 @@ pub record IsSilentOf (calls : List ClientCall) (exit : ClientCall) (i : ℕ) : 
   pub is_last : exit.is_last ≡ true
   pub own : exit.owner ≡ call.owner
 
--- what is gone where a call ends: it, and, where it is an exit, each open call of its owner that has no reply
+-- the calls that are gone when a call ends: that call, and, if it is an exit, each open call of its owner without a reply
 pub record AreGone (calls : List ClientCall) (running : List OpenCall) (x : ℕ) (call : ClientCall) (gone : List ℕ) : Type 0 where
   pub has : Stands gone x
   pub only : (i : ℕ) → Stands gone i → (i ≡ x) ⊎ IsSilentOf calls call i
   pub silent : (k : ℕ) (one : OpenCall) → slice_get running k ≡ Some one → one.exit ≡ Some x → one.call.end ≡ None → Stands gone one.index
 
--- of what was taken this isn't gone
+-- of the calls taken the list has those that are not gone
 pub record AreTakenStill (taken gone still : List ℕ) : Type 0 where
   pub was : (i : ℕ) → Stands still i → Stands taken i × (Stands gone i → ⊥)
   pub is : (i : ℕ) → Stands taken i → (Stands gone i → ⊥) → Stands still i
 
--- of the open calls these aren't gone
+-- of the open calls the list has those that are not gone
 pub record AreOpenStill (running : List OpenCall) (gone : List ℕ) (still : List OpenCall) : Type 0 where
   pub was : (k : ℕ) (one : OpenCall) → slice_get still k ≡ Some one → (j : ℕ) × (slice_get running j ≡ Some one) × (Stands gone one.index → ⊥)
   pub is : (j : ℕ) (one : OpenCall) → slice_get running j ≡ Some one → (Stands gone one.index → ⊥) → (k : ℕ) × (slice_get still k ≡ Some one)
 
--- what is so of the exit that there is
+-- a fact of the exit that there is
 of_exit : (P : ℕ → Type 0) (o : Option ℕ) (e : ℕ) → o ≡ Some e → IfSome o P → P e
 of_exit P None e is all = absurd (none-some e is)
 of_exit P (Some d) e is all = subst P (same_Some d e is) all
 
--- what is so of a call with a reply, and of one without
+-- a fact of a call with a reply and of one without is a fact of each
 by_end : (P : Type 0) (o : Option ℕ) → (o ≡ None → P) → (o ≢ None → P) → P
 by_end P None silent some = silent refl
 by_end P (Some end) silent some = some (λ e. none-some end (sym e))
 
 module _ (calls : List ClientCall) (begun over : List ℕ) (running : List OpenCall) (are : AreOpenCalls calls begun over running) (x : ℕ) (call_x : ClientCall) (there_x : slice_get calls x ≡ Some call_x) (gone : List ℕ) (are_gone : AreGone calls running x call_x gone) where
-  -- a call that was dropped is so still
+  -- a call that was dropped stays dropped
   dropped_more : (call : ClientCall) → IsDropped calls over call → IsDropped calls (x ∷ over) call
   dropped_more call d = record { silent = d.silent; exit = d.exit; is_over = stands_more x over d.exit d.is_over; ends = d.ends }
 
-  -- what is gone is over or dropped
+  -- a call that is gone is over or dropped
   gone_is : (i : ℕ) (call : ClientCall) → slice_get calls i ≡ Some call → Stands gone i → Stands (x ∷ over) i ⊎ IsDropped calls (x ∷ over) call
   gone_is i call there s = ⊎_elim (λ e. inl (subst (λ (n : ℕ). Stands (x ∷ over) n) (sym e) (stands_first x over))) (λ one. inr (by one)) (are_gone.only i s)
     where
@@ -79,7 +79,7 @@ module _ (calls : List ClientCall) (begun over : List ℕ) (running : List OpenC
             (λ stays. let now = still.is k one at (λ s. stays (subst (λ (n : ℕ). Stands gone n) e s)) in inr (inr (now.0, one, now.1, e)))
             (decide_stands gone i)
 
-    -- what isn't gone is open still
+    -- the open calls that are not gone are the open calls after the end
     pub open_closed : AreOpenCalls calls begun (x ∷ over) left
     open_closed = record {
       there = λ k one at. let was = still.was k one at in are.there was.0 one was.1;
@@ -90,12 +90,12 @@ module _ (calls : List ClientCall) (begun over : List ℕ) (running : List OpenC
     }
 
   module _ (sound : AreSound calls) (time : ℕ) (taken : List ℕ) (h : Locks) (way rest : List ℕ) (is : IsWay calls over time taken h way rest) (ended : EndedBy time call_x) (taken_x : Stands taken x) where
-    -- the call that ended stands in the way
+    -- the call that ended stands on the way
     ended_in_way : Stands way x
     ended_in_way = ⊎_elim (λ past. past) (λ left. absurd (is.fresh x left taken_x)) (stands_split way rest x (is.explains.answered x call_x there_x ended))
 
     module _ (fewer : List ℕ) (takes : AreTakenStill taken gone fewer) where
-      -- the way is one of what isn't gone
+      -- the way is one of the calls that are not gone
       pub way_closed : IsWay calls (x ∷ over) time fewer h way rest
       way_closed = record {
         explains = is.explains;
@@ -111,14 +111,14 @@ module _ (calls : List ClientCall) (begun over : List ℕ) (running : List OpenC
 
       module _ (asked : AreAsked running taken h) (left : List OpenCall) (still : AreOpenStill running gone left) where
         module _ (k : ℕ) (one : OpenCall) (at : slice_get running k ≡ Some one) (stays : Stands gone one.index → ⊥) (not_taken : Stands fewer one.index → ⊥) where
-          -- a call that isn't gone doesn't stand in the way
+          -- a call with a reply that is not gone does not stand on the way
           not_in_way : Stands way one.index → one.call.end ≢ None → ⊥
           not_in_way s some = ⊎_elim
               (λ was. not_taken (takes.is one.index was stays))
               (λ past. ⊎_elim (are.opened k one at).1 (λ d. some d.silent) past)
               (is.noted one.index one.call s (are.there k one at))
 
-          -- its owner's exit isn't the call that ended
+          -- the exit of the call's owner is not the call that ended
           not_ended : one.exit ≡ Some x → ⊥
           not_ended has = by_end ⊥ one.call.end
               (λ silent. stays (are_gone.silent k one at has silent))
@@ -132,7 +132,7 @@ module _ (calls : List ClientCall) (begun over : List ℕ) (running : List OpenC
                   (record { index = x; at = get_left way rest ended_in_way.0 x ended_in_way.1; there = ends.there })
                   ends.is_last (are.there k one at) (sym ends.own) some
 
-          -- nor another exit of that owner
+          -- another exit of the call's owner was not taken
           not_second : (e : ℕ) → IsExitOf calls e one.call → Stands taken e → IsSilentOf calls call_x e → ⊥
           not_second e ends s other = by (cases_order in_way.0 ended_in_way.0)
             where
@@ -156,7 +156,7 @@ module _ (calls : List ClientCall) (begun over : List ℕ) (running : List OpenC
               by (inr (inl before)) = is.explains.last in_way.0 ended_in_way.0 ends.last call_x before at_e at_x ends.is_last own
               by (inr (inr behind)) = is.explains.last ended_in_way.0 in_way.0 call_x ends.last behind at_x at_e other.is_last (sym own)
 
-          -- so it was left
+          -- a call that is left after the end was left before it
           was_left : IfSome one.exit (λ e. Stands fewer e → ⊥) → IsLeft one taken
           was_left lives = record {
             stays = λ s. not_taken (takes.is one.index s stays);
@@ -169,13 +169,13 @@ module _ (calls : List ClientCall) (begun over : List ℕ) (running : List OpenC
                 (decide_stands gone e));
           }
 
-        -- none of what isn't gone may be asked
+        -- no call that is not gone and only asks is allowed
         pub asked_closed : AreAsked left fewer h
         asked_closed k one at is_left asks next step =
             let was = still.was k one at in
             asked was.0 one was.1 (was_left was.0 one was.1 was.2 is_left.stays is_left.lives) asks next step
 
--- what is gone, where each open call without a reply that is gone has the one that ended for its exit
+-- the calls that are gone, where each has the one that ended for its exit
 pub gone_by_exits : (calls : List ClientCall) (begun over : List ℕ) (running : List OpenCall) → AreOpenCalls calls begun over running → (x : ℕ) (call : ClientCall) → slice_get calls x ≡ Some call → (gone : List ℕ) → Stands gone x
     → ((i : ℕ) → Stands gone i → (i ≡ x) ⊎ ((k : ℕ) × (one : OpenCall) × (slice_get running k ≡ Some one) × (one.index ≡ i) × (one.exit ≡ Some x) × (one.call.end ≡ None)))
     → ((k : ℕ) (one : OpenCall) → slice_get running k ≡ Some one → one.exit ≡ Some x → one.call.end ≡ None → Stands gone one.index)

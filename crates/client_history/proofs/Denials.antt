@@ -1,4 +1,4 @@
--- What makes a denial.
+-- The calls that make a denial.
 use Rattle.std.specs.Prelude.{◌≢◌, IfSome}
 use Rattle.std.proofs.Common.{◌≡◌, ℕ, ◌≤◌, ◌⊎◌, inl, inr, ⊎_elim, List, Option, Some, None, refl, sym, ap, subst, ◌∙◌}
 use Rattle.std.proofs.lemmas.Option.{none-some}
@@ -22,7 +22,7 @@ none_or_some : {X : Type 0} (o : Option X) → (o ≡ None) ⊎ (o ≡ None → 
 none_or_some None = inl refl
 none_or_some (Some x) = inr (λ e. none-some x (sym e))
 
--- something was told, or nothing
+-- a client was told something, or nothing
 untold_or_told : (told : ToldLock) → IsUntold told ⊎ (IsUntold told → ⊥)
 untold_or_told told = ⊎_elim
     (λ mode. ⊎_elim
@@ -35,7 +35,7 @@ untold_or_told told = ⊎_elim
     (λ some. inr (λ untold. some untold.0))
     (none_or_some told.mode)
 
--- the owner that was told, if one was, is that of the lock
+-- if an owner was told, it is that of the lock
 owner_fits : (o : Option Owner) (q : Owner) → IfSome o (λ owner. owner ≡ q) → (o ≡ None) ⊎ (o ≡ Some q)
 owner_fits None q fits = inl refl
 owner_fits (Some owner) q fits = inr (ap Some fits)
@@ -49,7 +49,7 @@ module _ (mode : Mode) (span : Range) (told : ToldLock) where
   taken_may_deny b (Frees bytes) low high takes = absurd takes
   taken_may_deny b Drops low high takes = absurd takes
 
-  -- where something was told each change may
+  -- if something was told, each change may deny
   change_may_deny : (a : Act) → Changes a → (IsUntold told → ⊥) → MayDeny mode span told a
   change_may_deny (Takes asked bytes) changes is_told = λ untold. absurd (is_told untold)
   change_may_deny (IsDenied asked bytes named) changes is_told = absurd changes
@@ -102,7 +102,7 @@ module _ (mode : Mode) (span : Range) (told : ToldLock) where
         (λ same. absurd (never (blocked_still m h p mode span told is (sym same))))
         (changed_or_same calls is.lock.owner h m order leads)
 
-    -- what is denied behind these calls, and not before, one of them made so
+    -- one of these calls made the lock that denies behind them and not before
     pub some_denies : (IsUntold told → (span.lo ≤ span.hi) × IsFree (h the_file) p span mode) → (IsBlocked h the_file p span mode told → ⊥) → IsMade calls order p
     some_denies unbarred never = ⊎_elim
         (λ untold. let free = unbarred untold in made_untold free.0 free.1)

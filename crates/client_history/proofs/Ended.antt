@@ -1,4 +1,4 @@
--- How far the search came behind the end of a call.
+-- How far the search has come behind the end of a call.
 use Rattle.std.specs.Prelude.{◌↔◌}
 use Rattle.std.proofs.Common.{◌≡◌, ℕ, ◌+◌, ◌<◌, ◌≤◌, inl, inr, ⊎_elim, true, List, [], ◌∷◌, ◌++◌, length, take, drop, slice_get, Some, refl, sym, ap, subst, ◌∙◌, arith}
 use Rattle.std.proofs.lemmas.Bool.{cases_lt}
@@ -32,7 +32,7 @@ module _ (calls : List ClientCall) (begins ends : List Moment) (timed : AreTimed
   abbrev ends_x : call_x.end ≡ Some end.time
   ends_x = (timed.are_ends.each k end at_end).2
 
-  -- a call that begins no later than the end is past
+  -- a call that begins no later than the end is among the begins so far
   begun_no_later : (i : ℕ) (call : ClientCall) → slice_get calls i ≡ Some call → ((time : ℕ) → IsBeginOf calls call time → time ≤ end.time) → IsPast begins p i
   begun_no_later i call there low =
       let begin = timed.are_begins.all i call there in
@@ -45,7 +45,7 @@ module _ (calls : List ClientCall) (begins ends : List Moment) (timed : AreTimed
     found : (call : ClientCall) × (slice_get calls i ≡ Some call)
     found = call_of calls no_locks whole.legal.0 order j i whole.legal.1 at
 
-    -- a call that stands no later than the one that ends began before that
+    -- a call that stands no later than the one that ends began before that end
     no_later : (l other : ℕ) (call : ClientCall) → l ≤ n → slice_get order l ≡ Some other → slice_get calls other ≡ Some call → call.begin ≤ end.time
     no_later l other call le here there = ⊎_elim
         (λ lt. ⊎_elim
@@ -69,7 +69,7 @@ module _ (calls : List ClientCall) (begins ends : List Moment) (timed : AreTimed
         let early = no_later stands.0 is.index is.other (omega arith) stands.1 is.there in
         omega arith
 
-    -- and so it is past
+    -- a call that stands no later than the one that ends is among the begins so far
     pub begun_by_end : IsPast begins p i
     begun_by_end = begun_no_later i found.0 found.1 (λ at_time is. ⊎_elim
         (λ e. let early = no_later j i found.0 low at found.1 in omega arith)
@@ -97,7 +97,7 @@ module _ (calls : List ClientCall) (begins ends : List Moment) (timed : AreTimed
         let lt = past.2 in
         absurd (omega arith)
 
-    -- it is open
+    -- the call that ends is open
     is_open : IsIn running end.call
     is_open = ⊎_elim
         (λ past. absurd (not_over past))
@@ -160,7 +160,7 @@ module _ (calls : List ClientCall) (begins ends : List Moment) (timed : AreTimed
           };
         }
 
-      -- the search came behind the end
+      -- the search has come behind the end
       pub goes_past_end : IsReached calls begins ends p (k + 1) still more
       goes_past_end = record {
         begun = reached.begun;
@@ -173,7 +173,7 @@ module _ (calls : List ClientCall) (begins ends : List Moment) (timed : AreTimed
         early = λ m j a b lt le. reached.early m j a b lt (omega arith);
       }
 
--- where the fronts went on and what is over was forgotten, the search came behind the end
+-- after the fronts went on and the calls that are over were dropped, the search has come behind the end
 pub goes_past : (x : ℕ) (running : List OpenCall) (fronts settled more : List Front) (over : List ℕ) (still : List OpenCall) → AreSettled running x fronts settled → AreOver running x over → AreWithout running over still → AreForgotten over settled more → GoesPast x running fronts still more
 goes_past x running fronts settled more over still settles is_over without forgot calls begins ends p k end timed at same later reached =
     goes_past_end calls begins ends timed p k end at later running fronts reached settled more over still
@@ -182,7 +182,7 @@ goes_past x running fronts settled more over still settles is_over without forgo
     without
     forgot
 
--- what a slice became is what its vector has, where it is as long
+-- a slice that is written back whole is what its vector has
 pub written_back : {X : Type 0} (xs ys : List X) (n : ℕ) → length xs ≡ length ys → n ≡ length ys → take n (xs ++ drop (length xs) ys) ≡ xs
 written_back {X = X} xs ys n long is =
     ap (λ (m : ℕ). take n (xs ++ drop m ys)) long ∙ ap (λ (zs : List X). take n (xs ++ zs)) (drop_all (length ys) ys (omega arith)) ∙ ap (take n) (append-nil xs) ∙ ap (λ (m : ℕ). take m xs) (is ∙ sym long) ∙ take_all (length xs) xs (omega arith)
@@ -247,7 +247,7 @@ module _ (calls : List ClientCall) (begins ends : List Moment) where
           let early = timed.are_ends.by_time past.0 k past.1 end (omega arith) past.3 at in
           (past.1.time, ap (λ (c : ClientCall). c.end) (sym same) ∙ each.2, omega arith)
 
-  -- behind the begins up to an end, and the end, the search came there
+  -- behind the begins up to an end, and that end, the search has come there
   pub reached_next : AreTimed calls begins ends → (p q k : ℕ) (end : Moment) → slice_get ends k ≡ Some end → (running opened still : List OpenCall) (fronts begun given more : List Front) → IsReached calls begins ends p k running fronts → GoesTo end.time p running fronts q opened begun calls begins
       → (AreByTime begins → (m : ℕ) (moment : Moment) → q ≤ m → slice_get begins m ≡ Some moment → end.time < moment.time) → given ≡ begun → GoesPast end.call opened given still more → IsReached calls begins ends q (k + 1) still more
   reached_next timed p q k end at running opened still fronts begun given more reached to later same past =

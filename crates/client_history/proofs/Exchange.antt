@@ -1,4 +1,4 @@
--- A call that comes before others in an order.
+-- An order in which a call moves before others.
 use Rattle.std.proofs.Common.{◌≡◌, ℕ, zero, suc, ◌+◌, ◌<◌, ◌≤◌, ◌⊎◌, inl, inr, ⊎_elim, true, List, [], ◌∷◌, ◌++◌, length, slice_get, Some, refl, sym, ap, subst, ◌∙◌, arith}
 use Rattle.std.proofs.lemmas.Bool.{cases_lt}
 use Rattle.std.proofs.lemmas.Option.{none-some}
@@ -11,7 +11,7 @@ use Rattle.client_history.proofs.Orders.{get_one}
 use Rattle.client_history.proofs.Steps.{leads_is_one, leads_split, leads_join}
 
 module _ {X : Type 0} where
-  -- what stands in two lists, one behind the other
+  -- an element of two lists together is one of the first or of the second
   pub get_split : (xs ys : List X) (k : ℕ) (x : X) → slice_get (xs ++ ys) k ≡ Some x → ((k < length xs) × (slice_get xs k ≡ Some x)) ⊎ ((l : ℕ) × (k ≡ length xs + l) × (slice_get ys l ≡ Some x))
   get_split [] ys k x at = inr (k, omega arith, at)
   get_split (y ∷ xs) ys zero x at = inl (omega arith, at)
@@ -34,11 +34,11 @@ module _ (front before behind : List ℕ) (i : ℕ) where
   abbrev moved : List ℕ
   moved = i ∷ (before ++ behind)
 
-  -- what stood at the one place stands at the other
+  -- an element at one place of the old order is at the other of the new
   abbrev Goes : ℕ → ℕ → Type 0
   Goes j k = ((j ≡ k) × ((k < length front) ⊎ (length front + length before < k))) ⊎ (((j ≡ length front + length before) × (k ≡ length front)) ⊎ ((k ≡ j + 1) × (length front ≤ j) × (j < length front + length before)))
 
-  -- where it stood
+  -- the old place of an element of the new order
   from : (k x : ℕ) → slice_get (front ++ moved) k ≡ Some x → (j : ℕ) × (slice_get (front ++ rest) j ≡ Some x) × Goes j k
   from k x at = ⊎_elim (λ p. (k, get_left front rest k x p.1, inl (refl, inl p.0))) (λ p. by p.0 p.1 p.2) (get_split front moved k x at)
     where
@@ -49,7 +49,7 @@ module _ (front before behind : List ℕ) (i : ℕ) where
           (λ p. let far = p.1 in (k, get_right front rest k (suc l) x e (get_right before (i ∷ behind) (suc l) (suc p.0) x (omega arith) p.2), inl (refl, inr (omega arith))))
           (get_split before behind l x got)
 
-  -- what stood stands
+  -- the new order has each element of the old
   stays : (x : ℕ) → Stands (front ++ rest) x → Stands (front ++ moved) x
   stays x stands = ⊎_elim (λ p. (stands.0, get_left front moved stands.0 x p.1)) (λ p. ⊎_elim (λ q. (length front + suc p.0, get_right front moved (length front + suc p.0) (suc p.0) x refl (get_left before behind p.0 x q.1))) (λ q. by q.0 q.2) (get_split before (i ∷ behind) p.0 x p.2)) (get_split front rest stands.0 x stands.1)
     where
@@ -57,18 +57,18 @@ module _ (front before behind : List ℕ) (i : ℕ) where
       by zero got = (length front, get_right front moved (length front) 0 x (omega arith) got)
       by (suc m) got = (length front + suc (length before + m), get_right front moved (length front + suc (length before + m)) (suc (length before + m)) x refl (get_right before behind (length before + m) m x refl got))
 
-  -- of two places the first came first, or is that of the call that passes the other
+  -- of two places of the new order, the first came first in the old, or is that of the call that passes the other
   later : (j k m n : ℕ) → Goes j k → Goes n m → k < m → (j < n) ⊎ ((k ≡ length front) × (length front ≤ n) × (n < length front + length before))
   later j k m n p q lt = ⊎_elim (λ low. inl low) (λ past. inr (omega arith, omega arith, omega arith)) (cases_lt j n)
 
-  -- and what came first comes first, or is passed by the call
+  -- of two places of the old order, the first comes first in the new, or is passed by the call
   sooner : (j k m n : ℕ) → Goes j k → Goes n m → n < j → (m < k) ⊎ ((k ≡ length front) × (length front ≤ n) × (n < length front + length before))
   sooner j k m n p q lt = ⊎_elim (λ low. inl low) (λ past. inr (omega arith, omega arith, omega arith)) (cases_lt m k)
 
   one : (j k n : ℕ) → Goes n j → Goes n k → j ≡ k
   one j k n p q = omega arith
 
-  -- what is passed
+  -- the elements that the call passes
   passed : (n y : ℕ) → slice_get (front ++ rest) n ≡ Some y → length front ≤ n → n < length front + length before → Stands before y
   passed n y at lo hi = ⊎_elim (λ p. let lt = p.0 in absurd (omega arith)) (λ p. let e = p.1 in ⊎_elim (λ q. (p.0, q.1)) (λ q. let far = q.1 in absurd (omega arith)) (get_split before (i ∷ behind) p.0 y p.2)) (get_split front rest n y at)
 
@@ -87,7 +87,7 @@ module _ (calls : List ClientCall) (front before behind : List ℕ) (time i : �
       let here : slice_get new k ≡ Some i = get_right front (i ∷ (before ++ behind)) k 0 i (omega arith) refl in
       get_one calls at.index i a call (get_one new k k at.index i refl at.at here) at.there there
 
-  -- two calls stand as they stood, or one is the call and the other one that it passes
+  -- two calls stand as they stood, or one is the call that moves and the other one that it passes
   pair : (k m : ℕ) (a b : ClientCall) → k < m → IsAt calls new k a → IsAt calls new m b → ((j : ℕ) × (n : ℕ) × (j < n) × IsAt calls old j a × IsAt calls old n b) ⊎ ((a ≡ call) × (l : ℕ) × IsAt calls before l b)
   pair k m a b lt p q =
       let was = at_of k a p in
@@ -110,7 +110,7 @@ module _ (calls : List ClientCall) (front before behind : List ℕ) (time i : �
       let parts = leads_split calls no_locks whole.legal.0 front (before ++ (i ∷ behind)) whole.legal.1 in
       subst (λ (m : Locks). Leads calls m (before ++ (i ∷ behind)) whole.legal.0) (leads_is_one calls no_locks parts.0 h front parts.1 leads) parts.2
 
-  -- a call that follows none of those before it follows one in the front
+  -- a call that follows none of those that it passes follows one in the front
   pub first_in_front : FollowsNone before call → (first : ℕ) → call.follows ≡ Some first → Stands front first
   first_in_front none first follows =
       let place = length front + length before in
@@ -147,7 +147,7 @@ module _ (calls : List ClientCall) (front before behind : List ℕ) (time i : �
         (λ over. absurd (follows_none first (ap (λ (c : ClientCall). c.follows) (sym (is_call k a over.0 at)) ∙ follows) (passed front before behind i stood.0 first stood.2 over.1 over.2)))
         (sooner front before behind i was.0 k stands.0 stood.0 was.2 goes stood.1)
 
-    -- what leads on with the call in front explains the calls, too
+    -- an order that leads on with the call in front explains the calls
     pub legal_explained : Leads calls h (i ∷ (before ++ behind)) whole.legal.0 → IsExplainedBy time calls new
     legal_explained legal = record {
       legal = (whole.legal.0, leads_join calls no_locks h whole.legal.0 front (i ∷ (before ++ behind)) leads legal);
@@ -160,6 +160,6 @@ module _ (calls : List ClientCall) (front before behind : List ℕ) (time i : �
       behind = new_behind;
     }
 
-    -- a call that passes others may come before them
+    -- a call that passes others may come before them: the order still explains the calls
     pub moved_explained : Passes calls h call before → IsExplainedBy time calls new
     moved_explained passes = legal_explained (moves_first calls h whole.legal.0 call i before behind there passes leads_on)

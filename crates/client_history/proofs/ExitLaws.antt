@@ -1,4 +1,4 @@
--- Exits, place by place.
+-- Exits of an order, place by place.
 use Rattle.std.specs.Prelude.{◌≢◌}
 use Rattle.std.proofs.Common.{◌≡◌, ℕ, ◌+◌, ◌<◌, ◌≤◌, ◌⊎◌, ⊎_elim, Bool, true, false, List, length, slice_get, Some, None, sym, ap, subst, ◌∙◌, arith}
 use Rattle.std.proofs.lemmas.Bool.{false≢true}
@@ -13,12 +13,12 @@ pub record ExitsTo (calls : List ClientCall) (order : List ℕ) (k : ℕ) (gone 
   pub known : (q : Owner) → gone q ≡ true → (j : ℕ) × (a : ClientCall) × (j < k) × IsAt calls order j a × (a.is_last ≡ true) × (a.owner ≡ q)
   pub noted : (j : ℕ) (a : ClientCall) → j < k → IsAt calls order j a → a.is_last ≡ true → gone a.owner ≡ true
 
--- the owners that are gone before the k-th place, behind whose exits nothing of theirs stands
+-- the owners that are gone before the k-th place: no call of theirs stands behind their exits
 pub record GoneTo (calls : List ClientCall) (order : List ℕ) (k : ℕ) (gone : Owner → Bool) : Type 0 where
   pub exits : ExitsTo calls order k gone
   pub good : (j m : ℕ) (a b : ClientCall) → j < m → m < k → IsAt calls order j a → IsAt calls order m b → a.is_last ≡ true → b.owner ≡ a.owner → ⊥
 
--- with the exits that stand, each call among the first n of their owners that has a reply does
+-- with the exits that stand, each of the first n calls that has a reply stands if its owner's exit does
 abbrev pub WholeTo : List ClientCall → List ℕ → ℕ → Type 0
 WholeTo calls order n = (k i : ℕ) (a b : ClientCall) → i < n → IsAt calls order k a → a.is_last ≡ true → slice_get calls i ≡ Some b → b.owner ≡ a.owner → b.end ≢ None → Stands order i
 
@@ -36,14 +36,14 @@ module _ (calls : List ClientCall) (order : List ℕ) where
   }
 
   module _ (k : ℕ) (gone : Owner → Bool) (before : ExitsTo calls order k gone) (b : ClientCall) (at : IsAt calls order k b) where
-    -- another call that is no exit
+    -- one more call that is no exit
     pub exits_same : b.is_last ≡ false → ExitsTo calls order (k + 1) gone
     exits_same open_call = record {
       known = λ q is. let was = before.known q is in let early = was.2 in (was.0, was.1, omega arith, was.3, was.4, was.5);
       noted = λ j a early p last. ⊎_elim (λ below. before.noted j a below p last) (λ e. absurd (false≢true (sym open_call ∙ sym (ap (λ (c : ClientCall). c.is_last) (is_at_one calls order j k a b e p at)) ∙ last))) (last_place j k early);
     }
 
-    -- another exit
+    -- one more exit
     pub exits_more : b.is_last ≡ true → (new : Owner → Bool) → ((q : Owner) → new q ≡ true → (b.owner ≡ q) ⊎ (gone q ≡ true)) → ((q : Owner) → gone q ≡ true → new q ≡ true) → new b.owner ≡ true → ExitsTo calls order (k + 1) new
     exits_more last new only keeps adds = record {
       known = λ q is. ⊎_elim (λ e. (k, b, omega arith, at, last, e)) (λ old. let was = before.known q old in let early = was.2 in (was.0, was.1, omega arith, was.3, was.4, was.5)) (only q is);
@@ -51,7 +51,7 @@ module _ (calls : List ClientCall) (order : List ℕ) where
     }
 
   module _ (k : ℕ) (gone : Owner → Bool) (before : GoneTo calls order k gone) (b : ClientCall) (at : IsAt calls order k b) where
-    -- a call of an owner that is gone stands behind its exit
+    -- a call of an owner that is gone stands behind its exit: the exits are not last
     pub gone_late : gone b.owner ≡ true → ExitsAreLast calls order → ⊥
     gone_late is all = let was = before.exits.known b.owner is in all was.0 k was.1 b was.2 was.3 at was.4 (sym was.5)
 
@@ -64,14 +64,14 @@ module _ (calls : List ClientCall) (order : List ℕ) where
           false≢true (sym stays ∙ ap gone (sym (ap (λ (c : ClientCall). c.owner) is) ∙ same) ∙ before.exits.noted j a low p last))
           (last_place m k early)
 
-      -- another call that is no exit
+      -- one more call that is no exit
       pub gone_same : b.is_last ≡ false → GoneTo calls order (k + 1) gone
       gone_same open_call = record {
         exits = exits_same k gone before.exits b at open_call;
         good = good_at;
       }
 
-      -- another exit
+      -- one more exit
       pub gone_more : b.is_last ≡ true → (new : Owner → Bool) → ((q : Owner) → new q ≡ true → (b.owner ≡ q) ⊎ (gone q ≡ true)) → ((q : Owner) → gone q ≡ true → new q ≡ true) → new b.owner ≡ true → GoneTo calls order (k + 1) new
       gone_more last new only keeps adds = record {
         exits = exits_more k gone before.exits b at last new only keeps adds;
@@ -82,11 +82,11 @@ module _ (calls : List ClientCall) (order : List ℕ) where
   gone_all k gone before all j m a b lt p q = let within = at_within calls order m b q in before.good j m a b lt (omega arith) p q
 
   module _ (k : ℕ) (gone : Owner → Bool) (exits : ExitsTo calls order k gone) (i : ℕ) (b : ClientCall) (there : slice_get calls i ≡ Some b) where
-    -- a call that has a reply is left out, where its owner's exit stands
+    -- a call with a reply that does not stand, while its owner's exit does: the exits are not whole
     pub whole_not : gone b.owner ≡ true → b.end ≢ None → (Stands order i → ⊥) → ExitsAreWhole calls order → ⊥
     whole_not is some out all = let was = exits.known b.owner is in out (all was.0 i was.1 b was.3 was.4 there (sym was.5) some)
 
-    -- another call stands where its owner's exit does and it has a reply
+    -- one more call, which stands if its owner's exit does and it has a reply
     pub whole_more : length order ≤ k → (b.end ≢ None → gone b.owner ≡ true → Stands order i) → WholeTo calls order i → WholeTo calls order (i + 1)
     whole_more all stands before m j a d lt at last its same some = ⊎_elim
         (λ below. before m j a d below at last its same some)

@@ -1,4 +1,4 @@
--- One of a closed set comes first.
+-- A call of a closed set comes first.
 use Rattle.std.specs.Prelude.{◌≢◌}
 use Rattle.std.proofs.Common.{◌≡◌, ℕ, zero, suc, ◌+◌, ⊎_elim, true, List, [], ◌∷◌, ◌++◌, length, slice_get, Some, None, refl, sym, subst, arith}
 use Rattle.std.proofs.lemmas.Option.{same_Some}
@@ -17,7 +17,7 @@ use Rattle.client_history.proofs.Passed.{ArePassed, kept_is_not_done}
 use Rattle.client_history.proofs.Steps.{leads_split}
 
 module _ (calls : List ClientCall) (front earlier later : List ℕ) (time z : ℕ) (h : Locks) (call : ClientCall) (there : slice_get calls z ≡ Some call) (whole : IsExplainedBy time calls (front ++ (earlier ++ (z ∷ later)))) (leads : Leads calls no_locks front h) where
-  -- the call is done behind those that stand earlier
+  -- the call is allowed behind those that stand earlier
   record IsReached : Type 0 where
     pub mid : Locks
     pub next : Locks
@@ -36,7 +36,7 @@ module _ (calls : List ClientCall) (front earlier later : List ℕ) (time z : �
       let same : length front + j ≡ length front + k = whole.once (length front + j) (length front + k) i (get_right front (earlier ++ (z ∷ later)) (length front + j) j i refl (get_left earlier (z ∷ later) j i p)) (get_right front (earlier ++ (z ∷ later)) (length front + k) k i refl (get_left earlier (z ∷ later) k i q)) in
       omega arith
 
-  -- what stands without the call stands with it
+  -- each call that stands without the call stands with it
   stands_with : (i : ℕ) → Stands (earlier ++ later) i → Stands (earlier ++ (z ∷ later)) i
   stands_with i stands = ⊎_elim
       (λ p. (stands.0, get_left earlier (z ∷ later) stands.0 i p.1))
@@ -49,7 +49,7 @@ module _ (calls : List ClientCall) (front earlier later : List ℕ) (time z : �
   call_at : IsAt calls (front ++ (earlier ++ (z ∷ later))) place call
   call_at = record { index = z; at = get_right front (earlier ++ (z ∷ later)) place (length earlier) z refl (get_right earlier (z ∷ later) (length earlier) 0 z (omega arith) refl); there = there }
 
-  -- where an exit has no call of its owner between itself and the front, each other that has a reply stands in the front
+  -- if an exit has no call of its owner between itself and the front, each other call of the owner that has a reply stands in the front
   ended_in_front : AreOfOthers calls earlier call.owner → call.is_last ≡ true → (i : ℕ) (other : ClientCall) → slice_get calls i ≡ Some other → other.owner ≡ call.owner → other.end ≢ None → i ≢ z → Stands front i
   ended_in_front others last i other found own some differ =
       let stands = whole.whole place i call other call_at last found own some in
@@ -94,7 +94,7 @@ module _ (calls : List ClientCall) (front earlier later : List ℕ) (time z : �
         })
         served
 
--- where a set is closed, one of it comes first
+-- if a set is closed, one of its calls may come first
 pub closed_sets_first : ClosedSetsComeFirst
 closed_sets_first calls front before behind time x h Left Set are_open closed chosen whole leads all_left =
     let is = first_of Set closed.decided before behind x chosen in

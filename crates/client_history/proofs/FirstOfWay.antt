@@ -1,4 +1,4 @@
--- Which call comes first on a way, up to the end of some call.
+-- The call that comes first on a way, up to the end of some call.
 use Rattle.std.proofs.Common.{◌≡◌, ℕ, ◌+◌, ◌≤◌, ⊎_elim, true, List, [], ◌∷◌, ◌++◌, length, slice_get, Option, Some, None, IfSome, refl, sym, ap, subst, ◌∙◌, append_assoc, length-append, arith}
 use Rattle.std.proofs.lemmas.Option.{none-some, slice_get_within}
 use Rattle.model.specs.Locks.{Locks, no_locks}
@@ -19,7 +19,7 @@ use Rattle.client_history.proofs.Ways.{over_is_past, none_past_exit, exit_in_way
 abbrev pub HaveBegunTo : List ClientCall → List ℕ → List ℕ → ℕ → Type 0
 HaveBegunTo calls begun order x = (j k : ℕ) (a : ClientCall) → slice_get order k ≡ Some x → j ≤ k → (at : IsAt calls order j a) → Stands begun at.index
 
--- what is so of an exit, if there is one
+-- a fact of the exit, if there is one
 pub for_exit : (P : ℕ → Type 0) (o : Option ℕ) → ((e : ℕ) → o ≡ Some e → P e) → IfSome o P
 for_exit P None all = tt
 for_exit P (Some e) all = all e refl
@@ -59,7 +59,7 @@ module _ (calls : List ClientCall) (begun over : List ℕ) (running : List OpenC
       by : (e : ℕ) → IsExitOf calls e one.call → Stands taken e → ⊥
       by e ends s = lives e ends.last (exit_in_way calls over time taken h way rest is sound e ends.last ends.there ends.is_last s) ends.there ends.is_last (sym ends.own)
 
-  -- of the rest what has begun is left
+  -- a call of the rest that has begun is left
   begun_left : (i : ℕ) (call : ClientCall) → Stands rest i → slice_get calls i ≡ Some call → Stands begun i → Left i call
   begun_left i call left there begins = ⊎_elim
       (λ past. absurd (over_is_past calls over time taken h way rest is i past left))
@@ -83,7 +83,7 @@ module _ (calls : List ClientCall) (begun over : List ℕ) (running : List OpenC
           )
 
   module _ (asked : AreAsked running taken h) where
-    -- and none of the questions that are left may be asked
+    -- no call that is left and only asks is allowed
     left_asked : (i : ℕ) (call : ClientCall) → Left i call → AsksOnly call.act → (next : Locks) → ActStep the_file h call.owner call.act next → ⊥
     left_asked i call left asks next step = asked left.0 left.1 left.2 left.5
         (subst (λ (c : ClientCall). AsksOnly c.act) (sym left.4) asks) next
@@ -101,7 +101,7 @@ module _ (calls : List ClientCall) (begun over : List ℕ) (running : List OpenC
         abbrev Set : ℕ → Type 0
         Set = IsIn are_first.set
 
-        -- what stands in the rest no later than that call is left
+        -- a call that stands in the rest no later than the one that ends is left
         to_end_left : (j i : ℕ) → j ≤ ends_in_rest.0 → slice_get rest j ≡ Some i → (call : ClientCall) × Left i call
         to_end_left j i low at =
             let place : slice_get (way ++ rest) (length way + j) ≡ Some i = get_right way rest (length way + j) j i refl at in
@@ -113,7 +113,7 @@ module _ (calls : List ClientCall) (begun over : List ℕ) (running : List OpenC
                   (record { index = i; at = place; there = call.1 })),
             )
 
-        -- and none of it may be asked
+        -- no call in the rest up to the one that ends only asks and is allowed
         to_end : (before behind : List ℕ) → rest ≡ before ++ (x ∷ behind) → length before ≡ ends_in_rest.0 → (i : ℕ) → Stands (before ++ (x ∷ [])) i
             → (call : ClientCall) × Left i call × (AsksOnly call.act → (next : Locks) → ActStep the_file h call.owner call.act next → ⊥)
         to_end before behind e long i s =

@@ -3,7 +3,7 @@ use Rattle.std.proofs.Common.{◌≡◌, ℕ, zero, suc, ◌⊎◌, inl, inr, �
 use Rattle.std.proofs.lemmas.Option.{none-some, same_Some}
 use Rattle.client_history.specs.Explained.{Stands}
 
--- what stands in a list is its first, or stands behind that
+-- an element of a list is its first, or stands behind it
 stands_behind : (y : ℕ) (ys : List ℕ) (i k : ℕ) → slice_get (y ∷ ys) k ≡ Some i → (y ≡ i) ⊎ Stands ys i
 stands_behind y ys i zero at = inl (same_Some y i at)
 stands_behind y ys i (suc k) at = inr (k, at)
@@ -11,7 +11,7 @@ stands_behind y ys i (suc k) at = inr (k, at)
 stands_more : (y : ℕ) (ys : List ℕ) (i : ℕ) → Stands ys i → Stands (y ∷ ys) i
 stands_more y ys i stands = (suc stands.0, stands.1)
 
--- of a list up to x the first that is of the set
+-- the list up to x, split at its first element that is of the set
 pub record IsFirst (Set : ℕ → Type 0) (before behind : List ℕ) (x : ℕ) : Type 0 where
   pub earlier : List ℕ
   pub first : ℕ
@@ -22,7 +22,7 @@ pub record IsFirst (Set : ℕ → Type 0) (before behind : List ℕ) (x : ℕ) :
   pub within : (i : ℕ) → Stands earlier i → Stands (before ++ (x ∷ [])) i
   pub here : Stands (before ++ (x ∷ [])) first
 
--- there is one where x is of the set
+-- if x is of the set, there is a first element of the set
 pub first_of : (Set : ℕ → Type 0) → ((i : ℕ) → Set i ⊎ (Set i → ⊥)) → (before behind : List ℕ) (x : ℕ) → Set x → IsFirst Set before behind x
 first_of Set decided [] behind x chosen = record {
   earlier = [];

@@ -1,4 +1,4 @@
--- Fronts of orders.
+-- First parts of orders, and the times up to which they explain the calls.
 use Rattle.std.proofs.Common.{◌≡◌, ℕ, zero, suc, ◌+◌, ◌<◌, ◌≤◌, ◌⊎◌, inl, inr, ⊎_elim, List, [], ◌∷◌, ◌++◌, length, take, drop, slice_get, Option, Some, None, refl, sym, ap, subst, ◌∙◌, arith}
 use Rattle.std.proofs.lemmas.Bool.{cases_lt}
 use Rattle.std.proofs.lemmas.List.{take-append-drop}
@@ -13,7 +13,7 @@ use Rattle.client_history.proofs.OwnQuestions.{may_move}
 use Rattle.client_history.proofs.Orders.{get_one, is_at_one, at_within}
 use Rattle.client_history.proofs.Steps.{leads_split}
 
--- what the front of a list has
+-- an element of the first n is one of the list
 get_take : {X : Type 0} (xs : List X) (n k : ℕ) (x : X) → slice_get (take n xs) k ≡ Some x → (k < n) × (slice_get xs k ≡ Some x)
 get_take xs zero k x at = absurd (none-some x at)
 get_take [] (suc n) k x at = absurd (none-some x at)
@@ -26,7 +26,7 @@ take_get [] (suc n) k x lt at = absurd (none-some x at)
 take_get (y ∷ ys) (suc n) zero x lt at = at
 take_get (y ∷ ys) (suc n) (suc k) x lt at = take_get ys n k x (omega arith) at
 
--- the last place at which something is so, or there is none
+-- there is a last place at which P holds, or none
 last_of : (P : ℕ → Type 0) → ((k : ℕ) → P k ⊎ (P k → ⊥)) → (n : ℕ) → ((l : ℕ) × (l < n) × P l × ((k : ℕ) → l < k → k < n → P k → ⊥)) ⊎ ((k : ℕ) → k < n → P k → ⊥)
 last_of P decide zero = inr (λ k lt. absurd (omega arith))
 last_of P decide (suc n) = ⊎_elim
@@ -63,7 +63,7 @@ module _ (calls : List ClientCall) (order : List ℕ) (early : ℕ) where
       by_index None e = inr (λ p. none-some p.1.index (sym e ∙ p.1.at))
       by_index (Some i) e = by_call i e (slice_get calls i) refl
 
-  -- so many of the order are as far as it has to go
+  -- the first n of the order are as far as it has to go
   record IsEnough (n : ℕ) : Type 0 where
     pub all : (k : ℕ) → EndsAt k → k < n
     pub needed : (k : ℕ) → k < n → (l : ℕ) × (k ≤ l) × EndsAt l
@@ -138,13 +138,13 @@ module _ (calls : List ClientCall) (order : List ℕ) (early : ℕ) where
           behind = front_behind;
         }
 
--- the front explains the calls up to an earlier time
+-- the first part of an order that explains the calls up to a time explains them up to an earlier one
 pub earlier_explained : (calls : List ClientCall) (order : List ℕ) (early late : ℕ) → early ≤ late → AreOrdered calls → IsExplainedBy late calls order → (n : ℕ) × IsExplainedBy early calls (take n order)
 earlier_explained calls order early late sooner ordered whole =
     let cut = enough calls order early in
     (cut.0, front_explains calls order early late sooner ordered whole cut.0 cut.1)
 
--- fronts of what explains the calls up to a time explain them up to each time before the next
+-- first parts of an order that explains the calls up to a time explain them up to each time before the next end
 pub explained_before : (calls : List ClientCall) (order : List ℕ) (time end : ℕ) → end ≤ time + 1 → AreOrdered calls → IsExplainedBy time calls order → AreExplainedBefore end calls
 explained_before calls order time end next ordered whole early lt =
     let front = earlier_explained calls order early time (omega arith) ordered whole in

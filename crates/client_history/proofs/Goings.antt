@@ -1,4 +1,4 @@
--- Where the fronts go on.
+-- The fronts on which the search goes on.
 use Rattle.std.proofs.Common.{◌≡◌, ℕ, ◌≤◌, ◌⊎◌, inl, inr, ⊎_elim, List, [], ◌∷◌, ◌++◌, length, slice_get, Some, sym, ap, subst, ◌∙◌, arith}
 use Rattle.std.proofs.lemmas.Option.{slice_get_within}
 use Rattle.model.specs.Locks.{Locks}
@@ -21,7 +21,7 @@ use Rattle.client_history.proofs.Ways.{way_taken}
 use Rattle.client_history.proofs.AskedWays.{way_asked}
 
 module _ (running : List OpenCall) (front mid last : Front) (one : OpenCall) (fronts : List Front) where
-  -- a front that took the call and asked the others is the next one, if an equal one is there
+  -- a front that took the call and asked the others is the next one, if the list has an equal one
   pub has_next : ActStep the_file (held front.table) one.call.owner one.call.act (held mid.table) → IsAlsoTaken one.index front.taken.items mid.taken.items → IsAskedOf running mid last → HasEqual fronts last → HasNext running front one fronts
   has_next step also asked has h wanted =
       let same : held mid.table ≡ h = step_is_one (held front.table) (held mid.table) h one.call.owner one.call.act step wanted in (
@@ -38,13 +38,13 @@ module _ (running : List OpenCall) (front mid last : Front) (one : OpenCall) (fr
         },
       )
 
--- what is next of an equal front is next
+-- the next front of an equal front is the next one
 pub next_of_copy : (running : List OpenCall) (front copy : Front) (one : OpenCall) (fronts : List Front) → held copy.table ≡ held front.table → copy.taken.items ≡ front.taken.items → HasNext running copy one fronts → HasNext running front one fronts
 next_of_copy running front copy one fronts locks taken next h step =
     let found = next h (subst (λ (l : Locks). ActStep the_file l one.call.owner one.call.act h) (sym locks) step) in
     (found.0, found.1, found.2, subst (λ (l : List ℕ). IsGone running l one h found.1) taken found.3)
 
--- what is next is so among more fronts
+-- the next front stays among more fronts
 pub next_of_more : (running : List OpenCall) (front : Front) (one : OpenCall) (old new : List Front) → ((k : ℕ) (f : Front) → slice_get old k ≡ Some f → (n : ℕ) × (slice_get new n ≡ Some f)) → HasNext running front one old → HasNext running front one new
 next_of_more running front one old new all next h step =
     let found = next h step in
@@ -52,7 +52,7 @@ next_of_more running front one old new all next h step =
     (there.0, found.1, there.1, found.3)
 
 module _ (running : List OpenCall) (front : Front) (x : ℕ) (first : List OpenCall) (fronts : List Front) (are : AreFirst (held front.table) running front.taken.items x first) (all : (k : ℕ) (one : OpenCall) → slice_get first k ≡ Some one → HasNext running front one fronts) where
-  -- where each of the first calls led on, the front goes on
+  -- after each of the first calls led on, the front goes on
   pub goes_on_from : GoesOnFrom running front x fronts
   goes_on_from calls begun over time ending not_taken on = by (first_of_way calls begun over running time taken h on.way on.rest ending.sound ending.opens on.is_way on.asked x ending.call ending.there ending.ends ending.stays not_taken begins first are closed_sets_first)
     where
@@ -88,11 +88,11 @@ module _ (running : List OpenCall) (front : Front) (x : ℕ) (first : List OpenC
           }
 
 module _ (calls : List ClientCall) (over : List ℕ) (running : List OpenCall) (time : ℕ) where
-  -- what is covered is so by more fronts
+  -- what fronts cover, more fronts cover
   pub covered_more : (old new : List Front) → ((k : ℕ) (f : Front) → slice_get old k ≡ Some f → (n : ℕ) × (slice_get new n ≡ Some f)) → IsCovered calls over running time old → IsCovered calls over running time new
   covered_more old new all is = let there = all is.place is.front is.there in record { place = there.0; front = is.front; there = there.1; is_on = is.is_on }
 
-  -- and by an equal one
+  -- what a front covers, an equal one covers
   pub covered_equal : (fronts : List Front) (front : Front) → HasEqual fronts front → IsOn calls over running time front.taken.items (held front.table) → IsCovered calls over running time fronts
   covered_equal fronts front has on = record {
     place = has.0;
@@ -101,17 +101,17 @@ module _ (calls : List ClientCall) (over : List ℕ) (running : List OpenCall) (
     is_on = subst (λ (l : List ℕ). IsOn calls over running time l (held has.1.table)) (sym has.3) (subst (λ (l : Locks). IsOn calls over running time front.taken.items l) (sym has.4) on);
   }
 
-  -- the last front covers it, or one before
+  -- what fronts cover, the last one covers or those before it do
   pub covered_last : (fronts : List Front) (front : Front) → IsCovered calls over running time (fronts ++ front ∷ []) → IsCovered calls over running time fronts ⊎ IsOn calls over running time front.taken.items (held front.table)
   covered_last fronts front is = ⊎_elim
       (λ old. inl (record { place = old.0; front = is.front; there = old.1; is_on = is.is_on }))
       (λ e. inr (subst (λ (f : Front). IsOn calls over running time f.taken.items (held f.table)) e is.is_on))
       (has_push fronts front is.front (is.place, is.there))
 
-  -- no fronts cover nothing
+  -- an empty list of fronts covers nothing
   pub none_covered : (fronts : List Front) → length fronts ≡ 0 → IsCovered calls over running time fronts → ⊥
   none_covered fronts none is = let within = slice_get_within fronts is.place is.front is.there in absurd (omega arith)
 
--- fronts that took the call, and another that did
+-- where all fronts took the call, they still have with one more that did
 pub taken_more : (x : ℕ) (old : List Front) (front : Front) (new : List Front) → HasOnly old front new → Stands front.taken.items x → AreTaken x old → AreTaken x new
 taken_more x old front new only took all k other there = ⊎_elim (λ was. all was.0 other was.1) (λ e. subst (λ (f : Front). Stands f.taken.items x) (sym e) took) (only k other there)

@@ -21,7 +21,7 @@ module _ (calls : List ClientCall) (order : List ℕ) (k : ℕ) (marks : List Bo
   abbrev here : IsAt calls order k call
   here = record { index = i; at = at; there = there }
 
-  -- another call that stands so
+  -- one more call, which stands behind the one that it follows
   pub halves_more : IsFirstMarked call marks → HalvesTo calls order (k + 1) (set marks i true)
   halves_more is_first_marked =
       let size = before.size in
@@ -49,10 +49,10 @@ module _ (calls : List ClientCall) (order : List ℕ) (k : ℕ) (marks : List Bo
             (last_place n k lt);
       }
 
-  -- another call that doesn't
+  -- one more call, which does not stand behind the one that it follows
   pub halves_late : (IsFirstMarked call marks → ⊥) → AreBehindTheirFirst calls order → ⊥
   halves_late stays all = stays (λ first follows. let stood = all k first call here follows in before.noted stood.0 first stood.1 stood.2)
 
--- all stand so
+-- after all places, each call stands behind the one that it follows
 pub halves_all : (calls : List ClientCall) (order : List ℕ) (k : ℕ) (marks : List Bool) → HalvesTo calls order k marks → length order ≤ k → AreBehindTheirFirst calls order
 halves_all calls order k marks before all n first call at = let within = at_within calls order n call at in before.behind n first call (omega arith) at

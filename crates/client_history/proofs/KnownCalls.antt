@@ -1,4 +1,4 @@
--- What is known of owners by their calls.
+-- The facts of owners that their calls give.
 use Rattle.std.proofs.Common.{◌≡◌, ℕ, ◌≤◌, max, ◌⊎◌, inl, inr, ⊎_elim, Bool, true, false, cond, List, Option, Some, None, IfSome, refl, sym, ap, subst, ◌∙◌, arith}
 use Rattle.std.proofs.lemmas.Bool.{cases_order}
 use Rattle.std.proofs.lemmas.Option.{none-some, same_Some}
@@ -10,7 +10,7 @@ use Rattle.client_history.specs.Moments.{IsBeginOf}
 use Rattle.client_history.specs.OwnerCalls.{IsExitOfOwner, HasAnswerFrom, IsKnownOf}
 use Rattle.client_history.proofs.Owners.{eq_exact}
 
--- no call is known yet
+-- before any call nothing is known, which is true
 pub nothing_known : (calls : List ClientCall) (owner : Owner) → IsKnownOf calls owner (record { exit = None; latest = 0 })
 nothing_known calls owner = record { exit = λ exit e. absurd (none-some exit e); latest = inl refl }
 
@@ -19,7 +19,7 @@ pub exit_known : (calls : List ClientCall) (owner : Owner) (exit : Option ℕ) �
 exit_known calls owner None h = tt
 exit_known calls owner (Some it) h = h it refl
 
--- what is no greater than the greater of two is no greater than one of them
+-- a number no greater than the greater of two is no greater than one of them
 pub low_or_high : (a b c : ℕ) → c ≤ max a b → c ≤ a ⊎ c ≤ b
 low_or_high a b c low = ⊎_elim (λ e. inl (omega arith)) (⊎_elim (λ less. inr (omega arith)) (λ more. inl (omega arith))) (cases_order a b)
 
@@ -27,7 +27,7 @@ low_or_high a b c low = ⊎_elim (λ e. inl (omega arith)) (⊎_elim (λ less. i
 pub one_of : (a b : ℕ) → (max a b ≡ a) ⊎ (max a b ≡ b)
 one_of a b = ⊎_elim (λ e. inl (omega arith)) (⊎_elim (λ less. inr (omega arith)) (λ more. inl (omega arith))) (cases_order a b)
 
--- the later one of a begin that is known and that of a call with a reply
+-- the later of a known begin and that of a call with a reply is a known begin
 pub latest_known : (calls : List ClientCall) (owner : Owner) (latest begin : ℕ)
     → (latest ≡ 0) ⊎ HasAnswerFrom calls owner latest → HasAnswerFrom calls owner begin → (max latest begin ≡ 0) ⊎ HasAnswerFrom calls owner (max latest begin)
 latest_known calls owner latest begin before new = ⊎_elim
@@ -35,7 +35,7 @@ latest_known calls owner latest begin before new = ⊎_elim
     (λ e. inr (subst (HasAnswerFrom calls owner) (sym e) new))
     (one_of latest begin)
 
--- what is known stays known, with one key that has another value
+-- the facts stay true where one owner has new ones
 module _ (calls : List ClientCall) (key : Owner) (new : Known) (old now : Owner → Option Known) where
   pub one_more_known : ((owner : Owner) → now owner ≡ cond (derived.ghosts.eq key owner) (Some new) (old owner))
       → IsKnownOf calls key new
@@ -49,11 +49,11 @@ module _ (calls : List ClientCall) (key : Owner) (new : Known) (old now : Owner 
           subst (λ (k : Known). IsKnownOf calls owner k) one (subst (λ (o : Owner). IsKnownOf calls o new) (eq_exact key owner same) is)
       by false other = before owner known (sym (updates owner ∙ ap (λ (b : Bool). cond b (Some new) (old owner)) other) ∙ e)
 
--- a call begins to be looked at at its begin
+-- the begin of a call is one from which it may be looked at
 pub begins_itself : (calls : List ClientCall) (call : ClientCall) → ((end : ℕ) → call.end ≡ Some end → call.begin ≤ end) → IsBeginOf calls call call.begin
 begins_itself calls call ordered = record { begun = omega arith; before_end = ordered; latest = inl refl }
 
--- an exit at a time that is no earlier, and no later than both its end and the later one of its begin and a begin that is known
+-- an exit may be looked at from a time between its begin and its end, no later than the later of its begin and a known begin
 pub exit_begins : (calls : List ClientCall) (call : ClientCall) (latest time : ℕ)
     → call.is_last ≡ true
     → (latest ≡ 0) ⊎ HasAnswerFrom calls call.owner latest

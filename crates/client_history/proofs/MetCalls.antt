@@ -1,4 +1,4 @@
--- A call that is met, behind calls of which none is of the closed set.
+-- A call that no lock blocks, behind calls of which none is in the closed set.
 use Rattle.std.specs.Prelude.{◌≢◌}
 use Rattle.std.proofs.Common.{◌≡◌, ℕ, ◌⊎◌, inl, inr, ⊎_elim, true, List, Some, None, refl, sym, subst, arith}
 use Rattle.intervals.specs.Bytes.{Range}
@@ -20,7 +20,7 @@ use Rattle.client_history.proofs.Releases.{passes_others}
 use Rattle.client_history.proofs.TakenFirst.{passes_all}
 use Rattle.client_history.proofs.OwnBytes.{asks_or_changes}
 
--- a denial that the locks explain is a question that may be asked
+-- a denial that the locks explain only asks, and is allowed
 denied_asks : (h : Locks) (q : Owner) (a : Act) → IsDeniedIn h q a → AsksOnly a × ActStep the_file h q a h
 denied_asks h q (Takes mode span) is = absurd is
 denied_asks h q (IsDenied mode span told) is = (tt, (is, refl))
@@ -37,7 +37,7 @@ takes_or_releases (Frees span) changes = inr tt
 takes_or_releases Drops changes = inr tt
 
 module _ (calls : List ClientCall) (h m u : Locks) (Left : Calls) (order : List ℕ) (way : Leads calls h order m) (p : Owner) where
-  -- an act in whose way no lock is, and before which none of the calls has to come, is a change that may be done first
+  -- an act that no lock blocks, and before which none of the calls has to come, is a change that is allowed first
   may_be_first : (a : Act) → IsUnbarred h p a → ActStep the_file m p a u → (AsksOnly a → (next : Locks) → ActStep the_file h p a next → ⊥)
       → ((k : ℕ) (other : ClientCall) (at : IsAt calls order k other) → other.owner ≢ p → MeetsOther Left a at.index other.owner other.act → ⊥)
       → (next : Locks) × Changes a × ActStep the_file h p a next
@@ -50,7 +50,7 @@ module _ (calls : List ClientCall) (h m u : Locks) (Left : Calls) (order : List 
   may_be_first Drops unbarred step unasked never = (without_owner h the_file p, tt, refl)
 
 module _ (calls : List ClientCall) (h m u : Locks) (Left : Calls) (Set : ℕ → Type 0) (order : List ℕ) (call : ClientCall) (passed : ArePassed calls h Left Set order) (way : Leads calls h order m) (met : IsMet h Left Set call) (step : ActStep the_file m call.owner call.act u) where
-  -- none of the calls may have to come before it
+  -- none of the calls may have to come before the call
   never_before : (k : ℕ) (other : ClientCall) (at : IsAt calls order k other) → MayComeBefore Left call at.index other → ⊥
   never_before k other at may = passed.unchosen k other at (met.closed at.index other (passed.left k other at) may)
 
@@ -60,7 +60,7 @@ module _ (calls : List ClientCall) (h m u : Locks) (Left : Calls) (Set : ℕ →
   none_denied : NoneDenied calls order h
   none_denied k other at is = let asks = denied_asks h other.owner other.act is in passed.unasked k other at asks.0 h asks.1
 
-  -- none of them ended before it began
+  -- none of the calls ended before the call began
   pub none_ended : AreOpen calls Left → (i : ℕ) → Left i call → NoneEnded calls order call.begin
   none_ended are_open i left k other at ends =
       let late = are_open.beside i at.index call other left (passed.left k other at) ends.0 ends.1 in
@@ -68,11 +68,11 @@ module _ (calls : List ClientCall) (h m u : Locks) (Left : Calls) (Set : ℕ →
       absurd (omega arith)
 
   module _ (changes : Changes call.act) where
-    -- where it is an exit none of them is of its owner
+    -- if the call is an exit, none of the calls is of its owner
     pub of_others : call.is_last ≡ true → AreOfOthers calls order call.owner
     of_others last k other at same = never_before k other at (inl (sym same, changes, inl last))
 
-    -- none of them is the one that it follows
+    -- none of the calls is the one that the call follows
     pub follows_none : AreOpen calls Left → (i : ℕ) → Left i call → FollowsNone order call
     follows_none are_open i left first follows stands =
         let there = call_of calls h m order stands.0 first way stands.1 in
@@ -97,7 +97,7 @@ module _ (calls : List ClientCall) (h m u : Locks) (Left : Calls) (Set : ℕ →
       once = once;
     }) call refl takes way
 
-    -- it passes them
+    -- the call passes them
     pub met_passes : IsOnce order → Passes calls h call order
     met_passes once = ⊎_elim
         (λ takes. takes_pass once takes.0 takes.1 takes.2)

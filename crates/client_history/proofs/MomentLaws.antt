@@ -1,4 +1,4 @@
--- Moments of calls, call by call.
+-- The moments of calls, call by call.
 use Rattle.std.proofs.Common.{◌≡◌, ◌≢◌, ℕ, ◌+◌, ◌<◌, ◌≤◌, eqb, false, ⊎_elim, List, [], ◌∷◌, ◌++◌, length, map, get_or, slice_get, option_map, Some, All, Contains, sym, ap, subst, ◌∙◌, arith}
 use Rattle.std.specs.Cmp.{nat_eq_equiv}
 use Rattle.std.specs.List.{IsDistinct}
@@ -18,7 +18,7 @@ use Rattle.client_history.proofs.Orders.{get_one, last_place}
 abbrev calls_of : List Moment → List ℕ
 calls_of moments = map (λ m. m.call) moments
 
--- the moments are of calls before the i-th, no two of one call
+-- the moments are of the first i calls, no two of one call
 pub record AreApart (i : ℕ) (moments : List Moment) : Type 0 where
   pub below : All (λ (m : Moment). m.call < i) moments
   pub distinct : IsDistinct eqb (calls_of moments)
@@ -71,7 +71,7 @@ module _ (calls : List ClientCall) (Is : ClientCall → ℕ → Type 0) where
   abbrev pub IsMoment : Moment → Type 0
   IsMoment moment = (call : ClientCall) × (slice_get calls moment.call ≡ Some call) × Is call moment.time
 
-  -- the moments of the calls before the i-th, for each call that has one
+  -- the list has the moments of the first i calls, for each that has one
   pub record MomentsTo (i : ℕ) (moments : List Moment) : Type 0 where
     pub each : All IsMoment moments
     pub all : (j time : ℕ) (call : ClientCall) → j < i → slice_get calls j ≡ Some call → Is call time → (moment : Moment) × Contains moments moment × (moment.call ≡ j)
@@ -81,7 +81,7 @@ module _ (calls : List ClientCall) (Is : ClientCall → ℕ → Type 0) where
   moments_none = record { each = All-nil IsMoment; all = λ j time call lt. absurd (omega arith); apart = apart_none }
 
   module _ (i : ℕ) (moments : List Moment) (before : MomentsTo i moments) (call : ClientCall) (there : slice_get calls i ≡ Some call) where
-    -- one more moment
+    -- one more call with a moment
     pub moments_more : (time : ℕ) → Is call time → MomentsTo (i + 1) (moments ++ record { time = time; call = i } ∷ [])
     moments_more time is = record {
       each = All-push IsMoment moments (record { time = time; call = i }) before.each (call, there, is);
@@ -92,7 +92,7 @@ module _ (calls : List ClientCall) (Is : ClientCall → ℕ → Type 0) where
       apart = apart_more i time moments before.apart;
     }
 
-    -- a call that has none
+    -- one more call without a moment
     pub moments_same : ((time : ℕ) → Is call time → ⊥) → MomentsTo (i + 1) moments
     moments_same none = record {
       each = before.each;
@@ -103,7 +103,7 @@ module _ (calls : List ClientCall) (Is : ClientCall → ℕ → Type 0) where
       apart = apart_later i moments before.apart;
     }
 
-  -- in another order they are the same
+  -- the moments in another order are the same
   pub moments_sorted : (i : ℕ) (xs ys : List Moment) → IsPermutation xs ys → MomentsTo i xs → MomentsTo i ys
   moments_sorted i xs ys same before = record {
     each = All-permutation IsMoment xs ys same before.each;

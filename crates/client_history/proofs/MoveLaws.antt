@@ -1,4 +1,4 @@
--- Acts of two owners, in either order.
+-- The acts of two owners, in either order.
 use Rattle.std.specs.Prelude.{◌≢◌, ⊤, nat_le}
 use Rattle.std.proofs.Common.{◌≡◌, ℕ, ◌≤◌, ⊎_elim, Bool, true, false, ◌&&◌, if◌then◌else◌, eqb, eq-eqb, Option, Some, None, refl, sym, ap, subst, ◌∙◌, arith}
 use Rattle.std.proofs.lemmas.Bool.{and_parts, and_from, and_right, cases_Bool, false_from_ne_true, leb-true, le-leb}
@@ -16,7 +16,7 @@ use Rattle.client_history.specs.Acts.{ActStep, IsBlocked}
 use Rattle.client_history.specs.Explained.{the_file}
 use Rattle.client_history.specs.Moves.{MovesBefore, LetsBefore, Meet, IsDeniedByOther}
 
--- two owners are two by the test
+-- owners that are not equal fail the test of equality
 apart : (p q : Owner) → p ≢ q → same_owner p q ≡ false
 apart p q differ = false_from_ne_true (same_owner p q) (λ same. differ (owner_exact p q same))
 
@@ -39,22 +39,22 @@ choices false true x y z never = refl
 choices false false x y z never = refl
 
 module _ (h : Locks) (file : ℕ) (p : Owner) (x : ℕ → Option Mode) where
-  -- the owner has the bytes
+  -- the owner has the new bytes
   pub own_is : replace h file p x file p ≡ x
   own_is = choice_true ((eqb file file) && same_owner p p) x (h file p) (and_from (eqb file file) (same_owner p p) (eq-eqb file file refl) (owner_refl p))
 
-  -- another has what it had
+  -- another owner has the bytes that it had
   pub other_is : (q : Owner) → p ≢ q → replace h file p x file q ≡ h file q
   other_is q differ = choice_false ((eqb file file) && same_owner p q) x (h file q) (and_right (eqb file file) (same_owner p q) (apart p q differ))
 
-  -- what two owners have may be replaced in either order
+  -- the bytes of two owners may be replaced in either order
   swap : (q : Owner) (y : ℕ → Option Mode) → p ≢ q → replace (replace h file p x) file q y ≡ replace (replace h file q y) file p x
   swap q y differ = λ i f o. at f o i
     where
       at : (f : ℕ) (o : Owner) → replace (replace h file p x) file q y f o ≡ replace (replace h file q y) file p x f o
       at f o = choices ((eqb file f) && same_owner q o) ((eqb file f) && same_owner p o) y x (h f o) (λ one two. differ (owner_exact p o (and_parts (eqb file f) (same_owner p o) two).1 ∙ sym (owner_exact q o (and_parts (eqb file f) (same_owner q o) one).1)))
 
-  -- what was free for another stays free, where the new bytes don't bar it
+  -- bytes that were free for another stay free, if the new ones don't bar it
   free_beside : (q : Owner) (s : Range) (mode : Mode) → IsFree (h file) q s mode → ((b : ℕ) → s.lo ≤ b → b ≤ s.hi → bars mode (x b) ≡ false) → IsFree (replace h file p x file) q s mode
   free_beside q s mode free clear o b other lo hi = ⊎_elim
       (λ same. subst (λ (r : Owner). bars mode (replace h file p x file r b) ≡ false) (owner_exact p o same) (subst (λ (y : ℕ → Option Mode). bars mode (y b) ≡ false) (sym own_is) (clear b lo hi)))
@@ -87,7 +87,7 @@ taken_clear mode asked had s b clear lets = by (is_in s b) lets
     by true lets = lets refl
     by false lets = clear
 
--- bytes of both spans: then they meet
+-- spans with a common byte meet
 pub in_both : (s t : Range) (b : ℕ) → is_in s b ≡ true → t.lo ≤ b → b ≤ t.hi → Meet s t
 in_both s t b within low high =
     let parts = and_parts (nat_le s.lo b) (nat_le b s.hi) within in
@@ -95,7 +95,7 @@ in_both s t b within low high =
     let to = leb-true b s.hi parts.1 in
     (omega arith, omega arith)
 
--- the act of q may be done still where p has these bytes
+-- the act of q is allowed still after p got these bytes
 abbrev StaysAllowed : Locks → Owner → Owner → (ℕ → Option Mode) → Act → Type 0
 StaysAllowed h p q x (Takes mode span) = IsFree (h the_file) q span mode → IsFree (replace h the_file p x the_file) q span mode
 StaysAllowed h p q x (IsDenied mode span told) = IsBlocked (replace h the_file p x) the_file q span mode told
@@ -103,7 +103,7 @@ StaysAllowed h p q x (FindsFree mode span) = IsFree (h the_file) q span mode →
 StaysAllowed h p q x b = ⊤
 
 module _ (h : Locks) (p q : Owner) (differ : p ≢ q) where
-  -- what denied one owner denies it still, where it is not the other's
+  -- a lock that denied one owner denies it still, if it is not the other's
   still_denied : (x : ℕ → Option Mode) (mode : Mode) (span : Range) (told : ToldLock) → IsDeniedByOther h p q mode span told → IsBlocked (replace h the_file p x) the_file q span mode told
   still_denied x mode span told d =
       let same = other_is h the_file p x d.lock.owner (λ e. d.other (sym e)) in
@@ -129,11 +129,11 @@ module _ (h : Locks) (p q : Owner) (differ : p ≢ q) where
   free_after_drop : (s : Range) (mode : Mode) → IsFree (h the_file) q s mode → IsFree (replace h the_file p nothing the_file) q s mode
   free_after_drop s mode free = free_beside h the_file p nothing q s mode free (λ b lo hi. refl)
 
-  -- and where it takes bytes that they don't have, or in a mode that lets them be
+  -- bytes that were free for one owner stay so where the other takes others, or takes them in a mode that lets it
   free_after_taken : (s taken : Range) (mode asked : Mode) → IsFree (h the_file) q s asked → ((b : ℕ) → s.lo ≤ b → b ≤ s.hi → is_in taken b ≡ true → excludes mode asked ≡ false) → IsFree (replace h the_file p (put (h the_file p) taken (Some mode)) the_file) q s asked
   free_after_taken s taken mode asked free lets = free_beside h the_file p (put (h the_file p) taken (Some mode)) q s asked free (λ b lo hi. taken_clear mode asked (h the_file p) taken b (had_clear s asked b free lo hi) (lets b lo hi))
 
-  -- two locks on one byte let each other be
+  -- locks of two owners on one byte let each other
   locks_let : (m : Locks) (s taken : Range) (mode asked : Mode) → m ≡ replace h the_file q (put (h the_file q) s (Some asked)) → IsFree (m the_file) p taken mode → (b : ℕ) → s.lo ≤ b → b ≤ s.hi → is_in taken b ≡ true → excludes mode asked ≡ false
   locks_let m s taken mode asked is free b lo hi within =
       let parts = and_parts (nat_le taken.lo b) (nat_le b taken.hi) within in
@@ -141,7 +141,7 @@ module _ (h : Locks) (p q : Owner) (differ : p ≢ q) where
       excludes_both asked mode (ap (λ (o : Option Mode). bars mode o) (sym has) ∙ free q b (λ e. differ (sym e)) (leb-true taken.lo b parts.0) (leb-true b taken.hi parts.1))
 
   module _ (m u k : Locks) where
-    -- an act that asks only moves before any
+    -- an act that only asks moves before any
     asks_first : (b : Act) → k ≡ h → u ≡ m → ActStep the_file h q b m → ActStep the_file k q b u
     asks_first b is_k is_u step = subst (λ (l : Locks). ActStep the_file l q b u) (sym is_k) (subst (λ (l : Locks). ActStep the_file h q b l) (sym is_u) step)
 
@@ -154,7 +154,7 @@ module _ (h : Locks) (p q : Owner) (differ : p ≢ q) where
     change_first A (Frees span) is_k is_u stays step = both_ways h m u k the_file p q A (λ had. put had span None) differ step is_u is_k
     change_first A Drops is_k is_u stays step = both_ways h m u k the_file p q A (λ had. nothing) differ step is_u is_k
 
--- an act of p that may be done moves before one of q that lets it
+-- p's act that is allowed moves before q's act that lets it
 pub moves_before : (h k : Locks) (p q : Owner) (a b : Act) → p ≢ q → ActStep the_file h p a k → LetsBefore h p a q b → MovesBefore h p a q b
 moves_before h k p q (IsDenied mode span told) b differ step lets m u first second = (k, step, asks_first h p q differ m u k b step.1 second.1 first)
 moves_before h k p q (FindsFree mode span) b differ step lets m u first second = (k, step, asks_first h p q differ m u k b step.1 second.1 first)

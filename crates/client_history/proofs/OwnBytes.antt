@@ -1,4 +1,4 @@
--- What happens on the way from one table to another.
+-- What calls change between two tables of a way.
 use Rattle.std.proofs.Common.{◌≡◌, ℕ, zero, suc, ◌≤◌, ◌⊎◌, inl, inr, ⊎_elim, true, false, List, [], ◌∷◌, Option, Some, None, refl, sym, ap, subst, ◌∙◌}
 use Rattle.std.proofs.lemmas.Bool.{cases_Bool, false≢true}
 use Rattle.intervals.specs.Bytes.{Range, is_in, nothing, put}
@@ -17,7 +17,7 @@ use Rattle.client_history.specs.Moves.{AsksOnly}
 use Rattle.client_history.proofs.MoveLaws.{choice_true, choice_false, own_is, in_both}
 use Rattle.client_history.proofs.OwnQuestions.{one_or_two, leaves_other, leaves_same}
 
--- one of these calls does that
+-- one of these calls makes such an act
 pub record IsDone (calls : List ClientCall) (order : List ℕ) (Does : Owner → Act → Type 0) : Type 0 where
   pub place : ℕ
   pub call : ClientCall
@@ -25,7 +25,7 @@ pub record IsDone (calls : List ClientCall) (order : List ℕ) (Does : Owner →
   pub does : Does call.owner call.act
 
 module _ (calls : List ClientCall) (Keeps : Locks → Type 0) (Does : Owner → Act → Type 0) (step : (h k : Locks) (p : Owner) (a : Act) → ActStep the_file h p a k → Keeps h → Does p a ⊎ Keeps k) where
-  -- what each act keeps, unless it does that, is kept, or one of the calls does that
+  -- a fact that each act keeps unless it is such an act is kept, or one of the calls makes such an act
   pub done_or_kept : (h k : Locks) (is : List ℕ) → Leads calls h is k → Keeps h → IsDone calls is Does ⊎ Keeps k
   done_or_kept h k [] leads keeps = inr (subst Keeps leads keeps)
   done_or_kept h k (i ∷ is) leads keeps = ⊎_elim
@@ -44,11 +44,11 @@ asks_or_changes (FindsFree mode span) = inl tt
 asks_or_changes (Frees span) = inr tt
 asks_or_changes Drops = inr tt
 
--- the act is a change of the owner
+-- the act is a change of that owner
 abbrev pub ChangesOwn : Owner → Owner → Act → Type 0
 ChangesOwn q p a = (p ≡ q) × Changes a
 
--- on a way on which an owner changes nothing it keeps its locks
+-- an owner that changes nothing on a way keeps its locks
 pub changed_or_same : (calls : List ClientCall) (q : Owner) (h k : Locks) (is : List ℕ) → Leads calls h is k → IsDone calls is (ChangesOwn q) ⊎ (k the_file q ≡ h the_file q)
 changed_or_same calls q h k is leads = done_or_kept calls (λ (l : Locks). l the_file q ≡ h the_file q) (ChangesOwn q) step h k is leads refl
   where
@@ -66,7 +66,7 @@ module _ (h k : Locks) (q : Owner) (s : Range) (value : Option Mode) (b : ℕ) (
   has_value : is_in s b ≡ true → k the_file q b ≡ value
   has_value within = given ∙ choice_true (is_in s b) value (h the_file q b) within
 
-  -- another has what it had
+  -- another byte has what it had
   has_still : is_in s b ≡ false → k the_file q b ≡ h the_file q b
   has_still apart = given ∙ choice_false (is_in s b) value (h the_file q b) apart
 
@@ -101,7 +101,7 @@ module _ (lock : LockInfo) (mode : Mode) (b : ℕ) (low : lock.span.lo ≤ b) (h
       (λ differ. inr (shut_still h k (ap (λ (f : ℕ → Option Mode). f b) (leaves_other h k lock.owner p a (λ e. differ (sym e)) step)) shut))
       (one_or_two p lock.owner)
 
-  -- where a byte of the lock is barred first and not in the end, some call lets it go
+  -- if a byte of the lock is barred first and not in the end, some call lets it go
   pub some_lets_go : (calls : List ClientCall) (h k : Locks) (is : List ℕ) → Leads calls h is k → bars mode (h the_file lock.owner b) ≡ true → bars mode (k the_file lock.owner b) ≡ false → IsDone calls is (LetsGo lock)
   some_lets_go calls h k is leads shut clear = ⊎_elim
       (λ done. done)
@@ -113,7 +113,7 @@ abbrev pub TakesByte : Mode → ℕ → Act → Type 0
 TakesByte mode b (Takes asked bytes) = (is_in bytes b ≡ true) × (excludes asked mode ≡ true)
 TakesByte mode b _ = ⊥
 
--- the act is one of the owner that does so
+-- the act of that owner takes the byte in a mode that excludes the other
 abbrev pub BarsByte : Owner → Mode → ℕ → Owner → Act → Type 0
 BarsByte q mode b p a = (p ≡ q) × TakesByte mode b a
 
@@ -147,7 +147,7 @@ module _ (q : Owner) (mode : Mode) (b : ℕ) where
       (λ differ. inr (open_still h k (ap (λ (f : ℕ → Option Mode). f b) (leaves_other h k q p a (λ e. differ (sym e)) step)) clear))
       (one_or_two p q)
 
-  -- where a byte is not barred first, and is so in the end, some call of the owner takes it
+  -- if a byte is not barred first, and is in the end, some call of the owner takes it
   pub some_bars : (calls : List ClientCall) (h k : Locks) (is : List ℕ) → Leads calls h is k → bars mode (h the_file q b) ≡ false → bars mode (k the_file q b) ≡ true → IsDone calls is (BarsByte q mode b)
   some_bars calls h k is leads clear shut = ⊎_elim
       (λ done. done)

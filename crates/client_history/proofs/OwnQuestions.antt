@@ -1,4 +1,4 @@
--- Questions of an owner, and its other acts.
+-- Acts of an owner that only ask, and its other acts.
 use Rattle.std.specs.Prelude.{◌≢◌}
 use Rattle.std.proofs.Common.{◌≡◌, ℕ, ◌⊎◌, inl, inr, ⊎_elim, true, false, Option, Some, None, sym, ap, subst, ◌∙◌}
 use Rattle.std.proofs.lemmas.Bool.{cases_Bool, false≢true}
@@ -17,11 +17,11 @@ use Rattle.client_history.specs.Moves.{AsksOnly, MayPass, MovesBefore}
 use Rattle.client_history.proofs.MoveLaws.{other_is, moves_before}
 use Rattle.client_history.proofs.Steps.{step_is_one}
 
--- two owners are one, or two
+-- two owners are equal or not
 pub one_or_two : (p q : Owner) → (p ≡ q) ⊎ (p ≢ q)
 one_or_two p q = ⊎_elim (λ same. inl (owner_exact p q same)) (λ differ. inr (λ e. false≢true (sym differ ∙ subst (λ (o : Owner). same_owner p o ≡ true) e (owner_refl p)))) (cases_Bool (same_owner p q))
 
--- a question changes nothing
+-- an act that only asks changes nothing
 pub asks_same : (m n : Locks) (q : Owner) (b : Act) → AsksOnly b → ActStep the_file m q b n → n ≡ m
 asks_same m n q (Takes mode span) asks step = absurd asks
 asks_same m n q (IsDenied mode span told) asks step = step.1
@@ -37,11 +37,11 @@ leaves_other m n p q (FindsFree mode span) differ step = ap (λ (l : Locks). l t
 leaves_other m n p q (Frees span) differ step = ap (λ (l : Locks). l the_file p) step ∙ other_is m the_file q (put (m the_file q) span None) p (λ e. differ (sym e))
 leaves_other m n p q Drops differ step = ap (λ (l : Locks). l the_file p) step ∙ other_is m the_file q nothing p (λ e. differ (sym e))
 
--- and so does one of its own that asks only
+-- an act that only asks leaves its own owner its locks
 pub leaves_same : (m n : Locks) (p q : Owner) (b : Act) → (p ≡ q → AsksOnly b) → ActStep the_file m q b n → n the_file p ≡ m the_file p
 leaves_same m n p q b asks step = ⊎_elim (λ same. ap (λ (l : Locks). l the_file p) (asks_same m n q b (asks same) step)) (λ differ. leaves_other m n p q b differ step) (one_or_two p q)
 
--- a lock that blocks does so wherever its owner has the same locks
+-- a lock that blocks does so in all tables in which its owner has the same locks
 pub blocked_still : (h k : Locks) (q : Owner) (mode : Mode) (span : Range) (told : ToldLock) (is : IsBlocked h the_file q span mode told) → k the_file is.lock.owner ≡ h the_file is.lock.owner → IsBlocked k the_file q span mode told
 blocked_still h k q mode span told is same = record {
   lock = is.lock;
@@ -60,7 +60,7 @@ module _ (h k m u : Locks) (p : Owner) (a : Act) (step : ActStep the_file h p a 
   both_one : m ≡ h → u ≡ k
   both_one is_m = step_is_one h u k p a (subst (λ (l : Locks). ActStep the_file l p a u) is_m second) step
 
-  -- an act moves before a question of its owner
+  -- an act moves before one of its owner that only asks
   own_first : (b : Act) → AsksOnly b → ActStep the_file h p b m → ActStep the_file k p b u
   own_first (Takes mode span) asks first = absurd asks
   own_first (IsDenied mode span told) asks first = (blocked_still h k p mode span told first.0 (leaves_other h k first.0.lock.owner p a first.0.blocks.is_other step), both_one first.1)

@@ -10,7 +10,7 @@ eq_refl a = grind (arith, common_steps)
 pub eq_exact : (a b : Owner) → derived.ghosts.eq a b ≡ true → a ≡ b
 eq_exact a b h = grind (arith, common_steps)
 
--- an owner that was put in was there, or is the one
+-- an owner that is in after another was added was there, or is that one
 pub put_in : (b x : Bool) → (if b then true else x) ≡ true → (b ≡ true) ⊎ (x ≡ true)
 put_in true x h = inl refl
 put_in false x h = inr h

@@ -1,4 +1,4 @@
--- Calls of which none is of a closed set.
+-- Calls of which none is in a closed set.
 use Rattle.std.proofs.Common.{ℕ, ◌≤◌, ⊎_elim, List, ap, subst, ◌∙◌, arith}
 use Rattle.std.proofs.lemmas.Bool.{cases_lt}
 use Rattle.intervals.specs.Bytes.{Range}
@@ -14,7 +14,7 @@ use Rattle.client_history.specs.FirstCalls.{Calls, NeedsFree, IsKept}
 use Rattle.client_history.specs.Moves.{AsksOnly}
 use Rattle.client_history.proofs.OwnBytes.{some_lets_go}
 
--- the calls are left, none is of the set, and no question among them may be asked here
+-- the calls are left, none is in the set, and none that only asks is allowed here
 pub record ArePassed (calls : List ClientCall) (h : Locks) (Left : Calls) (Set : ℕ → Type 0) (order : List ℕ) : Type 0 where
   pub left : (k : ℕ) (call : ClientCall) (at : IsAt calls order k call) → Left at.index call
   pub unchosen : (k : ℕ) (call : ClientCall) (at : IsAt calls order k call) → Set at.index → ⊥
@@ -34,7 +34,7 @@ common_byte s t first second low high = ⊎_elim
     (λ le. (s.lo, record { above_first = omega arith; below_first = first; above_second = le; below_second = high }))
     (cases_lt s.lo t.lo)
 
--- where an act that needs its bytes free is done they are free
+-- where an act that needs its bytes free is done, they are free
 needed_free : (a : Act) (mode : Mode) (span : Range) (m u : Locks) (p : Owner) → NeedsFree a mode span → ActStep the_file m p a u → IsFree (m the_file) p span mode
 needed_free (Takes asked bytes) mode span m u p needs step = subst (λ (s : Range). IsFree (m the_file) p s mode) needs.1 (subst (λ (x : Mode). IsFree (m the_file) p bytes x) needs.0 step.0)
 needed_free (IsDenied asked bytes told) mode span m u p needs step = absurd needs
@@ -42,7 +42,7 @@ needed_free (FindsFree asked bytes) mode span m u p needs step = subst (λ (s : 
 needed_free (Frees bytes) mode span m u p needs step = absurd needs
 needed_free Drops mode span m u p needs step = absurd needs
 
--- behind calls of which none is of the set, no call may be done in whose way a lock is that the set alone lets go
+-- behind calls of which none is in the set, no call is allowed that a lock blocks which the set alone lets go
 pub kept_is_not_done : (calls : List ClientCall) (h m u : Locks) (Left : Calls) (Set : ℕ → Type 0) (order : List ℕ) (call : ClientCall)
     → ArePassed calls h Left Set order → Leads calls h order m → IsKept h Left Set call → ActStep the_file m call.owner call.act u → ⊥
 kept_is_not_done calls h m u Left Set order call passed leads kept step =

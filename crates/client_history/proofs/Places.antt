@@ -1,4 +1,4 @@
--- What stands in lists of calls.
+-- Elements of lists of calls.
 use Rattle.std.proofs.Common.{◌≡◌, ℕ, zero, suc, ◌+◌, ◌⊎◌, inl, inr, ⊎_elim, List, [], ◌∷◌, ◌++◌, length, slice_get, Some, refl, sym, ap, subst, arith}
 use Rattle.std.proofs.lemmas.Bool.{cases_eq}
 use Rattle.std.proofs.lemmas.Option.{none-some, same_Some, slice_get_within}
@@ -17,7 +17,7 @@ module _ (xs ys : List ℕ) where
   pub stands_split : (i : ℕ) → Stands (xs ++ ys) i → Stands xs i ⊎ Stands ys i
   stands_split i s = ⊎_elim (λ p. inl (s.0, p.1)) (λ p. inr (p.0, p.2)) (get_split xs ys s.0 i s.1)
 
-  -- where no index stands twice, none stands in both
+  -- if no index stands twice in two lists together, none stands in both
   pub stands_apart : IsOnce (xs ++ ys) → (i : ℕ) → Stands xs i → Stands ys i → ⊥
   stands_apart once i s t =
       let lt = slice_get_within xs s.0 i s.1 in
@@ -44,11 +44,11 @@ module _ (x : ℕ) (xs : List ℕ) where
       by zero at = inl (sym (same_Some x i at))
       by (suc k) at = inr (k, at)
 
--- what stands alone
+-- a list of one index has that index alone
 pub stands_alone : (x i : ℕ) → Stands (x ∷ []) i → i ≡ x
 stands_alone x i s = ⊎_elim (λ e. e) (λ none. absurd (none-some i none.1)) (stands_cases x [] i s)
 
--- an index stands in a list, or it doesn't
+-- an index stands in a list, or does not
 pub decide_stands : (xs : List ℕ) (i : ℕ) → Stands xs i ⊎ (Stands xs i → ⊥)
 decide_stands [] i = inr (λ s. none-some i s.1)
 decide_stands (x ∷ xs) i = ⊎_elim
@@ -59,13 +59,13 @@ decide_stands (x ∷ xs) i = ⊎_elim
     (decide_stands xs i))
     (cases_eq i x)
 
--- what stands before a place and behind it
+-- a list is what stands before a place, the element there, and what stands behind it
 pub split_at : (xs : List ℕ) (k i : ℕ) → slice_get xs k ≡ Some i → (before : List ℕ) × (behind : List ℕ) × (xs ≡ before ++ (i ∷ behind)) × (length before ≡ k)
 split_at [] k i at = absurd (none-some i at)
 split_at (x ∷ xs) zero i at = ([], xs, ap (λ (y : ℕ). y ∷ xs) (same_Some x i at), refl)
 split_at (x ∷ xs) (suc k) i at = let rest = split_at xs k i at in (x ∷ rest.0, rest.1, ap (λ (ys : List ℕ). x ∷ ys) rest.2, ap (λ (n : ℕ). suc n) rest.3)
 
--- an index that stands and leads somewhere is that of a call
+-- an index of an order that leads somewhere is that of a call
 pub call_of : (calls : List ClientCall) (h n : Locks) (order : List ℕ) (k i : ℕ) → Leads calls h order n → slice_get order k ≡ Some i → (call : ClientCall) × (slice_get calls i ≡ Some call)
 call_of calls h n [] k i leads at = absurd (none-some i at)
 call_of calls h n (x ∷ xs) zero i leads at = (leads.0, subst (λ (j : ℕ). slice_get calls j ≡ Some leads.0) (same_Some x i at) leads.2)

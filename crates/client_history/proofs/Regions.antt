@@ -1,4 +1,4 @@
--- A table has few regions.
+-- The number of regions of a table.
 use Rattle.std.proofs.Common.{◌≡◌, ◌≢◌, ℕ, ◌<◌, ◌≤◌, true, Option, refl, arith}
 use Rattle.intervals.specs.Bytes.{all_bytes}
 use Rattle.intervals.proofs.StartsWith.{starts-few}
@@ -18,11 +18,11 @@ pub few_regions : (bytes : ℕ → Option Mode) → regions bytes ≤ 9223372036
 unfolding all_bytes
 few_regions bytes = starts-few same_mode mode_same bytes 9223372036854775808
 
--- so the greatest limit is never passed
+-- the number of regions never passes the greatest limit
 pub never_many : (limit : ℕ) (bytes : ℕ → Option Mode) → limit ≡ 18446744073709551615 → limit < regions bytes → ⊥
 never_many limit bytes greatest many = let few = few_regions bytes in absurd (omega arith)
 
--- an error that is not of the limit is of the memory
+-- an error that is not of the limit is for want of memory
 pub is_memory : (error : LockError) → error ≢ NoLocks → error ≡ NoMemory
 is_memory NoMemory other = refl
 is_memory NoLocks other = absurd (other refl)

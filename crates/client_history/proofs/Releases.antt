@@ -1,4 +1,4 @@
--- A release that comes first.
+-- A release of locks that comes first.
 use Rattle.std.proofs.Common.{◌≡◌, ℕ, zero, suc, ◌++◌, true, List, [], ◌∷◌, slice_get, Some, None, refl, sym, subst, ◌∙◌}
 use Rattle.intervals.specs.Bytes.{Range}
 use Rattle.model.specs.declared.mode.Mode.{Mode}
@@ -15,7 +15,7 @@ use Rattle.client_history.specs.Prefixes.{Passes, NoneEnded, FollowsNone, AreOfO
 use Rattle.client_history.proofs.Exchange.{moved_explained}
 use Rattle.client_history.proofs.OwnQuestions.{leaves_same, blocked_still}
 
--- a release may be done in any locks
+-- a release is allowed in any locks
 release_step : (a : Act) → Releases a → (m : Locks) (p : Owner) → (k : Locks) × ActStep the_file m p a k
 release_step (Takes mode span) is m p = absurd is
 release_step (IsDenied mode span told) is m p = absurd is
@@ -24,14 +24,14 @@ release_step (Frees span) is m p = (with_lock m the_file p span None, refl)
 release_step Drops is m p = (without_owner m the_file p, refl)
 
 module _ (h m : Locks) (p q : Owner) (same : m the_file p ≡ h the_file p) where
-  -- a denial that was none where the owner had the same locks is not by one of these
+  -- a denial that the old locks of an owner don't explain is not by that owner
   pub denied_by_other : (mode : Mode) (span : Range) (told : ToldLock) → (IsBlocked h the_file q span mode told → ⊥) → IsBlocked m the_file q span mode told → IsDeniedByOther m p q mode span told
   denied_by_other mode span told never is = record { lock = is.lock; blocks = is.blocks; named = is.named; other = λ own. never (was own) }
     where
       was : is.lock.owner ≡ p → IsBlocked h the_file q span mode told
       was own = blocked_still m h q mode span told is (subst (λ (o : Owner). h the_file o ≡ m the_file o) (sym own) (sym same))
 
-  -- so each act lets a release before it
+  -- each act lets a release before it
   lets_release : (a b : Act) (n : Locks) → Releases a → (IsDeniedIn h q b → ⊥) → ActStep the_file m q b n → LetsBefore m p a q b
   lets_release (Takes mode span) b n is never step = absurd is
   lets_release (IsDenied mode span told) b n is never step = absurd is

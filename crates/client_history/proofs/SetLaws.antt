@@ -1,4 +1,4 @@
--- Sets of open calls that grow until they are closed.
+-- Sets of open calls that are made closed, step by step.
 use Rattle.std.specs.Prelude.{◌≢◌, MatchOption}
 use Rattle.std.proofs.Common.{◌≡◌, ℕ, zero, suc, ◌+◌, ◌<◌, ◌≤◌, ◌⊎◌, inl, inr, ⊎_elim, Option, List, [], ◌∷◌, ◌++◌, length, slice_get, get_or, true, Some, None, refl, sym, ap, subst, ◌∙◌, arith}
 use Rattle.std.proofs.lemmas.Bool.{cases_eq}
@@ -19,27 +19,27 @@ use Rattle.client_history.proofs.Exchange.{get_left}
 use Rattle.client_history.proofs.Orders.{last_place, get_one}
 use Rattle.client_history.proofs.Standing.{has_last}
 
--- it is so of each of the first so many
+-- P holds of the first n elements
 abbrev pub Below : {X : Type 0} → (X → Type 0) → List X → ℕ → Type 0
 Below P xs n = (k : ℕ) (x : _) → k < n → slice_get xs k ≡ Some x → P x
 
 module _ {X : Type 0} (P : X → Type 0) (xs : List X) where
-  -- of the next one too
+  -- P holds of one element more
   pub below_more : (n : ℕ) (x : X) → Below P xs n → slice_get xs n ≡ Some x → P x → Below P xs (n + 1)
   below_more n x before at is k y lt there = ⊎_elim
       (λ less. before k y less there)
       (λ e. subst P (get_one xs n k x y (sym e) at there) is)
       (last_place k n lt)
 
-  -- of all
+  -- P holds of all elements
   pub below_all : (n : ℕ) → Below P xs n → length xs ≤ n → (k : ℕ) (x : X) → slice_get xs k ≡ Some x → P x
   below_all n before past k x there = let within = slice_get_within xs k x there in before k x (omega arith) there
 
--- what is so of the first so many follows from what was
+-- where P holds of the first n elements and gives Q, Q does
 pub below_weaker : {X : Type 0} (P Q : X → Type 0) (xs : List X) (n : ℕ) → ((x : X) → P x → Q x) → Below P xs n → Below Q xs n
 below_weaker P Q xs n all before k x lt there = all x (before k x lt there)
 
--- the call is another change of the owner and is left
+-- the open call is another change of the owner, and is left
 pub record IsRival (taken : List ℕ) (i : ℕ) (owner : Owner) (one : OpenCall) : Type 0 where
   pub other : one.index ≢ i
   pub own : one.call.owner ≡ owner
@@ -134,14 +134,14 @@ few (x ∷ rest) running of once =
     let long = shorter running at.0 x at.1 in
     omega arith
 
--- of nothing
+-- the empty set is of the open calls
 pub none_of : (running : List OpenCall) → AreOf running []
 none_of running k one at = absurd (none-some one at)
 
 pub none_once : AreOnce []
 none_once j k a b p q same = absurd (none-some a p)
 
--- what a grown set has at a place below one of the old set, the old set had there
+-- an element of a grown set at a place of the old one was there before
 pub old_at : (running old new : List OpenCall) (k : ℕ) (x : OpenCall) (place : ℕ) → IsGrown running old new → (it : OpenCall) → slice_get old place ≡ Some it → k < place → slice_get new k ≡ Some x → slice_get old k ≡ Some x
 old_at running old new k x place grown it at lt there =
     let within = slice_get_within old place it at in
@@ -163,7 +163,7 @@ decide_in (x ∷ xs) i = ⊎_elim
     apart other none zero one at e = other (ap (λ (o : OpenCall). o.index) (same_Some x one at) ∙ e)
     apart other none (suc k) one at e = none (k, one, at, e)
 
--- what is served by a set is served by a greater one
+-- a call that a set serves is served by a greater set
 pub served_more : (h : Locks) (Left : Calls) (a b : List OpenCall) (call : ClientCall) → ((i : ℕ) → IsIn a i → IsIn b i) → IsServed h Left (IsIn a) call → IsServed h Left (IsIn b) call
 served_more h Left a b call more served = ⊎_elim
     (λ k. inl (record { lock = k.lock; mode = k.mode; span = k.span; needs = k.needs; ordered = k.ordered; region = k.region; other = k.other; in_way = k.in_way; closed = λ i other left lets. more i (k.closed i other left lets) }))
@@ -177,7 +177,7 @@ unbarred h owner (FindsFree mode span) free not_denied = free
 unbarred h owner (Frees span) free not_denied = tt
 unbarred h owner Drops free not_denied = tt
 
--- where each call that is needed is of the set, the call is served
+-- if each call that is needed is in the set, the call is served
 pub served_by : (h : Locks) (running : List OpenCall) (taken : List ℕ) (set : List OpenCall) (call : ClientCall) (kept : Option LockInfo)
     → MatchOption kept (FindsNoLock h call.owner call.act) (IsHeldUp h call.owner call.act)
     → IsNotDenied h call.owner call.act
@@ -201,20 +201,20 @@ served_by h running taken set call (Some lock) held not_denied all = inl (record
   closed = λ i other l lets. subst (λ (n : ℕ). IsIn set n) l.3 (all l.0 l.1 l.2 l.5 (subst (λ (c : ClientCall). LetsGo lock c.owner c.act) (sym l.4) lets));
 })
 
--- each call that has the index and is left is served
+-- each call with that index that is left is served
 abbrev pub IsServedAt : Locks → List OpenCall → List ℕ → List OpenCall → ℕ → Type 0
 IsServedAt h running taken set i = (k : ℕ) (one : OpenCall) → slice_get running k ≡ Some one → one.index ≡ i → IsLeft one taken → IsServed h (IsLeftOf running taken) (IsIn set) one.call
 
 pub served_at_more : (h : Locks) (running : List OpenCall) (taken : List ℕ) (a b : List OpenCall) (i : ℕ) → IsGrown running a b → IsServedAt h running taken a i → IsServedAt h running taken b i
 served_at_more h running taken a b i grown served k one there same left = served_more h (IsLeftOf running taken) a b one.call (λ j. in_grown running a b j grown) (served k one there same left)
 
--- a set of which each is served is closed
+-- a set in which each call is served is closed
 pub closed_all : (h : Locks) (running : List OpenCall) (taken : List ℕ) (set : List OpenCall) → ((k : ℕ) (one : OpenCall) → slice_get set k ≡ Some one → IsServedAt h running taken set one.index) → IsClosed h (IsLeftOf running taken) (IsIn set)
 closed_all h running taken set all = record {
   decided = decide_in set;
   served = λ i call s l. subst (λ (c : ClientCall). IsServed h (IsLeftOf running taken) (IsIn set) c) l.4 (all s.0 s.1 s.2 l.0 l.1 l.2 (l.3 ∙ sym s.3) l.5);
 }
 
--- where the call is left and a change that may come next, it is one of the first
+-- if the call is left and a change that may come next, it is among the first
 abbrev pub MayBeFirst : Locks → List OpenCall → List ℕ → List OpenCall → OpenCall → Type 0
 MayBeFirst h running taken first one = IsLeft one taken → Changes one.call.act → (next : Locks) → ActStep the_file h one.call.owner one.call.act next → (one.call.is_last ≡ true → AreOthersTaken running taken one) → IsFirstTaken running taken one → (n : ℕ) × (slice_get first n ≡ Some one)

@@ -1,11 +1,11 @@
--- What stands in lists.
+-- Elements of lists.
 use Rattle.std.proofs.Common.{◌≡◌, ℕ, zero, suc, ◌+◌, ◌<◌, ◌≤◌, ◌⊎◌, inl, inr, ⊎_elim, List, [], ◌∷◌, ◌++◌, length, set, slice_get, Some, refl, sym, ap, subst, ◌∙◌, arith}
 use Rattle.std.proofs.lemmas.Option.{none-some, same_Some, slice_get_within}
 use Rattle.client_history.proofs.Exchange.{get_left, get_right, get_split}
 use Rattle.client_history.proofs.Orders.{last_place, get_one}
 
 module _ {X : Type 0} where
-  -- a list has the thing
+  -- the list has the element
   abbrev pub Has : List X → X → Type 0
   Has xs x = (k : ℕ) × (slice_get xs k ≡ Some x)
 
@@ -25,7 +25,7 @@ module _ {X : Type 0} where
       by zero at = sym (same_Some y x at)
       by (suc k) at = absurd (none-some x at)
 
-  -- the last of a list
+  -- a list has its last element
   pub has_last : (xs : List X) (x : X) → Has (xs ++ x ∷ []) x
   has_last xs x = has_right xs (x ∷ []) x (0, refl)
 
@@ -44,7 +44,7 @@ module _ {X : Type 0} where
   set_beside (x ∷ xs) (suc i) zero y differ = refl
   set_beside (x ∷ xs) (suc i) (suc k) y differ = set_beside xs i k y (λ e. differ (ap suc e))
 
--- the first so many of a list became what they should, and the others are as they were
+-- the first n elements of a list became what they should, and the others are as they were
 pub record EachTo {X : Type 0} (P : X → X → Type 0) (old new : List X) (n : ℕ) : Type 0 where
   pub done : (k : ℕ) (x : X) → k < n → slice_get old k ≡ Some x → (y : X) × (slice_get new k ≡ Some y) × P x y
   pub rest : (k : ℕ) → n ≤ k → slice_get new k ≡ slice_get old k
@@ -53,7 +53,7 @@ module _ {X : Type 0} (P : X → X → Type 0) (old : List X) where
   pub each_none : EachTo P old old 0
   each_none = record { done = λ k x lt. absurd (omega arith); rest = λ k le. refl }
 
-  -- another became it
+  -- one more element became what it should
   pub each_more : (new : List X) (n : ℕ) (x y : X) → EachTo P old new n → n < length new → slice_get new n ≡ Some x → P x y → EachTo P old (set new n y) (n + 1)
   each_more new n x y before lt at is = record {
     done = λ k z low there. ⊎_elim

@@ -1,4 +1,4 @@
--- What stands in a list of calls that one is put into, or that some are taken from.
+-- Lists of calls into which one is put, or from which some are taken.
 use Rattle.std.specs.Prelude.{not, filter, ◌↔◌}
 use Rattle.std.specs.List.{insert, list_any}
 use Rattle.std.proofs.Common.{◌≡◌, ℕ, inl, inr, ⊎_elim, Bool, true, false, cond, ◌||◌, nat_eq, List, [], ◌∷◌, ◌++◌, take, drop, refl, sym, subst, ◌∙◌, eqb-true, eq-eqb}
@@ -9,7 +9,7 @@ use Rattle.client_history.specs.Explained.{Stands}
 use Rattle.client_history.specs.Taken.{IsAlsoTaken}
 use Rattle.client_history.proofs.Places.{stands_left, stands_right, stands_split, stands_first, stands_more, stands_cases}
 
--- a call that is put in was taken besides those before
+-- a call that is put into a list is in it, besides those before
 pub put_in : (i place : ℕ) (old : List ℕ) → IsAlsoTaken i old (insert old place i)
 put_in i place old = record {
   there = stands_right (take place old) (i ∷ drop place old) i (stands_first i (drop place old));
@@ -45,7 +45,7 @@ module _ (i : ℕ) where
       (stands_cases x xs i s)
 
 module _ (p : ℕ → Bool) (i : ℕ) where
-  -- what passes a test stood, and passes
+  -- an element that a filter keeps was in the list, and passes
   passed : (xs : List ℕ) → Stands (filter p xs) i → Stands xs i × (p i ≡ true)
   passed [] s = absurd (none-some i s.1)
   passed (x ∷ xs) s = ⊎_elim
@@ -56,7 +56,7 @@ module _ (p : ℕ → Bool) (i : ℕ) where
       (λ no. let rest = passed xs (subst (λ (b : Bool). Stands (cond b (x ∷ filter p xs) (filter p xs)) i) no s) in (stands_more x xs i rest.0, rest.1))
       (cases_Bool (p x))
 
-  -- what stood and passes stands
+  -- an element of the list that passes is kept
   passes : (xs : List ℕ) → p i ≡ true → Stands xs i → Stands (filter p xs) i
   passes [] ok s = absurd (none-some i s.1)
   passes (x ∷ xs) ok s = ⊎_elim
@@ -67,7 +67,7 @@ module _ (p : ℕ → Bool) (i : ℕ) where
       (cases_Bool (p x)))
       (stands_cases x xs i s)
 
--- what is not over stays
+-- the calls that are not over stay
 pub stays : (over old : List ℕ) (i : ℕ) → Stands (filter (λ x. not (list_any (λ y. nat_eq y x) over)) old) i ↔ (Stands old i × (Stands over i → ⊥))
 stays over old i = (
   (λ s. let parts = passed (λ x. not (list_any (λ y. nat_eq y x) over)) i old s in (parts.0, lost i over (not-true (list_any (λ y. nat_eq y i) over) parts.1))),

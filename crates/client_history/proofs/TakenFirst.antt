@@ -1,4 +1,4 @@
--- A lock that is taken first.
+-- A lock that is taken first, before other calls.
 use Rattle.std.specs.Prelude.{◌≢◌}
 use Rattle.std.proofs.Common.{◌≡◌, ℕ, ◌+◌, ◌≤◌, inl, inr, ⊎_elim, true, List, [], ◌∷◌, ◌++◌, length, slice_get, Option, Some, refl, sym, ap, subst, ◌∙◌, append_assoc, arith}
 use Rattle.std.proofs.lemmas.Bool.{cases_Bool, false≢true, false_from_ne_true}
@@ -31,7 +31,7 @@ exclude_both Write Read e = e
 exclude_both Write Write e = e
 
 module _ (Left : Calls) (mode : Mode) (span : Range) (i : ℕ) (q : Owner) where
-  -- of an owner with another change, what takes a byte of the span is barred
+  -- a call that takes a byte of the span is barred, if its owner has another change
   taken_is_barred : (b : ℕ) (a : Act) → span.lo ≤ b → b ≤ span.hi → TakesByte mode b a → HasRival Left i q → IsBarred Left mode span i q a
   taken_is_barred b (Takes asked bytes) low high takes rival = let meets = in_both bytes span b takes.0 low high in ((meets.1, meets.0), exclude_both asked mode takes.1, rival)
   taken_is_barred b (IsDenied asked bytes named) low high takes rival = absurd takes
@@ -39,7 +39,7 @@ module _ (Left : Calls) (mode : Mode) (span : Range) (i : ℕ) (q : Owner) where
   taken_is_barred b (Frees bytes) low high takes rival = absurd takes
   taken_is_barred b Drops low high takes rival = absurd takes
 
-  -- what is not barred, nor a denial that was none before, lets the lock before it
+  -- an act that is not barred, and no denial that was none before, lets the lock before it
   lets_take : (h k n : Locks) (p : Owner) (b : Act) → k the_file p ≡ h the_file p → (IsBarred Left mode span i q b → ⊥) → (IsDeniedIn h q b → ⊥) → ActStep the_file k q b n → LetsBefore k p (Takes mode span) q b
   lets_take h k n p (Takes asked bytes) same clear never step = tt
   lets_take h k n p (IsDenied asked bytes told) same clear never step = denied_by_other h k p q same asked bytes told never step.0
@@ -68,7 +68,7 @@ module _ (calls : List ClientCall) (Left : Calls) (h m : Locks) (p : Owner) (mod
     abbrev at_rest : (j : ℕ) (call : ClientCall) → IsAt calls rest j call → IsAt calls order (length done + j) call
     at_rest j call at = record { index = at.index; at = subst (λ (xs : List ℕ). slice_get xs (length done + j) ≡ Some at.index) (sym split) (get_right done rest (length done + j) j at.index refl at.at); there = at.there }
 
-    -- an owner that took a byte has another change, by which it gives it back
+    -- an owner that took a byte has another change, by which it gives the byte back
     rival : (q : Owner) (b : ℕ) (took : IsDone calls done (BarsByte q mode b)) (gave : IsDone calls rest (ChangesOwn q)) → HasRival Left took.at.index took.call.owner
     rival q b took gave = record {
       index = gave.at.index;
@@ -92,7 +92,7 @@ module _ (calls : List ClientCall) (Left : Calls) (h m : Locks) (p : Owner) (mod
         (changed_or_same calls q k m rest behind))
 
   module _ (call : ClientCall) (is_own : call.owner ≡ p) (takes : call.act ≡ Takes mode span) where
-    -- so the call passes them
+    -- the call passes the rest of the way
     passes_from : (k : Locks) (done rest : List ℕ) → order ≡ done ++ rest → Leads calls h done k → Leads calls k rest m → k the_file p ≡ h the_file p → Passes calls k call rest
     passes_from k done [] split before behind same = tt
     passes_from k done (i ∷ is) split before behind same =

@@ -1,10 +1,10 @@
--- Calls in time, place by place.
+-- The times of an order's calls, place by place.
 use Rattle.std.proofs.Common.{◌≡◌, ℕ, ◌+◌, ◌<◌, ◌≤◌, ⊎_elim, List, length, refl, sym, ap, subst, ◌∙◌, arith}
 use Rattle.client_history.specs.declared.client_call.ClientCall.{ClientCall}
 use Rattle.client_history.specs.Explained.{IsAt, EndsBefore, AreInTime}
 use Rattle.client_history.proofs.Orders.{last_place, is_at_one, at_within}
 
--- the latest begin of the calls before the k-th place, which are in time
+-- the latest begin of the first k calls, which are in time
 pub record TimesTo (calls : List ClientCall) (order : List ℕ) (k latest : ℕ) : Type 0 where
   pub most : (j : ℕ) (a : ClientCall) → j < k → IsAt calls order j a → a.begin ≤ latest
   pub some : 0 < latest → (j : ℕ) × (a : ClientCall) × (j < k) × IsAt calls order j a × (a.begin ≡ latest)
@@ -19,7 +19,7 @@ module _ (calls : List ClientCall) (order : List ℕ) where
   }
 
   module _ (k latest : ℕ) (before : TimesTo calls order k latest) where
-    -- a call that ended before the latest begin is not in time
+    -- a call that ended before the latest begin: the order is not in time
     pub times_late : (b : ClientCall) → IsAt calls order k b → EndsBefore b latest → AreInTime calls order → ⊥
     times_late b at ends all =
         let lt = ends.2 in
@@ -35,7 +35,7 @@ module _ (calls : List ClientCall) (order : List ℕ) where
           ends (late.0, ap (λ (c : ClientCall). c.end) (sym same) ∙ late.1, omega arith))
           (last_place m k early)
 
-      -- another call that begins no later
+      -- one more call that begins no later
       pub times_same : b.begin ≤ latest → TimesTo calls order (k + 1) latest
       times_same low = record {
         most = λ j a early p. ⊎_elim (λ below. before.most j a below p) (λ e. subst (λ (c : ClientCall). c.begin ≤ latest) (sym (is_at_one calls order j k a b e p at)) low) (last_place j k early);
@@ -43,7 +43,7 @@ module _ (calls : List ClientCall) (order : List ℕ) where
         good = good_at;
       }
 
-      -- another call that begins later
+      -- one more call that begins later
       pub times_more : latest < b.begin → TimesTo calls order (k + 1) b.begin
       times_more high = record {
         most = λ j a early p. ⊎_elim (λ below. let low = before.most j a below p in omega arith) (λ e. subst (λ (c : ClientCall). c.begin ≤ b.begin) (sym (is_at_one calls order j k a b e p at)) (omega arith)) (last_place j k early);

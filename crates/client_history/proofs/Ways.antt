@@ -13,7 +13,7 @@ use Rattle.client_history.proofs.Exchange.{get_left, get_right}
 use Rattle.client_history.proofs.Places.{stands_left, stands_right, stands_split, stands_apart, stands_first, stands_alone}
 use Rattle.client_history.proofs.Steps.{leads_join}
 
--- what asks only changes nothing
+-- no act both only asks and changes locks
 pub asks_or_changes : (a : Act) → AsksOnly a → Changes a → ⊥
 asks_or_changes (Takes mode span) asks changes = asks
 asks_or_changes (IsDenied mode span told) asks changes = changes
@@ -26,11 +26,11 @@ pub exit_changes : (calls : List ClientCall) → AreSound calls → (e : ℕ) (l
 exit_changes calls sound e last there is_last = subst (λ (a : Act). Changes a) (sym ((sound e last there).drop is_last)) tt
 
 module _ (calls : List ClientCall) (over : List ℕ) (time : ℕ) (taken : List ℕ) (h : Locks) (way rest : List ℕ) (is : IsWay calls over time taken h way rest) where
-  -- what is over isn't left
+  -- no call that is over is left
   pub over_is_past : (i : ℕ) → Stands over i → Stands rest i → ⊥
   over_is_past i is_over left = stands_apart way rest is.explains.once i (is.ended i is_over) left
 
-  -- nothing is left of an owner whose exit stands in the way
+  -- no call of an owner whose exit stands on the way is left
   pub none_past_exit : (e i : ℕ) (last call : ClientCall) → Stands way e → slice_get calls e ≡ Some last → last.is_last ≡ true → Stands rest i → slice_get calls i ≡ Some call → call.owner ≡ last.owner → ⊥
   none_past_exit e i last call s there is_last left there_i own =
       let lt = slice_get_within way s.0 e s.1 in
@@ -40,7 +40,7 @@ module _ (calls : List ClientCall) (over : List ℕ) (time : ℕ) (taken : List 
       (record { index = i; at = get_right way rest (length way + left.0) left.0 i refl left.1; there = there_i })
       is_last own
 
-  -- an exit that was taken stands in the way
+  -- an exit that was taken stands on the way
   pub exit_in_way : AreSound calls → (e : ℕ) (last : ClientCall) → slice_get calls e ≡ Some last → last.is_last ≡ true → Stands taken e → Stands way e
   exit_in_way sound e last there is_last s = is.changed e last s there (exit_changes calls sound e last there is_last)
 

@@ -1,4 +1,4 @@
--- What a call does to the locks of a file, as its client saw it.
+-- The act of a call on the locks of a file, as its client saw it.
 use Rattle.std.specs.Prelude.{◌≡◌, ℕ, Some, None, IfSome}
 use Rattle.intervals.specs.Bytes.{Range}
 use Rattle.model.specs.declared.mode.Mode.{Mode}
@@ -9,19 +9,19 @@ use Rattle.client_history.specs.declared.told_lock.ToldLock.{ToldLock}
 use Rattle.client_history.specs.declared.act.Act.{Act}
 use Rattle.client_history.specs.declared.act.Act.TheVariants.{Locks as Takes, IsDenied, IsFree as FindsFree, Frees, Drops}
 
--- all that the client was told is so of the lock
+-- all that the client was told applies to the lock
 pub record IsTold (told : ToldLock) (lock : LockInfo) : Type 0 where
   pub mode : IfSome told.mode (λ mode. mode ≡ lock.mode)
   pub span : IfSome told.span (λ span. span ≡ lock.span)
   pub owner : IfSome told.owner (λ owner. owner ≡ lock.owner)
 
--- some lock of another owner blocks, of which that is so
+-- some lock of another owner blocks the span in the mode, and all that the client was told applies to it
 pub record IsBlocked (h : Locks) (file : ℕ) (owner : Owner) (span : Range) (mode : Mode) (told : ToldLock) : Type 0 where
   pub lock : LockInfo
   pub blocks : Blocks (h file) owner span mode lock
   pub named : IsTold told lock
 
--- from the old locks the act of the owner leads to the new ones (POSIX.1-2017 fcntl(); a set or a wait that is done, one that is denied, a query, an unlock, a close or an exit)
+-- the owner's act leads from the old locks to the new (POSIX.1-2017 fcntl()): a set or wait that is done, one denied, a query, an unlock, a close or an exit
 abbrev pub ActStep : ℕ → Locks → Owner → Act → Locks → Type 0
 ActStep file old owner (Takes mode span) new = IsFree (old file) owner span mode × (new ≡ with_lock old file owner span (Some mode))
 ActStep file old owner (IsDenied mode span told) new = IsBlocked old file owner span mode told × (new ≡ old)

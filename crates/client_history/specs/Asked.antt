@@ -1,4 +1,4 @@
--- A call that a front asks.
+-- A call that only asks, at a front.
 use Rattle.std.specs.Prelude.{◌≡◌, ℕ, ◌⊎◌}
 use Rattle.model.specs.Locks.{Locks}
 use Rattle.lock_table.specs.Rows.{held}
@@ -9,7 +9,7 @@ use Rattle.client_history.specs.Explained.{the_file, Stands}
 use Rattle.client_history.specs.Moves.{AsksOnly}
 use Rattle.client_history.specs.OpenCalls.{IsLeft}
 
--- the front asked the call: where it was taken, it asks only and was left, and the locks stayed; else it may not be
+-- the front asked the call: it took it, if it only asks, was left and was allowed, and the locks stayed; else the table does not allow it
 pub record IsAsked (one : OpenCall) (old new : Front) : Type 0 where
   pub locks : held new.table ≡ held old.table
   pub kept : (i : ℕ) → Stands old.taken.items i → Stands new.taken.items i

@@ -1,4 +1,4 @@
--- Which calls have to come first: where a set of calls is closed, what explains the others may begin with one of the set.
+-- Which calls may have to come first: if a set of open calls is closed, some order that explains the calls goes on with one of the set.
 use Rattle.std.specs.Prelude.{◌≡◌, ◌≢◌, ℕ, ◌≤◌, ◌⊎◌, ⊤, true, List, [], ◌∷◌, ◌++◌, slice_get, Some, None}
 use Rattle.intervals.specs.Bytes.{Range}
 use Rattle.model.specs.declared.mode.Mode.{Mode}
@@ -14,7 +14,7 @@ use Rattle.client_history.specs.Acts.{ActStep}
 use Rattle.client_history.specs.Explained.{the_file, Leads, Stands, IsExplainedBy}
 use Rattle.client_history.specs.Moves.{AsksOnly, Meet}
 
--- an act that changes locks
+-- the act changes locks
 abbrev pub Changes : Act → Type 0
 Changes (IsDenied mode span told) = ⊥
 Changes (FindsFree mode span) = ⊥
@@ -46,36 +46,36 @@ IsBarred Left mode span i owner (FindsFree asked bytes) = Meet span bytes × (ex
 IsBarred Left mode span i owner (Takes asked bytes) = Meet span bytes × (excludes mode asked ≡ true) × HasRival Left i owner
 IsBarred Left mode span i owner _ = ⊥
 
--- a client was told nothing of the lock
+-- the client was told nothing of the lock
 abbrev pub IsUntold : ToldLock → Type 0
 IsUntold told = (told.mode ≡ None) × (told.span ≡ None) × (told.owner ≡ None)
 
--- the act may make the lock that denied another owner, of which that was told
+-- the act may make the lock that denied another owner, who was told this of it
 abbrev pub MayDeny : Mode → Range → ToldLock → Act → Type 0
 MayDeny mode span told (Takes asked bytes) = IsUntold told → Meet span bytes × (excludes asked mode ≡ true)
 MayDeny mode span told (Frees bytes) = IsUntold told → ⊥
 MayDeny mode span told Drops = IsUntold told → ⊥
 MayDeny mode span told _ = ⊥
 
--- of another owner, it would be barred by the call's lock, or may make the one by which the call is denied
+-- the act of another owner would be barred by the call's lock, or may make the lock by which the call is denied
 abbrev pub MeetsOther : Calls → Act → ℕ → Owner → Act → Type 0
 MeetsOther Left (Takes mode span) i owner act = IsBarred Left mode span i owner act
 MeetsOther Left (IsDenied mode span told) i owner act = MayDeny mode span told act × ((told.owner ≡ None) ⊎ (told.owner ≡ Some owner))
 MeetsOther Left _ i owner act = ⊥
 
--- it may have to come before the call, where no lock is in the call's way
+-- the other call may have to come before the call, which no lock blocks
 abbrev pub MayComeBefore : Calls → ClientCall → ℕ → ClientCall → Type 0
 MayComeBefore Left call i other =
     ((other.owner ≡ call.owner) × Changes call.act × ((call.is_last ≡ true) ⊎ Changes other.act))
     ⊎ ((other.owner ≢ call.owner) × MeetsOther Left call.act i other.owner other.act)
 
--- the act needs the bytes free in the mode
+-- the act needs these bytes free in this mode
 abbrev pub NeedsFree : Act → Mode → Range → Type 0
 NeedsFree (Takes asked bytes) mode span = (asked ≡ mode) × (bytes ≡ span)
 NeedsFree (FindsFree asked bytes) mode span = (asked ≡ mode) × (bytes ≡ span)
 NeedsFree _ mode span = ⊥
 
--- a lock is in the call's way, and whatever lets it go is of the set
+-- a lock blocks the call, and each call that lets it go is in the set
 pub record IsKept (h : Locks) (Left : Calls) (Set : ℕ → Type 0) (call : ClientCall) : Type 0 where
   pub lock : LockInfo
   pub mode : Mode
@@ -87,34 +87,35 @@ pub record IsKept (h : Locks) (Left : Calls) (Set : ℕ → Type 0) (call : Clie
   pub in_way : IsInWay span mode lock
   pub closed : (i : ℕ) (other : ClientCall) → Left i other → LetsGo lock other.owner other.act → Set i
 
--- no lock is in the way of what needs its bytes free, nor of a denial of which nothing is told
+-- no lock blocks an act that needs its bytes free, or a denial of which the client was told nothing
 abbrev pub IsUnbarred : Locks → Owner → Act → Type 0
 IsUnbarred h owner (Takes mode span) = IsFree (h the_file) owner span mode
 IsUnbarred h owner (FindsFree mode span) = IsFree (h the_file) owner span mode
 IsUnbarred h owner (IsDenied mode span told) = IsUntold told → (span.lo ≤ span.hi) × IsFree (h the_file) owner span mode
 IsUnbarred h owner _ = ⊤
 
--- no lock is in the call's way, and whatever may have to come before it is of the set
+-- no lock blocks the call, and each call that may have to come before it is in the set
 pub record IsMet (h : Locks) (Left : Calls) (Set : ℕ → Type 0) (call : ClientCall) : Type 0 where
   pub unbarred : IsUnbarred h call.owner call.act
   pub closed : (i : ℕ) (other : ClientCall) → Left i other → MayComeBefore Left call i other → Set i
 
--- what the call needs is of the set
+-- the calls that the call needs are in the set
 abbrev pub IsServed : Locks → Calls → (ℕ → Type 0) → ClientCall → Type 0
 IsServed h Left Set call = IsKept h Left Set call ⊎ IsMet h Left Set call
 
--- the calls that are left: each is one of the history, none ended before another began, and what one of them follows is a change of its owner
+-- the calls that are left: each is one of the history, none ended before another began, and one that follows another of them follows a change of its owner
 pub record AreOpen (calls : List ClientCall) (Left : Calls) : Type 0 where
   pub there : (i : ℕ) (call : ClientCall) → Left i call → slice_get calls i ≡ Some call
   pub beside : (i j : ℕ) (a b : ClientCall) → Left i a → Left j b → (end : ℕ) → b.end ≡ Some end → a.begin ≤ end
   pub halves : (i j : ℕ) (a b : ClientCall) → Left i a → Left j b → a.follows ≡ Some j → (b.owner ≡ a.owner) × Changes b.act
 
--- a set of calls that are left is closed, and no question among them may be asked here
+-- a set of calls that are left is closed: it has all that each of its calls needs
 pub record IsClosed (h : Locks) (Left : Calls) (Set : ℕ → Type 0) : Type 0 where
   pub decided : (i : ℕ) → Set i ⊎ (Set i → ⊥)
   pub served : (i : ℕ) (call : ClientCall) → Set i → Left i call → IsServed h Left Set call
 
--- one of the set may come first behind the front: a change that may be done there, what is left is explained behind it, where it is an exit each call of its owner that has a reply stands in the front, and so does the call that it follows
+-- A call of the set may come first behind the front: a change that the locks allow, with an order behind it that explains what is left. The call that it
+-- follows, if any, stands in the front; so does each call of its owner that has a reply, if it is an exit.
 pub record ComesFirst (calls : List ClientCall) (front rest : List ℕ) (time : ℕ) (h : Locks) (Left : Calls) (Set : ℕ → Type 0) : Type 0 where
   pub index : ℕ
   pub call : ClientCall
@@ -129,7 +130,7 @@ pub record ComesFirst (calls : List ClientCall) (front rest : List ℕ) (time : 
   pub explains : IsExplainedBy time calls (front ++ (index ∷ behind))
   pub kept : (i : ℕ) → Stands behind i → Stands rest i
 
--- where the calls up to some one are left, none of which may be asked here, and a closed set has that one, one of the set may come first
+-- if the calls up to some call are left, none of them may be asked here, and a closed set has that call, one of the set may come first
 abbrev pub ClosedSetsComeFirst : Type 1
 ClosedSetsComeFirst =
     (calls : List ClientCall) (front before behind : List ℕ) (time x : ℕ) (h : Locks) (Left : Calls) (Set : ℕ → Type 0)

@@ -1,4 +1,4 @@
--- Calls that have begun and not ended, of which some are taken.
+-- Open calls, which have begun and not ended, and of which some are taken.
 use Rattle.std.specs.Prelude.{◌≡◌, ◌≢◌, ℕ, true, List, slice_get, Some, None, IfSome}
 use Rattle.model.specs.Locks.{Locks}
 use Rattle.client_history.specs.declared.client_call.ClientCall.{ClientCall}
@@ -8,20 +8,20 @@ use Rattle.client_history.specs.Explained.{the_file, Stands}
 use Rattle.client_history.specs.Moves.{AsksOnly}
 use Rattle.client_history.specs.FirstCalls.{Calls, Changes, IsClosed}
 
--- the call is not taken, nor is its owner's exit
+-- the call is left: it is not taken, nor is its owner's exit
 pub record IsLeft (one : OpenCall) (taken : List ℕ) : Type 0 where
   pub stays : Stands taken one.index → ⊥
   pub lives : IfSome one.exit (λ exit. Stands taken exit → ⊥)
 
--- some call has the index
+-- some call of the list has the index
 abbrev pub IsIn : List OpenCall → ℕ → Type 0
 IsIn running i = (k : ℕ) × (one : OpenCall) × (slice_get running k ≡ Some one) × (one.index ≡ i)
 
--- the open calls that are left
+-- the open calls that are left, each with its index
 abbrev pub IsLeftOf : List OpenCall → List ℕ → Calls
 IsLeftOf running taken i call = (k : ℕ) × (one : OpenCall) × (slice_get running k ≡ Some one) × (one.index ≡ i) × (one.call ≡ call) × IsLeft one taken
 
--- in these locks none of the open calls that asks only and is left may be
+-- these locks allow none of the open calls that is left and only asks
 abbrev pub AreAsked : List OpenCall → List ℕ → Locks → Type 0
 AreAsked running taken h = (k : ℕ) (one : OpenCall) → slice_get running k ≡ Some one → IsLeft one taken → AsksOnly one.call.act → (next : Locks) → ActStep the_file h one.call.owner one.call.act next → ⊥
 
@@ -29,11 +29,11 @@ AreAsked running taken h = (k : ℕ) (one : OpenCall) → slice_get running k �
 abbrev pub AreOthersTaken : List OpenCall → List ℕ → OpenCall → Type 0
 AreOthersTaken running taken one = (j : ℕ) (other : OpenCall) → slice_get running j ≡ Some other → other.index ≢ one.index → other.call.owner ≡ one.call.owner → other.call.end ≢ None → Stands taken other.index
 
--- the call that it follows, if that is open, was taken
+-- the call that this one follows, if that is open, was taken
 abbrev pub IsFirstTaken : List OpenCall → List ℕ → OpenCall → Type 0
 IsFirstTaken running taken one = (first : ℕ) → one.call.follows ≡ Some first → IsIn running first → Stands taken first
 
--- of a closed set of open calls, which has the one that ends, these are the changes that may be done in these locks
+-- the calls are the changes that these locks allow, of a closed set of open calls that has the one that ends
 pub record AreFirst (h : Locks) (running : List OpenCall) (taken : List ℕ) (end : ℕ) (first : List OpenCall) : Type 0 where
   pub set : List OpenCall
   pub has_end : (call : ClientCall) → IsLeftOf running taken end call → IsIn set end

@@ -1,4 +1,4 @@
--- What is known of the calls of each owner.
+-- The facts of each owner's calls that the search needs.
 use Rattle.std.specs.Prelude.{◌≡◌, ◌≢◌, ℕ, ◌⊎◌, true, List, slice_get, Some, None}
 use Rattle.model.specs.declared.owner.Owner.{Owner}
 use Rattle.model.specs.contracts.owner.OwnerPartialEq.TheImpl as derived
@@ -7,7 +7,7 @@ use Rattle.client_history.specs.declared.client_call.ClientCall.{ClientCall}
 use Rattle.client_history.specs.declared.owner_calls.Known.{Known}
 use Rattle.client_history.specs.declared.owner_calls.OwnerCalls.{OwnerCalls}
 
--- an exit of the owner
+-- the index is that of an exit of the owner
 pub record IsExitOfOwner (calls : List ClientCall) (exit : ℕ) (owner : Owner) : Type 0 where
   pub last : ClientCall
   pub there : slice_get calls exit ≡ Some last
@@ -23,11 +23,11 @@ pub record HasAnswerFrom (calls : List ClientCall) (owner : Owner) (time : ℕ) 
   pub answered : call.end ≢ None
   pub begun : call.begin ≡ time
 
--- the exit that is known is one of the owner, and the latest begin that is known, where it isn't 0, is that of a call of the owner that has a reply
+-- the known exit is one of the owner, and the known latest begin is 0 or that of a call of the owner with a reply
 pub record IsKnownOf (calls : List ClientCall) (owner : Owner) (known : Known) : Type 0 where
   pub exit : (exit : ℕ) → known.exit ≡ Some exit → IsExitOfOwner calls exit owner
   pub latest : (known.latest ≡ 0) ⊎ HasAnswerFrom calls owner known.latest
 
--- all that is known of an owner is so
+-- all that is known of each owner is true
 abbrev pub AreOwnerCalls : List ClientCall → OwnerCalls → Type 0
 AreOwnerCalls calls owners = (owner : Owner) (known : Known) → get derived.ghosts.eq owners.known owner ≡ Some known → IsKnownOf calls owner known

@@ -1,4 +1,4 @@
--- How far an order has to go, and which calls may stand earlier in it.
+-- How far an order has to go to explain calls up to a time, and which calls may stand earlier in it.
 use Rattle.std.specs.Prelude.{◌≡◌, ◌≢◌, ℕ, ◌≤◌, ⊤, true, List, [], ◌∷◌, ◌++◌, take, slice_get, Some}
 use Rattle.model.specs.declared.owner.Owner.{Owner}
 use Rattle.model.specs.Locks.{Locks, no_locks}
@@ -11,7 +11,7 @@ use Rattle.client_history.specs.Moves.{AsksOnly, Releases, IsDeniedIn, MayPass}
 abbrev pub AreOrdered : List ClientCall → Type 0
 AreOrdered calls = (i end : ℕ) (call : ClientCall) → slice_get calls i ≡ Some call → call.end ≡ Some end → call.begin ≤ end
 
--- of an order that explains the calls up to a time the front explains them up to an earlier one
+-- an order that explains the calls up to a time begins with one that explains them up to an earlier time
 abbrev pub EarlierIsExplained : Type 0
 EarlierIsExplained =
     (calls : List ClientCall) (order : List ℕ) (early late : ℕ)
@@ -20,14 +20,14 @@ EarlierIsExplained =
     → IsExplainedBy late calls order
     → (n : ℕ) × IsExplainedBy early calls (take n order)
 
--- at each table on the way the call may be done, and may pass the call that comes there
+-- at each table on the way the call is allowed, and may pass the call that comes there
 abbrev pub Passes : List ClientCall → Locks → ClientCall → List ℕ → Type 0
 Passes calls h call [] = ⊤
 Passes calls h call (i ∷ is) =
     (k : Locks) × ActStep the_file h call.owner call.act k
     × ((other : ClientCall) (m : Locks) → slice_get calls i ≡ Some other → ActStep the_file h other.owner other.act m → MayPass h call.owner call.act other.owner other.act × Passes calls m call is)
 
--- a call that passes others may come before them, and all lead to the same locks
+-- a call that may pass some calls may come before them, and both ways lead to the same locks
 abbrev pub PassingCallsMoveFirst : Type 0
 PassingCallsMoveFirst =
     (calls : List ClientCall) (h n : Locks) (call : ClientCall) (i : ℕ) (is js : List ℕ)
@@ -48,7 +48,8 @@ FollowsNone order call = (first : ℕ) → call.follows ≡ Some first → Stand
 abbrev pub AreOfOthers : List ClientCall → List ℕ → Owner → Type 0
 AreOfOthers calls order owner = (k : ℕ) (call : ClientCall) → IsAt calls order k call → owner ≢ call.owner
 
--- in an order that explains the calls up to a time, a call may come before those between a front and itself, if none of them ended before it began, if it follows none of them, if none is of its owner where it is an exit, and if it passes them in the locks to which the front leads: the order explains the calls still
+-- In an order that explains the calls up to a time, a call may come before those between a front and itself: none of them ended before it began, it follows
+-- none of them, none is of its owner if it is an exit, and it may pass them from the locks that the front leads to. The new order explains the calls too.
 abbrev pub MovedIsExplained : Type 0
 MovedIsExplained =
     (calls : List ClientCall) (front before behind : List ℕ) (time i : ℕ) (h : Locks) (call : ClientCall)
@@ -61,7 +62,7 @@ MovedIsExplained =
     → Passes calls h call before
     → IsExplainedBy time calls (front ++ (i ∷ (before ++ behind)))
 
--- those of these calls that are of the owner ask only
+-- the owner's calls among these only ask
 abbrev pub OwnAskOnly : List ClientCall → List ℕ → Owner → Type 0
 OwnAskOnly calls order owner = (k : ℕ) (call : ClientCall) → IsAt calls order k call → owner ≡ call.owner → AsksOnly call.act
 
@@ -69,7 +70,8 @@ OwnAskOnly calls order owner = (k : ℕ) (call : ClientCall) → IsAt calls orde
 abbrev pub NoneDenied : List ClientCall → List ℕ → Locks → Type 0
 NoneDenied calls order h = (k : ℕ) (call : ClientCall) → IsAt calls order k call → IsDeniedIn h call.owner call.act → ⊥
 
--- in an order that explains the calls up to a time, an unlock or a drop may come before those between a front and itself, if none of them ended before it began, it follows none of them, those of its owner ask only (where it is an exit none is of its owner), and none is a denial that the locks to which the front leads explain already
+-- In an order that explains the calls up to a time, an unlock or a drop may come before those between a front and itself: none of them ended before it began,
+-- it follows none, those of its owner only ask (none is its owner's if it is an exit), and none is a denial that the locks behind the front explain already.
 abbrev pub ReleasesComeFirst : Type 0
 ReleasesComeFirst =
     (calls : List ClientCall) (front before behind : List ℕ) (time i : ℕ) (h : Locks) (call : ClientCall)

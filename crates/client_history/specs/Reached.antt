@@ -1,4 +1,4 @@
--- How far the search came.
+-- How far the search has come.
 use Rattle.std.specs.Prelude.{◌≡◌, ◌≤◌, ◌<◌, ◌+◌, ◌↔◌, ℕ, List, slice_get, Some}
 use Rattle.client_history.specs.declared.client_call.ClientCall.{ClientCall}
 use Rattle.client_history.specs.declared.open_call.OpenCall.{OpenCall}
@@ -8,17 +8,17 @@ use Rattle.client_history.specs.Explained.{Stands}
 use Rattle.client_history.specs.Search.{AreSound, AreOpenCalls, Covers}
 use Rattle.client_history.specs.Moments.{AreBegins, AreEnds}
 
--- the call is that of one of the first moments
+-- the call is that of one of the first n moments
 abbrev pub IsPast : List Moment → ℕ → ℕ → Type 0
 IsPast moments n i = (k : ℕ) × (moment : Moment) × (k < n) × (slice_get moments k ≡ Some moment) × (moment.call ≡ i)
 
--- calls, with their begins and ends by time
+-- the calls are sound, and these are their begins and ends by time
 pub record AreTimed (calls : List ClientCall) (begins ends : List Moment) : Type 0 where
   pub sound : AreSound calls
   pub are_begins : AreBegins calls begins
   pub are_ends : AreEnds calls ends
 
--- behind so many begins and ends the search has these open calls and these fronts, which cover all orders
+-- after that many begins and ends the search has these open calls, and these fronts, which cover all orders
 pub record IsReached (calls : List ClientCall) (begins ends : List Moment) (p k : ℕ) (running : List OpenCall) (fronts : List Front) : Type 0 where
   pub begun : List ℕ
   pub over : List ℕ
@@ -29,7 +29,7 @@ pub record IsReached (calls : List ClientCall) (begins ends : List Moment) (p k 
   pub apart : (m j : ℕ) (a b : Moment) → p ≤ m → j < k → slice_get begins m ≡ Some a → slice_get ends j ≡ Some b → b.time < a.time
   pub early : (m j : ℕ) (a b : Moment) → m < p → k ≤ j → slice_get begins m ≡ Some a → slice_get ends j ≡ Some b → a.time ≤ b.time
 
--- from behind some begins, of which the rest up to the one with that number are no later than the next end, the search came behind these
+-- from some begins on, of which those up to the number `to` are no later than the next end, the search has come past these
 abbrev pub GoesTo : ℕ → ℕ → List OpenCall → List Front → ℕ → List OpenCall → List Front → List ClientCall → List Moment → Type 0
 GoesTo time from running fronts to next more calls begins =
     (ends : List Moment) (k : ℕ) (end : Moment)
@@ -39,7 +39,7 @@ GoesTo time from running fronts to next more calls begins =
     → IsReached calls begins ends from k running fronts
     → IsReached calls begins ends to k next more
 
--- from behind so many ends, where each begin that is left is later than the next, the search came behind that one
+-- from that many ends on, where each begin that is left is later than the next end, the search has come past that end
 abbrev pub GoesPast : ℕ → List OpenCall → List Front → List OpenCall → List Front → Type 0
 GoesPast x running fronts next more =
     (calls : List ClientCall) (begins ends : List Moment) (p k : ℕ) (end : Moment)

@@ -1,4 +1,4 @@
--- What the search for an order knows at some time.
+-- What the search knows when some calls have begun and some are over.
 use Rattle.std.specs.Prelude.{◌≡◌, ℕ, ◌≤◌, ◌⊎◌, true, List, ◌++◌, slice_get, Some, None}
 use Rattle.model.specs.Locks.{Locks, no_locks}
 use Rattle.lock_table.specs.Rows.{held}
@@ -13,7 +13,7 @@ use Rattle.client_history.specs.FirstCalls.{Changes}
 use Rattle.client_history.specs.OwnerCalls.{IsExitOfOwner}
 use Rattle.client_history.specs.OpenCalls.{IsIn, AreAsked}
 
--- the call and the one with that index, which is a call of its owner, change locks
+-- the call and the one with that index, which is of its owner, both change locks
 pub record MayFollow (calls : List ClientCall) (first : ℕ) (call : ClientCall) : Type 0 where
   pub changes : Changes call.act
   pub before : ClientCall
@@ -21,18 +21,19 @@ pub record MayFollow (calls : List ClientCall) (first : ℕ) (call : ClientCall)
   pub own : before.owner ≡ call.owner
   pub changed : Changes before.act
 
--- the call ends at a time that a call can have, not before it begins, where it is an exit it drops its owner's locks, and it follows none but a call of its owner, where both change locks
+-- A sound call: it ends at a time that a call can have, not before it begins; an exit drops its owner's locks; and a call follows none but a call of its owner,
+-- where both change locks.
 pub record IsSound (calls : List ClientCall) (call : ClientCall) : Type 0 where
   pub timed : (end : ℕ) → call.end ≡ Some end → end ≤ always
   pub ordered : (end : ℕ) → call.end ≡ Some end → call.begin ≤ end
   pub drop : call.is_last ≡ true → call.act ≡ Drops
   pub follows : (first : ℕ) → call.follows ≡ Some first → MayFollow calls first call
 
--- so is each call
+-- each call is sound
 abbrev pub AreSound : List ClientCall → Type 0
 AreSound calls = (i : ℕ) (call : ClientCall) → slice_get calls i ≡ Some call → IsSound calls call
 
--- an exit of the call's owner
+-- the index is that of an exit of the call's owner
 abbrev pub IsExitOf : List ClientCall → ℕ → ClientCall → Type 0
 IsExitOf calls exit call = IsExitOfOwner calls exit call.owner
 
@@ -43,7 +44,7 @@ pub record IsDropped (calls : List ClientCall) (over : List ℕ) (call : ClientC
   pub is_over : Stands over exit
   pub ends : IsExitOf calls exit call
 
--- of the calls that have begun and those that are over, these are open: each that isn't over nor dropped
+-- the open calls: of those that have begun, each that is neither over nor dropped
 pub record AreOpenCalls (calls : List ClientCall) (begun over : List ℕ) (running : List OpenCall) : Type 0 where
   pub there : (k : ℕ) (one : OpenCall) → slice_get running k ≡ Some one → slice_get calls one.index ≡ Some one.call
   pub exits : (k exit : ℕ) (one : OpenCall) → slice_get running k ≡ Some one → one.exit ≡ Some exit → IsExitOf calls exit one.call
@@ -51,7 +52,8 @@ pub record AreOpenCalls (calls : List ClientCall) (begun over : List ℕ) (runni
   pub known : (i : ℕ) (call : ClientCall) → Stands begun i → slice_get calls i ≡ Some call → Stands over i ⊎ (IsDropped calls over call ⊎ IsIn running i)
   pub beside : (i j end : ℕ) (a b : ClientCall) → Stands begun i → slice_get calls i ≡ Some a → slice_get calls j ≡ Some b → (Stands over j → ⊥) → b.end ≡ Some end → a.begin ≤ end
 
--- the calls that were taken led by a way to these locks, from which what is left goes on to explain the calls up to a time: all that is over stands in the way, what stands there and is open was taken, and so does each change that was taken
+-- The calls taken led by a way to these locks, and the rest goes on from there to explain the calls up to a time. Each call that is over stands on the way, an
+-- open one only if it was taken, and each change that was taken does.
 pub record IsWay (calls : List ClientCall) (over : List ℕ) (time : ℕ) (taken : List ℕ) (h : Locks) (way rest : List ℕ) : Type 0 where
   pub explains : IsExplainedBy time calls (way ++ rest)
   pub leads : Leads calls no_locks way h
@@ -60,7 +62,7 @@ pub record IsWay (calls : List ClientCall) (over : List ℕ) (time : ℕ) (taken
   pub fresh : (i : ℕ) → Stands rest i → Stands taken i → ⊥
   pub changed : (i : ℕ) (call : ClientCall) → Stands taken i → slice_get calls i ≡ Some call → Changes call.act → Stands way i
 
--- on some way these calls were taken, to these locks, and each question was asked there
+-- some way leads to these locks by the calls taken, and each call that only asks was asked there
 pub record IsOn (calls : List ClientCall) (over : List ℕ) (running : List OpenCall) (time : ℕ) (taken : List ℕ) (h : Locks) : Type 0 where
   pub way : List ℕ
   pub rest : List ℕ
@@ -74,7 +76,7 @@ pub record IsCovered (calls : List ClientCall) (over : List ℕ) (running : List
   pub there : slice_get fronts place ≡ Some front
   pub is_on : IsOn calls over running time front.taken.items (held front.table)
 
--- whatever explains the calls up to a time goes by one of the fronts
+-- each order that explains the calls up to a time goes by one of the fronts
 abbrev pub Covers : List ClientCall → List ℕ → List OpenCall → List Front → Type 0
 Covers calls over running fronts =
     (time : ℕ) (order : List ℕ)
@@ -82,7 +84,7 @@ Covers calls over running fronts =
     → IsExplainedBy time calls order
     → IsCovered calls over running time fronts
 
--- the front asked these calls: some of them, which ask only and were left, were taken without a change of the locks, and no other may be
+-- the front asked these calls: it took some that only ask and were left, the locks stayed, and they allow no other of them
 pub record IsAskedOf (running : List OpenCall) (old new : Front) : Type 0 where
   pub locks : held new.table ≡ held old.table
   pub kept : (i : ℕ) → Stands old.taken.items i → Stands new.taken.items i

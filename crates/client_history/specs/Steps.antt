@@ -1,4 +1,4 @@
--- How the search goes on at the end of a call.
+-- The step of the search at the end of a call.
 use Rattle.std.specs.Prelude.{◌≡◌, ℕ, ◌≤◌, ◌⊎◌, List, slice_get, Some}
 use Rattle.model.specs.Locks.{Locks}
 use Rattle.lock_table.specs.Rows.{held}
@@ -17,11 +17,11 @@ use Rattle.client_history.specs.Taken.{IsAlsoTaken}
 abbrev pub HasAll : List Front → List Front → Type 0
 HasAll old new = (k : ℕ) (front : Front) → slice_get old k ≡ Some front → (n : ℕ) × (slice_get new n ≡ Some front)
 
--- each of the new fronts is one of the old, or that one
+-- each new front is one of the old, or this one
 abbrev pub HasOnly : List Front → Front → List Front → Type 0
 HasOnly old front new = (k : ℕ) (other : Front) → slice_get new k ≡ Some other → ((n : ℕ) × (slice_get old n ≡ Some other)) ⊎ (other ≡ front)
 
--- a front among these took the same calls, to the same locks
+-- one of the fronts took the same calls, and has the same locks
 abbrev pub HasEqual : List Front → Front → Type 0
 HasEqual fronts front = (k : ℕ) × (other : Front) × (slice_get fronts k ≡ Some other) × (other.taken.items ≡ front.taken.items) × (held other.table ≡ held front.table)
 
@@ -29,7 +29,7 @@ HasEqual fronts front = (k : ℕ) × (other : Front) × (slice_get fronts k ≡ 
 abbrev pub AreAskedFor : OpenCall → List Front → List Front → Type 0
 AreAskedFor one old new = (k : ℕ) (front : Front) → slice_get old k ≡ Some front → (next : Front) × (slice_get new k ≡ Some next) × IsAsked one front next
 
--- from where these calls were taken the call led to these locks, and then each question was asked
+-- the front is the one that the call leads to: these locks, the call taken as well, and each call that only asks then asked
 pub record IsGone (running : List OpenCall) (taken : List ℕ) (one : OpenCall) (h : Locks) (front : Front) : Type 0 where
   pub locks : held front.table ≡ h
   pub then : List ℕ
@@ -38,11 +38,11 @@ pub record IsGone (running : List OpenCall) (taken : List ℕ) (one : OpenCall) 
   pub added : (i : ℕ) → Stands front.taken.items i → Stands then i ⊎ ((k : ℕ) × (other : OpenCall) × (slice_get running k ≡ Some other) × (other.index ≡ i) × AsksOnly other.call.act × ActStep the_file h other.call.owner other.call.act h)
   pub asked : AreAsked running front.taken.items h
 
--- where the call may be done in the front, one of the fronts is the next one
+-- if the locks of the front allow the call, one of the fronts is the one that it leads to
 abbrev pub HasNext : List OpenCall → Front → OpenCall → List Front → Type 0
 HasNext running front one fronts = (h : Locks) → ActStep the_file (held front.table) one.call.owner one.call.act h → (k : ℕ) × (next : Front) × (slice_get fronts k ≡ Some next) × IsGone running front.taken.items one h next
 
--- a call ends by the time, is not over, and each call that stands no later in an order that explains the calls has begun
+-- a call ends by the time and is not over, and each call that stands no later in an order that explains the calls has begun
 pub record IsEnding (calls : List ClientCall) (begun over : List ℕ) (running : List OpenCall) (time x : ℕ) : Type 0 where
   pub sound : AreSound calls
   pub opens : AreOpenCalls calls begun over running
@@ -52,7 +52,7 @@ pub record IsEnding (calls : List ClientCall) (begun over : List ℕ) (running :
   pub stays : Stands over x → ⊥
   pub begun_by : (order : List ℕ) → IsExplainedBy time calls order → (j k i : ℕ) → j ≤ k → slice_get order k ≡ Some x → slice_get order j ≡ Some i → Stands begun i
 
--- where the front is on a way to the end of the call, one of the fronts is
+-- if the front is on a way to the end of the call, one of the fronts is
 abbrev pub GoesOnFrom : List OpenCall → Front → ℕ → List Front → Type 0
 GoesOnFrom running front x fronts =
     (calls : List ClientCall) (begun over : List ℕ) (time : ℕ)
@@ -61,7 +61,7 @@ GoesOnFrom running front x fronts =
     → IsOn calls over running time front.taken.items (held front.table)
     → IsCovered calls over running time fronts
 
--- where one of the first two lists of fronts is on a way to the end of the call, one of the last two is
+-- if one of the first two lists of fronts is on a way to the end of the call, one of the last two is
 abbrev pub GoesOn : List OpenCall → ℕ → List Front → List Front → List Front → List Front → Type 0
 GoesOn running x layer done next more =
     (calls : List ClientCall) (begun over : List ℕ) (time : ℕ)
@@ -73,7 +73,7 @@ GoesOn running x layer done next more =
 abbrev pub AreTaken : ℕ → List Front → Type 0
 AreTaken x fronts = (k : ℕ) (front : Front) → slice_get fronts k ≡ Some front → Stands front.taken.items x
 
--- where one of the old fronts is on a way to the end of the call, one of the new is, each of which took it
+-- if one of the old fronts is on a way to the end of the call, one of the new is, and each of the new took the call
 pub record AreSettled (running : List OpenCall) (x : ℕ) (old new : List Front) : Type 0 where
   pub taken : AreTaken x new
   pub covered : (calls : List ClientCall) (begun over : List ℕ) (time : ℕ) → IsEnding calls begun over running time x → IsCovered calls over running time old → IsCovered calls over running time new

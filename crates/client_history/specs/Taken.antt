@@ -1,8 +1,8 @@
--- Calls that are taken one by one.
+-- The calls taken, one by one.
 use Rattle.std.specs.Prelude.{◌≡◌, ℕ, ◌⊎◌, List}
 use Rattle.client_history.specs.Explained.{Stands}
 
--- that call was taken besides those before
+-- the call was taken as well
 pub record IsAlsoTaken (i : ℕ) (old new : List ℕ) : Type 0 where
   pub there : Stands new i
   pub kept : (j : ℕ) → Stands old j → Stands new j

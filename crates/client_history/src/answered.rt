@@ -1,11 +1,11 @@
-//! Whether the calls with a reply stand in an order.
+//! The test whether the calls with a reply stand in an order.
 ghost use Rattle.std.specs.Prelude.{◌≡◌, IsTrue, ◌↔◌, length};
 ghost use Rattle.client_history.specs.Explained.{EndedBy};
 ghost use Rattle.client_history.specs.Marks.{AreMarked};
 
 use crate::client_call::ClientCall;
 
-/// Whether the call had its reply by that time.
+/// Whether the call had its reply at that time or earlier.
 pub(crate) fn ended_by(call: &ClientCall, time: u64) -> bool
     ensures { IsTrue result ↔ EndedBy time call.now }
 {
@@ -15,7 +15,7 @@ pub(crate) fn ended_by(call: &ClientCall, time: u64) -> bool
     }
 }
 
-/// Whether each call that had its reply by that time is marked.
+/// Whether each call that had its reply at that time or earlier is marked.
 pub(crate) fn are_answered(calls: &[ClientCall], marks: &[bool], time: u64) -> bool
     requires { length marks.now ≡ length calls.now }
     ensures { IsTrue result ↔ AreMarked time calls.now marks.now }

@@ -1,4 +1,5 @@
-//! Calls that ask only, at a front.
+//! The calls that only ask, taken at a front: they leave the locks. A function here that gives a `Result` answers
+//! `AllocError` where a request for memory was refused.
 ghost use Rattle.std.specs.Prelude.{IfOk};
 ghost use Rattle.client_history.specs.Asked.{IsAsked};
 ghost use Rattle.client_history.specs.Search.{IsAskedOf};
@@ -9,10 +10,7 @@ use crate::paths::Paths;
 use std::alloc::AllocError;
 
 impl Front {
-    /// Takes the call, if it asks only, is left and may be here.
-    ///
-    /// # Errors
-    /// `AllocError`.
+    /// Takes the call at the front, if it only asks, is left, and the table allows it.
     pub(crate) fn ask(&mut self, open: &OpenCall, paths: &mut Paths) -> Result<(), AllocError>
         ensures { IfOk result (λ done. IsAsked «open».now self.old self.new) }
     {
@@ -22,10 +20,7 @@ impl Front {
         Ok(())
     }
 
-    /// Takes each call that asks only, is left and may be here.
-    ///
-    /// # Errors
-    /// `AllocError`.
+    /// Takes each of the calls at the front that only asks, is left, and that the table allows.
     pub(crate) fn ask_all(&mut self, open: &[OpenCall], paths: &mut Paths) -> Result<(), AllocError>
         ensures { IfOk result (λ done. IsAskedOf «open».now self.old self.new) }
     {

@@ -1,4 +1,5 @@
-//! What is over when a call ends.
+//! The calls that are over when a call ends. A function here that gives a `Result` answers `AllocError` where a
+//! request for memory was refused.
 ghost use Rattle.std.specs.Prelude.{◌≡◌, IfOk, IsTrue, length, ◌↔◌};
 ghost use Rattle.client_history.specs.Closings.{IsOverWith, AreOver, AreWithout, AreForgotten};
 
@@ -6,17 +7,15 @@ use crate::front::Front;
 use crate::open_call::OpenCall;
 use std::alloc::{AllocError, Global};
 
-// Whether the open call is over with that one: it is that one, or that one is its owner's exit and it has no reply.
+// Whether the open call is over when the call `end` ends: it is that call, or it has no reply and that call is its
+// owner's exit.
 fn is_over_with(end: usize, call: &OpenCall) -> bool
     ensures { IsTrue result ↔ IsOverWith end call.now }
 {
     call.index == end || (call.exit == Some(end) && call.call.end.is_none())
 }
 
-/// The open calls, by index, that are over when that one ends.
-///
-/// # Errors
-/// `AllocError`.
+/// The indexes of the open calls that are over when the call `end` ends.
 pub(crate) fn over_of(
     alloc: Global,
     open: &[OpenCall],
@@ -34,9 +33,6 @@ pub(crate) fn over_of(
 }
 
 /// The open calls without those that are over.
-///
-/// # Errors
-/// `AllocError`.
 pub(crate) fn without(
     alloc: Global,
     open: &[OpenCall],
@@ -53,7 +49,7 @@ pub(crate) fn without(
     Ok(left)
 }
 
-/// Each front forgets what is over.
+/// Drops the calls that are over from each front.
 pub(crate) fn forget_each(fronts: &mut [Front], over: &[usize])
     ensures len { length fronts.new ≡ length fronts.old }
     ensures forgot { AreForgotten over.now fronts.old fronts.new }

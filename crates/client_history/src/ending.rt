@@ -1,4 +1,5 @@
-//! How the search goes on at the end of a call.
+//! The step of the search at the end of a call. A function here that gives a `Result` answers `AllocError` where a
+//! request for memory was refused.
 ghost use Rattle.std.specs.Prelude.{◌≡◌, ◌<◌, ◌⊎◌, IfOk, length};
 ghost use Rattle.client_history.specs.Steps.{HasAll, HasNext, GoesOn, GoesOnFrom, AreSettled, AreTaken};
 
@@ -9,7 +10,7 @@ use crate::open_call::OpenCall;
 use crate::paths::Paths;
 use std::alloc::{AllocError, Global};
 
-/// The calls that are open when one ends, and where the ways go on.
+/// The end of a call: the calls that are open then, and the one that ends.
 #[derive(Clone, Copy)]
 pub(crate) struct Ending<'a> {
     pub alloc: Global,
@@ -17,7 +18,7 @@ pub(crate) struct Ending<'a> {
     pub end: usize,
 }
 
-// Adds the front to which the call leads from this one, if it may be there.
+// Adds the front that the call leads to from this one, if the table allows the call.
 fn go(
     ending: &Ending,
     front: Front,
@@ -36,7 +37,7 @@ fn go(
     Ok(())
 }
 
-// Adds the fronts to which the first calls lead from this one.
+// Adds the fronts that the first calls lead to from this one.
 fn branch(
     ending: &Ending,
     front: Front,
@@ -63,8 +64,8 @@ fn branch(
     go(ending, front, last, paths, queue)
 }
 
-// Goes on from each front of the layer, while steps are left: one that took the call is done. The fronts that come
-// next.
+// Goes on from each front of the layer that has not taken the call, while steps are left. Gives the fronts that come
+// next; those that took the call are done.
 fn go_on(
     ending: &Ending,
     layer: Vec<Front>,
@@ -92,11 +93,8 @@ fn go_on(
     Ok(next)
 }
 
-/// The call ends: each front goes on until it is taken, as long as steps are left, of which one is taken for each
-/// front.
-///
-/// # Errors
-/// `AllocError`.
+/// Makes the call end: goes on from each front until it has taken the call, while steps are left. Each front takes
+/// one step.
 pub(crate) fn settle(
     ending: &Ending,
     fronts: Vec<Front>,

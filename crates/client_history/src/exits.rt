@@ -1,4 +1,5 @@
-//! Whether nothing of an owner stands behind its exit, and all that has a reply before it.
+//! The tests whether exits stand where they may: behind all calls of their owner, each of which stands there if it
+//! has a reply. A function here that gives a `Result` answers `AllocError` where a request for memory was refused.
 ghost use Rattle.std.specs.Prelude.{◌≡◌, IfOk, IsTrue, ◌↔◌, length};
 ghost use Rattle.client_history.specs.Explained.{AreWithin, ExitsAreLast, ExitsAreWhole};
 ghost use Rattle.client_history.specs.Marks.{AreMarks};
@@ -8,9 +9,6 @@ use indexmap::IndexSet;
 use std::alloc::{AllocError, Global};
 
 /// Whether no call of the order stands behind its owner's exit.
-///
-/// # Errors
-/// `AllocError`.
 pub(crate) fn exits_are_last(
     alloc: Global,
     calls: &[ClientCall],
@@ -32,11 +30,8 @@ pub(crate) fn exits_are_last(
     Ok(true)
 }
 
-/// Whether, where an exit stands in the order, each call of its owner that has a reply does. The marks are those of the
-/// calls that stand.
-///
-/// # Errors
-/// `AllocError`.
+/// Whether each call with a reply stands in the order, if its owner's exit does. The marks say which calls stand
+/// there.
 pub(crate) fn exits_are_whole(
     alloc: Global,
     calls: &[ClientCall],

@@ -1,4 +1,5 @@
-//! Whether an order of calls explains a history.
+//! The test whether an order of calls explains a history. A function here that gives a `Result` answers `AllocError`
+//! where a request for memory was refused.
 ghost use Rattle.std.specs.Prelude.{IfOk, IsTrue, ◌↔◌};
 ghost use Rattle.client_history.specs.Explained.{IsExplainedBy, always};
 
@@ -11,24 +12,18 @@ use crate::legal::is_legal;
 use crate::marks::marks_of;
 use std::alloc::{AllocError, Global};
 
-/// Whether the calls in this order, each by its index, explain what the clients of a file saw: one table of
-/// record locks, which has no lock at first, gives each reply where its call stands; each call stands once at
-/// most and between its begin and its end, each with a reply does, nothing of an owner behind its exit, and each
-/// call that follows another behind that one.
-///
-/// # Errors
-/// `AllocError`.
+/// Whether the calls in this order, each named by its index, explain what the clients of a file saw. One table of
+/// record locks, without locks at first, gives each reply where its call stands. Each call stands once at most,
+/// between its begin and its end; each with a reply stands there; nothing of an owner stands behind its exit; and a
+/// call that follows another stands behind that one.
 pub fn explains(alloc: Global, calls: &[ClientCall], order: &[usize]) -> Result<bool, AllocError>
     ensures { IfOk result (λ yes. IsTrue yes ↔ IsExplainedBy always calls.now order.now) }
 {
     explains_by(alloc, calls, order, u64::MAX)
 }
 
-/// Whether the calls in this order explain so what the clients saw up to that time: each that ended by then stands,
-/// none that began later, and with an exit each call of its owner that has a reply.
-///
-/// # Errors
-/// `AllocError`.
+/// Whether the calls in this order explain, as in `explains`, what the clients saw up to that time. Each call that
+/// ended by then stands there, none that began later does, and with an exit each call of its owner that has a reply.
 pub fn explains_by(
     alloc: Global,
     calls: &[ClientCall],

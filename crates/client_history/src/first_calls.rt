@@ -1,4 +1,5 @@
-//! Which calls may have to come first.
+//! The choice of the calls that may have to come first. A function here that gives a `Result` answers `AllocError`
+//! where a request for memory was refused.
 ghost use Rattle.std.specs.Prelude.{◌≡◌, ℕ, true, List, slice_get, Some, IfOk, IsTrue, ◌↔◌};
 ghost use Rattle.model.specs.Locks.{Locks};
 ghost use Rattle.lock_table.specs.Rows.{held};
@@ -16,11 +17,8 @@ use crate::open_call::OpenCall;
 use lock_table::lock_table::LockTable;
 use std::alloc::{AllocError, Global};
 
-/// Calls that may come next, of which the search takes one to come first in whatever goes on from here up to the end of
-/// this call, since what the others that are open do commutes with theirs.
-///
-/// # Errors
-/// `AllocError`.
+/// The calls that the search tries next at a front. Whatever goes on from there up to the end of the call `end` may
+/// begin with one of them, because the other open calls commute with these.
 pub(crate) fn first_calls(
     alloc: Global,
     table: &LockTable,
@@ -40,7 +38,7 @@ pub(crate) fn first_calls(
     Ok(first)
 }
 
-// The call that ends, with all that it needs, and that these need in turn.
+// The call that ends, with all calls that it needs, and those that they need in turn.
 fn closed_set(
     alloc: Global,
     table: &LockTable,
@@ -65,7 +63,7 @@ fn closed_set(
     Ok(set)
 }
 
-// Adds what the call that has the index needs, if it is left.
+// Adds the calls that the call with that index needs, if it is left.
 fn serve(
     set: &mut Vec<OpenCall>,
     table: &LockTable,
@@ -84,7 +82,7 @@ fn serve(
     Ok(())
 }
 
-// Adds the calls that are left and that the call needs, which has no need of others where it may be denied here.
+// Adds the calls that are left and that the call needs. A call that may be denied here needs none.
 fn add_needed(
     set: &mut Vec<OpenCall>,
     table: &LockTable,
@@ -107,7 +105,7 @@ fn add_needed(
     Ok(())
 }
 
-// Adds the call, unless one of its index is there.
+// Adds the call, unless the list has one of its index.
 fn add(set: &mut Vec<OpenCall>, call: &OpenCall) -> Result<(), AllocError>
     ensures grown { (running : List SomeCall) (k : ℕ) → slice_get running k ≡ Some call.now → IsGrown running set.old.items set.new.items }
     ensures there { IfOk result (λ _. IsIn set.new.items call.now.index) }
@@ -141,7 +139,7 @@ fn may_come(table: &LockTable, open: &[OpenCall], taken: &[usize], call: &OpenCa
         && is_allowed(table, call)
 }
 
-// Whether no other call of its owner has to come before it: each that has a reply does before an exit.
+// Whether no other call of its owner has to come before it. Before an exit each that has a reply has to.
 fn may_end_owner(open: &[OpenCall], taken: &[usize], call: &OpenCall) -> bool
     ensures { (call.now.call.is_last ≡ true → AreOthersTaken «open».now taken.now call.now) → result ≡ true }
 {
@@ -166,7 +164,7 @@ fn is_first_taken(open: &[OpenCall], taken: &[usize], call: &OpenCall) -> bool
     }
 }
 
-// Whether no lock of another owner is in the way of a call that changes locks.
+// Whether no lock of another owner blocks the call, if it changes locks.
 fn is_allowed(table: &LockTable, call: &OpenCall) -> bool
     ensures { (next : Locks) → ActStep the_file (held table.now) call.now.call.owner call.now.call.act next → result ≡ true }
 {

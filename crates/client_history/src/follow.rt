@@ -1,4 +1,5 @@
-//! One call on a table.
+//! One call on a table: whether the table allows it, and the locks after it. A function here that gives a `Result`
+//! answers `AllocError` where a request for memory was refused.
 ghost use Rattle.std.specs.Prelude.{◌≡◌, ◌≢◌, true, false, IfOk, IsTrue, ◌↔◌};
 ghost use Rattle.model.specs.Locks.{Locks, IsFree, IsInWay};
 ghost use Rattle.lock_table.specs.Rows.{held};
@@ -16,10 +17,10 @@ use model::mode::Mode;
 use model::owner::Owner;
 use std::alloc::AllocError;
 
-/// The file whose locks are judged. Each file has a history of its own.
+/// The file whose locks are judged. Each file has its own history.
 pub(crate) const FILE: u16 = 1;
 
-// The only error of a table in which an owner may have as many regions as there are.
+// The only error of a table in which an owner may have any number of regions.
 fn no_memory(error: LockError) -> AllocError
     requires { error ≡ NoMemory }
 {
@@ -27,10 +28,7 @@ fn no_memory(error: LockError) -> AllocError
     AllocError
 }
 
-/// The act on the table, if it may be there. Else the locks stay.
-///
-/// # Errors
-/// `AllocError`.
+/// Makes the act on the table, if the table allows it. Else the locks stay.
 pub(crate) fn follow(table: &mut LockTable, owner: Owner, act: &Act) -> Result<bool, AllocError>
     requires { table.old.limit ≡ 18446744073709551615 }
     ensures taken { IfOk result (λ yes. yes ≡ true → ActStep the_file (held table.old) owner act.now (held table.new)) }
@@ -61,7 +59,7 @@ pub(crate) fn follow(table: &mut LockTable, owner: Owner, act: &Act) -> Result<b
     }
 }
 
-/// Whether no lock of another owner is in the way.
+/// Whether no lock of another owner blocks the mode on the span.
 #[tactic(auto, using(crate::proofs::Blocked::blocked_is_not_free))]
 pub(crate) fn is_free(table: &LockTable, owner: Owner, span: Span, mode: Mode) -> bool
     ensures { IsTrue result ↔ IsFree (held table.now the_file) owner span mode }
@@ -73,7 +71,7 @@ pub(crate) fn is_free(table: &LockTable, owner: Owner, span: Span, mode: Mode) -
     }
 }
 
-// Whether a lock of another owner blocks of which all that is told is so.
+// Whether a lock of another owner blocks, to which all that the client was told applies.
 fn is_blocked(
     table: &LockTable,
     owner: Owner,
@@ -93,7 +91,7 @@ fn is_blocked(
     any_denies(table, owner, span, mode, told)
 }
 
-// The same, looked for among all locks.
+// Whether one of all locks is of another owner, blocks, and fits what the client was told.
 fn any_denies(
     table: &LockTable,
     owner: Owner,
@@ -112,7 +110,7 @@ fn any_denies(
     Ok(false)
 }
 
-// Whether the lock is of another owner and in the way, and all that is told is so of it.
+// Whether the lock is of another owner, blocks, and fits what the client was told.
 fn denies(lock: &LockInfo, owner: Owner, span: Span, mode: Mode, told: &ToldLock) -> bool
     ensures { IsTrue result ↔ ((lock.now.owner ≢ owner) × IsInWay span mode lock.now × IsTold told.now lock.now) }
 {
@@ -126,7 +124,7 @@ pub(crate) fn is_in_way(lock: &LockInfo, span: Span, mode: Mode) -> bool
     lock.mode.excludes(mode) && lock.span.lo <= span.hi && span.lo <= lock.span.hi
 }
 
-// Whether all that is told is so of the lock.
+// Whether all that the client was told applies to the lock.
 fn is_told(told: &ToldLock, lock: &LockInfo) -> bool
     ensures { IsTrue result ↔ IsTold told.now lock.now }
 {

@@ -1,4 +1,5 @@
-//! Tables that the search came to.
+//! A front: a table that the search has reached. A function here that gives a `Result` answers `AllocError` where a
+//! request for memory was refused.
 ghost use Rattle.std.specs.Prelude.{◌≡◌, ℕ, true, false, [], IfOk, IsTrue, ◌↔◌};
 ghost use Rattle.model.specs.Locks.{Locks, no_locks};
 ghost use Rattle.lock_table.specs.Rows.{held};
@@ -12,7 +13,8 @@ use crate::paths::Paths;
 use lock_table::lock_table::LockTable;
 use std::alloc::{AllocError, Global};
 
-/// A table that some calls led to: with those of them that have not ended, in the order of their indexes, and the way.
+/// A table that the search has reached: the locks, the calls taken that have not ended, in the order of their
+/// indexes, and the way to it.
 #[derive(Drop)]
 pub(crate) struct Front {
     pub table: LockTable,
@@ -22,7 +24,7 @@ pub(crate) struct Front {
 }
 
 impl Front {
-    /// No call was taken, and no lock is held.
+    /// The front before all calls: none was taken, and no lock is held.
     pub(crate) fn new(alloc: Global) -> Self
         ensures locks { held result.table ≡ no_locks }
         ensures taken { result.taken.items ≡ [] }
@@ -34,10 +36,7 @@ impl Front {
         }
     }
 
-    /// An equal front.
-    ///
-    /// # Errors
-    /// `AllocError`.
+    /// A copy, equal to this front.
     pub(crate) fn copy(&self) -> Result<Self, AllocError>
         ensures locks { IfOk result (λ copy. held copy.table ≡ held self.now.table) }
         ensures taken { IfOk result (λ copy. copy.taken.items ≡ self.now.taken.items) }
@@ -49,7 +48,7 @@ impl Front {
         })
     }
 
-    /// Whether both took the same calls and have the same locks.
+    /// Whether both fronts took the same calls and have the same locks.
     pub(crate) fn same(&self, other: &Self) -> bool
         ensures locks { IsTrue result → held self.now.table ≡ held other.now.table }
         ensures taken { IsTrue result → self.now.taken.items ≡ other.now.taken.items }
@@ -57,15 +56,12 @@ impl Front {
         self.taken == other.taken && self.table.same(&other.table)
     }
 
-    /// The way to it.
+    /// The way to the front, as the number of its last step.
     pub(crate) fn path(&self) -> usize {
         self.path
     }
 
-    /// Takes the call, if it may be here.
-    ///
-    /// # Errors
-    /// `AllocError`.
+    /// Takes the call, if the table allows it. Answers whether it does.
     pub(crate) fn take(&mut self, open: &OpenCall, paths: &mut Paths) -> Result<bool, AllocError>
         ensures taken { IfOk result (λ did. did ≡ true → ActStep the_file (held self.old.table) «open».now.call.owner «open».now.call.act (held self.new.table)) }
         ensures noted { IfOk result (λ did. did ≡ true → IsAlsoTaken «open».now.index self.old.taken.items self.new.taken.items) }
@@ -81,7 +77,7 @@ impl Front {
         Ok(true)
     }
 
-    /// Forgets calls that are over.
+    /// Drops calls that are over from those taken.
     pub(crate) fn forget(&mut self, over: &[usize])
         ensures locks { held self.new.table ≡ held self.old.table }
         ensures taken { (i : ℕ) → Stands self.new.taken.items i ↔ (Stands self.old.taken.items i × (Stands over.now i → ⊥)) }

@@ -1,4 +1,5 @@
-//! Fronts beside one another.
+//! The fronts that the search has reached by different ways. A function here that gives a `Result` answers
+//! `AllocError` where a request for memory was refused.
 ghost use Rattle.std.specs.Prelude.{◌≡◌, IfOk, IsTrue, length};
 ghost use Rattle.client_history.specs.Steps.{HasAll, HasOnly, HasEqual, AreAskedFor};
 
@@ -19,10 +20,7 @@ fn has_same(fronts: &[Front], front: &Front) -> bool
     false
 }
 
-/// Adds the front, unless an equal one is there.
-///
-/// # Errors
-/// `AllocError`.
+/// Adds the front, unless an equal one is in the list.
 pub(crate) fn add_front(fronts: &mut Vec<Front>, front: Front) -> Result<(), AllocError>
     ensures kept { HasAll fronts.old.items fronts.new.items }
     ensures only { HasOnly fronts.old.items front fronts.new.items }
@@ -35,10 +33,7 @@ pub(crate) fn add_front(fronts: &mut Vec<Front>, front: Front) -> Result<(), All
     Ok(())
 }
 
-/// Takes the call in each front in which it asks only, is left and may be.
-///
-/// # Errors
-/// `AllocError`.
+/// Takes the call at each front, if it only asks, is left, and the table allows it.
 pub(crate) fn ask_each(
     fronts: &mut [Front],
     call: &OpenCall,

@@ -1,14 +1,12 @@
-//! Whether calls stand behind those that they follow.
+//! The test whether calls stand behind those that they follow. A function here that gives a `Result` answers
+//! `AllocError` where a request for memory was refused.
 ghost use Rattle.std.specs.Prelude.{◌≡◌, ℕ, true, false, IfOk, IsTrue, ◌↔◌, Some, length, slice_index_or};
 ghost use Rattle.client_history.specs.Explained.{AreWithin, AreBehindTheirFirst};
 
 use crate::client_call::ClientCall;
 use std::alloc::{AllocError, Global};
 
-/// Whether each call of the order that follows another stands behind it.
-///
-/// # Errors
-/// `AllocError`.
+/// Whether each call of the order that follows another stands behind that one.
 pub(crate) fn are_behind_their_first(
     alloc: Global,
     calls: &[ClientCall],
@@ -28,7 +26,7 @@ pub(crate) fn are_behind_their_first(
     Ok(true)
 }
 
-// Whether the call that it follows, if there is one, has a mark.
+// Whether the call that this one follows, if there is one, is marked.
 fn is_first_marked(call: &ClientCall, marks: &[bool]) -> bool
     ensures { IsTrue result ↔ ((first : ℕ) → call.now.follows ≡ Some first → slice_index_or marks.now first false ≡ true) }
 {

@@ -1,4 +1,4 @@
-//! Whether calls stand between their begins and their ends.
+//! The test whether calls stand between their begins and their ends.
 ghost use Rattle.std.specs.Prelude.{◌≡◌, ◌<◌, ℕ, IsTrue, ◌↔◌, length, Some};
 ghost use Rattle.client_history.specs.Explained.{AreWithin, AreInTime, EndsBefore, HaveBegun};
 
@@ -32,7 +32,7 @@ pub(crate) fn are_in_time(calls: &[ClientCall], order: &[usize]) -> bool
     true
 }
 
-/// Whether each call of the order began by that time.
+/// Whether each call of the order began at that time or earlier.
 pub(crate) fn have_begun(calls: &[ClientCall], order: &[usize], time: u64) -> bool
     requires { AreWithin (length calls.now) order.now }
     ensures { IsTrue result ↔ HaveBegun time calls.now order.now }

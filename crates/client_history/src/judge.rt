@@ -1,4 +1,5 @@
-//! Whether one table explains a history.
+//! The judgement of a history: whether one table explains it. A function here that gives a `Result` answers
+//! `AllocError` where a request for memory was refused.
 ghost use Rattle.std.specs.Prelude.{IfOk, IsTrue};
 ghost use Rattle.client_history.specs.Prefixes.{AreOrdered};
 ghost use Rattle.client_history.specs.Search.{AreSound};
@@ -12,12 +13,10 @@ use crate::sound::are_sound;
 use crate::verdict::Verdict;
 use std::alloc::{AllocError, Global};
 
-/// Whether one table of record locks explains what the clients of a file saw. An order that it gives does, by
-/// `explains`; where it says that none does up to the end of a call, none is there, and up to each time before that end
-/// one is, by `explains_by`. `steps` is how many tables it may look at before it gives up.
-///
-/// # Errors
-/// `AllocError`.
+/// Judges whether one table of record locks explains what the clients of a file saw. An order that it gives does, by
+/// `explains`. Where it says that no order explains the calls up to the end of a call, there is none, and up to each
+/// time before that end there is one, by `explains_by`. `steps` is the number of tables that it may look at before it
+/// gives up.
 pub fn judge(alloc: Global, calls: &[ClientCall], steps: u64) -> Result<Verdict, AllocError>
     ensures { IfOk result (λ verdict. IsVerdict calls.now verdict) }
 {
@@ -31,7 +30,7 @@ pub fn judge(alloc: Global, calls: &[ClientCall], steps: u64) -> Result<Verdict,
     }
 }
 
-// What is said where the search found this order.
+// The verdict where the search found this order.
 fn checked(alloc: Global, calls: &[ClientCall], order: Vec<usize>) -> Result<Verdict, AllocError>
     ensures { IfOk result (λ verdict. IsVerdict calls.now verdict) }
 {
@@ -41,8 +40,8 @@ fn checked(alloc: Global, calls: &[ClientCall], order: Vec<usize>) -> Result<Ver
     Ok(Verdict::Unknown { call: calls.len() })
 }
 
-// What is said where the search found that no order explains the calls up to the end of this one, and went these ways
-// before.
+// The verdict where the search found that no order explains the calls up to the end of this one, and had gone these
+// ways before.
 fn unexplained(
     alloc: Global,
     calls: &[ClientCall],
@@ -61,7 +60,7 @@ fn unexplained(
     Ok(Verdict::Unknown { call })
 }
 
-// Whether the front of some way explains the calls up to each time before that one.
+// Whether the first part of some way explains the calls up to each time before that one.
 fn are_explained_before(
     alloc: Global,
     calls: &[ClientCall],
@@ -82,7 +81,7 @@ fn are_explained_before(
     Ok(false)
 }
 
-// The front of the way up to its last call that ended by that time.
+// The way up to its last call that ended at that time or earlier.
 fn front_by<'a>(calls: &[ClientCall], way: &'a [usize], time: u64) -> &'a [usize] {
     let mut count = 0;
     for (place, i) in way.iter().enumerate() {

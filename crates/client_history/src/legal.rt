@@ -1,4 +1,4 @@
-//! Whether calls may follow one another in one table.
+//! The test whether calls may follow one another in one table.
 ghost use Rattle.std.specs.Prelude.{◌≡◌, IfOk, IsTrue, ◌↔◌, length};
 ghost use Rattle.client_history.specs.Explained.{AreWithin, IsLegal};
 
@@ -10,7 +10,7 @@ use std::alloc::{AllocError, Global};
 /// Whether the calls of the order may follow one another in one table, which has no lock at first.
 ///
 /// # Errors
-/// `AllocError`.
+/// `AllocError` where a request for memory was refused.
 pub(crate) fn is_legal(
     alloc: Global,
     calls: &[ClientCall],

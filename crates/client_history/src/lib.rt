@@ -1,4 +1,6 @@
-//! Histories that clients of a lock manager saw, and whether one table of record locks explains one.
+//! Histories of calls that clients of a lock manager saw, and the judgement whether one table of record locks
+//! explains one. It knows nothing of how a lock manager works, of nodes' messages, of files of the operating system
+//! or of printed text.
 #![tactic(auto)]
 
 pub mod act;

@@ -1,15 +1,15 @@
-//! Which calls stand in an order.
+//! Marks, which say which calls stand in an order.
 ghost use Rattle.std.specs.Prelude.{◌≡◌, IfOk, IfSome, None};
 ghost use Rattle.client_history.specs.Explained.{AreWithin, IsOnce};
 ghost use Rattle.client_history.specs.Marks.{AreMarks};
 
 use std::alloc::{AllocError, Global};
 
-/// Which of so many calls stand in the order, by index: a mark for each. `None` where an index is none of
-/// theirs, or stands twice.
+/// The marks of `count` calls: for each, by its index, whether it stands in the order. `None` where an index of the
+/// order is none of theirs, or stands there twice.
 ///
 /// # Errors
-/// `AllocError`.
+/// `AllocError` where a request for memory was refused.
 pub(crate) fn marks_of(
     alloc: Global,
     order: &[usize],

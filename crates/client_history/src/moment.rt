@@ -1,4 +1,5 @@
-//! When calls begin and end.
+//! The moments at which calls begin and end. A function here that gives a `Result` answers `AllocError` where a
+//! request for memory was refused.
 ghost use Rattle.std.specs.Prelude.{IfOk};
 ghost use Rattle.client_history.specs.Moments.{AreBegins, AreEnds};
 ghost use Rattle.client_history.specs.OwnerCalls.{AreOwnerCalls};
@@ -8,17 +9,14 @@ use crate::client_call::ClientCall;
 use crate::owner_calls::OwnerCalls;
 use std::alloc::{AllocError, Global};
 
-/// A call at a time, when it begins or ends.
+/// A time at which a call, named by its index, begins or ends.
 #[derive(Clone, Copy, Debug, PartialEq, Eq)]
 pub(crate) struct Moment {
     pub time: u64,
     pub call: usize,
 }
 
-/// When the calls begin, from the first to the last; an exit not before the last call of its owner that has a reply.
-///
-/// # Errors
-/// `AllocError`.
+/// The begins of the calls, by time. An exit does not begin before the last call of its owner that has a reply.
 pub(crate) fn begins_of(
     alloc: Global,
     calls: &[ClientCall],
@@ -38,10 +36,7 @@ pub(crate) fn begins_of(
     Ok(begins)
 }
 
-/// When the calls end that have a reply, from the first to the last.
-///
-/// # Errors
-/// `AllocError`.
+/// The ends of the calls that have a reply, by time.
 pub(crate) fn ends_of(alloc: Global, calls: &[ClientCall]) -> Result<Vec<Moment>, AllocError>
     ensures { IfOk result (λ ends. AreEnds calls.now ends.items) }
 {

@@ -1,4 +1,4 @@
-//! What calls need of one another.
+//! The calls that a call needs: they may have to come before it.
 ghost use Rattle.std.specs.Prelude.{◌≡◌, ◌≢◌, ◌⊎◌, Some, None, true, false, IfOk, IsTrue, MatchOption, ◌↔◌};
 ghost use Rattle.model.specs.Locks.{IsInWay};
 ghost use Rattle.lock_table.specs.Rows.{held};
@@ -20,7 +20,7 @@ use model::mode::Mode;
 use model::owner::Owner;
 use std::alloc::AllocError;
 
-/// Whether the call may be denied here, where its client was told nothing of the lock.
+/// Whether the call may be denied here, and its client was told nothing of the lock.
 pub(crate) fn is_denied(table: &LockTable, call: &OpenCall) -> bool
     ensures yes { result ≡ true → AsksOnly call.now.call.act × ActStep the_file (held table.now) call.now.call.owner call.now.call.act (held table.now) }
     ensures no { result ≡ false → IsNotDenied (held table.now) call.now.call.owner call.now.call.act }
@@ -38,17 +38,17 @@ pub(crate) fn is_denied(table: &LockTable, call: &OpenCall) -> bool
     }
 }
 
-// Whether a client was told nothing of the lock.
+// Whether the client was told nothing of the lock.
 fn is_untold(told: &ToldLock) -> bool
     ensures { IsTrue result ↔ IsUntold told.now }
 {
     told.mode.is_none() && told.span.is_none() && told.owner.is_none()
 }
 
-/// Of the locks in the way of a call that needs its bytes free, the one that the fewest open calls release.
+/// The lock that the fewest open calls release, of those that block a call that needs its bytes free.
 ///
 /// # Errors
-/// `AllocError`.
+/// `AllocError` where a request for memory was refused.
 pub(crate) fn least_kept(
     table: &LockTable,
     open: &[OpenCall],
@@ -79,22 +79,22 @@ pub(crate) fn least_kept(
     Ok(Some(kept))
 }
 
-// Whether the lock is of another owner and in the way.
+// Whether the lock is of another owner and blocks the mode on the span.
 fn is_in_its_way(lock: &LockInfo, owner: Owner, span: Span, mode: Mode) -> bool
     ensures { IsTrue result ↔ ((lock.now.owner ≢ owner) × IsInWay span mode lock.now) }
 {
     lock.owner != owner && is_in_way(lock, span, mode)
 }
 
-// How many of the calls that are left release the lock.
+// The number of calls that are left and release the lock.
 fn count_of(lock: &LockInfo, open: &[OpenCall], taken: &[usize]) -> usize {
     open.iter()
         .filter(|call| releases(lock, call) && call.is_left(taken))
         .count()
 }
 
-/// Whether the call needs the other one, which releases the lock that is kept in its way, or, where none is, may have
-/// to come before it.
+/// Whether the call needs the other one. If a kept lock blocks the call, the other releases that lock; else the other
+/// may have to come before the call.
 pub(crate) fn needs(
     open: &[OpenCall],
     taken: &[usize],
@@ -125,8 +125,8 @@ fn releases(lock: &LockInfo, call: &OpenCall) -> bool
     }
 }
 
-// Whether the other call may have to come before the call, where no lock is in its way: one of its owner, one that
-// its lock would bar, or one that makes the lock by which it is denied.
+// Whether the other call may have to come before the call, which no lock blocks: it is of the same owner, or the
+// call's lock would bar it, or it makes the lock by which the call is denied.
 fn is_met_by(open: &[OpenCall], taken: &[usize], call: &OpenCall, other: &OpenCall) -> bool
     ensures { IsTrue result ↔ MayComeBefore (IsLeftOf «open».now taken.now) call.now.call other.now.index other.now.call }
 {
@@ -158,7 +158,7 @@ fn is_barred(open: &[OpenCall], taken: &[usize], call: &OpenCall, span: Span, mo
     }
 }
 
-// Whether another change of its owner is left.
+// Whether another change of the call's owner is left.
 fn has_rival(open: &[OpenCall], taken: &[usize], call: &OpenCall) -> bool
     ensures { IsTrue result ↔ HasRival (IsLeftOf «open».now taken.now) call.now.index call.now.call.owner }
 {
@@ -170,7 +170,7 @@ fn has_rival(open: &[OpenCall], taken: &[usize], call: &OpenCall) -> bool
     false
 }
 
-// Whether the call may make the lock that denied another owner, of which that was told.
+// Whether the call may make the lock that denied another owner, who was told this of it.
 fn may_deny(call: &OpenCall, span: Span, mode: Mode, told: &ToldLock) -> bool
     ensures { IsTrue result ↔ (MayDeny mode span told.now call.now.call.act × ((told.now.owner ≡ None) ⊎ (told.now.owner ≡ Some call.now.call.owner))) }
 {
@@ -189,7 +189,7 @@ fn may_deny(call: &OpenCall, span: Span, mode: Mode, told: &ToldLock) -> bool
     }
 }
 
-// Whether the two spans have a byte in common.
+// Whether the spans have a byte in common.
 fn meet(one: Span, other: Span) -> bool
     ensures { IsTrue result ↔ Meet one other }
 {

@@ -1,4 +1,4 @@
-//! Calls that have begun.
+//! Open calls: they have begun and not ended.
 ghost use Rattle.std.specs.Prelude.{◌≡◌, ◌≢◌, true, false, IsTrue, ◌↔◌};
 ghost use Rattle.client_history.specs.Moves.{AsksOnly};
 ghost use Rattle.client_history.specs.FirstCalls.{Changes};
@@ -7,7 +7,7 @@ ghost use Rattle.client_history.specs.OpenCalls.{IsLeft};
 use crate::client_call::ClientCall;
 use crate::owner_calls::changes;
 
-/// A call that has begun and not ended, by its index, with its owner's exit, if there is one.
+/// A call that has begun and not ended, with its index, and the index of its owner's exit, if there is one.
 #[derive(Clone, Copy)]
 pub(crate) struct OpenCall {
     pub index: usize,
@@ -16,7 +16,7 @@ pub(crate) struct OpenCall {
 }
 
 impl OpenCall {
-    /// Whether the call changes locks; else it asks only.
+    /// Whether the call changes locks; else it only asks.
     pub(crate) fn changes(&self) -> bool
         ensures changes { IsTrue result ↔ Changes self.now.call.act }
         ensures asks { result ≡ false → AsksOnly self.now.call.act }
@@ -24,7 +24,7 @@ impl OpenCall {
         changes(&self.call.act)
     }
 
-    /// Whether the call is neither taken yet nor barred by its owner's exit.
+    /// Whether the call is left: it was not taken, and neither was its owner's exit.
     pub(crate) fn is_left(&self, taken: &[usize]) -> bool
         ensures { IsTrue result ↔ IsLeft self.now taken.now }
     {

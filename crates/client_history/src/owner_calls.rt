@@ -1,4 +1,4 @@
-//! What is known of the calls of each owner.
+//! The facts of each owner's calls that the search needs.
 ghost use Rattle.std.specs.Prelude.{◌≡◌, ℕ, ◌≤◌, false, List, slice_get, Some, IfOk, IfSome, IsTrue, OnOk, ◌↔◌};
 ghost use Rattle.client_history.specs.declared.client_call.ClientCall.{ClientCall as SomeCall};
 ghost use Rattle.client_history.specs.FirstCalls.{Changes};
@@ -12,24 +12,24 @@ use indexmap::IndexMap;
 use model::owner::Owner;
 use std::alloc::{AllocError, Global};
 
-// Of one owner: its exit, by index, and the latest begin of its calls that have a reply, or 0.
+// The facts of one owner: the index of its exit, and the latest begin of its calls that have a reply, or 0.
 #[derive(Clone, Copy)]
 struct Known {
     exit: Option<usize>,
     latest: u64,
 }
 
-/// What is known of the calls of each owner before the search.
+/// The facts of each owner's calls, found before the search.
 #[derive(Drop)]
 pub(crate) struct OwnerCalls {
     known: IndexMap<Owner, Known>,
 }
 
 impl OwnerCalls {
-    /// What is known by these calls.
+    /// The facts of these calls.
     ///
     /// # Errors
-    /// `AllocError`.
+    /// `AllocError` where a request for memory was refused.
     pub(crate) fn new(alloc: Global, calls: &[ClientCall]) -> Result<Self, AllocError>
         ensures { IfOk result (λ owners. AreOwnerCalls calls.now owners) }
     {
@@ -42,7 +42,7 @@ impl OwnerCalls {
         Ok(owners)
     }
 
-    // One more call is known.
+    // Adds the facts of one call more.
     fn add(&mut self, index: usize, call: &ClientCall) -> Result<(), AllocError>
         ensures { OnOk result ((calls : List SomeCall) → slice_get calls index ≡ Some call.now → AreOwnerCalls calls self.old → AreOwnerCalls calls self.new) }
     {
@@ -51,7 +51,7 @@ impl OwnerCalls {
         Ok(())
     }
 
-    // What is known of the owner: nothing where no call of it is known.
+    // The facts of the owner: none where it has no call.
     fn of(&self, owner: Owner) -> Known
         ensures { (calls : List SomeCall) → AreOwnerCalls calls self.now → IsKnownOf calls owner result }
     {
@@ -64,15 +64,15 @@ impl OwnerCalls {
         }
     }
 
-    /// The owner's exit, by index.
+    /// The index of the owner's exit, if there is one.
     pub(crate) fn exit_of(&self, owner: Owner) -> Option<usize>
         ensures { (calls : List SomeCall) → AreOwnerCalls calls self.now → IfSome result (λ exit. IsExitOfOwner calls exit owner) }
     {
         self.of(owner).exit
     }
 
-    /// When the call is looked at first: when it begins; an exit not before the last call of its owner that has a
-    /// reply, and no later than it ends.
+    /// The time from which the search looks at the call: its begin, or, for an exit, the begin of the last call of
+    /// its owner that has a reply, if that is later. It is no later than the call's end.
     pub(crate) fn begin_of(&self, call: &ClientCall) -> u64
         ensures { (calls : List SomeCall) → AreOwnerCalls calls self.now → ((end : ℕ) → call.now.end ≡ Some end → call.now.begin ≤ end) → IsBeginOf calls call.now result }
     {
@@ -87,7 +87,7 @@ impl OwnerCalls {
     }
 }
 
-// What is known of an owner with one more call.
+// The facts of an owner with one call more.
 fn with_call(before: Known, index: usize, call: &ClientCall) -> Known
     ensures { (calls : List SomeCall) → slice_get calls index ≡ Some call.now → IsKnownOf calls call.now.owner before → IsKnownOf calls call.now.owner result }
 {
@@ -101,7 +101,7 @@ fn with_call(before: Known, index: usize, call: &ClientCall) -> Known
     known
 }
 
-/// Whether the act changes locks; else it asks only.
+/// Whether the act changes locks; else it only asks.
 pub(crate) fn changes(act: &Act) -> bool
     ensures changes { IsTrue result ↔ Changes act.now }
     ensures asks { result ≡ false → AsksOnly act.now }

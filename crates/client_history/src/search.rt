@@ -1,4 +1,4 @@
-//! The search for an order.
+//! The search for an order of calls that explains a history.
 ghost use Rattle.std.specs.Prelude.{◌≡◌, ◌<◌, ◌≤◌, ◌++◌, ◌∷◌, [], ℕ, IfOk, List, length, slice_get, Some};
 ghost use Rattle.model.specs.Locks.{no_locks};
 ghost use Rattle.lock_table.specs.Rows.{held};
@@ -23,7 +23,7 @@ use crate::paths::Paths;
 use crate::verdict::Verdict;
 use std::alloc::{AllocError, Global};
 
-/// The calls of a history, what is known of their owners, and when they begin.
+/// The calls of a history, the facts of their owners, and their begins by time.
 #[derive(Clone, Copy)]
 pub(crate) struct Begins<'a> {
     pub calls: &'a [ClientCall],
@@ -31,8 +31,8 @@ pub(crate) struct Begins<'a> {
     pub moments: &'a [Moment],
 }
 
-// The calls begin that do so by that time, from the one with that number on: where one asks only, it is taken in each
-// front that allows it. The open calls with these, and how many have begun.
+// Lets the calls begin that do so by that time, from the one with the number `from` on. One that only asks is taken
+// at each front that allows it. Gives the open calls with these, and the number of those that have begun.
 fn begin_by(
     begins: &Begins,
     from: usize,
@@ -66,8 +66,8 @@ fn begin_by(
     Ok((open, next))
 }
 
-// The call ends: each front goes on until it is taken, while steps are left, and what is over is forgotten. The calls
-// that are open still.
+// Lets the call `end` end: each front goes on until it has taken the call, while steps are left, and calls that are
+// over are dropped. Gives the calls that are still open.
 fn end(
     alloc: Global,
     end: usize,
@@ -88,7 +88,7 @@ fn end(
     Ok(still)
 }
 
-// The last steps of the ways to the first three fronts.
+// The numbers of the last steps of the ways to the first three fronts.
 fn some_ends(fronts: &[Front]) -> [usize; 3] {
     let mut ends = [0; 3];
     for place in 0..3 {
@@ -110,11 +110,11 @@ fn ways_to(alloc: Global, paths: &Paths, ends: [usize; 3]) -> Result<Vec<Vec<usi
     Ok(ways)
 }
 
-/// Looks for an order of the calls that explains them, at so many tables at most. An order that it finds is to be
-/// tried by `explains`.
+/// Looks for an order of the calls that explains them, at `steps` tables at most. `explains` has to confirm an order
+/// that it finds.
 ///
 /// # Errors
-/// `AllocError`.
+/// `AllocError` where a request for memory was refused.
 pub(crate) fn look_for_order(
     alloc: Global,
     calls: &[ClientCall],
@@ -169,7 +169,7 @@ fn first_fronts(alloc: Global) -> Result<Vec<Front>, AllocError>
     Ok(fronts)
 }
 
-// The way to one of the fronts that are left, once all calls have ended.
+// The way to one of the fronts that are left, after all calls have ended.
 fn order_of(fronts: &[Front], paths: &Paths, count: usize) -> Result<Verdict, AllocError>
     ensures { IfOk result (λ verdict. (calls : List SomeCall) → IsSearched calls verdict) }
 {

@@ -1,4 +1,4 @@
-//! Which histories are searched.
+//! The test whether a history can be searched.
 ghost use Rattle.std.specs.Prelude.{◌≡◌, ◌≤◌, ℕ, true, IsTrue, Some};
 ghost use Rattle.client_history.specs.declared.act.Act.TheVariants.{Drops};
 ghost use Rattle.client_history.specs.Explained.{always};
@@ -8,8 +8,8 @@ use crate::act::Act;
 use crate::client_call::ClientCall;
 use crate::owner_calls::changes;
 
-/// Whether no call ends before it begins, each exit drops its owner's locks, and each call that follows another does so
-/// to one of its owner, where both change locks.
+/// Whether no call ends before it begins, each exit drops its owner's locks, and each call that follows another
+/// follows one of its own owner, where both change locks.
 pub(crate) fn are_sound(calls: &[ClientCall]) -> bool
     ensures { IsTrue result → AreSound calls.now }
 {
@@ -21,14 +21,14 @@ pub(crate) fn are_sound(calls: &[ClientCall]) -> bool
     true
 }
 
-// Whether that is so of the call.
+// Whether the call is as `are_sound` asks of each.
 fn is_sound(calls: &[ClientCall], call: &ClientCall) -> bool
     ensures { IsTrue result → IsSound calls.now call.now }
 {
     is_ordered(call) && drops_as_last(call) && may_follow(calls, call)
 }
 
-// Whether the call ends no earlier than it begins, if it does.
+// Whether the call ends no earlier than it begins, if it ends.
 fn is_ordered(call: &ClientCall) -> bool
     ensures timed { (end : ℕ) → call.now.end ≡ Some end → end ≤ always }
     ensures ordered { IsTrue result → (end : ℕ) → call.now.end ≡ Some end → call.now.begin ≤ end }
@@ -39,14 +39,14 @@ fn is_ordered(call: &ClientCall) -> bool
     }
 }
 
-// Whether the call, where it is an exit, drops its owner's locks.
+// Whether the call drops its owner's locks, if it is an exit.
 fn drops_as_last(call: &ClientCall) -> bool
     ensures { IsTrue result → call.now.is_last ≡ true → call.now.act ≡ Drops }
 {
     !call.is_last || call.act == Act::Drops
 }
 
-// Whether the call that it follows, if there is one, is a call of its owner, and both change locks.
+// Whether the call that this one follows, if there is one, is of the same owner, and both change locks.
 fn may_follow(calls: &[ClientCall], call: &ClientCall) -> bool
     ensures { IsTrue result → (first : ℕ) → call.now.follows ≡ Some first → MayFollow calls.now first call.now }
 {

@@ -1,5 +1,5 @@
-//! What no contract says of a judged history: that an order is found where there is one, and how far the search went where there is
-//! none.
+//! Tests of what no contract says of a judged history: that an order is found where there is one, and how far the
+//! search went where there is none.
 use crate::act::Act;
 use crate::client_call::ClientCall;
 use crate::explains::explains;
@@ -14,7 +14,7 @@ use std::test::Fail;
 
 const BYTE: Span = Span { lo: 15, hi: 15 };
 
-// More tables than any of these histories needs.
+// A number of steps that is more than any of these histories needs.
 const STEPS: u64 = 1_000;
 
 // A process of node 1.
@@ -27,7 +27,7 @@ fn first() -> Owner {
     }
 }
 
-// Another one.
+// Another process of node 1.
 fn second() -> Owner {
     Owner {
         number: 2,
@@ -35,7 +35,7 @@ fn second() -> Owner {
     }
 }
 
-// A call that took from the first time to the last.
+// A call that took from `begin` to `end`.
 fn call(owner: Owner, begin: u64, end: u64, act: Act) -> ClientCall {
     ClientCall {
         owner,
@@ -54,7 +54,7 @@ fn writes() -> Act {
     }
 }
 
-// A set to write that is refused, of which nothing is told.
+// A set for writing that is refused, whose client was told nothing of the lock.
 fn is_denied() -> Act {
     Act::IsDenied {
         mode: Mode::Write,
@@ -67,7 +67,7 @@ fn is_denied() -> Act {
     }
 }
 
-// A lock is set while another process is refused it and then gets it, whose calls overlap in time.
+// A lock passes from one process to another: the second is refused it, and then gets it. The calls overlap in time.
 fn handover() -> [ClientCall; 4] {
     [
         call(second(), 4, 9, writes()),
@@ -99,7 +99,7 @@ fn behind_another_owner() -> [ClientCall; 2] {
     ]
 }
 
-// Two processes that got one byte to write, one after the other.
+// Two processes that got one byte for writing, one after the other.
 fn granted_twice() -> [ClientCall; 2] {
     [
         call(first(), 1, 2, writes()),
@@ -125,7 +125,7 @@ fn explains_again(
     }
 }
 
-// Whether the search stops at the end of that call.
+// Whether the search stops at the end of the call with that index.
 fn stops_at(
     alloc: Global,
     calls: &[ClientCall],

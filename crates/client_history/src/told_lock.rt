@@ -1,10 +1,10 @@
-//! What a client is told of a lock in its way.
+//! What a client was told of a lock that blocked it.
 use intervals::span::Span;
 use model::mode::Mode;
 use model::owner::Owner;
 
-/// What a client is told of a lock in its way, as much as it is told: by F_SETLK nothing, by F_GETLK
-/// the mode and the bytes of a region, and the owner where its number says one.
+/// What a client was told of a lock that blocked it, which may be little: nothing by F_SETLK; by F_GETLK the mode and
+/// the bytes of a region, and the owner where its number says which.
 #[derive(Clone, Copy, Debug, PartialEq, Eq)]
 pub struct ToldLock {
     pub mode: Option<Mode>,

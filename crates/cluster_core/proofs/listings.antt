@@ -1,3 +1,3 @@
--- Lists of locks and of tokens.
+-- The listings of locks and of tokens.
 pub mod TokenLists
 pub mod LockLists

@@ -1,4 +1,4 @@
--- Runs, entry by entry, and what holds of each.
+-- Runs, entry by entry, and the facts of each.
 pub mod JournalRuns
 pub mod Runs
 pub mod EarlyNumbers

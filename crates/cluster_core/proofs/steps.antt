@@ -1,4 +1,4 @@
--- What a step of a node, of a server and of the cluster comes to.
+-- The steps of a node, of a token server and of the cluster.
 pub mod KnownMessages
 pub mod NodeSteps
 pub mod NodeNumbers

@@ -1,4 +1,4 @@
--- What holds of tokens and of locks under them, after every run.
+-- The facts of tokens, and of the locks under them, after every run.
 pub mod Covering
 pub mod Served
 pub mod Heard

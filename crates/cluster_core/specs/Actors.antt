@@ -1,4 +1,4 @@
--- What one actor makes of an event of the cluster, and runs that go on by it.
+-- The step of one actor at an event of the cluster, and the run that goes on by it.
 use Rattle.std.specs.Prelude.{◌≡◌, ℕ, ◌==◌, if◌then◌else◌, true, [], ◌∷◌, ◌++◌, Option, Some, None, Result, Ok, Err}
 use Rattle.messages.specs.declared.refusal.StepError.{StepError}
 use Rattle.messages.specs.declared.refusal.StepError.TheVariants.{Stranger}
@@ -21,7 +21,7 @@ use Rattle.cluster_core.specs.Next.{named_incarnation, with_node, with_server, r
 use Rattle.cluster_core.specs.Parts.{world_state}
 use Rattle.cluster_core.specs.Journals.{RunFields}
 
--- the event as the node with the number takes it, or none
+-- the event as the node with that number takes it, or none
 abbrev pub node_event : ℕ → Event → Option NodeEvent
 node_event n (Call k pid op) = if k == n then Some (node.Call pid op) else None
 node_event n (Deliver m) = if is_node n (addressee m) then Some (node.Deliver m) else None
@@ -29,7 +29,7 @@ node_event n (Interrupt k pid) = if k == n then Some (node.Interrupt pid) else N
 node_event n (Retry k pid) = if k == n then Some (node.Retry pid) else None
 node_event n _ = None
 
--- and as the server of the file does
+-- the event as the token server of the file takes it, or none
 abbrev pub server_event : ℕ → Event → Option ServerEvent
 server_event f (Deliver m) = if is_server f (addressee m) then Some (server.Deliver m) else None
 server_event f (Resend file) = if file == f then Some server.Resend else None
@@ -44,27 +44,27 @@ abbrev pub server_at : ServerState → Option ServerEvent → Result (ServerStat
 server_at s None = Err Stranger
 server_at s (Some event) = server_rule s event
 
--- what the node with the number does at an event: one that it doesn't take is strange to it
+-- the step of the node with that number at an event; an event that it doesn't take is strange to it
 abbrev pub node_step : ℕ → NodeState → Event → Result (NodeState × Outcome) StepError
 node_step n s event = node_at s (node_event n event)
 
--- and the server of the file
+-- the step of the token server of the file at an event; an event that it doesn't take is strange to it
 abbrev pub server_step : ℕ → ServerState → Event → Result (ServerState × Outcome) StepError
 server_step f s event = server_at s (server_event f event)
 
--- the node with the number is alive, and in this state
+-- the node with that number is alive, and in this state
 pub record HasNode (w : WorldState) (n : ℕ) (s : NodeState) : Type 0 where
   pub number : has_node w n ≡ true
   pub alive : w.alive n ≡ true
   pub state : w.nodes n ≡ s
 
--- the server of the file works, and is in this state
+-- the token server of the file works, and is in this state
 pub record HasServer (w : WorldState) (f : ℕ) (s : ServerState) : Type 0 where
   pub number : has_file w f ≡ true
   pub working : w.working f ≡ true
   pub state : w.servers f ≡ s
 
--- the world and the entry that come of an actor's new state and its outcome
+-- the world and the entry that a node's new state and outcome make
 abbrev pub made_by_node : WorldState → Event → ℕ → NodeState → Outcome → WorldState × Entry
 made_by_node w event n s o = recorded (with_node w n s) event (named_incarnation (w.nodes n) event) o
 

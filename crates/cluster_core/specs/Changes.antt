@@ -1,4 +1,4 @@
--- What an event will do to a world, as it was planned from the world's parts.
+-- The change that an event makes in a world, as it is planned from the world's parts.
 use Rattle.std.specs.Prelude.{◌≡◌, ℕ, ◌-◌, ◌<◌, ◌≤◌, true, false, List, Result, Ok, slice_index_or}
 use Rattle.messages.specs.Messages.{is_within}
 use Rattle.messages.specs.Entries.{NamesItsIncarnation}
@@ -25,7 +25,7 @@ use Rattle.cluster_core.specs.World.{WorldState, journal_limit, most_incarnation
 use Rattle.cluster_core.specs.Next.{named_incarnation, after_node, after_server, declare_rule, restart_rule, fail_rule, start_rule, next_server, next}
 use Rattle.cluster_core.specs.Parts.{WorldParts, IsStepOf, IsServerStepOf, alive_at, works_at, world_state}
 
--- the change is of the node's own step at the event, from which r comes
+-- the change is the step of the node at the event, and r is what the step makes
 pub record IsNodeChange (p : WorldParts) (event : Event) (n incarnation : ℕ) (change : NodeChange) (r : Result (WorldState × Entry) Refused) : Type 0 where
   pub step : NodeEvent
   pub number : is_within p.shape.nodes n ≡ true
@@ -39,7 +39,7 @@ pub record IsNodeChange (p : WorldParts) (event : Event) (n incarnation : ℕ) (
   pub incarnated : NamesItsIncarnation event incarnation
   pub gives : r ≡ after_node (world_state p) event n (node_rule ((world_state p).nodes n) step)
 
--- the change is of the server's own step at the event, from which r comes
+-- the change is the step of the token server at the event, and r is what the step makes
 pub record IsServerChange (p : WorldParts) (event : Event) (file : ℕ) (change : ServerChange) (r : Result (WorldState × Entry) Refused) : Type 0 where
   pub step : ServerEvent
   pub number : is_within p.shape.files file ≡ true
@@ -50,26 +50,26 @@ pub record IsServerChange (p : WorldParts) (event : Event) (file : ℕ) (change 
   pub done : server_rule ((world_state p).servers file) step ≡ Ok (planned server change.edit, change.outcome)
   pub gives : r ≡ after_server (world_state p) event file (server_rule ((world_state p).servers file) step)
 
--- the node may be declared
+-- the node is alive and may be declared failed
 pub record IsDeclaration (p : WorldParts) (n : ℕ) (r : Result (WorldState × Entry) Refused) : Type 0 where
   pub number : is_within p.shape.nodes n ≡ true
   pub alive : alive_at p n ≡ true
   pub gives : r ≡ declare_rule (world_state p) n
 
--- the node may begin again as this one
+-- the node may restart, in this state
 pub record IsRestart (p : WorldParts) (n : ℕ) (begun : NodeParts) : Type 0 where
   pub number : is_within p.shape.nodes n ≡ true
   pub dead : alive_at p n ≡ false
   pub few : incarnation_in p.members.nodes n ≤ most_incarnations
   pub begins : node_state begun ≡ first_node p.shape n (incarnation_in p.members.nodes n)
 
--- the server of the file may be declared failed
+-- the token server of the file works and may be declared failed
 pub record IsFailure (p : WorldParts) (file : ℕ) (r : Result (WorldState × Entry) Refused) : Type 0 where
   pub number : is_within p.shape.files file ≡ true
   pub works : works_at p file ≡ true
   pub gives : r ≡ fail_rule (world_state p) file
 
--- the server of the file may begin again as this one, which asks the nodes for their tokens by these messages
+-- the token server of the file may start again, in this state, with these messages in which it asks the nodes for their tokens
 pub record IsStart (p : WorldParts) (file : ℕ) (begun : ServerParts) (sends : List Message) : Type 0 where
   pub number : is_within p.shape.files file ≡ true
   pub failed : works_at p file ≡ false
@@ -77,7 +77,7 @@ pub record IsStart (p : WorldParts) (file : ℕ) (begun : ServerParts) (sends : 
   pub begins : server_state begun ≡ next_server (world_state p) file
   pub asks : sends ≡ outstanding (next_server (world_state p) file)
 
--- the change is what makes r of the event
+-- the change is planned for the event, and r is what it makes
 abbrev pub Makes : WorldParts → Event → Change → Result (WorldState × Entry) Refused → Type 0
 Makes p event (OfNode n incarnation change) r = IsNodeChange p event n incarnation change.value r
 Makes p event (OfServer file change) r = IsServerChange p event file change r
@@ -86,7 +86,7 @@ Makes p event (Restarted n begun) r = IsRestart p n begun.value × (r ≡ restar
 Makes p event (Failed file) r = IsFailure p file r
 Makes p event (Started file begun sends) r = IsStart p file begun.value sends × (r ≡ start_rule (world_state p) file)
 
--- the change is what the event will do
+-- the change is what the event makes in the world
 pub record Plans (p : WorldParts) (event : Event) (change : Change) : Type 0 where
   pub room : p.length < journal_limit
   pub made : Makes p event change (next (world_state p) event)

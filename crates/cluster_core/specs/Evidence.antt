@@ -1,4 +1,4 @@
--- What stands behind each denial.
+-- The evidence of each denial.
 use Rattle.std.specs.Prelude.{◌≡◌, ◌⊎◌, ℕ, max, ◌+◌, ◌<◌, Bool, true, false, List, [], ◌∷◌, take, Some, None, Ok}
 use Rattle.intervals.specs.Bytes.{Range}
 use Rattle.model.specs.declared.mode.Mode.{Mode}
@@ -23,7 +23,7 @@ use Rattle.cluster_core.specs.Runs.{Leads}
 use Rattle.cluster_core.specs.Union.{union}
 use Rattle.cluster_core.specs.Histories.{caller, IsCalledAt, IsRevokedAt}
 
--- the call passes its tests: it is about a lock of that mode there
+-- the call passes its tests in the table: it asks for a lock of that mode on that target
 abbrev pub IsAbout : Table → Process → Op → Mode → LockTarget → Type 0
 IsAbout t p (Set fd kind m start len) mode c = (m ≡ mode) × (target t p (Some m) fd kind start len ≡ Ok c)
 IsAbout t p (Wait fd kind m start len) mode c = (m ≡ mode) × (target t p (Some m) fd kind start len ≡ Ok c)
@@ -39,7 +39,7 @@ is_wait _ = false
 abbrev pub IsWorldAfter : ShapeFields → List Entry → ℕ → WorldState → Type 0
 IsWorldAfter shape es at w = Leads (first_world shape) (take at es) w
 
--- a call of the run is about a lock of that mode on these bytes of the file
+-- a call of the run asks for a lock of that mode on these bytes of the file
 pub record IsAsked (shape : ShapeFields) (es : List Entry) (file : ℕ) (call : CallId) (mode : Mode) (span : Range) : Type 0 where
   pub at : ℕ
   pub pid : ℕ
@@ -62,7 +62,7 @@ pub record IsFirstDone (shape : ShapeFields) (es : List Entry) (file : ℕ) (hol
   pub holder_is : host (before.nodes holder.node) ≡ holder
   pub is_next : max ((before.nodes holder.node).files file).last (begin_of number) + 1 ≡ number
 
--- after the call was made its holder first did the revoke of that number, and its answer was this conflict: the lock was then a region of the holder, and in the way of the call
+-- after the call was made the holder first did the revoke of that number, and answered with this conflict: the lock was then its region and blocked the call
 pub record HasEvidence (shape : ShapeFields) (es : List Entry) (file : ℕ) (call : CallId) (holder : Host) (number : ℕ) (lock : LockInfo) : Type 0 where
   pub mode : Mode
   pub wanted : Wants
@@ -84,11 +84,11 @@ pub record HasEvidence (shape : ShapeFields) (es : List Entry) (file : ℕ) (cal
 abbrev pub IsRemembered : WorldState → ℕ → CallId → Host → ℕ → LockInfo → Type 0
 IsRemembered w file call holder number lock = (node of : ℕ) × (has_node w node ≡ true) × (((w.nodes node).files of).answer ≡ Some (Conflict file number holder call lock))
 
--- a server was told of the conflict, or denied a call for it, or a node remembers it
+-- the conflict was sent to a server, or a server sent a denial for it, or a node remembers it
 abbrev pub IsTold : WorldState → ℕ → CallId → Host → ℕ → LockInfo → Type 0
 IsTold w file call holder number lock = (is_among w.sent (Conflict file number holder call lock) ≡ true) ⊎ ((is_among w.sent (Deny file call holder number lock) ≡ true) ⊎ IsRemembered w file call holder number lock)
 
--- whatever is told in a world of the run has its evidence up to there: no call is denied for a lock that was not there
+-- each conflict or denial in a world of the run has its evidence up to there: no call is denied for a lock that was not there
 abbrev pub DenialsHaveEvidence : ShapeFields → List Entry → Type 0
 DenialsHaveEvidence shape es =
     (at : ℕ) (w : WorldState) (file : ℕ) (call : CallId) (holder : Host) (number : ℕ) (lock : LockInfo)
@@ -96,7 +96,7 @@ DenialsHaveEvidence shape es =
     → IsTold w file call holder number lock
     → HasEvidence shape (take at es) file call holder number lock
 
--- so it is after every run
+-- after every run each denial has its evidence
 abbrev pub EveryDenialHasEvidence : Type 0
 EveryDenialHasEvidence = (shape : ShapeFields) (es : List Entry) → IsShape shape → DenialsHaveEvidence shape es
 

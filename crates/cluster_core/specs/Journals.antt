@@ -1,4 +1,4 @@
--- Journals, what a list of events comes to, and which entry is the first wrong one.
+-- Journals, the run that a list of events makes, and the first wrong entry of a list.
 use Rattle.std.specs.Prelude.{◌≡◌, ◌≢◌, ℕ, ◌+◌, ◌≤◌, nat_le, if◌then◌else◌, List, [], ◌∷◌, ◌++◌, length, map, Option, Some, None, Result, Ok, Err}
 use Rattle.messages.specs.Shapes.{ShapeFields, IsShape}
 use Rattle.messages.specs.declared.refusal.Refused.{Refused}
@@ -12,7 +12,7 @@ use Rattle.cluster_core.specs.Next.{next, kept_next}
 use Rattle.cluster_core.specs.Parts.{WorldParts, world_state}
 use Rattle.cluster_core.specs.Runs.{Leads, IsRun}
 
--- the entries that a cluster of this shape made
+-- the shape of a cluster, and the entries that it made
 pub record JournalFields : Type 0 where
   pub shape : ShapeFields
   pub entries : List Entry
@@ -26,7 +26,7 @@ pub record IsJournal (j : JournalFields) : Type 0 where
 abbrev pub events_of : List Entry → List Event
 events_of es = map (λ e. e.event) es
 
--- the events up to one happened, in their order, and that one is refused so
+-- the events before one happened, in their order, and that one is refused so
 pub record IsFirstRefusal (shape : ShapeFields) (events : List Event) (refusal : Refused) : Type 0 where
   pub done : List Entry
   pub world : WorldState
@@ -36,7 +36,7 @@ pub record IsFirstRefusal (shape : ShapeFields) (events : List Event) (refusal :
   pub in_order : events ≡ events_of done ++ event ∷ rest
   pub refused : kept_next world event ≡ Err refusal
 
--- the entries before that position, from 1, lead to a world from which the one there is not the next: its event is refused, or makes another
+-- The entry at that position, from 1, is the first that is not the next step: its event is refused after the entries before it, or makes another entry
 pub record IsFirstWrong (shape : ShapeFields) (entries : List Entry) (position : ℕ) : Type 0 where
   pub before : List Entry
   pub world : WorldState
@@ -47,11 +47,11 @@ pub record IsFirstWrong (shape : ShapeFields) (entries : List Entry) (position :
   pub stands_there : position ≡ length before + 1
   pub not_next : (v : WorldState) → next world wrong.event ≢ Ok (v, wrong)
 
--- no run has a wrong entry
+-- entries that have a first wrong one are no run
 abbrev pub NoRunHasAWrongEntry : Type 0
 NoRunHasAWrongEntry = (shape : ShapeFields) (entries : List Entry) (position : ℕ) → IsFirstWrong shape entries position → ¬ IsRun shape entries
 
--- a run that goes on: the entries so far, and the world to which they lead
+-- a run that goes on: its entries, and the world to which they lead
 pub record RunFields : Type 0 where
   pub world : WorldParts
   pub entries : List Entry
@@ -62,14 +62,14 @@ pub record LeadsToItsWorld (r : RunFields) : Type 0 where
   pub few : r.world.length ≤ journal_limit
   pub leads : Leads (first_world r.world.shape) r.entries (world_state r.world)
 
--- the run goes on by the event: its world steps, and the entry comes last
+-- the run goes on by the event: its world takes the event, and the entry comes last
 abbrev pub GoesOn : RunFields → Event → RunFields → Type 0
 GoesOn r event s = (e : Entry) × (kept_next (world_state r.world) event ≡ Ok (world_state s.world, e)) × (s.entries ≡ r.entries ++ e ∷ [])
 
 abbrev pub journal_of : RunFields → JournalFields
 journal_of r = record { shape = r.world.shape; entries = r.entries }
 
--- the delivery of the message at a place in the order of sending, if one stands there; else it is refused
+-- the delivery of the message that stands at a place in the order of sending; it is refused if none does
 abbrev pub delivery : WorldState → Option Message → Result (WorldState × Entry) Refused
 delivery w (Some m) = kept_next w (Deliver m)
 delivery w None = Err (if nat_le journal_limit w.length then JournalFull else Stranger)

@@ -10,13 +10,13 @@ use Rattle.cluster_core.specs.declared.token_run.TokenRun.{TokenRun}
 use Rattle.cluster_core.specs.World.{WorldState, has_file, is_live}
 use Rattle.cluster_core.specs.Union.{union}
 
--- each thing of the kind once, in the order
+-- the list has each element of the kind once, in the order
 pub record Lists {A : Type 0} (Is : A → Type 0) (Before : A → A → Type 0) (xs : List A) : Type 0 where
   pub each : All Is xs
   pub complete : (x : A) → Is x → Contains xs x
   pub rises : AllPairs Before xs
 
--- at the end of the list come all things of the kind, in the order
+-- the list is the old one and behind it all elements of the kind, in the order
 abbrev pub Adds : {A : Type 0} → (A → Type 0) → (A → A → Type 0) → List A → List A → Type 0
 Adds {A} Is Before old new = (more : List A) × (new ≡ old ++ more) × Lists Is Before more
 
@@ -26,22 +26,22 @@ pub record IsTokenRun (w : WorldState) (t : TokenRun) : Type 0 where
   pub file_in : has_file w t.file ≡ true
   pub run : IsRun ((w.nodes t.node).files t.file).token t.span t.level
 
--- by node, then by file, then by first byte
+-- the order of token runs: by node, then by file, then by first byte
 abbrev pub IsTokenBefore : TokenRun → TokenRun → Type 0
 IsTokenBefore a b = (a.node < b.node) ⊎ ((a.node ≡ b.node) × ((a.file < b.file) ⊎ ((a.file ≡ b.file) × (a.span.lo < b.span.lo))))
 
--- each longest run of each live node's tokens once, in that order
+-- the list has each longest run of the live nodes' tokens once, in order
 abbrev pub IsTokenListing : WorldState → List TokenRun → Type 0
 IsTokenListing w = Lists (IsTokenRun w) IsTokenBefore
 
--- those of one node, and of one of its files
+-- a longest run in a token of that node
 abbrev pub IsTokenOf : WorldState → ℕ → TokenRun → Type 0
 IsTokenOf w node t = IsTokenRun w t × (t.node ≡ node)
 
 abbrev pub IsTokenOfFile : WorldState → ℕ → ℕ → TokenRun → Type 0
 IsTokenOfFile w node file t = IsTokenOf w node t × (t.file ≡ file)
 
--- a run, with whose and of which file it is
+-- a run with its node, incarnation and file
 abbrev pub token_run : ℕ → ℕ → ℕ → Range × Level → TokenRun
 token_run node incarnation file r = record { node = node; incarnation = incarnation; file = file; span = r.0; level = r.1 }
 
@@ -50,14 +50,14 @@ pub record IsHeld (w : WorldState) (h : HeldLock) : Type 0 where
   pub file_in : has_file w h.file ≡ true
   pub region : IsRegion ((union w).locks h.file) h.lock
 
--- by file, then by first byte, then by owner
+-- the order of locks: by file, then by first byte, then by owner
 abbrev pub IsHeldBefore : HeldLock → HeldLock → Type 0
 IsHeldBefore a b = (a.file < b.file) ⊎ ((a.file ≡ b.file) × IsBefore a.lock b.lock)
 
--- each region of the live nodes' locks once, in that order
+-- the list has each region of the live nodes' locks once, in order
 abbrev pub IsLockListing : WorldState → List HeldLock → Type 0
 IsLockListing w = Lists (IsHeld w) IsHeldBefore
 
--- a region, with its file
+-- a region with its file
 abbrev pub held_lock : ℕ → LockInfo → HeldLock
 held_lock file lock = record { file = file; lock = lock }

@@ -1,4 +1,4 @@
--- What an event does to the cluster.
+-- The step of the cluster at an event.
 use Rattle.std.specs.Prelude.{ℕ, ◌+◌, Bool, true, false, not, ◌&&◌, ◌==◌, nat_le, nat_lt, if◌then◌else◌, [], ◌++◌, Result, Ok, Err}
 use Rattle.messages.specs.declared.refusal.StepError.{StepError}
 use Rattle.messages.specs.declared.refusal.Refused.{Refused}
@@ -28,7 +28,7 @@ abbrev pub has_actor : WorldState → Actor → Bool
 has_actor w (ANode n) = has_node w n
 has_actor w (AServer file) = has_file w file
 
--- the event names nodes, processes and files of the shape, a message that was sent to one of its actors, an incarnation that was declared, or a server of a cluster in which servers may fail
+-- the event names nodes, processes, files of the shape, a message sent to one of its actors, a declared incarnation, or a server that may fail in its version
 abbrev pub is_known : WorldState → Event → Bool
 is_known w (Call n pid op) = has_node w n && (is_pid pid && is_in_shape w.shape op)
 is_known w (Deliver m) = has_actor w (addressee m) && is_among w.sent m
@@ -41,12 +41,12 @@ is_known w (Learn file n incarnation) = has_file w file && (has_node w n && was_
 is_known w (FailServer file) = may_rebuild w.shape.version && has_file w file
 is_known w (StartServer file) = may_rebuild w.shape.version && has_file w file
 
--- the actor is a node or a server that was declared failed and is not started again
+-- the actor is a node or a token server that was declared failed and is not started again
 abbrev pub is_stopped : WorldState → Actor → Bool
 is_stopped w (ANode n) = not (w.alive n)
 is_stopped w (AServer file) = not (w.working file)
 
--- the event would be a step of such an actor
+-- the event would be a step of an actor that was declared failed
 abbrev pub is_fenced : WorldState → Event → Bool
 is_fenced w (Call n pid op) = is_stopped w (ANode n)
 is_fenced w (Deliver m) = is_stopped w (addressee m)
@@ -56,7 +56,7 @@ is_fenced w (Resend file) = is_stopped w (AServer file)
 is_fenced w (Learn file n incarnation) = is_stopped w (AServer file)
 is_fenced w _ = false
 
--- the incarnation that the entry of a node's event names, 0 for none: an interrupt and a retry are of the live one
+-- the incarnation that the entry of a node's event names, 0 for none: an interrupt and a retry name the live one
 abbrev pub named_incarnation : NodeState → Event → ℕ
 named_incarnation s (Interrupt n pid) = s.incarnation
 named_incarnation s (Retry n pid) = s.incarnation
@@ -65,7 +65,7 @@ named_incarnation s _ = 0
 abbrev pub entry : Event → ℕ → Outcome → Entry
 entry event incarnation o = record { event = event; incarnation = incarnation; call = o.call; reply = o.reply; sends = o.sends }
 
--- one more entry, with these messages
+-- the world with one more entry, and that entry, which sends these messages
 abbrev pub recorded : WorldState → Event → ℕ → Outcome → WorldState × Entry
 recorded w event incarnation o = (record w { sent = w.sent ++ o.sends; length = w.length + 1 }, entry event incarnation o)
 
@@ -91,40 +91,40 @@ delivered w m (AServer file) = after_server w (Deliver m) file (server_rule (w.s
 abbrev pub declared : WorldState → ℕ → WorldState
 declared w n = record (with_node w n (first_node w.shape n ((w.nodes n).incarnation + 1))) { alive = λ m. if m == n then false else w.alive m }
 
--- the node is alive
+-- the node is alive again
 abbrev pub restarted : WorldState → ℕ → WorldState
 restarted w n = record w { alive = λ m. if m == n then true else w.alive m }
 
--- one more entry, which sends nothing
+-- the world with one more entry, and that entry, which sends nothing
 abbrev pub silent : WorldState → Event → ℕ → WorldState × Entry
 silent w event incarnation = recorded w event incarnation (sending [])
 
--- a node is declared failed that is alive
+-- Declare: a node that is alive is declared failed
 abbrev pub declare_rule : WorldState → ℕ → Result (WorldState × Entry) Refused
 declare_rule w n = if w.alive n then Ok (silent (declared w n) (Declare n) (w.nodes n).incarnation) else Err NotAlive
 
--- a node restarts that was declared, unless no incarnation is left
+-- Restart: a node that was declared failed begins again, unless no incarnation is left
 abbrev pub restart_rule : WorldState → ℕ → Result (WorldState × Entry) Refused
 restart_rule w n =
     if w.alive n then Err NotDead
     else (if nat_le (w.nodes n).incarnation most_incarnations then Ok (silent (restarted w n) (Restart n) (w.nodes n).incarnation) else Err TooManyRestarts)
 
--- the server takes no step from here on
+-- the token server takes no step from here on
 abbrev pub failed : WorldState → ℕ → WorldState
 failed w file = record w { working = λ f. if f == file then false else w.working f }
 
--- the server that will be, in the next epoch: it is told which nodes are alive
+-- the token server as it begins again, in the next epoch, from the nodes that are alive
 abbrev pub next_server : WorldState → ℕ → ServerState
 next_server w file = rebuilt w.shape file ((w.servers file).epoch + 1) w.alive (λ n. (w.nodes n).incarnation)
 
 abbrev pub started : WorldState → ℕ → WorldState
 started w file = record (with_server w file (next_server w file)) { working = λ f. if f == file then true else w.working f }
 
--- a server is declared failed that works
+-- FailServer: a token server that works is declared failed
 abbrev pub fail_rule : WorldState → ℕ → Result (WorldState × Entry) Refused
 fail_rule w file = if w.working file then Ok (silent (failed w file) (FailServer file) (w.servers file).epoch) else Err NotAlive
 
--- a server that was declared failed is rebuilt, and asks the live nodes for their tokens, unless no epoch is left
+-- StartServer: a token server that was declared failed is rebuilt, and asks the live nodes for their tokens, unless no epoch is left
 abbrev pub start_rule : WorldState → ℕ → Result (WorldState × Entry) Refused
 start_rule w file =
     if w.working file then Err NotDead
@@ -132,7 +132,7 @@ start_rule w file =
     then Ok (recorded (started w file) (StartServer file) ((w.servers file).epoch + 1) (sending (outstanding (next_server w file))))
     else Err TooManyRestarts)
 
--- the one actor that takes the event does its step, or a node or a server is declared or started again; all others stay
+-- the one actor that takes the event makes its step, or a node or a token server is declared failed or started again; all others stay
 abbrev pub taken : WorldState → Event → Result (WorldState × Entry) Refused
 taken w (Call n pid op) = after_node w (Call n pid op) n (node_rule (w.nodes n) (node.Call pid op))
 taken w (Deliver m) = delivered w m (addressee m)
@@ -145,13 +145,13 @@ taken w (Learn file n incarnation) = after_server w (Learn file n incarnation) f
 taken w (FailServer file) = fail_rule w file
 taken w (StartServer file) = start_rule w file
 
--- the world after the event and the entry that it makes, or the first of its refusals: a stranger, a step of a node or a server that was declared failed, and then those of the step
+-- the world after the event and the entry that it makes, or the first refusal: `Stranger`, then `Fenced`, and then that of the actor's step
 abbrev pub next : WorldState → Event → Result (WorldState × Entry) Refused
 next w event =
     if not (is_known w event) then Err Stranger
     else (if is_fenced w event then Err Fenced
     else taken w event)
 
--- the same at what keeps a journal, which refuses each event once it is full
+-- the step of a cluster that keeps a journal, which refuses each event once the journal is full
 abbrev pub kept_next : WorldState → Event → Result (WorldState × Entry) Refused
 kept_next w event = if nat_le journal_limit w.length then Err JournalFull else next w event

@@ -1,4 +1,4 @@
--- Numbers of the commands of token servers.
+-- The numbers of the commands of token servers.
 use Rattle.std.specs.Prelude.{◌≡◌, ℕ, Bool, true, false, List}
 use Rattle.messages.specs.Shapes.{ShapeFields, IsShape}
 use Rattle.messages.specs.Messages.{file_of, host_of, is_among}
@@ -8,26 +8,26 @@ use Rattle.messages.specs.declared.entry.Entry.{Entry}
 use Rattle.cluster_core.specs.World.{WorldState, first_world}
 use Rattle.cluster_core.specs.Runs.{Leads}
 
--- a server gives a node a token, or takes one back
+-- the message is a Grant or a Revoke
 abbrev pub is_command : Message → Bool
 is_command (Grant file number call mode span) = true
 is_command (Revoke file number holder call mode wanted) = true
 is_command _ = false
 
--- the number of a command, from 1
+-- the number of a Grant or a Revoke, from 1; 0 of another message
 abbrev pub number_of : Message → ℕ
 number_of (Grant file number call mode span) = number
 number_of (Revoke file number holder call mode wanted) = number
 number_of _ = 0
 
--- of the commands about one file to one incarnation of a node, no two have one number
+-- no two commands about one file to one incarnation of a node have one number
 abbrev pub NumbersTellCommands : WorldState → Type 0
 NumbersTellCommands w = (m other : Message) → is_among w.sent m ≡ true → is_among w.sent other ≡ true → is_command m ≡ true → is_command other ≡ true → file_of m ≡ file_of other → host_of m ≡ host_of other → number_of m ≡ number_of other → m ≡ other
 
--- whatever world the entries lead to, its numbers tell its commands
+-- in each world that the entries lead to, no two commands about one file to one incarnation of a node have one number
 abbrev pub LeadsToNumbers : ShapeFields → List Entry → Type 0
 LeadsToNumbers shape es = (w : WorldState) → Leads (first_world shape) es w → NumbersTellCommands w
 
--- so it is after every run
+-- after every run no two commands about one file to one incarnation of a node have one number
 abbrev pub NoNumberIsUsedTwice : Type 0
 NoNumberIsUsedTwice = (shape : ShapeFields) (es : List Entry) → IsShape shape → LeadsToNumbers shape es

@@ -1,4 +1,4 @@
--- A world as plain data, and what it stands for.
+-- A world as the code keeps it, and the state that it stands for.
 use Rattle.std.specs.Prelude.{◌≡◌, ℕ, Bool, true, false, ◌+◌, ◌≤◌, List, length}
 use Rattle.messages.specs.Shapes.{ShapeFields}
 use Rattle.messages.specs.declared.message.Message.{Message}
@@ -24,12 +24,12 @@ pub record WorldParts : Type 0 where
   pub sent : List Message
   pub length : ℕ
 
--- a node that is not alive is as it will begin again
+-- a node that is not alive is in the state in which it will begin again
 abbrev pub seated : ShapeFields → ℕ → Bool → NodeState → NodeState
 seated shape n true s = s
 seated shape n false s = first_node shape n (s.incarnation + 1)
 
--- the nodes as they are listed, which are alive, and which servers work
+-- the states of the nodes as the code lists them
 abbrev pub listed : WorldParts → ℕ → NodeState
 listed p = numbered node_state (λ n. first_node p.shape n 1) 1 p.nodes
 
@@ -50,7 +50,7 @@ world_state p = record {
   length = p.length;
 }
 
--- a node and a server, each with its member, for each number of the shape, each node by its number and in the incarnation that it has as a member, each server of the epoch that it has, and no more entries than a journal may have
+-- One node per number, one server per file; incarnations and epochs are the members'; at most `journal_limit` entries.
 pub record IsWorld (p : WorldParts) : Type 0 where
   pub nodes_there : length p.nodes ≡ p.shape.nodes
   pub members_there : length p.members.nodes ≡ p.shape.nodes
@@ -61,7 +61,7 @@ pub record IsWorld (p : WorldParts) : Type 0 where
   pub own_epoch : (f : ℕ) → incarnation_in p.members.servers f ≡ incarnation_of (works_at p f) ((world_state p).servers f).epoch
   pub within : p.length ≤ journal_limit
 
--- an event that a node takes
+-- a node may take the event
 abbrev pub IsTakenByNode : Event → Type 0
 IsTakenByNode (Call n pid op) = Unit {0}
 IsTakenByNode (Deliver m) = Unit {0}
@@ -69,7 +69,7 @@ IsTakenByNode (Interrupt n pid) = Unit {0}
 IsTakenByNode (Retry n pid) = Unit {0}
 IsTakenByNode _ = ⊥
 
--- what a node does at an event is its own step
+-- the step of the node is the one that it makes at the event
 abbrev pub IsStepOf : Event → ℕ → NodeEvent → Type 0
 IsStepOf (Call n pid op) node step = (n ≡ node) × (step ≡ own.Call pid op)
 IsStepOf (Deliver m) node step = step ≡ own.Deliver m
@@ -77,7 +77,7 @@ IsStepOf (Interrupt n pid) node step = (n ≡ node) × (step ≡ own.Interrupt p
 IsStepOf (Retry n pid) node step = (n ≡ node) × (step ≡ own.Retry pid)
 IsStepOf _ node step = ⊥
 
--- and what a server does at an event
+-- the step of the token server is the one that it makes at the event
 abbrev pub IsServerStepOf : Event → ServerEvent → Type 0
 IsServerStepOf (Deliver m) step = step ≡ served.Deliver m
 IsServerStepOf (Resend file) step = step ≡ served.Resend

@@ -5,7 +5,7 @@ use Rattle.messages.specs.declared.entry.Entry.{Entry}
 use Rattle.cluster_core.specs.World.{WorldState, first_world}
 use Rattle.cluster_core.specs.Next.{next}
 
--- the entries lead from one world to the other, each by the step that its event makes
+-- the entries lead from one world to another, each by the step that its event makes
 abbrev pub Leads : WorldState → List Entry → WorldState → Type 0
 Leads w [] v = w ≡ v
 Leads w (e ∷ es) v = (mid : WorldState) × (next w e.event ≡ Ok (mid, e)) × Leads mid es v

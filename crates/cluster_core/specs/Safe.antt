@@ -1,4 +1,4 @@
--- What holds of tokens and locks after every run.
+-- The safety of tokens and locks, which holds after every run.
 use Rattle.std.specs.Prelude.{◌≡◌, ◌≢◌, ℕ, true, false, List, Some, None}
 use Rattle.model.specs.declared.mode.Mode.{Mode}
 use Rattle.model.specs.declared.owner.Owner.{Owner}
@@ -10,19 +10,19 @@ use Rattle.messages.specs.declared.entry.Entry.{Entry}
 use Rattle.cluster_core.specs.World.{WorldState, first_world, has_node}
 use Rattle.cluster_core.specs.Runs.{Leads}
 
--- where the one token is exclusive the other has nothing
+-- where the one token is exclusive, the other has nothing
 abbrev pub Excludes : Token → Token → Type 0
 Excludes s t = (b : ℕ) → s b ≡ Some Exclusive → t b ≡ None
 
--- tokens of two nodes never conflict
+-- no tokens of two nodes conflict
 abbrev pub AreApart : WorldState → Type 0
 AreApart w = (m n file : ℕ) → has_node w m ≡ true → has_node w n ≡ true → m ≢ n → Excludes ((w.nodes m).files file).token ((w.nodes n).files file).token
 
--- the token of its node serves each byte that is locked
+-- the token of a lock's node serves each byte that is locked
 abbrev pub AreCovered : WorldState → Type 0
 AreCovered w = (n file : ℕ) (o : Owner) (b : ℕ) (mode : Mode) → has_node w n ≡ true → (w.nodes n).table.locks file o b ≡ Some mode → serves (((w.nodes n).files file).token b) mode ≡ true
 
--- a byte that two nodes lock they share
+-- locks of two nodes don't conflict: a byte that both lock is shared
 abbrev pub DoAgree : WorldState → Type 0
 DoAgree w = (m n file : ℕ) (o p : Owner) (b : ℕ) (one other : Mode) → has_node w m ≡ true → has_node w n ≡ true → m ≢ n → (w.nodes m).table.locks file o b ≡ Some one → (w.nodes n).table.locks file p b ≡ Some other → excludes one other ≡ false
 
@@ -31,7 +31,7 @@ pub record IsSafe (w : WorldState) : Type 0 where
   pub covered : AreCovered w
   pub agree : DoAgree w
 
--- whatever world the entries lead to is safe
+-- each world that the entries lead to is safe
 abbrev pub LeadsToSafe : ShapeFields → List Entry → Type 0
 LeadsToSafe shape es = (w : WorldState) → Leads (first_world shape) es w → IsSafe w
 

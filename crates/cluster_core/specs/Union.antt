@@ -6,7 +6,7 @@ use Rattle.model.specs.Table.{Table}
 use Rattle.messages.specs.Versions.{most_regions}
 use Rattle.cluster_core.specs.World.{WorldState, is_alive, is_live}
 
--- the processes, descriptors and locks of all nodes; those that are not alive have none
+-- the processes, descriptors and locks of all nodes in one table, where a node that is not alive has none
 abbrev pub union : WorldState → Table
 union w = record {
   limit = most_regions w.shape.version;
@@ -14,7 +14,7 @@ union w = record {
   locks = λ file owner. if is_live w owner.node owner.incarnation then (w.nodes owner.node).table.locks file owner else nothing;
 }
 
--- and of those alone that are alive
+-- the processes, descriptors and locks of the nodes that are alive alone in one table
 abbrev pub live_union : WorldState → Table
 live_union w = record {
   limit = most_regions w.shape.version;

@@ -1,4 +1,4 @@
--- The state of the cluster.
+-- The world: the state of the whole cluster.
 use Rattle.std.specs.Prelude.{ℕ, Bool, true, ◌&&◌, ◌==◌, if◌then◌else◌, nat_le, nat_lt, List, []}
 use Rattle.messages.specs.Shapes.{ShapeFields}
 use Rattle.messages.specs.declared.message.Message.{Message}
@@ -7,7 +7,7 @@ pub use Rattle.members.specs.Members.{most_incarnations}
 use Rattle.node_core.specs.State.{NodeState, first_node}
 use Rattle.token_server.specs.State.{ServerState, first_server}
 
--- every actor's state, which nodes are alive and which servers work, every message sent so far, and the number of entries so far; of a node that was declared failed and is not restarted the state is the one in which it will begin again: empty, in the next incarnation
+-- Every actor's state, which nodes are alive and servers work, the messages sent, and the number of entries. A node that is not alive is as it will begin again
 pub record WorldState : Type 0 where
   pub shape : ShapeFields
   pub nodes : ℕ → NodeState
@@ -28,7 +28,7 @@ first_world shape = record {
   length = 0;
 }
 
--- how many entries a journal may have
+-- the greatest number of entries of a journal
 abbrev pub journal_limit : ℕ
 journal_limit = 1048576
 
@@ -42,7 +42,7 @@ has_file w file = is_within w.shape.files file
 abbrev pub is_live : WorldState → ℕ → ℕ → Bool
 is_live w node incarnation = has_node w node && (incarnation == (w.nodes node).incarnation)
 
--- the node is alive
+-- the cluster has the node, and the node is alive
 abbrev pub is_alive : WorldState → ℕ → Bool
 is_alive w node = has_node w node && w.alive node
 
@@ -50,6 +50,6 @@ is_alive w node = has_node w node && w.alive node
 abbrev pub was_declared : WorldState → ℕ → ℕ → Bool
 was_declared w node incarnation = nat_le 1 incarnation && nat_lt incarnation (w.nodes node).incarnation
 
--- this epoch of the file's token server was declared failed: one before that in which it works, or up to that in which it failed
+-- this epoch of the file's token server was declared failed: one before the epoch in which it works, or up to the epoch in which it failed
 abbrev pub has_failed : WorldState → ℕ → ℕ → Bool
 has_failed w file epoch = nat_le 1 epoch && (if w.working file then nat_lt epoch (w.servers file).epoch else nat_le epoch (w.servers file).epoch)

@@ -1,21 +1,21 @@
-//! Why entries are no journal.
+//! The reasons why a list of entries is no journal.
 ghost use Rattle.std.specs.Prelude.{◌≡◌};
 ghost use Rattle.cluster_core.specs.declared.check_error.CheckError.TheVariants.{NoMemory};
 
 use std::alloc::AllocError;
 use thiserror::Error;
 
-/// Why entries that somebody hands in are taken for no journal.
+/// The reason why entries that a caller hands in are no journal.
 #[derive(Clone, Copy, Debug, PartialEq, Eq, Error)]
 pub enum CheckError {
-    /// A request for memory was refused: nothing is said of the entries.
+    /// A request for memory was refused. This says nothing of the entries.
     #[error("no memory")]
     NoMemory,
-    /// There are more entries than a journal may have, which is 1,048,576.
+    /// There are more entries than a journal may have: more than 1,048,576.
     #[error("more entries than a journal may have")]
     JournalFull,
-    /// The position, from 1, of the first entry that is not the next step of the cluster: those before
-    /// it are a run, after which its event is refused or makes another entry.
+    /// The position, from 1, of the first entry that is not the next step of the cluster. The entries before it are a
+    /// run; after them its event is refused, or makes another entry.
     #[error("entry {0} is not the next step")]
     NotARun(u32),
 }

@@ -1,4 +1,4 @@
-//! Locks that are held.
+//! A lock as the listing of a cluster's locks shows it.
 use model::lock_info::LockInfo;
 
 /// A region of a file, counted from 1, that an owner on a live node holds.

@@ -1,10 +1,10 @@
-//! What a history is made of.
+//! The items of a history: answered calls, and failed nodes.
 use model::call::CallId;
 use model::op::Op;
 use model::reply::Reply;
 
-/// An answered call, or a node whose processes exit because it failed, at its place in the journal:
-/// the position of an entry, from 1.
+/// An item of a history, at a position of the journal, from 1: a call with its reply, or a node that failed, whose
+/// processes all exit there.
 #[derive(Clone, Copy, Debug, PartialEq, Eq)]
 pub enum Item {
     Answered {

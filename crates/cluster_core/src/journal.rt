@@ -1,4 +1,4 @@
-//! Journals of runs.
+//! Journals: the entries of a run as a value, checked or made from events.
 ghost use Rattle.std.specs.Prelude.{◌≡◌, ◌≢◌, ◌↔◌, ◌<◌, ◌≤◌, ℕ, true, false, Ok, None, length, IfOk, IfErr, IfSome, OnOk, IsErrOf, IsOkUnless, slice_index_or};
 ghost use Rattle.messages.specs.declared.refusal.Refused.TheVariants.{NoMemory};
 ghost use Rattle.messages.specs.declared.entry.Entry.{Entry};
@@ -24,7 +24,7 @@ use messages::shape::Shape;
 use std::alloc::{AllocError, Global};
 use std::marker::Model;
 
-/// What happened in a cluster of a shape, entry by entry from its beginning: always a run.
+/// The journal of a cluster of a shape: its entries from the beginning, which are always a run.
 #[derive(Drop)]
 pub struct Journal {
     shape: Shape,
@@ -42,7 +42,7 @@ impl Model for Journal {
 }
 
 impl Journal {
-    /// The journal of these entries, which are a run, no longer than a journal may be.
+    /// The journal of these entries, which are a run and no more than a journal may have.
     pub(crate) fn of_run(shape: Shape, entries: Vec<Entry>) -> Journal
         requires served { IsShape shape }
         requires run { IsRun shape entries.items }
@@ -52,25 +52,25 @@ impl Journal {
         Journal { shape, entries }
     }
 
-    /// The journal of entries that somebody hands in, where they are a run of a cluster of that shape:
-    /// each is the next step, with all that it says. Its entries are those that were handed in.
+    /// The journal of entries that a caller hands in, if they are a run of a cluster of that shape: each is the next
+    /// step, in all that it says. The journal has the entries themselves, not copies.
     ///
     /// # Errors
-    /// `JournalFull` where there are more than 1,048,576 entries, before anything else; `NotARun` with
-    /// the position, from 1, of the first entry that is not the next step; `NoMemory` where a request
-    /// for memory was refused. The entries are dropped.
+    /// `JournalFull` where there are more than 1,048,576 entries, before anything else; `NotARun` with the position,
+    /// from 1, of the first entry that is not the next step; `NoMemory` where a request for memory was refused. The
+    /// entries are dropped.
     pub fn check(alloc: Global, shape: Shape, entries: Vec<Entry>) -> Result<Journal, CheckError>
         ensures value { IfOk result (λ journal. journal ≡ record { shape = shape; entries = entries.items }) }
         ensures run { OnOk result (IsRun shape entries.items) }
 
-        // With all that holds of every run, as at `run`.
+        // All that holds of every run holds of the journal, as at `run`.
         ensures one_table { OnOk result (HasOneHistory shape entries.items) }
         ensures plain { OnOk result (HasPlainHistory shape entries.items) }
         ensures safe { OnOk result (LeadsToSafe shape entries.items) }
         ensures numbers { OnOk result (LeadsToNumbers shape entries.items) }
         ensures evidence { OnOk result (DenialsHaveEvidence shape entries.items) }
 
-        // A run of no more entries than a journal may have is refused only for want of memory.
+        // A run with no more entries than a journal may have is refused only for want of memory.
         ensures accepted { IsRun shape entries.items → length entries.items ≤ journal_limit → IsOkUnless result CheckError.NoMemory }
         ensures full { IsErrOf result CheckError.JournalFull ↔ (journal_limit < length entries.items) }
         ensures wrong { (position : ℕ) → IsErrOf result (CheckError.NotARun position) → IsFirstWrong shape entries.items position }
@@ -88,7 +88,7 @@ impl Journal {
         Ok(Journal::of_run(shape, entries))
     }
 
-    /// The shape of the cluster: one that is served.
+    /// The shape of the cluster, which is one that is served.
     pub fn shape(&self) -> Shape
         ensures value { result ≡ self.now.shape }
         ensures served { IsShape result }
@@ -96,8 +96,8 @@ impl Journal {
         self.shape
     }
 
-    /// The entries, the first at position 1. They are a run, after which tokens of two nodes don't
-    /// conflict, locks are covered by tokens, and locks of two nodes don't conflict.
+    /// The entries, the first at position 1. They are a run. After it tokens of two nodes don't conflict, locks are
+    /// covered by tokens, and locks of two nodes don't conflict.
     pub fn entries(&self) -> &[Entry]
         ensures value { result.now ≡ self.now.entries }
         ensures run { IsRun self.now.shape self.now.entries }
@@ -107,7 +107,7 @@ impl Journal {
         self.entries.as_slice()
     }
 
-    /// The entries, the first at position 1, where the journal itself is needed no longer.
+    /// The entries, the first at position 1. The journal is used up.
     pub fn into_entries(self) -> Vec<Entry>
         ensures value { result.items ≡ self.entries }
         ensures served { IsShape self.shape }
@@ -117,8 +117,8 @@ impl Journal {
     }
 }
 
-// The entry that the event makes in the world, where it is this one. Then the world has made the step. Else it may have
-// made another, and is of no use any more. None is made where the world has as many as a journal may have.
+// The entry that the event makes in the world, if it equals `entry`: then the world has made the step. If none comes,
+// the world may have made another step, and is of no use any more. None comes where the world has 1,048,576 entries.
 fn made_next(
     world: &mut World,
     alloc: Global,
@@ -138,8 +138,8 @@ fn made_next(
     }
 }
 
-// Whether the entry with that index is the next step, as `comes_next` has it. All stay what they are; its messages are from
-// then on those that the world keeps.
+// Whether the entry at that index is the next step, as `comes_next` says. The entries keep their values; from then on
+// the entry shares its messages with the world.
 fn is_taken(
     world: &mut World,
     alloc: Global,
@@ -159,9 +159,9 @@ fn is_taken(
     Ok(true)
 }
 
-/// Whether the entry is the next step: its event happens in the world, and makes this entry. Then the
-/// world has made the step. Else it may have made another, and is of no use any more. No entry comes next
-/// where the world has as many as a journal may have.
+/// Whether the entry is the next step: its event, taken by the world, makes this entry. Then the world has made the
+/// step. On `false` the world may have made another step, and is of no use any more; a world with 1,048,576 entries
+/// always gives `false`.
 ///
 /// # Errors
 /// `AllocError` where a request for memory was refused.
@@ -173,33 +173,32 @@ pub fn comes_next(world: &mut World, alloc: Global, entry: &Entry) -> Result<boo
     Ok(made_next(world, alloc, entry.event().copy()?, entry)?.is_some())
 }
 
-/// Makes the events happen, one after the other, in a cluster that begins.
+/// The journal of a cluster that begins and takes these events, one after the other.
 ///
 /// # Errors
-/// The first refusal, as `World::step` has it, where an event is refused; `NoMemory`.
+/// The first refusal of an event, as `World::step` gives it; `NoMemory` where a request for memory was refused.
 pub fn run(alloc: Global, shape: Shape, events: &[Event]) -> Result<Journal, Refused>
     ensures shape { IfOk result (λ journal. journal.shape ≡ shape) }
     ensures events { IfOk result (λ journal. events_of journal.entries ≡ events.now) }
     ensures run { IfOk result (λ journal. IsRun shape journal.entries) }
 
-    // One table explains every reply, and ends as what the nodes hold.
+    // One table explains every reply, and ends with what the nodes hold.
     ensures one_table { IfOk result (λ journal. HasOneHistory shape journal.entries) }
 
-    // It also explains those replies that name no lock, each where it is given, and ends so.
+    // One table explains the replies that name no lock, each at its own entry, and ends with what the nodes hold.
     ensures plain { IfOk result (λ journal. HasPlainHistory shape journal.entries) }
 
-    // Tokens of two nodes don't conflict, locks are covered by tokens, and locks of two nodes don't
-    // conflict.
+    // Tokens of two nodes don't conflict, locks are covered by tokens, and locks of two nodes don't conflict.
     ensures safe { IfOk result (λ journal. LeadsToSafe shape journal.entries) }
 
-    // No command of a server has the number of another to the same node about the same file.
+    // No two commands about one file to one incarnation of a node have one number.
     ensures numbers { IfOk result (λ journal. LeadsToNumbers shape journal.entries) }
 
-    // At each entry: a call is denied only for a lock that stood in its way after it was made, where
-    // the lock's holder first did the revoke that the denial names, at that entry or an earlier one.
+    // Up to each entry: a call is denied only for a lock that blocked it after it was made, where the lock's holder
+    // first did the revoke that the denial names.
     ensures evidence { IfOk result (λ journal. DenialsHaveEvidence shape journal.entries) }
 
-    // Else the events before one happened, and that one is refused so.
+    // An error says: the events before one happened, and that one is refused so.
     ensures refused { IfErr result (λ refusal. refusal ≢ NoMemory → IsFirstRefusal shape events.now refusal) }
 {
     let mut run = Run::new(alloc, shape)?;

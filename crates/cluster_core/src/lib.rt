@@ -1,4 +1,6 @@
-//! The whole cluster: the world, its runs, and their history in one table.
+//! The whole cluster: the world with the state of every actor and the messages sent, the runs that lead to it, and
+//! their one history in the table of a single machine. It knows nothing of files of the operating system, of printed
+//! text, of threads or of clocks.
 #![tactic(auto)]
 
 pub mod check_error;

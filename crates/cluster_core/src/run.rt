@@ -31,7 +31,7 @@ use std::marker::Model;
 
 mod states;
 
-/// A run of a cluster that goes on: the entries so far, and the world to which they lead.
+/// A run of a cluster that goes on: its entries, and the world to which they lead.
 #[derive(Drop)]
 pub struct Run {
     world: World,
@@ -49,7 +49,7 @@ impl Model for Run {
 }
 
 impl Run {
-    /// The run of a cluster that begins: no entry yet.
+    /// The run of a cluster that begins, without entries.
     ///
     /// # Errors
     /// `AllocError` where a request for memory was refused.
@@ -63,7 +63,7 @@ impl Run {
         })
     }
 
-    /// The run of a journal, which goes on behind it.
+    /// The run that goes on behind the entries of a journal.
     ///
     /// # Errors
     /// `AllocError` where a request for memory was refused.
@@ -78,7 +78,7 @@ impl Run {
         })
     }
 
-    /// The event happens, as `World::step` has it, and its entry comes last.
+    /// The run takes the event, as `World::step` says. The entry that it makes comes last.
     ///
     /// # Errors
     /// Those of `World::step`. The run is then as it was.
@@ -86,7 +86,7 @@ impl Run {
         ensures ok { OnOk result (GoesOn self.old event self.new) }
         ensures err { IfErr result (λ e. e ≢ NoMemory → kept_next (world_state self.old.world) event ≡ Err e) }
 
-        // Want of memory never stands in the place of a refusal, but of `Spent`.
+        // A refusal for want of memory takes the place of no other refusal but `Spent`.
         ensures refused { (e : Refused) → e ≢ Refused.Spent → kept_next (world_state self.old.world) event ≡ Err e → result ≡ Err e }
         ensures unchanged { OnErr result (self.new ≡ self.old) }
     {
@@ -95,7 +95,7 @@ impl Run {
         Ok(self.go_on(alloc, event, change)?)
     }
 
-    // The event happens as it was planned, and its entry comes last.
+    // The run takes the event as it was planned. The entry that it makes comes last.
     fn go_on(&mut self, alloc: Global, event: Event, change: Change) -> Result<(), AllocError>
         requires { Plans self.old.world event change }
         ensures ok { OnOk result (GoesOn self.old event self.new) }
@@ -107,18 +107,18 @@ impl Run {
         Ok(())
     }
 
-    /// The message at that place in the order of sending, from 0, comes, as `take` has it. It need not be
-    /// looked for.
+    /// The run takes the delivery of the message at that index in the order of sending, from 0, as `take` does. The
+    /// message need not be looked up.
     ///
     /// # Errors
-    /// Those of `World::step`; where no message was sent so far that stands there, `Stranger`, but `JournalFull`
-    /// where the run has 1,048,576 entries. The run is then as it was.
+    /// Those of `World::step`. Where no message was sent at that index: `JournalFull` if the run has 1,048,576
+    /// entries, else `Stranger`. The run is then as it was.
     #[tactic(auto, using(crate::proofs::steps::KnownMessages::among_there))]
     pub fn deliver(&mut self, alloc: Global, place: usize) -> Result<(), Refused>
         ensures ok { OnOk result ((m : Message) × (slice_get self.old.world.sent place ≡ Some m) × GoesOn self.old (Deliver m) self.new) }
         ensures err { IfErr result (λ e. e ≢ NoMemory → delivery (world_state self.old.world) (slice_get self.old.world.sent place) ≡ Err e) }
 
-        // Want of memory never stands in the place of a refusal, but of `Spent`.
+        // A refusal for want of memory takes the place of no other refusal but `Spent`.
         ensures refused { (e : Refused) → e ≢ Refused.Spent → delivery (world_state self.old.world) (slice_get self.old.world.sent place) ≡ Err e → result ≡ Err e }
         ensures unchanged { OnErr result (self.new ≡ self.old) }
     {
@@ -130,14 +130,14 @@ impl Run {
         Ok(self.go_on(alloc, event, change)?)
     }
 
-    // The message at that place in the order of sending.
+    // The message at that index in the order of sending, if one was sent.
     fn sent_at(&self, place: usize) -> Option<&SharedMessage>
         ensures { MatchOption result (slice_get self.now.world.sent place ≡ None) (λ message. slice_get self.now.world.sent place ≡ Some message.now) }
     {
         self.world.sent().get(place)
     }
 
-    // Why a message that was not sent can't be delivered.
+    // The refusal of a message that was not sent.
     fn unsent(&self) -> Refused
         ensures { delivery (world_state self.now.world) None ≡ Err result }
     {
@@ -148,8 +148,8 @@ impl Run {
         }
     }
 
-    /// The world to which the entries lead: tokens of two nodes don't conflict, and locks are covered
-    /// by tokens.
+    /// The world to which the entries lead. In it tokens of two nodes don't conflict, and locks are covered by
+    /// tokens.
     pub fn world(&self) -> &World
         ensures value { result.now ≡ self.now.world }
         ensures leads { Leads (first_world self.now.world.shape) self.now.entries (world_state self.now.world) }
@@ -158,7 +158,7 @@ impl Run {
         &self.world
     }
 
-    /// The entries so far, the first at position 1.
+    /// The entries of the run, the first at position 1.
     pub fn entries(&self) -> &[Entry]
         ensures { result.now ≡ self.now.entries }
     {
@@ -171,18 +171,17 @@ impl Run {
         ensures world { result.1 ≡ self.world }
         ensures leads { Leads (first_world result.0.shape) result.0.entries (world_state result.1) }
 
-        // One table explains every reply, and ends as what the nodes hold.
+        // One table explains every reply, and ends with what the nodes hold.
         ensures one_table { HasOneHistory result.0.shape result.0.entries }
 
-        // It also explains those replies that name no lock, each where it is given, and ends so.
+        // One table explains the replies that name no lock, each at its own entry, and ends with what the nodes hold.
         ensures plain { HasPlainHistory result.0.shape result.0.entries }
 
-        // Tokens of two nodes don't conflict, locks are covered by tokens, and locks of two nodes
-        // don't conflict.
+        // Tokens of two nodes don't conflict, locks are covered by tokens, and locks of two nodes don't conflict.
         ensures safe { IsSafe (world_state result.1) }
         ensures leads_to_safe { LeadsToSafe result.0.shape result.0.entries }
 
-        // No command of a server has the number of another to the same node about the same file.
+        // No two commands about one file to one incarnation of a node have one number.
         ensures numbers { LeadsToNumbers result.0.shape result.0.entries }
 
         // Each denial has its evidence.

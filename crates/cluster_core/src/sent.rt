@@ -1,4 +1,4 @@
-//! Messages that were sent.
+//! The messages that were sent in a run, in order.
 ghost use Rattle.std.specs.Prelude.{◌≡◌, [], ◌∷◌, ◌++◌, IfOk, IfSome, OnOk, OnErr};
 ghost use Rattle.messages.specs.Messages.{is_among};
 ghost use Rattle.cluster_core.specs.SentIndexes.{Knows};
@@ -10,8 +10,8 @@ use messages::shared_message::SharedMessage;
 use std::alloc::{AllocError, Global};
 use std::marker::Model;
 
-/// Every message that was sent so far, in order of sending; equal messages stand there each. An index finds
-/// them from the time on that somebody asks for one; who names them by their places needs none.
+/// Every message sent, in order of sending; each of several equal ones is listed. An index of them is built when a
+/// message is first looked up by content; a caller that names messages by their indexes needs none.
 #[derive(Drop)]
 pub struct Sent {
     messages: Vec<SharedMessage>,
@@ -31,7 +31,7 @@ impl Model for Sent {
 }
 
 impl Sent {
-    /// No message.
+    /// No message was sent.
     pub fn new(alloc: Global) -> Self
         ensures { result ≡ [] }
     {
@@ -41,7 +41,7 @@ impl Sent {
         }
     }
 
-    /// Whether the message was sent. Without an index it is looked for among all.
+    /// Whether an equal message was sent. Without an index this walks the list.
     pub fn contains(&self, message: &Message) -> bool
         ensures { result ≡ is_among self.now message.now }
     {
@@ -51,7 +51,7 @@ impl Sent {
         }
     }
 
-    /// An index finds each message from now on, also those that are sent later.
+    /// Builds an index of the messages, if there is none. It is kept from then on, also for messages sent later.
     ///
     /// # Errors
     /// `AllocError` where a request for memory was refused.
@@ -71,10 +71,11 @@ impl Sent {
         self.messages.as_slice()
     }
 
-    /// The message as it was sent, so that it is kept once; as it is given where it is not found at once.
+    /// The equal message that was sent, so that one copy is kept; or `message` itself, if the index does not find one
+    /// at once. Either is shared.
     ///
     /// # Errors
-    /// `AllocError` where as many name it as can be counted.
+    /// `AllocError` where the message is shared as often as can be counted.
     pub fn as_sent(&self, message: &SharedMessage) -> Result<SharedMessage, AllocError>
         ensures { IfOk result (λ shared. shared ≡ message.now) }
     {
@@ -84,17 +85,17 @@ impl Sent {
         }
     }
 
-    // The message as it was sent, where the index finds it at once.
+    // The equal message that was sent, if the index finds one at once.
     fn find(&self, message: &Message) -> Option<&SharedMessage>
         ensures { IfSome result (λ found. found.now ≡ message.now) }
     {
         self.index.as_ref()?.find(self.messages.as_slice(), message)
     }
 
-    /// Copies of these messages are sent too, in their order, and shared with whoever sends them.
+    /// Appends copies of these messages, in their order, and gives them as well: both are shared.
     ///
     /// # Errors
-    /// `AllocError` where a request for memory was refused.
+    /// `AllocError` where a request for memory was refused. The list is then as it was.
     pub fn extend(&mut self, alloc: Global, messages: &[Message]) -> Result<Sends, AllocError>
         ensures ok { OnOk result (self.new ≡ self.old ++ messages.now) }
         ensures sends { IfOk result (λ sends. sends ≡ messages.now) }
@@ -109,14 +110,14 @@ impl Sent {
     }
 }
 
-// Whether the message is one of those that were sent.
+// Whether an equal message is in the list.
 fn is_among(sent: &[SharedMessage], message: &Message) -> bool
     ensures { result ≡ is_among sent.now message.now }
 {
     sent.iter().any(|other| is_this(message, other))
 }
 
-// The index of the messages that were sent.
+// An index of all messages in the list.
 fn index_of(alloc: Global, sent: &[SharedMessage]) -> Result<SentIndex, AllocError>
     ensures { IfOk result (λ index. Knows index.places index.others.items sent.now) }
 {
@@ -126,7 +127,7 @@ fn index_of(alloc: Global, sent: &[SharedMessage]) -> Result<SentIndex, AllocErr
     Ok(index)
 }
 
-// The messages come last, shared, and in the index too, or none of them.
+// Appends the messages, shared, to the list and to the index; all of them, or none on an error.
 fn add_noted(
     sent: &mut Vec<SharedMessage>,
     index: &mut SentIndex,
@@ -143,7 +144,7 @@ fn add_noted(
     Ok(())
 }
 
-// The messages come last, shared, or none of them.
+// Appends the messages, shared, to the list; all of them, or none on an error.
 fn add_shares(sent: &mut Vec<SharedMessage>, messages: &[SharedMessage]) -> Result<(), AllocError>
     ensures ok { OnOk result (sent.new.items ≡ sent.old.items ++ messages.now) }
     ensures err { OnErr result (sent.new.items ≡ sent.old.items) }
@@ -159,7 +160,7 @@ fn add_shares(sent: &mut Vec<SharedMessage>, messages: &[SharedMessage]) -> Resu
     Ok(())
 }
 
-// The message comes last, shared.
+// Appends the message, shared, to the list, or changes nothing on an error.
 fn add_share(sent: &mut Vec<SharedMessage>, message: &SharedMessage) -> Result<(), AllocError>
     ensures ok { OnOk result (sent.new.items ≡ sent.old.items ++ message.now ∷ []) }
     ensures err { OnErr result (sent.new.items ≡ sent.old.items) }

@@ -1,4 +1,4 @@
-//! An index of messages.
+//! An index of the messages that were sent, by fingerprint.
 ghost use Rattle.std.specs.Prelude.{◌≡◌, ◌+◌, ◌<◌, ◌≤◌, [], nat_eq, length, Some, IfSome, OnOk};
 ghost use Rattle.std.specs.HashMap.{get, spare as spare_places};
 ghost use Rattle.std.specs.Vec.{vec_capacity};
@@ -11,15 +11,15 @@ use std::alloc::{AllocError, Global};
 use std::collections::HashMap;
 use std::hash::{FoldHasher, Hash, Hasher};
 
-/// Which messages were sent: by its fingerprint the place of a message in the order of sending; and the
-/// places of messages whose fingerprint is that of another.
+/// An index of the messages sent: from each fingerprint to the place of one message in the order of sending, from 0,
+/// and a list of the places of further messages with a fingerprint that another has.
 #[derive(Drop)]
 pub(crate) struct SentIndex {
     places: HashMap<u32, u32>,
     others: Vec<usize>,
 }
 
-// 32 bits of a message's hash.
+// The fingerprint of a message: 32 bits of its hash.
 fn fingerprint(message: &Message) -> u32
     ensures { result ≡ fingerprint message.now }
 {
@@ -28,14 +28,14 @@ fn fingerprint(message: &Message) -> u32
     (hasher.finish() % 4_294_967_296) as u32
 }
 
-// Whether the other message is this one.
+// Whether both messages are equal.
 pub(crate) fn is_this(message: &Message, other: &SharedMessage) -> bool
     ensures { result ≡ same_message message.now other.now }
 {
     other.same(message)
 }
 
-// Whether the message stands at that place of those that were sent.
+// Whether the message at that place is equal to this one.
 fn stands_at(sent: &[SharedMessage], message: &Message, place: usize) -> bool
     ensures { result ≡ stands_at sent.now message.now (Some place) }
 {
@@ -45,7 +45,7 @@ fn stands_at(sent: &[SharedMessage], message: &Message, place: usize) -> bool
     }
 }
 
-// Whether the message stands at one of the places.
+// Whether the message at one of these places is equal to this one.
 fn stands_among(sent: &[SharedMessage], message: &Message, places: &[usize]) -> bool
     ensures { result ≡ stands_among sent.now message.now places.now }
 {
@@ -53,7 +53,7 @@ fn stands_among(sent: &[SharedMessage], message: &Message, places: &[usize]) -> 
 }
 
 impl SentIndex {
-    /// No message.
+    /// An index of no messages.
     pub(crate) fn new(alloc: Global) -> SentIndex
         ensures { KnowsFirst result.places result.others.items [] 0 }
     {
@@ -63,14 +63,14 @@ impl SentIndex {
         }
     }
 
-    /// Whether the index has the message; `sent` are the messages by their places.
+    /// Whether the index has a message equal to this one. `sent` are the messages by their places.
     pub(crate) fn has(&self, sent: &[SharedMessage], message: &Message) -> bool
         ensures { result ≡ has self.now.places self.now.others.items sent.now message.now }
     {
         self.is_placed(sent, message) || stands_among(sent, message, self.others.as_slice())
     }
 
-    // Whether the message is the one that stands at the place of its fingerprint.
+    // Whether the message at the place for this one's fingerprint is equal to it.
     fn is_placed(&self, sent: &[SharedMessage], message: &Message) -> bool
         ensures { result ≡ stands_at sent.now message.now (get nat_eq self.now.places (fingerprint message.now)) }
     {
@@ -80,7 +80,7 @@ impl SentIndex {
         }
     }
 
-    /// The message as it stands among those that were sent, where its fingerprint names its place.
+    /// The message equal to this one, if it is at the place for its fingerprint.
     pub(crate) fn find<'a>(
         &self,
         sent: &'a [SharedMessage],
@@ -97,7 +97,7 @@ impl SentIndex {
         }
     }
 
-    /// There is room for so many messages more.
+    /// Makes room for that many more messages.
     ///
     /// # Errors
     /// `AllocError` where a request for memory was refused.
@@ -110,7 +110,7 @@ impl SentIndex {
         self.others.reserve(additional)
     }
 
-    // Takes in the message at that place, for which there is room.
+    // Adds the message at that place. There is room for it.
     fn note(&mut self, sent: &[SharedMessage], place: usize)
         requires within { place < length sent.now }
         requires places { 1 ≤ spare_places self.old.places }
@@ -132,7 +132,7 @@ impl SentIndex {
         }
     }
 
-    // Takes in the message at that place, whose fingerprint is that of another.
+    // Adds the message at that place, whose fingerprint another message has. There is room for it.
     fn note_other(&mut self, sent: &[SharedMessage], place: usize)
         requires within { place < length sent.now }
         requires others { length self.old.others.items < vec_capacity self.old.others }
@@ -145,7 +145,7 @@ impl SentIndex {
         }
     }
 
-    /// Takes in the messages from that place on, for which there is room.
+    /// Adds the messages from that place on. There is room for them.
     pub(crate) fn note_from(&mut self, sent: &[SharedMessage], start: usize)
         requires places { length sent.now ≤ start + spare_places self.old.places }
         requires others { length sent.now + length self.old.others.items ≤ start + vec_capacity self.old.others }

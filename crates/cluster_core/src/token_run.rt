@@ -1,9 +1,9 @@
-//! Runs of tokens.
+//! A run of a token as the listing of a cluster's tokens shows it.
 use intervals::span::Span;
 use model::level::Level;
 
-/// A longest run of bytes of a file that the token of a live node has at one level. Nodes count from
-/// 1, incarnations from 1, files from 1.
+/// A longest run of bytes of a file that the token of a live node has at one level. Nodes, incarnations and files
+/// count from 1.
 #[derive(Clone, Copy, Debug, PartialEq, Eq)]
 pub struct TokenRun {
     pub node: u8,

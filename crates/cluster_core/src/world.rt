@@ -1,4 +1,4 @@
-//! The cluster.
+//! The world: the state of every actor of a cluster, and its step at an event.
 ghost use Rattle.std.specs.Prelude.{◌≡◌, ◌≢◌, ◌<◌, true, false, Ok, Err, ◌++◌, ◌∷◌, [], IfOk, IfErr, OnOk, OnErr, length, ◌-◌, slice_index_or};
 ghost use Rattle.messages.specs.declared.refusal.Refused.TheVariants.{NoMemory};
 ghost use Rattle.messages.specs.declared.refusal.StepError.TheVariants.{NoMemory as OutOfMemory};
@@ -58,10 +58,10 @@ mod listings;
 mod servers;
 mod states;
 
-/// The most entries of a journal.
+/// The greatest number of entries of a journal.
 pub const JOURNAL_LIMIT: u32 = 1_048_576;
 
-/// The state of every node and server of a cluster, and the messages that were sent.
+/// The world: the state of every node and token server of a cluster, its members, and the messages that were sent.
 #[derive(Drop)]
 pub struct World {
     shape: Shape,
@@ -82,14 +82,14 @@ impl Model for World {
     ghost invariant = { λ w. IsWorld (record { shape = w.shape; nodes = w.nodes.items; members = w.members; servers = w.servers.items; sent = w.sent; length = w.length }) };
 }
 
-// Whether the number is one of those from 1 to the most.
+// Whether the number is from 1 to `most`.
 fn is_number(most: u16, number: u16) -> bool
     ensures { result ≡ is_within most number }
 {
     1 <= number && number <= most
 }
 
-// Whether the file and the process that the operation names are ones that there can be.
+// Whether the file and the process that the operation names are within the shape's limits.
 fn is_of_shape(shape: Shape, op: &Op) -> bool
     ensures { result ≡ is_in_shape shape op.now }
 {
@@ -114,7 +114,7 @@ fn first_nodes(alloc: Global, shape: Shape) -> Result<Vec<Node>, AllocError>
     Ok(nodes)
 }
 
-// The servers of a cluster that begins.
+// The token servers of a cluster that begins.
 fn first_servers(alloc: Global, shape: Shape) -> Result<Vec<Server>, AllocError>
     ensures there { IfOk result (λ servers. length servers.items ≡ shape.files) }
     ensures within { OnOk result (IsNumber most_files shape.files) }
@@ -128,7 +128,7 @@ fn first_servers(alloc: Global, shape: Shape) -> Result<Vec<Server>, AllocError>
     Ok(servers)
 }
 
-// One more item at the end.
+// Appends the item.
 fn add<T: Drop>(items: &mut Vec<T>, item: T) -> Result<(), AllocError>
     ensures { OnOk result (items.new.items ≡ items.old.items ++ item ∷ []) }
 {
@@ -136,7 +136,7 @@ fn add<T: Drop>(items: &mut Vec<T>, item: T) -> Result<(), AllocError>
     Ok(())
 }
 
-// The reply of an outcome, as its entry keeps it.
+// The reply of an outcome, as an entry keeps it.
 fn kept_reply(alloc: Global, outcome: &Outcome) -> Result<KeptReply, AllocError>
     ensures { IfOk result (λ kept. kept ≡ outcome.now.reply) }
 {
@@ -144,7 +144,7 @@ fn kept_reply(alloc: Global, outcome: &Outcome) -> Result<KeptReply, AllocError>
 }
 
 impl World {
-    /// A cluster that begins: every node in its first incarnation, with no process.
+    /// The world of a cluster that begins: every node is in its first incarnation, without a process.
     ///
     /// # Errors
     /// `AllocError` where a request for memory was refused.
@@ -173,7 +173,7 @@ impl World {
         self.shape
     }
 
-    // Whether the actor is one of the cluster.
+    // Whether the cluster has the actor.
     fn has_actor(&self, actor: &Actor) -> bool
         ensures { result ≡ has_actor (world_state self.now) actor.now }
     {
@@ -183,7 +183,7 @@ impl World {
         }
     }
 
-    // Whether the event names what the cluster has.
+    // Whether the event names only what the cluster has.
     fn is_known(&self, event: &Event) -> bool
         ensures { result ≡ is_known (world_state self.now) event.now }
     {
@@ -218,7 +218,7 @@ impl World {
         }
     }
 
-    // Whether the node with the number is alive.
+    // Whether the node is alive.
     fn is_alive(&self, node: u8) -> bool
         requires { is_within self.now.shape.nodes node ≡ true }
         ensures { result ≡ (world_state self.now).alive node }
@@ -226,7 +226,7 @@ impl World {
         self.members.alive(node).is_some()
     }
 
-    // Whether the incarnation of the node was declared failed.
+    // Whether that incarnation of the node was declared failed.
     fn was_declared(&self, node: u8, incarnation: u16) -> bool
         requires { is_within self.now.shape.nodes node ≡ true }
         ensures { result ≡ was_declared (world_state self.now) node incarnation }
@@ -234,7 +234,7 @@ impl World {
         self.members.declared(node, incarnation)
     }
 
-    // Whether the actor is a node or a server that was declared failed and is not started again.
+    // Whether the actor was declared failed and is not started again.
     fn is_stopped(&self, actor: &Actor) -> bool
         requires { has_actor (world_state self.now) actor.now ≡ true }
         ensures { result ≡ is_stopped (world_state self.now) actor.now }
@@ -245,7 +245,7 @@ impl World {
         }
     }
 
-    // Whether the event would be a step of a node or a server that was declared failed.
+    // Whether the event would be a step of an actor that was declared failed.
     fn is_fenced(&self, event: &Event) -> bool
         requires { is_known (world_state self.now) event.now ≡ true }
         ensures { result ≡ is_fenced (world_state self.now) event.now }
@@ -264,7 +264,7 @@ impl World {
         }
     }
 
-    // The node with the number.
+    // The node with that number.
     fn node(&self, node: u8) -> &Node
         requires node { is_within self.now.shape.nodes node ≡ true }
         requires alive { (world_state self.now).alive node ≡ true }
@@ -295,7 +295,7 @@ impl World {
         }
     }
 
-    // What the node with the number will do at an event.
+    // The planned step of the node at an event.
     fn node_plan(&self, alloc: Global, node: u8, step: &NodeEvent) -> Result<NodeChange, StepError>
         requires node { is_within self.now.shape.nodes node ≡ true }
         requires alive { (world_state self.now).alive node ≡ true }
@@ -306,7 +306,7 @@ impl World {
         self.nodes[node as usize - 1].plan(alloc, step)
     }
 
-    // What the server with the number will do at an event.
+    // The planned step of the token server at an event.
     fn server_plan(
         &self,
         alloc: Global,
@@ -321,7 +321,7 @@ impl World {
         self.servers[file as usize - 1].plan(alloc, step)
     }
 
-    // What the node with the number will do where the message comes.
+    // The planned step of the node at the delivery of the message.
     fn node_delivery(
         &self,
         alloc: Global,
@@ -337,7 +337,7 @@ impl World {
         self.nodes[node as usize - 1].plan_delivery(alloc, message)
     }
 
-    // What the server with the number will do where the message comes.
+    // The planned step of the token server at the delivery of the message.
     fn server_delivery(
         &self,
         alloc: Global,
@@ -352,7 +352,7 @@ impl World {
         self.servers[file as usize - 1].plan_delivery(alloc, message)
     }
 
-    // What the node will do at its event.
+    // The change that the event makes, which the node takes.
     fn plan_node(
         &self,
         alloc: Global,
@@ -376,7 +376,7 @@ impl World {
         })
     }
 
-    // What the server will do at its event.
+    // The change that the event makes, which the token server takes.
     fn plan_server(
         &self,
         alloc: Global,
@@ -394,7 +394,7 @@ impl World {
         Ok(Change::OfServer { file, change })
     }
 
-    // What the node will do where the message comes.
+    // The change that the delivery of the message to the node makes.
     fn plan_node_delivery(
         &self,
         alloc: Global,
@@ -415,7 +415,7 @@ impl World {
         })
     }
 
-    // What the server will do where the message comes.
+    // The change that the delivery of the message to the token server makes.
     fn plan_server_delivery(
         &self,
         alloc: Global,
@@ -431,7 +431,7 @@ impl World {
         Ok(Change::OfServer { file, change })
     }
 
-    // What the actor to which the message goes will do where it comes.
+    // The change that the delivery of the message to its addressee makes.
     fn plan_delivery(&self, alloc: Global, message: &Message) -> Result<Change, Refused>
         requires known { has_actor (world_state self.now) (addressee message.now) ≡ true }
         requires free { is_stopped (world_state self.now) (addressee message.now) ≡ false }
@@ -445,7 +445,7 @@ impl World {
         }
     }
 
-    // What comes of a declaration of the node.
+    // The change by which the node is declared failed, or the refusal.
     fn plan_declare(&self, node: u8) -> Result<Change, Refused>
         requires { is_within self.now.shape.nodes node ≡ true }
         ensures ok { IfOk result (λ change. Makes self.now (event.Declare node) change (declare_rule (world_state self.now) node)) }
@@ -458,7 +458,7 @@ impl World {
         Ok(Change::Declared { node })
     }
 
-    // What comes of a restart of the node.
+    // The change by which the node restarts, or the refusal.
     fn plan_restart(&self, alloc: Global, node: u8) -> Result<Change, Refused>
         requires { is_within self.now.shape.nodes node ≡ true }
         ensures ok { IfOk result (λ change. Makes self.now (event.Restart node) change (restart_rule (world_state self.now) node)) }
@@ -471,7 +471,7 @@ impl World {
         Ok(Change::Restarted { node, begun })
     }
 
-    // What the actor that takes the event will do.
+    // The change that the event makes, whichever actor takes it.
     fn plan_taken(&self, alloc: Global, event: &Event) -> Result<Change, Refused>
         requires known { is_known (world_state self.now) event.now ≡ true }
         requires free { is_fenced (world_state self.now) event.now ≡ false }
@@ -510,10 +510,10 @@ impl World {
         }
     }
 
-    /// What the event will do: the change of the one actor that takes it.
+    /// The change that the event makes: the step of the one actor that takes it.
     ///
     /// # Errors
-    /// Those of `step`.
+    /// As `step`.
     pub(crate) fn plan(&self, alloc: Global, event: &Event) -> Result<Change, Refused>
         ensures ok { IfOk result (λ change. Plans self.now event.now change) }
         ensures err { IfErr result (λ e. e ≢ NoMemory → kept_next (world_state self.now) event.now ≡ Err e) }
@@ -531,10 +531,11 @@ impl World {
         self.plan_taken(alloc, event)
     }
 
-    /// What the event will do where this message comes, which was sent: as `plan` has it.
+    /// The change that the delivery of the message makes, which was sent: as `plan` gives it, without looking the
+    /// message up.
     ///
     /// # Errors
-    /// Those of `step`.
+    /// As `step`.
     pub(crate) fn plan_sent(&self, alloc: Global, message: &Message) -> Result<Change, Refused>
         requires { is_among self.now.sent message.now ≡ true }
         ensures ok { IfOk result (λ change. Plans self.now (Deliver message.now) change) }
@@ -553,7 +554,7 @@ impl World {
         self.plan_delivery(alloc, message)
     }
 
-    /// Messages that come by themselves are found by an index from now on, if the event is of such a one.
+    /// The first Deliver by content builds an index of sent messages; it is kept from then on.
     ///
     /// # Errors
     /// `AllocError` where a request for memory was refused.
@@ -566,7 +567,7 @@ impl World {
         }
     }
 
-    // The node does the step that was planned.
+    // Makes the planned step of the node. Gives the entry.
     fn change_node(
         &mut self,
         alloc: Global,
@@ -589,7 +590,7 @@ impl World {
         Ok(Entry::at_node(event, incarnation, outcome, KeptOutcome { reply, sends }))
     }
 
-    // The server does the step that was planned.
+    // Makes the planned step of the token server. Gives the entry.
     fn change_server(
         &mut self,
         alloc: Global,
@@ -611,7 +612,7 @@ impl World {
         Ok(Entry::new(event, outcome, KeptOutcome { reply, sends }))
     }
 
-    // The node is declared failed.
+    // Declares the node failed. Gives the entry.
     fn declare(&mut self, alloc: Global, node: u8) -> Entry
         requires room { self.old.length < journal_limit }
         requires node { is_within self.old.shape.nodes node ≡ true }
@@ -627,7 +628,7 @@ impl World {
         Entry::at_node(Event::Declare { node }, incarnation, outcome, kept)
     }
 
-    // The node restarts, as this one.
+    // Restarts the node, in this state. Gives the entry.
     fn restart(&mut self, alloc: Global, node: u8, begun: Box<Node>) -> Entry
         requires room { self.old.length < journal_limit }
         requires made { IsRestart self.old node begun.value }
@@ -643,8 +644,8 @@ impl World {
         Entry::at_node(Event::Restart { node }, incarnation, outcome, kept)
     }
 
-    /// The event happens as it was planned. Its messages are put among those that were sent, which is
-    /// all that may take memory.
+    /// Makes the planned change. Only the messages that it sends, which go to the list of those sent, may take
+    /// memory.
     ///
     /// # Errors
     /// `AllocError` where a request for memory was refused. The world is then as it was.
@@ -673,21 +674,22 @@ impl World {
         }
     }
 
-    /// The event happens: the one actor that takes it does its step, and its messages are sent.
+    /// The world takes the event: the one actor that takes it makes its step, and its messages are sent. Gives the
+    /// entry.
     ///
     /// # Errors
-    /// In this order: `JournalFull` where the world has 1,048,576 entries; `Stranger` where the event
-    /// names a number outside the shape or a message that was never sent, or a failure or start of a
-    /// server in a cluster of version 1; `Fenced` where it would be a step of a node or a server that was
-    /// declared failed; what the actor's step refuses, `Busy`, `Stranger` or `Spent`, and of a failure
-    /// or a start `NotAlive`, `NotDead` or `TooManyRestarts`; `NoMemory` where a request for memory was
-    /// refused, which may come before `Spent`. The world is then as it was.
+    /// In this order: `JournalFull` where the world has 1,048,576 entries; `Stranger` where the event names a number
+    /// outside the shape, a message that was never sent, or a failure or start of a server in a cluster of version 1;
+    /// `Fenced` where it would be a step of a node or a server that was declared failed; what the actor's step
+    /// refuses, `Busy`, `Stranger` or `Spent`, and of a failure or a start `NotAlive`, `NotDead` or
+    /// `TooManyRestarts`; `NoMemory` where a request for memory was refused, which may come before `Spent`. The world
+    /// is then as it was.
     pub fn step(&mut self, alloc: Global, event: Event) -> Result<Entry, Refused>
         ensures ok { IfOk result (λ entry. next (world_state self.old) event ≡ Ok (world_state self.new, entry)) }
         ensures room { OnOk result (self.old.length < journal_limit) }
         ensures err { IfErr result (λ e. e ≢ NoMemory → kept_next (world_state self.old) event ≡ Err e) }
 
-        // Want of memory never stands in the place of a refusal, but of `Spent`.
+        // A refusal for want of memory takes the place of no other refusal but `Spent`.
         ensures refused { (e : Refused) → e ≢ Refused.Spent → kept_next (world_state self.old) event ≡ Err e → result ≡ Err e }
         ensures unchanged { OnErr result (self.new ≡ self.old) }
     {
@@ -696,17 +698,18 @@ impl World {
         Ok(self.apply(alloc, event, change)?)
     }
 
-    /// Every message that was sent so far, in order of sending; equal messages stand there each.
+    /// Every message that was sent, in order of sending; each of several equal ones is listed.
     pub fn sent(&self) -> &[SharedMessage]
         ensures { result.now ≡ (world_state self.now).sent }
     {
         self.sent.as_slice()
     }
 
-    /// The same event. The message that comes is kept once with those that were sent.
+    /// The event, equal to this one. A message that it delivers is shared with the list of those sent, so that one
+    /// copy is kept.
     ///
     /// # Errors
-    /// `AllocError` where as many name the message as can be counted.
+    /// `AllocError` where the message is shared as often as can be counted.
     pub(crate) fn as_sent(&self, event: &Event) -> Result<Event, AllocError>
         ensures { IfOk result (λ same. same ≡ event.now) }
     {
@@ -716,7 +719,7 @@ impl World {
         }
     }
 
-    // The event of an entry of a run happens again: only memory can be refused.
+    // Takes the event of an entry of a run again: it is refused only for want of memory.
     fn repeat(&mut self, alloc: Global, entry: &Entry) -> Result<(), AllocError>
         requires room { self.old.length < journal_limit }
         requires made { (v : WorldState) × (next (world_state self.old) entry.now.event ≡ Ok (v, entry.now)) }
@@ -732,8 +735,8 @@ impl World {
         }
     }
 
-    /// The world that the entries of the journal lead to: tokens of two nodes don't conflict, and
-    /// locks are covered by tokens.
+    /// The world to which the entries of the journal lead. In it tokens of two nodes don't conflict, and locks are
+    /// covered by tokens.
     ///
     /// # Errors
     /// `AllocError` where a request for memory was refused.

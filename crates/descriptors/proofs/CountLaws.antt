@@ -1,4 +1,4 @@
--- Sums over the descriptors of a node, and counts of descriptions.
+-- Sums over the descriptors of a node, and the counts of descriptions.
 use Rattle.std.specs.Prelude.{◌≡◌, ◌≢◌, ◌⊎◌, ℕ, zero, suc, ◌+◌, ◌-◌, ◌*◌, ◌<◌, ◌≤◌, ◌||◌, ◌&&◌, ◌==◌, not, nat_lt, Bool, true, false, if◌then◌else◌, List, [], Option, Some, None, length, slice_set, refl}
 use Rattle.std.proofs.Common.{arith, ap, subst, sym, ◌∙◌, inl, inr}
 use Rattle.std.proofs.lemmas.Bool.{cases_lt, cases_eq, eq-eqb, ne_eqb, eqb-true, false≢true}
@@ -14,7 +14,7 @@ use Rattle.descriptors.specs.Edits.{IsKnown}
 use Rattle.descriptors.specs.Counts.{total, one_of, references_below, references, count_of, AreCounts, AreUsed}
 use Rattle.descriptors.proofs.RowLaws.{some_passes-zero, some_passes-more}
 
--- the same terms have the same sum
+-- two sums of equal terms are equal
 pub total-same : (f g : ℕ → ℕ) (lo n : ℕ) → ((k : ℕ) → lo ≤ k → k < lo + n → f k ≡ g k) → total f lo n ≡ total g lo n
 unfolding total
 total-same f g lo zero h = refl
@@ -23,7 +23,7 @@ total-same f g lo (suc n) h =
     let last : f (lo + n) ≡ g (lo + n) = h (lo + n) (omega arith) (omega arith) in
     omega arith
 
--- with one term changed
+-- two sums that differ in one term
 pub total-changed : (f g : ℕ → ℕ) (lo n i : ℕ) → lo ≤ i → i < lo + n → ((k : ℕ) → k ≢ i → g k ≡ f k) → total g lo n + f i ≡ total f lo n + g i
 unfolding total
 total-changed f g lo zero i above below h = absurd (none above below)
@@ -48,7 +48,7 @@ total-changed f g lo (suc n) i above below h = elim (cases_eq i (lo + n)) [
     before : i ≢ lo + n → i < lo + suc n → i < lo + n
     before ne lt = omega arith
 
--- a sum of none
+-- a sum of zeros is zero
 pub total-none : (f : ℕ → ℕ) (lo n : ℕ) → ((k : ℕ) → f k ≡ 0) → total f lo n ≡ 0
 unfolding total
 total-none f lo zero h = refl
@@ -68,7 +68,7 @@ total-more f lo n = rw (one n) refl
     one : (k : ℕ) → k + 1 ≡ suc k
     one k = omega arith
 
--- a term is within the sum, and so is the sum of some
+-- a term is at most the sum, and so is a sum of fewer terms
 pub total-term : (f : ℕ → ℕ) (lo n i : ℕ) → lo ≤ i → i < lo + n → f i ≤ total f lo n
 unfolding total
 total-term f lo zero i above below = absurd (none above below)
@@ -94,7 +94,7 @@ total-part f lo m (suc n) le = elim (cases_eq m (suc n)) [
     less : m ≢ suc n → m ≤ suc n → m ≤ n
     less ne lt = omega arith
 
--- bounds
+-- bounds of sums by the number of their terms
 total-ones : (f : ℕ → ℕ) (lo n : ℕ) → ((k : ℕ) → f k ≤ 1) → total f lo n ≤ n
 unfolding total
 total-ones f lo zero h = omega arith
@@ -165,7 +165,7 @@ not-positive n = elim (cases_eq n 0) [
 pub count-closed : (ps : Processes) (counts : List ℕ) (d : ℕ) → AreCounts ps counts → (count_of counts d == 0) ≡ not (is_open ps d)
 count-closed ps counts d h = ap (λ n. n == 0) (h d) ∙ not-positive (references ps d) ∙ ap not (references-open ps d)
 
--- what a descriptor that refers to something else changes
+-- the number of references to a description after one descriptor changes
 pub references-descriptor : (ps : Processes) (pid fd : ℕ) (o : Option Opened) (d : ℕ) → IsNumber most_processes pid → fd < most_descriptors → references (with_descriptor ps pid fd o) d + one_of d (ps.opened pid fd) ≡ references ps d + one_of d o
 references-descriptor ps pid fd o d number within =
     let old : ℕ → ℕ = λ p. references_below (ps.opened p) d 64 in
@@ -181,7 +181,7 @@ references-descriptor ps pid fd o d number within =
     joined : (a b c e x y z : ℕ) → a + b ≡ c + e → e + x ≡ b + y → y ≡ z → a + x ≡ c + z
     joined a b c e x y z h k l = omega arith
 
--- and a process that begins or ends
+-- the number of references to a description after a process begins or ends
 pub references-process : (ps : Processes) (pid : ℕ) (runs : Bool) (fds : ℕ → Option Opened) (d : ℕ) → IsNumber most_processes pid → references (with_process ps pid runs fds) d + references_below (ps.opened pid) d most_descriptors ≡ references ps d + references_below fds d most_descriptors
 references-process ps pid runs fds d number =
     let old : ℕ → ℕ = λ p. references_below (ps.opened p) d 64 in
@@ -191,18 +191,18 @@ references-process ps pid runs fds d number =
     let here : new pid ≡ references_below fds d 64 = ap (λ (b : Bool). references_below (λ j. if b then fds j else ps.opened pid j) d 64) (eq-eqb pid pid refl) in
     rows ∙ ap (λ n. references ps d + n) here
 
--- a process with no descriptors refers to none
+-- a process without descriptors has no reference to a description
 pub references-none : (fds : ℕ → Option Opened) (d n : ℕ) → ((fd : ℕ) → fds fd ≡ None) → references_below fds d n ≡ 0
 references-none fds d n none = total-none (λ fd. one_of d (fds fd)) 0 n (λ k. ap (one_of d) (none k))
 
 references-same : (ps qs : Processes) (d : ℕ) → ((p k : ℕ) → qs.opened p k ≡ ps.opened p k) → references qs d ≡ references ps d
 references-same ps qs d h = λ i. total (λ p. total (λ k. one_of d (h p k i)) 0 64) 1 256
 
--- no process has a descriptor
+-- the empty counts are right where no process has a descriptor
 pub counts-none : (ps : Processes) → ((p k : ℕ) → ps.opened p k ≡ None) → AreCounts ps []
 counts-none ps none d = get_or_past [] d 0 (omega arith) ∙ sym (total-none (λ pid. references_below (ps.opened pid) d 64) 1 256 (λ pid. references-none (ps.opened pid) d 64 (none pid)))
 
--- a process begins with no descriptors
+-- the counts stay right where a process begins without descriptors
 pub counts-begun : (ps : Processes) (pid : ℕ) (runs : Bool) (counts : List ℕ) → ((k : ℕ) → ps.opened pid k ≡ None) → AreCounts ps counts → AreCounts (with_process ps pid runs (λ fd. None)) counts
 counts-begun ps pid runs counts none h d = h d ∙ sym (references-same ps (with_process ps pid runs (λ fd. None)) d (λ q k. at_if q k (q == pid) refl))
   where
@@ -210,7 +210,7 @@ counts-begun ps pid runs counts none h d = h d ∙ sym (references-same ps (with
     at_if q k true is = sym (ap (λ p. ps.opened p k) (eqb-true q pid is) ∙ none k)
     at_if q k false is = refl
 
--- or with those of another
+-- the counts after a process begins with the descriptors of another
 pub counts-shared : (ps : Processes) (pid child : ℕ) (old new : List ℕ) → IsNumber most_processes child → ((k : ℕ) → ps.opened child k ≡ None) → ((d : ℕ) → count_of new d ≡ count_of old d + references_below (ps.opened pid) d most_descriptors) → AreCounts ps old → AreCounts (with_process ps child true (ps.opened pid)) new
 counts-shared ps pid child old new number none more h d =
     joined (count_of new d) (count_of old d) (references_below (ps.opened pid) d 64) (references ps d) (references (with_process ps child true (ps.opened pid)) d) (references_below (ps.opened child) d 64)
@@ -219,7 +219,7 @@ counts-shared ps pid child old new number none more h d =
     joined : (n o x r s y : ℕ) → n ≡ o + x → o ≡ r → s + y ≡ r + x → y ≡ 0 → n ≡ s
     joined n o x r s y a b c e = omega arith
 
--- a process ends
+-- the counts after a process ends
 pub counts-ended : (ps : Processes) (pid : ℕ) (old new : List ℕ) → IsNumber most_processes pid ⊎ ((k : ℕ) → ps.opened pid k ≡ None) → ((d : ℕ) → count_of new d + references_below (ps.opened pid) d most_descriptors ≡ count_of old d) → AreCounts ps old → AreCounts (with_process ps pid false (λ fd. None)) new
 counts-ended ps pid old new which fewer h = elim which [
   | inl number ↦ λ d. joined (count_of new d) (count_of old d) (references_below (ps.opened pid) d 64) (references ps d) (references (with_process ps pid false (λ fd. None)) d) (references_below (λ fd. None) d 64)
@@ -233,7 +233,7 @@ counts-ended ps pid old new which fewer h = elim which [
     still : (n o x r : ℕ) → n + x ≡ o → o ≡ r → x ≡ 0 → n ≡ r
     still n o x r a b c = omega arith
 
--- whether a descriptor that refers to this is one of the description
+-- a descriptor refers to description d, or doesn't, by the number of its description
 one-same : (d : ℕ) (o : Opened) → d ≡ o.description → one_of d (Some o) ≡ 1
 one-same d o is = ap (λ (b : Bool). if b then 1 else 0) (eq-eqb o.description d (sym is))
 
@@ -250,7 +250,7 @@ counted-place counts d some = elim (cases_lt d (length counts)) [
     apart : (n : ℕ) → 0 < n → n ≡ 0 → ⊥
     apart n lt is = omega arith
 
--- one more descriptor, which refers to this, is counted
+-- the counts with one more descriptor of a description
 pub raised : (counts : List ℕ) (o : Opened) (k : ℕ) → o.description < length counts → count_of (slice_set counts o.description (count_of counts o.description + 1)) k ≡ count_of counts k + one_of k (Some o)
 raised counts o k place = elim (cases_eq k o.description) [
   | inl is ↦
@@ -265,7 +265,7 @@ raised counts o k place = elim (cases_eq k o.description) [
     and_none : (n x : ℕ) → x ≡ 0 → n ≡ n + x
     and_none n x is = omega arith
 
--- one less
+-- the counts with one descriptor less of a description
 pub lowered : (counts : List ℕ) (o : Opened) (k : ℕ) → 0 < count_of counts o.description → count_of (slice_set counts o.description (count_of counts o.description - 1)) k + one_of k (Some o) ≡ count_of counts k
 lowered counts o k some = elim (cases_eq k o.description) [
   | inl is ↦
@@ -283,7 +283,7 @@ lowered counts o k some = elim (cases_eq k o.description) [
     still : (n c x : ℕ) → n ≡ c → x ≡ 0 → n + x ≡ c
     still n c x a b = omega arith
 
--- a descriptor that was free refers to a description
+-- the counts stay right where a free descriptor gets to refer to a description
 pub counts-opened : (ps : Processes) (pid fd : ℕ) (o : Opened) (counts : List ℕ) → IsNumber most_processes pid → fd < most_descriptors → ps.opened pid fd ≡ None → o.description < length counts → AreCounts ps counts → AreCounts (with_descriptor ps pid fd (Some o)) (slice_set counts o.description (count_of counts o.description + 1))
 counts-opened ps pid fd o counts number within free place h d =
     joined _ (count_of counts d) (references ps d) _ _ _ (raised counts o d place) (h d) (references-descriptor ps pid fd (Some o) d number within) (ap (one_of d) free)
@@ -291,7 +291,7 @@ counts-opened ps pid fd o counts number within free place h d =
     joined : (n c r s x y : ℕ) → n ≡ c + y → c ≡ r → s + x ≡ r + y → x ≡ 0 → n ≡ s
     joined n c r s x y a b e f = omega arith
 
--- a descriptor is counted
+-- the description of an open descriptor has a count above 0
 pub descriptor-counted : (ps : Processes) (pid fd : ℕ) (o : Opened) (counts : List ℕ) → IsNumber most_processes pid → fd < most_descriptors → ps.opened pid fd ≡ Some o → AreCounts ps counts → 0 < count_of counts o.description
 descriptor-counted ps pid fd o counts number within was h =
     let row = total-term (λ p. references_below (ps.opened p) o.description 64) 1 256 pid number.0 (omega (arith, number.1)) in
@@ -302,7 +302,7 @@ descriptor-counted ps pid fd o counts number within was h =
     joined : (c r x y : ℕ) → c ≡ r → x ≤ r → y ≤ x → y ≡ 1 → 0 < c
     joined c r x y a b e f = omega arith
 
--- a descriptor refers to nothing any more
+-- the counts stay right where a descriptor is closed
 pub counts-closed : (ps : Processes) (pid fd : ℕ) (o : Opened) (counts : List ℕ) → IsNumber most_processes pid → fd < most_descriptors → ps.opened pid fd ≡ Some o → AreCounts ps counts → AreCounts (with_descriptor ps pid fd None) (slice_set counts o.description (count_of counts o.description - 1))
 counts-closed ps pid fd o counts number within was h d =
     joined _ (count_of counts d) (references ps d) _ (one_of d (ps.opened pid fd)) (one_of d (Some o)) (lowered counts o d (descriptor-counted ps pid fd o counts number within was h)) (h d) (references-descriptor ps pid fd None d number within) (ap (one_of d) was)
@@ -310,7 +310,7 @@ counts-closed ps pid fd o counts number within was h d =
     joined : (n c r s x y : ℕ) → n + y ≡ c → c ≡ r → s + x ≡ r + 0 → x ≡ y → n ≡ s
     joined n c r s x y a b e f = omega arith
 
--- one descriptor more of a process
+-- the references of a process's first n + 1 descriptors
 pub below-more : (fds : ℕ → Option Opened) (d n : ℕ) → references_below fds d (n + 1) ≡ references_below fds d n + one_of d (fds n)
 below-more fds d n =
     let e : 0 + n ≡ n = omega arith in
@@ -322,7 +322,7 @@ below-none fds d n none = below-more fds d n ∙ plain (references_below fds d n
     plain : (a x : ℕ) → x ≡ 0 → a + x ≡ a
     plain a x is = omega arith
 
--- what is left of the counts while those of a process are given back has the next one
+-- while a process's references are taken off the counts, the next one is still counted
 pub left-counted : (ps : Processes) (pid n : ℕ) (o : Opened) (old left : List ℕ) → IsNumber most_processes pid → n < most_descriptors → ps.opened pid n ≡ Some o → AreCounts ps old → count_of left o.description + references_below (ps.opened pid) o.description n ≡ count_of old o.description → 0 < count_of left o.description
 left-counted ps pid n o old left number within was h so_far =
     let row = total-term (λ p. references_below (ps.opened p) o.description 64) 1 256 pid number.0 (omega (arith, number.1)) in
@@ -334,7 +334,7 @@ left-counted ps pid n o old left number within was h so_far =
     joined : (l x c r z w y : ℕ) → l + x ≡ c → c ≡ r → z ≤ r → w ≤ z → w ≡ x + y → y ≡ 1 → 0 < l
     joined l x c r z w y a b e f g k = omega arith
 
--- an open description is counted
+-- an open description has a count above 0
 positive-lt : (n : ℕ) → nat_lt 0 n ≡ true → 0 < n
 positive-lt zero h = absurd (false≢true h)
 positive-lt (suc n) h = omega arith
@@ -342,14 +342,14 @@ positive-lt (suc n) h = omega arith
 pub open-counted : (ps : Processes) (counts : List ℕ) (d : ℕ) → AreCounts ps counts → is_open ps d ≡ true → 0 < count_of counts d
 open-counted ps counts d h opens = positive-lt (count_of counts d) (ap (nat_lt 0) (h d) ∙ references-open ps d ∙ opens)
 
--- a descriptor's description is open
+-- the description of an open descriptor is open
 pub descriptor-open : (ps : Processes) (pid fd : ℕ) (o : Opened) → IsNumber most_processes pid → fd < most_descriptors → ps.opened pid fd ≡ Some o → is_open ps o.description ≡ true
 descriptor-open ps pid fd o number within was =
     let is : is_of o.description (ps.opened pid fd) ≡ true = ap (is_of o.description) was ∙ eq-eqb o.description o.description refl in
     let here = some_passes-found (λ k. is_of o.description (ps.opened pid k)) 0 64 fd (omega arith) (omega (arith, within)) is in
     some_passes-found (λ q. some_passes (λ k. is_of o.description (ps.opened q k)) 0 64) 1 256 pid number.0 (omega (arith, number.1)) here
 
--- where the next description to be is not counted yet, each lower one is
+-- where the next description to be opened has no descriptor, each lower one has
 pub known-lowest : (ps : Processes) (counts : List ℕ) (d : ℕ) → AreCounts ps counts → IsKnown ps d → count_of counts d ≡ 0 → AreUsed counts d
 known-lowest ps counts d h known none k least below = elim known [
   | inl opens ↦ absurd (apart (count_of counts d) (open-counted ps counts d h opens) none)
@@ -363,11 +363,11 @@ known-lowest ps counts d h known none k least below = elim known [
     opened true e = refl
     opened false e = absurd (false≢true (sym e))
 
--- the lowest number that is not counted is the lowest that is not open
+-- the lowest description without a count is the lowest one that isn't open
 pub lowest-unused : (ps : Processes) (counts : List ℕ) → AreCounts ps counts → first (λ d. count_of counts d == 0) 1 most_descriptions ≡ lowest_description ps
 lowest-unused ps counts h = λ i. first (λ d. count-closed ps counts d h i) 1 most_descriptions
 
--- while the descriptors of a process are counted once more, there is room for the next
+-- while a process's references are counted once more, there is room for the next one
 pub shared-room : (ps : Processes) (pid d n : ℕ) (old new : List ℕ) → AreCounts ps old → count_of new d ≡ count_of old d + references_below (ps.opened pid) d n → n < most_descriptors → count_of new d < 65535
 shared-room ps pid d n old new h is within = joined (count_of new d) (count_of old d) (references_below (ps.opened pid) d n) (references ps d) n is (h d) (references-most ps d) (references_below-most (ps.opened pid) d n) within
   where
@@ -383,7 +383,7 @@ room-for-one ps counts d h = joined (count_of counts d) (references ps d) (h d) 
     joined : (c r : ℕ) → c ≡ r → r ≤ 16384 → c < 65535
     joined c r a b = omega arith
 
--- the counts while the descriptors of a process are counted once more, or given back: before the first, and with one more
+-- the counts while a process's references are added or taken off: before the first one, and after one more
 pub shared-none : (fds : ℕ → Option Opened) (d n : ℕ) → n ≡ n + references_below fds d 0
 shared-none fds d n = joined n (references_below fds d 0) (total-zero (λ fd. one_of d (fds fd)) 0)
   where

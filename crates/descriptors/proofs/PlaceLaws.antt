@@ -17,14 +17,14 @@ use Rattle.descriptors.specs.Counts.{places, AreCounts}
 use Rattle.descriptors.proofs.RowLaws.{processes-opened, processes-runs, runs_within, runs-numbered}
 use Rattle.descriptors.proofs.CountLaws.{counted-place, open-counted}
 
--- the first process and descriptor of the node that refer to the description
+-- the first process, and its first descriptor, that refer to description d
 pid_of : Processes → ℕ → ℕ
 pid_of ps d = first (λ pid. some_passes (λ fd. is_of d (ps.opened pid fd)) 0 most_descriptors) 1 most_processes
 
 fd_of : Processes → ℕ → ℕ
 fd_of ps d = first (λ fd. is_of d (ps.opened (pid_of ps d) fd)) 0 most_descriptors
 
--- the descriptor of one of the processes up to the last refers to the description
+-- the descriptor fd of process pid, whose number is at most `last`, refers to description d
 record Refers (ps : Processes) (last d pid fd : ℕ) : Type 0 where
   pub pid_in : IsNumber last pid
   pub fd_in : fd < most_descriptors
@@ -49,7 +49,7 @@ open_refers ps last d past h =
       | inr le ↦ le
     ]
 
--- descriptors of a node in a row
+-- the place of a descriptor when all descriptors of a node stand in a row
 abbrev place_of : ℕ → ℕ → ℕ
 place_of pid fd = (pid - 1) * 64 + fd
 
@@ -72,7 +72,7 @@ same_place ps last d e p q x y f g h =
     let fds : x ≡ y = place-fd p q x y f.pid_in.0 g.pid_in.0 f.fd_in g.fd_in h in
     one_description d e (ps.opened p x) f.refers (rw (pids, fds) g.refers)
 
--- where a descriptor is free, fewer descriptions are open than there are descriptors
+-- where a descriptor of the first processes is free, fewer descriptions are open than these have descriptors
 not_all_open : (ps : Processes) (last pid fd : ℕ) → ((p k : ℕ) → last < p → ps.opened p k ≡ None) → IsNumber last pid → fd < most_descriptors → ps.opened pid fd ≡ None → ((d : ℕ) → 1 ≤ d → d ≤ last * 64 → is_open ps d ≡ true) → ⊥
 not_all_open ps last pid fd past pid_in fd_in free all = no_hole (last * 64) (λ k. place_of (pid_of ps (k + 1)) (fd_of ps (k + 1))) (place_of pid fd) (record {
   within = λ k h. let r = of k h in place-below last _ _ r.pid_in r.fd_in;
@@ -90,7 +90,7 @@ not_all_open ps last pid fd past pid_in fd_in free all = no_hole (last * 64) (λ
     less : (j k : ℕ) → j + 1 ≡ k + 1 → j ≡ k
     less j k e = omega arith
 
--- so the lowest that is not open is not beyond them
+-- the lowest description that isn't open is at most the number of the first processes' descriptors
 lowest-within : (ps : Processes) (last pid fd : ℕ) → ((p k : ℕ) → last < p → ps.opened p k ≡ None) → IsNumber last pid → fd < most_descriptors → ps.opened pid fd ≡ None → lowest_description ps ≤ last * 64
 lowest-within ps last pid fd past pid_in fd_in free = met (lowest_description ps) (first_is_first (λ d. not (is_open ps d)) 1 most_descriptions)
   where
@@ -104,7 +104,7 @@ lowest-within ps last pid fd past pid_in fd_in free = met (lowest_description ps
       | inr le ↦ le
     ]
 
--- and has a place where there is one for each descriptor of the rows
+-- the lowest description that isn't open has a place for its count
 pub lowest-place : (rows : List ProcessEntry) (pid fd : ℕ) → pid < length rows → 1 ≤ pid → fd < most_descriptors → (processes rows).opened pid fd ≡ None → lowest_description (processes rows) < 64 * length rows
 lowest-place rows pid fd within number fd_in free = met (lowest_description (processes rows)) (length rows) within
     (lowest-within (processes rows) (length rows - 1) pid fd past (number, less (length rows) within) fd_in free)

@@ -1,4 +1,4 @@
--- Rows of processes.
+-- Rows of processes: what they say, and what changes of them say.
 use Rattle.std.specs.Prelude.{◌≡◌, ◌≢◌, ◌⊎◌, ℕ, zero, suc, ◌+◌, ◌<◌, ◌≤◌, ◌||◌, ◌&&◌, ◌==◌, Bool, true, false, if◌then◌else◌, List, Option, Some, None, Ok, Err, IfSome, length, replicate, slice_index_or, slice_set, refl}
 use Rattle.std.proofs.Common.{arith, ap, subst, sym, ◌∙◌, inl, inr}
 use Rattle.std.proofs.lemmas.Bool.{cases_lt, cases_Bool, cases_eq, eq-eqb, ne_eqb, eqb-true, both_ways, false≢true}
@@ -13,7 +13,7 @@ use Rattle.descriptors.specs.declared.process_entry.ProcessEntry.{ProcessEntry}
 use Rattle.descriptors.specs.declared.error.FdError.TheVariants.{NoProcess}
 use Rattle.descriptors.specs.Rows.{slot, idle, row, processes, IsSameRow, AreNumbered, IsRow, AreRows, resolved, opened_or}
 
--- no number passes of none
+-- a search of no numbers finds none that passes
 pub some_passes-zero : (passes : ℕ → Bool) (lo : ℕ) → some_passes passes lo 0 ≡ false
 some_passes-zero passes lo = some_passes-none passes lo 0 lo (failed-start passes lo) (omega arith)
 
@@ -21,7 +21,7 @@ or_false : (a : Bool) → a ≡ (a || false)
 or_false true = refl
 or_false false = refl
 
--- one of a number more passes if one of the others does, or the last
+-- of one more number, one passes if one of the others does or the last does
 pub some_passes-more : (passes : ℕ → Bool) (lo n : ℕ) → some_passes passes lo (n + 1) ≡ (some_passes passes lo n || passes (lo + n))
 some_passes-more passes lo n = elim (cases_Bool (some_passes passes lo n)) [
   | inl some ↦ let p = first-passes passes lo n some in
@@ -54,13 +54,13 @@ some_passes-more passes lo n = elim (cases_Bool (some_passes passes lo n)) [
     last true h none = some_passes-found passes lo (n + 1) (lo + n) least end_in h
     last false h none = some_passes-none passes lo (n + 1) (lo + (n + 1)) (record { all = λ j above below. fails j none h above below }) (omega arith)
 
--- an empty list of descriptors
+-- a list of free descriptors refers to nothing
 pub slot-none : (n fd : ℕ) → slot (replicate n None) fd ≡ None
 slot-none zero fd = refl
 slot-none (suc n) zero = refl
 slot-none (suc n) (suc fd) = slot-none n fd
 
--- rows that say the same are the same processes
+-- rows that agree with processes on each number stand for these processes
 pub processes-is : (rows : List ProcessEntry) (ps : Processes) → ((q : ℕ) → (row rows q).runs ≡ ps.runs q) → ((q fd : ℕ) → slot (row rows q).opened fd ≡ ps.opened q fd) → processes rows ≡ ps
 unfolding processes
 processes-is rows ps runs opened = λ i. record { runs = λ q. runs q i; opened = λ q fd. opened q fd i }
@@ -101,29 +101,29 @@ runs_within rows pid runs = elim (cases_lt pid (length rows)) [
   | inr le ↦ absurd (false≢true (ap (λ (r : ProcessEntry). r.runs) (sym (get_or_past rows pid idle le)) ∙ runs))
 ]
 
--- and a number that can be
+-- a process that runs has a number in range
 pub runs-numbered : (rows : List ProcessEntry) (pid : ℕ) → AreRows rows → (processes rows).runs pid ≡ true → IsNumber most_processes pid
 runs-numbered rows pid h runs = (h pid).number_in (sym (processes-runs rows pid) ∙ runs)
 
--- a process with a descriptor has a number that can be
+-- a process with a descriptor has a number in range
 pub opened-number : (rows : List ProcessEntry) (pid fd : ℕ) (o : Opened) → AreRows rows → (processes rows).opened pid fd ≡ Some o → IsNumber most_processes pid
 opened-number rows pid fd o h is = elim (cases_Bool (row rows pid).runs) [
   | inl runs ↦ (h pid).number_in runs
   | inr not_running ↦ let e = sym ((h pid).idle not_running fd) ∙ sym (processes-opened rows pid fd) ∙ is in absurd (cc)
 ]
 
--- one that doesn't run has none
+-- a process that doesn't run has no descriptors
 pub idle-opened : (rows : List ProcessEntry) (pid fd : ℕ) → AreRows rows → (processes rows).runs pid ≡ false → (processes rows).opened pid fd ≡ None
 idle-opened rows pid fd h is = processes-opened rows pid fd ∙ (h pid).idle (sym (processes-runs rows pid) ∙ is) fd
 
--- so each has a number that can be, or none
+-- each process has a number in range, or no descriptors
 pub number-or-none : (rows : List ProcessEntry) (pid : ℕ) → AreRows rows → IsNumber most_processes pid ⊎ ((fd : ℕ) → (processes rows).opened pid fd ≡ None)
 number-or-none rows pid h = elim (cases_Bool ((processes rows).runs pid)) [
   | inl runs ↦ inl (runs-numbered rows pid h runs)
   | inr not_running ↦ inr (λ fd. idle-opened rows pid fd h not_running)
 ]
 
--- what a descriptor resolves to
+-- a descriptor that resolves is open, and refers to the result
 pub resolved-opened : (ps : Processes) (pid fd : ℕ) (o : Opened) → resolved ps pid fd ≡ Ok o → ps.opened pid fd ≡ Some o
 resolved-opened ps pid fd o is = at_if (ps.runs pid) (ps.opened pid fd) is
   where
@@ -132,7 +132,7 @@ resolved-opened ps pid fd o is = at_if (ps.runs pid) (ps.opened pid fd) is
     at_if true (Some y) h = let e : Ok y ≡ Ok o = h in cc
     at_if false x h = absurd cc
 
--- the rows with one of them changed
+-- the rows after one of them is replaced
 pub row-set : (rows : List ProcessEntry) (pid : ℕ) (r : ProcessEntry) (q : ℕ) → pid < length rows → row (slice_set rows pid r) q ≡ (if q == pid then r else row rows q)
 row-set rows pid r q within = elim (cases_eq q pid) [
   | inl is ↦ ap (row (slice_set rows pid r)) is ∙ get_or-set_same rows pid r idle within ∙ ap (λ b. if b then r else row rows q) (sym (eq-eqb q pid is))
@@ -154,7 +154,7 @@ rows-set rows pid r within h is q = subst (IsRow q) (sym (row-set rows pid r q w
     at_if true e = subst (λ n. IsRow n r) (sym (eqb-true q pid e)) is
     at_if false e = h q
 
--- the row of a process that begins or ends
+-- the row of a process that begins without descriptors, or ends, is sound
 pub fresh-row : (pid : ℕ) (r : ProcessEntry) (runs : Bool) → r.runs ≡ runs → ((fd : ℕ) → slot r.opened fd ≡ None) → (runs ≡ true → IsNumber most_processes pid) → IsRow pid r
 fresh-row pid r runs is none number = record {
   numbered = λ fd o some. let e = sym (none fd) ∙ some in absurd (cc);
@@ -162,7 +162,7 @@ fresh-row pid r runs is none number = record {
   idle = λ ended fd. none fd;
 }
 
--- the row of a process that begins with the descriptors of another
+-- the row of a process that begins with the descriptors of another is sound
 pub copied-row : (pid from : ℕ) (r before : ProcessEntry) → IsSameRow r before → before.runs ≡ true → IsRow from before → IsNumber most_processes pid → IsRow pid r
 copied-row pid from r before same runs h number = record {
   numbered = numbered-same r.opened before.opened same.opened h.numbered;
@@ -170,7 +170,7 @@ copied-row pid from r before same runs h number = record {
   idle = λ ended fd. absurd (both_ways r.runs ended (same.runs ∙ runs));
 }
 
--- a process begins or ends
+-- the processes after one begins or ends
 pub processes-reset : (rows : List ProcessEntry) (pid : ℕ) (runs : Bool) (fds : ℕ → Option Opened) (r : ProcessEntry) → pid < length rows → r.runs ≡ runs → ((fd : ℕ) → slot r.opened fd ≡ fds fd) → processes (slice_set rows pid r) ≡ with_process (processes rows) pid runs fds
 unfolding processes
 processes-reset rows pid runs fds r within is opened = processes-is (slice_set rows pid r) (with_process (processes rows) pid runs fds)
@@ -194,7 +194,7 @@ processes-past rows pid le = processes-is rows (with_process (processes rows) pi
 pub resolved-runs : (ps : Processes) (pid fd : ℕ) (o : Opened) → resolved ps pid fd ≡ Ok o → ps.runs pid ≡ true
 resolved-runs ps pid fd o is = elim (cases_Bool (ps.runs pid)) [ inl runs ↦ runs | inr idle ↦ let e : Err NoProcess ≡ Ok o = rw idle at is in absurd cc ]
 
--- a descriptor refers to something else
+-- the processes after one descriptor changes
 slots-if : (b : Bool) (r s : ProcessEntry) (o : Option Opened) (fd k : ℕ) → (b ≡ true → (if k == fd then o else slot s.opened k) ≡ slot r.opened k) → (if b then slot r.opened k else slot s.opened k) ≡ (if b && (k == fd) then o else slot s.opened k)
 slots-if true r s o fd k h = sym (h refl)
 slots-if false r s o fd k h = refl
@@ -216,7 +216,7 @@ numbered-slot fds others fd o is h number k p some = at_if (k == fd) (sym (is k)
     at_if true e = subst (λ (x : Option Opened). IfSome x (λ y. IsNumber most_descriptions y.description)) e number
     at_if false e = h k p e
 
--- the row of a process that runs, with one descriptor changed
+-- the row of a running process, with one descriptor changed, is sound
 pub referred-row : (pid : ℕ) (r before : ProcessEntry) (fd : ℕ) (o : Option Opened) → r.runs ≡ before.runs → before.runs ≡ true → ((k : ℕ) → slot r.opened k ≡ (if k == fd then o else slot before.opened k)) → IsRow pid before → IfSome o (λ x. IsNumber most_descriptions x.description) → IsRow pid r
 referred-row pid r before fd o same runs is h number = record {
   numbered = numbered-slot r.opened before.opened fd o is h.numbered number;
@@ -224,7 +224,7 @@ referred-row pid r before fd o same runs is h number = record {
   idle = λ not_running k. absurd (both_ways r.runs not_running (same ∙ runs));
 }
 
--- rows that are compared by copies
+-- two rows are equal where their copies are
 pub same-joined : (a b r s : ProcessEntry) → IsSameRow a r → IsSameRow r s → IsSameRow b s → IsSameRow a b
 same-joined a b r s x y z = record { runs = x.runs ∙ y.runs ∙ sym z.runs; opened = x.opened ∙ y.opened ∙ sym z.opened }
 
@@ -235,7 +235,7 @@ same-past rows others n same within others_within k = elim (cases_lt k n) [
       record { runs = ap (λ (r : ProcessEntry). r.runs) e; opened = ap (λ (r : ProcessEntry). slot r.opened) e }
 ]
 
--- rows with more places for processes that don't run
+-- rows with more places, for processes that don't run, stand for the same processes
 pub grown-same : (rows old : List ProcessEntry) (n : ℕ) (r : ProcessEntry) → length rows ≡ n → length old ≤ n → ((k : ℕ) (d : ProcessEntry) → k < n → k < length old → slice_index_or rows k d ≡ slice_index_or old k d) → ((k : ℕ) (d : ProcessEntry) → length old ≤ k → k < n → slice_index_or rows k d ≡ r) → r.runs ≡ false → ((fd : ℕ) → slot r.opened fd ≡ None) → (q : ℕ) → IsSameRow (row rows q) (row old q)
 grown-same rows old n r len more first rest runs opened q = elim (cases_lt q (length old)) [
   | inl lt ↦ equal (first q idle (omega arith) lt)
@@ -251,7 +251,7 @@ grown-same rows old n r len more first rest runs opened q = elim (cases_lt q (le
     equal : row rows q ≡ row old q → IsSameRow (row rows q) (row old q)
     equal e = record { runs = ap (λ (s : ProcessEntry). s.runs) e; opened = ap (λ (s : ProcessEntry). slot s.opened) e }
 
--- none runs
+-- no process runs if no row says so
 pub none_run : (rows : List ProcessEntry) (n : ℕ) → AreRows rows → ((k : ℕ) → k < n → (processes rows).runs k ≡ false) → length rows ≤ n → processes rows ≡ no_processes
 none_run rows n are none within = processes-is rows no_processes runs (λ q fd. (are q).idle (runs q) fd)
   where

@@ -7,22 +7,22 @@ use Rattle.descriptors.specs.declared.edit.ProcessEdit.{ProcessEdit}
 use Rattle.descriptors.specs.declared.edit.ProcessEdit.TheVariants.{Begins, Forks, Opens}
 use Rattle.descriptors.specs.Rows.{processes}
 
--- the processes once the edit is made
+-- the processes after the edit is made
 abbrev pub edited : Processes → ProcessEdit → Processes
 edited ps (Begins pid more) = with_process ps pid true (λ fd. None)
 edited ps (Forks pid child more) = with_process ps child true (ps.opened pid)
 edited ps (Opens pid fd opened) = with_descriptor ps pid fd (Some opened)
 
--- there is a place for the process, in the same processes with more places or else already
+-- process pid has a place: in `more`, which has the same processes with more places, or in the rows already
 abbrev pub HasPlace : List ProcessEntry → ℕ → Option (List ProcessEntry) → Type 0
 HasPlace rows pid None = pid < length rows
 HasPlace rows pid (Some more) = (pid < length more) × (processes more ≡ processes rows)
 
--- the description is open, or is the next one to be
+-- description d is open, or is the next one to be opened
 abbrev pub IsKnown : Processes → ℕ → Type 0
 IsKnown ps d = (is_open ps d ≡ true) ⊎ (d ≡ lowest_description ps)
 
--- what the edit needs: who begins doesn't run, and the descriptor is free
+-- the edit can be made: the process that begins doesn't run and has a place, and the descriptor that opens is free
 abbrev pub Fits : List ProcessEntry → ProcessEdit → Type 0
 Fits rows (Begins pid more) = ((processes rows).runs pid ≡ false) × IsNumber most_processes pid × HasPlace rows pid more
 Fits rows (Forks pid child more) = ((processes rows).runs pid ≡ true) × ((processes rows).runs child ≡ false) × IsNumber most_processes child × HasPlace rows child more

@@ -1,4 +1,4 @@
--- Rows of processes, and the processes that they are.
+-- The rows of processes, and the processes that they stand for.
 use Rattle.std.specs.Prelude.{◌≡◌, ℕ, Bool, true, false, not, if◌then◌else◌, List, [], Option, Some, None, Result, Ok, Err, IsOk, slice_index_or}
 use Rattle.model.specs.declared.opened.Opened.{Opened}
 use Rattle.model.specs.declared.reply.Reply.{Reply}
@@ -11,11 +11,11 @@ use Rattle.descriptors.specs.declared.error.ProcessError.TheVariants as error
 use Rattle.descriptors.specs.declared.error.FdError.{FdError}
 use Rattle.descriptors.specs.declared.error.FdError.TheVariants.{NoProcess, BadFd}
 
--- what a descriptor refers to
+-- what descriptor fd refers to, in the list of a process's descriptors
 abbrev pub slot : List (Option Opened) → ℕ → Option Opened
 slot fds fd = slice_index_or fds fd None
 
--- both run or don't, and have the same descriptors
+-- both processes run, or neither does, and they have the same descriptors
 pub record IsSameRow (a b : ProcessEntry) : Type 0 where
   pub runs : a.runs ≡ b.runs
   pub opened : slot a.opened ≡ slot b.opened
@@ -24,25 +24,25 @@ pub record IsSameRow (a b : ProcessEntry) : Type 0 where
 abbrev pub idle : ProcessEntry
 idle = record { runs = false; opened = [] }
 
--- the row of the process with that number
+-- the row of process pid
 abbrev pub row : List ProcessEntry → ℕ → ProcessEntry
 row rows pid = slice_index_or rows pid idle
 
--- who runs, and what each descriptor refers to
+-- the processes that the rows stand for
 unfoldable pub processes : List ProcessEntry → Processes
 processes rows = record { runs = λ pid. (row rows pid).runs; opened = λ pid fd. slot (row rows pid).opened fd }
 
--- each descriptor refers to a description that can be
+-- each descriptor refers to a description with a number in range
 abbrev pub AreNumbered : List (Option Opened) → Type 0
 AreNumbered fds = (fd : ℕ) (o : Opened) → slot fds fd ≡ Some o → IsNumber most_descriptions o.description
 
--- a row: a process that runs has a number that can be, and one that doesn't has no descriptors
+-- the row of process pid is sound: if the process runs its number is in range, and if it doesn't run it has no descriptors
 pub record IsRow (pid : ℕ) (r : ProcessEntry) : Type 0 where
   pub numbered : AreNumbered r.opened
   pub number_in : r.runs ≡ true → IsNumber most_processes pid
   pub idle : r.runs ≡ false → (fd : ℕ) → slot r.opened fd ≡ None
 
--- each is the row of the process of its number
+-- each row is sound for the process with its number
 abbrev pub AreRows : List ProcessEntry → Type 0
 AreRows rows = (pid : ℕ) → IsRow pid (row rows pid)
 
@@ -54,14 +54,14 @@ opened_or (Some o) = Ok o
 abbrev pub resolved : Processes → ℕ → ℕ → Result Opened FdError
 resolved ps pid fd = if ps.runs pid then opened_or (ps.opened pid fd) else Err NoProcess
 
--- the descriptor referred to a description, and refers to nothing now; the description went if no descriptor refers to it any more
+-- the descriptor, which was open, is closed; `went` says whether no descriptor refers to its description any more
 pub record IsClosed (old : Processes) (pid fd : ℕ) (new : Processes) (went : Bool) : Type 0 where
   pub opened : Opened
   pub was : resolved old pid fd ≡ Ok opened
   pub closed : new ≡ with_descriptor old pid fd None
   pub gone : went ≡ not (is_open new opened.description)
 
--- the error is the refusal that the rule gives; memory is asked for only where the rule refuses nothing
+-- the error is the rule's refusal; NoMemory comes only where the rule refuses nothing
 abbrev pub Refuses : ProcessError → Result (Processes × Reply) Reply → Type 0
 Refuses error.NoMemory answer = IsOk answer
 Refuses error.NoProcess answer = answer ≡ Err reply.NoProcess
@@ -69,12 +69,12 @@ Refuses error.Exists answer = answer ≡ Err reply.Exists
 Refuses error.BadFd answer = answer ≡ Err reply.BadFd
 Refuses error.TooManyFiles answer = answer ≡ Err reply.TooManyFiles
 
--- the reply that tells of it
+-- the reply for a descriptor that refers to nothing
 abbrev pub fd_reply : FdError → Reply
 fd_reply NoProcess = reply.NoProcess
 fd_reply BadFd = reply.BadFd
 
--- the same refusal of a call
+-- the refusal of a call whose descriptor refers to nothing
 abbrev pub process_error : FdError → ProcessError
 process_error NoProcess = error.NoProcess
 process_error BadFd = error.BadFd

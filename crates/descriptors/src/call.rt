@@ -1,18 +1,18 @@
-//! Calls that are about processes and descriptors alone.
+//! The calls that change only processes and descriptors.
 use model::access::Access;
 
-/// What a process asks that changes which processes of its node run, or what their descriptors refer to, and no
+/// A call that changes which processes of its node run, or what their descriptors refer to, and no
 /// lock.
 #[derive(Clone, Copy)]
 pub enum ProcessCall {
-    /// The process begins.
+    /// The calling process begins.
     Spawn,
-    /// The child, whose number is from 1 to 256, begins with the descriptors of the process (POSIX.1-2017
-    /// `fork()`).
+    /// The process `child`, 1 to 256, begins with the descriptors of the calling process
+    /// (POSIX.1-2017 `fork()`).
     Fork { child: u16 },
-    /// The process opens the file (POSIX.1-2017 `open()`).
+    /// The calling process opens the file (POSIX.1-2017 `open()`).
     Open { file: u16, access: Access },
-    /// One more descriptor, the lowest that is free, refers to what this one, from 0 to 63, does (POSIX.1-2017
-    /// `dup()`). Any other number is none that the process has.
+    /// The lowest free descriptor gets to refer to what `fd` refers to (POSIX.1-2017 `dup()`). A
+    /// number above 63 is no descriptor of the process.
     Dup { fd: u8 },
 }

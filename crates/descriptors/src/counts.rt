@@ -1,4 +1,4 @@
-//! How many descriptors refer to each description.
+//! The number of descriptors that refer to each open file description.
 ghost use Rattle.std.specs.Prelude.{◌≡◌, ◌≤◌, ◌<◌, ◌+◌, ◌-◌, ◌==◌, ℕ, [], IfOk, OnOk, length, slice_set};
 ghost use Rattle.intervals.specs.Search.{first};
 ghost use Rattle.model.specs.Limits.{most_descriptors, most_descriptions};
@@ -11,11 +11,12 @@ use model::limits::{MOST_DESCRIPTIONS, MOST_DESCRIPTORS};
 use std::alloc::{AllocError, Global};
 use std::marker::Model;
 
-/// How many descriptors refer to each description, by its number: none where it has no place.
+/// The number of descriptors that refer to each description, by the description's number; 0 for a
+/// number without a place.
 #[derive(Drop)]
 pub struct Counts {
     counts: Vec<u16>,
-    // from 1 to below this, each has a count above 0
+    // each description from 1 to below this number has a count above 0
     lowest: u16,
 }
 
@@ -31,7 +32,7 @@ impl Model for Counts {
 }
 
 impl Counts {
-    /// No descriptor refers to a description, and none has a place.
+    /// The counts without a place, where no descriptor refers to a description.
     pub(crate) fn new(alloc: Global) -> Counts
         ensures { result ≡ [] }
     {
@@ -41,7 +42,7 @@ impl Counts {
         }
     }
 
-    // How many descriptors refer to the description with that number.
+    // The number of descriptors that refer to the description with this number.
     fn count(&self, description: u16) -> u16
         ensures { result ≡ count_of self.now description }
     {
@@ -51,7 +52,8 @@ impl Counts {
         }
     }
 
-    /// One more descriptor refers to the description. Where it is the first, each lower number has one.
+    /// Counts one more descriptor of the description. If it is the first one, each lower
+    /// description has a descriptor.
     pub(crate) fn raise(&mut self, description: u16)
         requires number { description ≤ most_descriptions }
         requires place { description < length self.old }
@@ -66,7 +68,7 @@ impl Counts {
         }
     }
 
-    /// One descriptor less refers to the description. Answers whether that was the last.
+    /// Counts one descriptor of the description less. The result is whether it was the last one.
     pub(crate) fn lower(&mut self, description: u16) -> bool
         requires number { 1 ≤ description }
         requires some { 0 < count_of self.old description }
@@ -81,8 +83,8 @@ impl Counts {
         left == 0
     }
 
-    /// The lowest number, from 1, to which no descriptor refers; one more than there may be where one
-    /// refers to each.
+    /// The lowest number, from 1, of a description that no descriptor refers to; 16,385 if each
+    /// description has one.
     pub(crate) fn lowest_unused(&self) -> u16
         ensures { result ≡ first (λ d. count_of self.now d == 0) 1 most_descriptions }
     {
@@ -94,7 +96,7 @@ impl Counts {
         MOST_DESCRIPTIONS + 1
     }
 
-    /// The same counts, with so many places.
+    /// Equal counts, with `places` places.
     pub(crate) fn grown(&self, places: usize) -> Result<Counts, AllocError>
         requires { length self.now ≤ places }
         ensures places { IfOk result (λ more. length more ≡ places) }
@@ -108,7 +110,7 @@ impl Counts {
         })
     }
 
-    /// An equal value.
+    /// Equal counts.
     pub(crate) fn copy(&self) -> Result<Counts, AllocError>
         ensures { IfOk result (λ copy. copy ≡ self.now) }
     {
@@ -119,7 +121,7 @@ impl Counts {
     }
 }
 
-/// One more descriptor refers to each description for each that the process has of it.
+/// Counts each descriptor of the process once more, for a child that has them too.
 pub(crate) fn share(counts: &mut Counts, rows: &[ProcessEntry], pid: usize)
     requires rows { AreRows rows.now }
     requires counts { AreCounts (processes rows.now) counts.old }
@@ -133,7 +135,7 @@ pub(crate) fn share(counts: &mut Counts, rows: &[ProcessEntry], pid: usize)
     }
 }
 
-/// One descriptor less refers to each description for each that the process has of it.
+/// Counts each descriptor of the process once less.
 pub(crate) fn release(counts: &mut Counts, rows: &[ProcessEntry], pid: usize)
     requires rows { AreRows rows.now }
     requires counts { AreCounts (processes rows.now) counts.old }

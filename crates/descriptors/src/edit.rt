@@ -2,22 +2,23 @@
 use crate::processes::Processes;
 use model::opened::Opened;
 
-/// What a call will make of one process.
+/// A planned change of one process.
 #[derive(Drop)]
 pub enum ProcessEdit {
-    /// The process begins, with no descriptors. Where there is no place for it yet, `more` are the
-    /// same processes with places up to its own.
+    /// The process begins, with no descriptors. If it has no place yet, `more` has the same
+    /// processes with places up to its number.
     Begins {
         pid: u16,
         more: Option<Processes>,
     },
-    /// The child begins, with the descriptors of the process; `more` as of `Begins`.
+    /// The child begins, with the descriptors of the process. If the child has no place yet, `more`
+    /// has the same processes with places up to its number.
     Forks {
         pid: u16,
         child: u16,
         more: Option<Processes>,
     },
-    /// The descriptor, which is free, refers to this from now on.
+    /// The descriptor, which is free, gets to refer to `opened`.
     Opens {
         pid: u16,
         fd: u8,

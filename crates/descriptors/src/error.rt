@@ -1,4 +1,4 @@
-//! Why processes and descriptors stay as they are.
+//! The reasons for which calls on processes and descriptors are refused.
 ghost use Rattle.std.specs.Prelude.{◌≡◌, Result, Err, MatchResult};
 ghost use Rattle.model.specs.declared.reply.Reply.{Reply};
 ghost use Rattle.model.specs.Descriptors.{Processes};
@@ -8,16 +8,16 @@ use model::reply::Reply;
 use std::alloc::AllocError;
 use thiserror::Error;
 
-/// Why a call on processes and descriptors is refused.
+/// A reason for which a call on processes and descriptors is refused.
 #[derive(Clone, Copy, Debug, PartialEq, Eq, Error)]
 pub enum ProcessError {
     /// A request for memory was refused.
     #[error("no memory")]
     NoMemory,
-    /// The process doesn't run.
+    /// The calling process doesn't run.
     #[error("no such process")]
     NoProcess,
-    /// The process runs already.
+    /// The process that should begin runs already.
     #[error("the process runs already")]
     Exists,
     /// The process has no such descriptor (POSIX.1-2017 `dup()`, EBADF).
@@ -29,10 +29,10 @@ pub enum ProcessError {
 }
 
 impl ProcessError {
-    /// The reply that tells of the refusal.
+    /// The reply that says so.
     ///
     /// # Errors
-    /// `AllocError` for `NoMemory`, which no reply tells.
+    /// `AllocError` for `NoMemory`, for which there is no reply.
     pub fn reply(self) -> Result<Reply, AllocError>
         ensures { MatchResult result (λ reply. (answer : Result (Processes × Reply) Reply) → Refuses self answer → answer ≡ Err reply) (λ _. self ≡ ProcessError.NoMemory) }
     {
@@ -59,7 +59,7 @@ impl From<FdError> for ProcessError {
     }
 }
 
-/// Why a descriptor refers to nothing.
+/// A reason for which a descriptor refers to nothing.
 #[derive(Clone, Copy, Debug, PartialEq, Eq, Error)]
 pub enum FdError {
     /// The process doesn't run.
@@ -71,7 +71,7 @@ pub enum FdError {
 }
 
 impl FdError {
-    /// The reply that tells of the refusal.
+    /// The reply that says so.
     pub fn reply(self) -> Reply
         ensures { result ≡ fd_reply self }
     {

@@ -1,4 +1,5 @@
-//! The processes of one node and their descriptors.
+//! The processes of one node and their descriptors, and what spawn, fork, open, dup, close and exit
+//! do to them. This crate knows nothing of locks, tokens or messages.
 #![tactic(auto)]
 
 pub mod call;

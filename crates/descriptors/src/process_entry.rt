@@ -1,4 +1,4 @@
-//! One process and its descriptors.
+//! One process and its descriptors, as a row of the table of processes.
 ghost use Rattle.std.specs.Prelude.{◌≡◌, ◌↔◌, ◌<◌, ◌==◌, if◌then◌else◌, IsTrue, IfSome, ℕ, None};
 ghost use Rattle.model.specs.Descriptors.{is_of_file};
 ghost use Rattle.descriptors.specs.Rows.{slot, IsSameRow};
@@ -13,14 +13,14 @@ pub struct ProcessEntry {
     pub opened: [Option<Opened>; 64],
 }
 
-// Whether both refer to the same, or neither to anything.
+// Whether both are equal references, or none.
 fn same_opened(one: Option<Opened>, other: Option<Opened>) -> bool
     ensures { IsTrue result ↔ (one ≡ other) }
 {
     one == other
 }
 
-// Whether this is of the file.
+// Whether a descriptor with this content is of the file.
 pub(crate) fn is_of_file(file: u16, opened: Option<Opened>) -> bool
     ensures { result ≡ is_of_file file opened }
 {
@@ -28,7 +28,7 @@ pub(crate) fn is_of_file(file: u16, opened: Option<Opened>) -> bool
 }
 
 impl ProcessEntry {
-    /// A process with no descriptors.
+    /// A process that runs or doesn't, without descriptors.
     pub fn new(runs: bool) -> ProcessEntry
         ensures runs { result.runs ≡ runs }
         ensures opened { (fd : ℕ) → slot result.opened fd ≡ None }
@@ -39,7 +39,7 @@ impl ProcessEntry {
         }
     }
 
-    /// What the descriptor refers to, if there is one with this number.
+    /// What the descriptor refers to; `None` if it is free, or if `fd` is above 63.
     pub fn opened(&self, fd: u8) -> Option<Opened>
         ensures value { result ≡ slot self.now.opened fd }
         ensures within { IfSome result (λ _. fd < 64) }
@@ -50,7 +50,7 @@ impl ProcessEntry {
         }
     }
 
-    /// The descriptor refers to this, or to nothing, from now on.
+    /// Sets what the descriptor refers to, or frees it.
     pub fn refer(&mut self, fd: u8, opened: Option<Opened>)
         requires { fd < 64 }
         ensures runs { self.new.runs ≡ self.old.runs }
@@ -59,7 +59,7 @@ impl ProcessEntry {
         self.opened[fd as usize] = opened;
     }
 
-    /// Whether both run or don't, and have the same descriptors.
+    /// Whether both processes run, or neither does, and they have the same descriptors.
     pub fn same(&self, other: &ProcessEntry) -> bool
         ensures { IsTrue result ↔ IsSameRow self.now other.now }
     {

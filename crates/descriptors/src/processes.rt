@@ -1,4 +1,4 @@
-//! The processes of one node and their descriptors.
+//! The processes of one node, their descriptors, and the calls that change them.
 ghost use Rattle.std.specs.Prelude.{◌≡◌, ◌≢◌, ◌≤◌, ◌<◌, ◌↔◌, ℕ, true, false, None, Some, Ok, Err, IfOk, IfErr, IfSome, OnOk, OnErr, IsTrue, MatchOption, is_none, length, not};
 ghost use Rattle.model.specs.declared.reply.Reply.TheVariants.{Done, Fd};
 ghost use Rattle.model.specs.Limits.{IsNumber, most_processes, most_descriptors, most_descriptions};
@@ -21,13 +21,13 @@ use std::alloc::{AllocError, Global};
 use std::marker::Model;
 
 /// The processes of one node in one incarnation, and what each of their descriptors refers to.
-/// Processes have the numbers 1 to 256, descriptors 0 to 63, open file descriptions 1 to 16,384. A
-/// call that answers an error leaves them as they were.
+/// Processes are numbered from 1 to 256, descriptors from 0 to 63, open file descriptions from 1 to
+/// 16,384. A call that errs leaves them as they were.
 #[derive(Drop)]
 pub struct Processes {
-    // by the process's number; there is no process 0
+    // by the number of the process; there is no process 0
     rows: Vec<ProcessEntry>,
-    // of the descriptors that refer to a description; as many places as the rows have descriptors
+    // by the number of the description, with as many places as the rows have descriptors
     counts: Counts,
 }
 
@@ -45,7 +45,7 @@ impl Model for Processes {
 }
 
 impl Processes {
-    /// No process runs.
+    /// The processes of a node on which none runs.
     #[tactic(auto, unfolding(crate::specs::Rows::processes))]
     pub fn new(alloc: Global) -> Self
         ensures { processes result ≡ no_processes }
@@ -74,8 +74,8 @@ impl Processes {
     /// What the descriptor of the process refers to.
     ///
     /// # Errors
-    /// `NoProcess` where the process doesn't run, which is tested first; `BadFd` where it has no such
-    /// descriptor.
+    /// `NoProcess` where the process doesn't run, which is tested first; `BadFd` where it has no
+    /// such descriptor.
     pub fn resolve(&self, pid: u16, fd: u8) -> Result<Opened, FdError>
         ensures value { result ≡ resolved (processes self.now) pid fd }
         ensures number { IfOk result (λ opened. IsNumber most_descriptions opened.description) }
@@ -87,8 +87,8 @@ impl Processes {
         self.opened(pid, fd).ok_or(FdError::BadFd)
     }
 
-    /// Whether a descriptor of the process is of the file: none is of a process that doesn't run. Takes no
-    /// memory.
+    /// Whether the process has a descriptor of the file; a process that doesn't run has none. Takes
+    /// no memory.
     pub fn has_open(&self, pid: u16, file: u16) -> bool
         ensures { result ≡ has_open (processes self.now) pid file }
     {
@@ -100,7 +100,7 @@ impl Processes {
         false
     }
 
-    // The same processes with places up to that of the process, if there is none for it yet.
+    // The same processes with places up to the number `pid`, if there is no place for it yet.
     fn with_place(&self, pid: u16) -> Result<Option<Processes>, AllocError>
         ensures { IfOk result (HasPlace self.now pid) }
     {
@@ -112,7 +112,7 @@ impl Processes {
         Ok(Some(Processes { rows, counts }))
     }
 
-    // What `spawn` would change.
+    // The change that `spawn` would make.
     fn plan_spawn(&self, pid: u16) -> Result<ProcessEdit, ProcessError>
         requires { IsNumber most_processes pid }
         ensures ok { IfOk result (λ edit. after_spawn (processes self.now) pid ≡ Ok (edited (processes self.now) edit, Done)) }
@@ -126,10 +126,12 @@ impl Processes {
         Ok(ProcessEdit::Begins { pid, more })
     }
 
-    /// The process begins, with no descriptors. Its number is from 1 to 256; no other process ever runs.
+    /// Begins the process, without descriptors. Its number is from 1 to 256, as that of each
+    /// process.
     ///
     /// # Errors
-    /// `Exists` where it runs already, which is tested before memory is asked for; `NoMemory`.
+    /// `Exists` where the process runs already, which is tested before memory is requested;
+    /// `NoMemory` where a request for memory was refused.
     pub fn spawn(&mut self, pid: u16) -> Result<(), ProcessError>
         requires { IsNumber most_processes pid }
         ensures ok { OnOk result (after_spawn (processes self.old) pid ≡ Ok (processes self.new, Done)) }
@@ -141,7 +143,7 @@ impl Processes {
         Ok(())
     }
 
-    // What `fork` would change.
+    // The change that `fork` would make.
     fn plan_fork(&self, pid: u16, child: u16) -> Result<ProcessEdit, ProcessError>
         requires { IsNumber most_processes child }
         ensures ok { IfOk result (λ edit. after_fork (processes self.now) pid child ≡ Ok (edited (processes self.now) edit, Done)) }
@@ -158,12 +160,13 @@ impl Processes {
         Ok(ProcessEdit::Forks { pid, child, more })
     }
 
-    /// The child begins, with the descriptors of the process: each refers to the same description in
-    /// both (POSIX.1-2017 `fork()`). Its number is from 1 to 256.
+    /// Begins the child with the descriptors of the process: each refers to the same description in
+    /// both (POSIX.1-2017 `fork()`). The child's number is from 1 to 256.
     ///
     /// # Errors
-    /// `NoProcess` where the process doesn't run, which is tested first; `Exists` where the child runs
-    /// already; both before memory is asked for; `NoMemory`.
+    /// `NoProcess` where the process doesn't run, which is tested first; `Exists` where the child
+    /// runs already; both are tested before memory is requested; `NoMemory` where a request for
+    /// memory was refused.
     pub fn fork(&mut self, pid: u16, child: u16) -> Result<(), ProcessError>
         requires { IsNumber most_processes child }
         ensures ok { OnOk result (after_fork (processes self.old) pid child ≡ Ok (processes self.new, Done)) }
@@ -181,7 +184,7 @@ impl Processes {
         self.opened(pid, fd).is_none()
     }
 
-    // The lowest descriptor that is free.
+    // The lowest free descriptor of the process, if one is free.
     fn lowest_fd(&self, pid: u16) -> Option<u8>
         ensures { MatchOption result (lowest_fd (processes self.now) pid ≡ most_descriptors) (λ fd. (fd < most_descriptors) × (fd ≡ lowest_fd (processes self.now) pid)) }
     {
@@ -193,7 +196,7 @@ impl Processes {
         None
     }
 
-    // The descriptor, which is free, refers to this from now on.
+    // Sets what the descriptor, which is free, refers to.
     fn refer(&mut self, pid: u16, fd: u8, opened: Opened)
         requires runs { (processes self.old).runs pid ≡ true }
         requires fd { fd < most_descriptors }
@@ -206,7 +209,7 @@ impl Processes {
         refer(&mut self.rows, pid as usize, fd, Some(opened));
     }
 
-    // The descriptor refers to nothing from now on. Answers whether the description went.
+    // Frees the descriptor. The result is whether no descriptor refers to its description any more.
     fn free(&mut self, pid: u16, fd: u8, opened: Opened) -> bool
         requires was { resolved (processes self.old) pid fd ≡ Ok opened }
         requires fd { fd < most_descriptors }
@@ -225,7 +228,7 @@ impl Processes {
         self.counts.lowest_unused()
     }
 
-    // What `open` would change, and the descriptor that it would answer.
+    // The change that `open` would make, with the descriptor that would be opened.
     fn plan_open(
         &self,
         pid: u16,
@@ -237,7 +240,7 @@ impl Processes {
         ensures memory { IfErr result (λ error. error ≢ ProcessError.NoMemory) }
         ensures fits { IfOk result (λ planned. Fits self.now planned.0) }
     {
-        let _ = &self.rows; // tells the proof that a process that runs has a number that can be
+        let _ = &self.rows; // tells the proof that a running process has a number in range
         if !self.is_running(pid) {
             return Err(ProcessError::NoProcess);
         }
@@ -253,13 +256,13 @@ impl Processes {
         Ok((ProcessEdit::Opens { pid, fd, opened }, fd))
     }
 
-    /// Opens the file for the process: the lowest descriptor that is free, which it answers, refers to
-    /// a new description of the file from now on, which takes the lowest number that is free on the
-    /// node (POSIX.1-2017 `open()`). Takes no memory.
+    /// Opens the file for the process: the lowest free descriptor, which is the result, gets to
+    /// refer to a new description of the file, which takes the lowest number that no open
+    /// description of the node has (POSIX.1-2017 `open()`). Takes no memory.
     ///
     /// # Errors
-    /// `NoProcess` where the process doesn't run, which is tested first; `TooManyFiles` where it has
-    /// 64 descriptors.
+    /// `NoProcess` where the process doesn't run, which is tested first; `TooManyFiles` where it
+    /// has 64 descriptors.
     pub fn open(&mut self, pid: u16, file: u16, access: Access) -> Result<u8, ProcessError>
         ensures ok { IfOk result (λ fd. after_open (processes self.old) pid file access ≡ Ok (processes self.new, Fd fd)) }
         ensures err { IfErr result (λ error. Refuses error (after_open (processes self.old) pid file access)) }
@@ -271,13 +274,13 @@ impl Processes {
         Ok(fd)
     }
 
-    // What `dup` would change, and the descriptor that it would answer.
+    // The change that `dup` would make, with the descriptor that would be opened.
     fn plan_dup(&self, pid: u16, fd: u8) -> Result<(ProcessEdit, u8), ProcessError>
         ensures ok { IfOk result (λ planned. after_dup (processes self.now) pid fd ≡ Ok (edited (processes self.now) planned.0, Fd planned.1)) }
         ensures err { IfErr result (λ error. (error ≢ ProcessError.NoMemory) × Refuses error (after_dup (processes self.now) pid fd)) }
         ensures fits { IfOk result (λ planned. Fits self.now planned.0) }
     {
-        let _ = &self.rows; // tells the proof that a process that runs has a number that can be
+        let _ = &self.rows; // tells the proof that a running process has a number in range
         let found = self.resolve(pid, fd)?;
         let Some(lowest) = self.lowest_fd(pid) else {
             return Err(ProcessError::TooManyFiles);
@@ -290,8 +293,8 @@ impl Processes {
         Ok((edit, lowest))
     }
 
-    /// The lowest descriptor that is free, which it answers, refers from now on to the description that
-    /// this one refers to (POSIX.1-2017 `dup()`). Takes no memory.
+    /// Makes one more descriptor: the lowest free one, which is the result, gets to refer to the
+    /// description that `fd` refers to (POSIX.1-2017 `dup()`). Takes no memory.
     ///
     /// # Errors
     /// In this order: `NoProcess` where the process doesn't run; `BadFd` where it has no such
@@ -306,11 +309,11 @@ impl Processes {
         Ok(made)
     }
 
-    /// What the call of the process would change, and its reply. Takes memory only where a process
-    /// would begin.
+    /// The change that the call of the process would make, and its reply. Takes memory only where a
+    /// process would begin.
     ///
     /// # Errors
-    /// Those of `spawn`, `fork`, `open` or `dup`.
+    /// The errors of `spawn`, `fork`, `open` or `dup`, whichever the call is.
     pub fn plan(&self, pid: u16, call: ProcessCall) -> Result<(ProcessEdit, Reply), ProcessError>
         requires { CanBegin pid call }
         ensures ok { IfOk result (λ planned. after (processes self.now) pid call ≡ Ok (edited (processes self.now) planned.0, planned.1)) }
@@ -332,7 +335,7 @@ impl Processes {
         }
     }
 
-    // These are the same processes, if there are any.
+    // Takes over `more`, the same processes with more places, if there are any.
     fn take_place(&mut self, pid: u16, more: Option<Processes>)
         requires { HasPlace self.old pid more }
         ensures place { pid < length self.new }
@@ -343,7 +346,7 @@ impl Processes {
         }
     }
 
-    // The child, which doesn't run and has a place, begins with the descriptors of the process.
+    // Begins the child, which doesn't run and has a place, with the descriptors of the process.
     fn copy_to(&mut self, pid: u16, child: u16)
         requires runs { (processes self.old).runs pid ≡ true }
         requires idle { (processes self.old).runs child ≡ false }
@@ -355,7 +358,7 @@ impl Processes {
         copy_row(&mut self.rows, pid as usize, child as usize);
     }
 
-    // The process, which doesn't run and has a place, begins.
+    // Begins the process, which doesn't run and has a place.
     fn begin(&mut self, pid: u16)
         requires idle { (processes self.old).runs pid ≡ false }
         requires number { IsNumber most_processes pid }
@@ -383,13 +386,13 @@ impl Processes {
         }
     }
 
-    /// Closes the descriptor: it refers to nothing from now on. Answers whether the description went,
-    /// that is whether no descriptor of any process of the node refers to it any more (POSIX.1-2017
-    /// `close()`). Takes no memory.
+    /// Closes the descriptor. The result is whether its description is closed with it: no
+    /// descriptor of any process of the node refers to it any more (POSIX.1-2017 `close()`). Takes
+    /// no memory.
     ///
     /// # Errors
-    /// `NoProcess` where the process doesn't run, which is tested first; `BadFd` where it has no such
-    /// descriptor (EBADF).
+    /// `NoProcess` where the process doesn't run, which is tested first; `BadFd` where it has no
+    /// such descriptor (EBADF).
     pub fn close(&mut self, pid: u16, fd: u8) -> Result<bool, FdError>
         ensures ok { IfOk result (λ went. IsClosed (processes self.old) pid fd (processes self.new) went) }
         ensures err { IfErr result (λ error. resolved (processes self.old) pid fd ≡ Err error) }
@@ -399,8 +402,8 @@ impl Processes {
         Ok(self.free(pid, fd, opened))
     }
 
-    /// The process runs no longer, and has no descriptors, whether it ran before or not (POSIX.1-2017
-    /// `_Exit()`). Takes no memory.
+    /// Ends the process and frees its descriptors, whether it ran or not (POSIX.1-2017 `_Exit()`).
+    /// Takes no memory.
     pub fn end(&mut self, pid: u16)
         ensures { processes self.new ≡ with_process (processes self.old) pid false (λ fd. None) }
     {
@@ -417,10 +420,10 @@ impl Processes {
         is_idle(&self.rows)
     }
 
-    /// An equal value.
+    /// Equal processes.
     ///
     /// # Errors
-    /// `NoMemory` where a request for memory was refused.
+    /// `AllocError` where a request for memory was refused.
     pub fn copy(&self) -> Result<Self, AllocError>
         ensures { IfOk result (λ copy. copy ≡ self.now) }
     {
@@ -430,7 +433,7 @@ impl Processes {
         })
     }
 
-    /// Whether the same processes run in both, and their descriptors refer to the same.
+    /// Whether the same processes run in both, with the same descriptors.
     pub fn same(&self, other: &Self) -> bool
         ensures { IsTrue result ↔ (processes self.now ≡ processes other.now) }
     {

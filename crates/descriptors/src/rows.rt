@@ -1,4 +1,4 @@
-//! Rows of processes, by their numbers.
+//! The processes of a node as a list of rows, by their numbers.
 ghost use Rattle.std.specs.Prelude.{◌≡◌, ◌<◌, ◌≤◌, ◌+◌, ◌↔◌, ℕ, None, true, IfOk, IfSome, IsTrue, OnOk, length};
 ghost use Rattle.model.specs.Limits.{IsNumber, most_processes, most_descriptors, most_descriptions};
 ghost use Rattle.model.specs.Descriptors.{no_processes, with_process, with_descriptor};
@@ -8,7 +8,7 @@ use crate::process_entry::ProcessEntry;
 use model::opened::Opened;
 use std::alloc::AllocError;
 
-// The row of the process with that number.
+// The row of the process with the number `pid`.
 fn row_at(rows: &[ProcessEntry], pid: usize) -> ProcessEntry
     ensures { IsSameRow result (row rows.now pid) }
 {
@@ -29,7 +29,7 @@ pub fn is_running(rows: &[ProcessEntry], pid: usize) -> bool
     }
 }
 
-/// What the descriptor of the process refers to.
+/// What the descriptor of the process refers to, if it is open.
 #[tactic(auto, unfolding(crate::specs::Rows::processes))]
 pub fn opened_at(rows: &[ProcessEntry], pid: usize, fd: u8) -> Option<Opened>
     requires { AreRows rows.now }
@@ -43,7 +43,7 @@ pub fn opened_at(rows: &[ProcessEntry], pid: usize, fd: u8) -> Option<Opened>
     }
 }
 
-// Makes a place for the process with that number.
+// Adds places up to the number `pid`.
 fn grow(rows: &mut Vec<ProcessEntry>, pid: usize) -> Result<(), AllocError>
     requires number { pid < 65536 }
     requires more { length rows.old.items ≤ pid }
@@ -55,7 +55,7 @@ fn grow(rows: &mut Vec<ProcessEntry>, pid: usize) -> Result<(), AllocError>
     Ok(())
 }
 
-/// The same rows and more, up to that of the process with that number.
+/// The same rows, with more of them up to the number `pid`.
 pub fn grown(rows: &Vec<ProcessEntry>, pid: usize) -> Result<Vec<ProcessEntry>, AllocError>
     requires number { pid < 65536 }
     requires more { length rows.now.items ≤ pid }
@@ -69,7 +69,7 @@ pub fn grown(rows: &Vec<ProcessEntry>, pid: usize) -> Result<Vec<ProcessEntry>, 
     Ok(more)
 }
 
-/// The process runs from now on, or no longer, and has no descriptors.
+/// Sets whether the process runs, and frees its descriptors.
 pub fn reset(rows: &mut [ProcessEntry], pid: usize, runs: bool)
     requires within { pid < length rows.old }
     requires number { runs ≡ true → IsNumber most_processes pid }
@@ -80,7 +80,7 @@ pub fn reset(rows: &mut [ProcessEntry], pid: usize, runs: bool)
     rows[pid] = ProcessEntry::new(runs);
 }
 
-/// The process runs from now on, with the descriptors of another.
+/// Begins the child with the descriptors of the process `pid`.
 pub fn copy_row(rows: &mut [ProcessEntry], pid: usize, child: usize)
     requires within { child < length rows.old }
     requires runs { (processes rows.old).runs pid ≡ true }
@@ -93,7 +93,7 @@ pub fn copy_row(rows: &mut [ProcessEntry], pid: usize, child: usize)
     rows[child] = row;
 }
 
-/// The descriptor refers to this, or to nothing, from now on.
+/// Sets what the descriptor refers to, or frees it.
 pub fn refer(rows: &mut [ProcessEntry], pid: usize, fd: u8, opened: Option<Opened>)
     requires within { pid < length rows.old }
     requires runs { (processes rows.old).runs pid ≡ true }
@@ -120,7 +120,7 @@ pub fn is_idle(rows: &[ProcessEntry]) -> bool
     true
 }
 
-/// Whether the rows say the same of each process.
+/// Whether both lists of rows stand for the same processes.
 pub fn same_rows(rows: &[ProcessEntry], others: &[ProcessEntry]) -> bool
     ensures { IsTrue result ↔ (processes rows.now ≡ processes others.now) }
 {

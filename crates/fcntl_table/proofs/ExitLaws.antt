@@ -1,4 +1,4 @@
--- Descriptors that are closed, and processes that exit.
+-- What closes of descriptors and exits of processes make of the whole table.
 use Rattle.std.proofs.Common.{◌≡◌, ℕ, ◌==◌, ◌&&◌, zero, suc, Bool, true, false, not, if◌then◌else◌, refl, sym, ◌∙◌, ap, List, Option, Some, None}
 use Rattle.model.specs.declared.host.Host.{Host}
 use Rattle.model.specs.declared.opened.Opened.{Opened}
@@ -14,11 +14,11 @@ use Rattle.descriptors.specs.Rows.{processes}
 use Rattle.fcntl_table.specs.Hosts.{Closes, process_at, shown, with_host}
 use Rattle.fcntl_table.proofs.TableLaws.{host_of}
 
--- the processes that were put on a node
+-- the processes of a host after they are replaced
 pub at_node : (on : ℕ → ℕ → Processes) (host : Host) (ps : Processes) → with_host on host ps host.node host.incarnation ≡ ps
 at_node on host ps = ap (λ (b : Bool). if b then ps else on host.node host.incarnation) (host_refl host)
 
--- what was put on a node, put again
+-- processes that are replaced twice are the second ones
 twice : (on : ℕ → ℕ → Processes) (host : Host) (first second : Processes) → with_host (with_host on host first) host second ≡ with_host on host second
 twice on host first second i = λ n k. either ((n == host.node) && (k == host.incarnation)) second first (on n k) i
   where
@@ -26,11 +26,11 @@ twice on host first second i = λ n k. either ((n == host.node) && (k == host.in
     either true x y z = refl
     either false x y z = refl
 
--- whether the process runs
+-- whether the process runs in the table
 pub runs-at : (on : ℕ → ℕ → Processes) (host : Host) (rows : List ProcessEntry) (locks : TableParts) (pid : ℕ) → is_running (shown on host rows locks) (process_at host pid) ≡ (processes rows).runs pid
 runs-at on host rows locks pid = ap (λ (ps : Processes). ps.runs pid) (at_node on host (processes rows))
 
--- a descriptor that is not there
+-- a close of a descriptor that isn't open changes nothing
 pub closed-none : (on : ℕ → ℕ → Processes) (host : Host) (rows new : List ProcessEntry) (locks : TableParts) (pid fd : ℕ) → Closes (processes rows) pid fd None (processes new) → (processes rows).runs pid ≡ true → shown on host new locks ≡ closed_if (shown on host rows locks) (process_at host pid) fd (descriptor (shown on host rows locks) (process_at host pid) fd)
 closed-none on host rows new locks pid fd closes runs =
     let t : Table = shown on host rows locks in
@@ -38,7 +38,7 @@ closed-none on host rows new locks pid fd closes runs =
     let same : shown on host new locks ≡ t = λ i. record { limit = locks.limit; on = with_host on host (closes.1 i); locks = held locks } in
     same ∙ sym (ap (closed_if t (process_at host pid) fd) nothing_there)
 
--- a descriptor that is there: the locks of the process in that file go, and where the description goes, so do its own
+-- a close of an open descriptor drops the process's locks in that file, and the description's locks if it is closed too
 pub closed-some : (on : ℕ → ℕ → Processes) (host : Host) (rows new : List ProcessEntry) (locks left : TableParts) (pid fd : ℕ) (opened : Opened) (went : Bool) → Closes (processes rows) pid fd (Some (opened, went)) (processes new) → left.limit ≡ locks.limit → held left ≡ (if went then without_owner_anywhere (without_owner (held locks) opened.file (process_owner (process_at host pid))) (description_owner (process_at host pid) opened.description) else without_owner (held locks) opened.file (process_owner (process_at host pid))) → shown on host new left ≡ closed_if (shown on host rows locks) (process_at host pid) fd (descriptor (shown on host rows locks) (process_at host pid) fd)
 closed-some on host rows new locks left pid fd opened went closes same_limit dropped_too =
     let p : Process = process_at host pid in
@@ -85,7 +85,7 @@ still-runs t p (suc n) = closed_if-runs (closed_below t p n) p n (descriptor (cl
 pub closed_below-runs : (t now : Table) (p : Process) (n : ℕ) → now ≡ closed_below t p n → is_running t p ≡ true → is_running now p ≡ true
 closed_below-runs t now p n so_far runs = ap (λ (x : Table). is_running x p) so_far ∙ (still-runs t p n ∙ runs)
 
--- a process that ends
+-- the table after a process ends
 pub ended-table : (on : ℕ → ℕ → Processes) (host : Host) (rows new : List ProcessEntry) (locks : TableParts) (pid : ℕ) → processes new ≡ with_process (processes rows) pid false (λ fd. None) → shown on host new locks ≡ with_processes (shown on host rows locks) (process_at host pid) (with_process (around (shown on host rows locks) (process_at host pid)) pid false (λ fd. None))
 ended-table on host rows new locks pid is =
     let none : Processes = with_process (around (shown on host rows locks) (process_at host pid)) pid false (λ fd. None) in

@@ -1,4 +1,4 @@
--- The processes of each node, looked up and changed by the node.
+-- The processes of each host: look-ups and changes by the host.
 use Rattle.std.proofs.Common.{rules, ◌≡◌, ℕ, Bool, true, false, ◌&&◌, ◌==◌, cond, refl, sym, ◌∙◌, ap, subst, inl, inr, List, [], Option, Some, None, IsSome, is_some, unwrap_or, Err}
 use Rattle.std.specs.Cmp.{nat_eq_equiv}
 use Rattle.std.specs.declared.hash.FoldHasher.{FoldHasher}
@@ -26,11 +26,11 @@ use Rattle.fcntl_table.specs.Hosts.{HostRows, AreHosts, FitsOn, IsKept, processe
 abbrev at : ℕ → ℕ → Host
 at node incarnation = record { node = node; incarnation = incarnation }
 
--- what is kept of a node
+-- the entry of a host, if there is one
 abbrev kept : HostRows → Host → Option (List ProcessEntry)
 kept hosts host = lookup (derived.ghosts.eq host) hosts
 
--- the map
+-- the type of the map from hosts to processes
 abbrev Map : Type 0
 Map = HashMap Host (List ProcessEntry) (BuildHasherDefault FoldHasher)
 
@@ -41,11 +41,11 @@ host_eq a b = search rules
 host_symm : (a b : Host) → same_host a b ≡ same_host b a
 host_symm a b i = nat_eq_equiv.symm a.node b.node i && nat_eq_equiv.symm a.incarnation b.incarnation i
 
--- so a look-up is by that test
+-- a look-up compares hosts by the test of the definitions
 kept-by_test : (hosts : HostRows) (host : Host) → kept hosts host ≡ lookup (same_host host) hosts
 kept-by_test hosts host = ap (λ (eq : Host → Host → Bool). lookup (eq host) hosts) (λ i a b. host_eq a b i)
 
--- the processes of a node by what is kept of it
+-- the processes that an entry stands for
 abbrev by_kept : Option (List ProcessEntry) → Processes
 by_kept rows = processes (unwrap_or rows [])
 
@@ -67,7 +67,7 @@ pub processes-empty : (hosts : HostRows) (node incarnation : ℕ) → hosts ≡ 
 unfolding processes_of
 processes-empty hosts node incarnation none = ap (λ es. by_kept (lookup (same_host (at node incarnation)) es)) none ∙ none_run
 
--- these rows are kept of the host, and of the others what was
+-- the host has these rows in the new map, and each other host has its old entry
 abbrev pub Keeps : HostRows → Host → List ProcessEntry → HostRows → Type 0
 Keeps old host rows new = (q : Host) → kept new q ≡ cond (derived.ghosts.eq host q) (Some rows) (kept old q)
 
@@ -86,12 +86,12 @@ processes-put old new host rows keeps j n i = put (at n i) j
         ∙ (ap (λ (b : Bool). cond b (processes rows) (by_kept (kept old q))) (host_eq host q ∙ host_symm host q)
         ∙ ap (λ (ps : Processes). cond (same_host q host) (processes rows) ps) (sym (processes-kept old q)))))
 
--- the processes of a node were these, and are those now; on the others nothing changes
+-- the processes of the host were `before` and are `after`, and the other hosts' processes are unchanged
 pub record Changes (old : HostRows) (host : Host) (before after : Processes) (new : HostRows) : Type 0 where
   pub was : processes_of old host.node host.incarnation ≡ before
   pub is : processes_of new ≡ with_host (processes_of old) host after
 
--- what is written through a loan of what is kept of a node
+-- the map after a write through a reference to the entry of a host
 keeps-written : (m new : Map) (host : Host) (rows written : List ProcessEntry) → Some rows ≡ kept m.entries host → WritesThrough derived.ghosts.eq (derived.ghosts.eq host) m written new → Keeps m.entries host written new.entries
 keeps-written m new host rows written is through = (through.3 (some is)).0
   where
@@ -103,14 +103,14 @@ changes-written old m new host rows written same is through =
     let P : HostRows → Type 0 = λ es. Changes es host (processes rows) (processes written) new.entries in
     subst P same (record { was = processes-found m.entries host rows is; is = processes-put m.entries new.entries host written (keeps-written m new host rows written is through) })
 
--- what is put in, where nothing was kept
+-- the map after an entry is added for a host without one
 pub changes-inserted : (old : HostRows) (between m new : Map) (host : Host) (before rows : List ProcessEntry) → m.entries ≡ old → None ≡ kept m.entries host → processes before ≡ no_processes → between ≡ m → Updates derived.ghosts.eq between new host (Some rows) → Changes old host (processes before) (processes rows) new.entries
 changes-inserted old between m new host before rows same none empty is updates =
     let P : HostRows → Type 0 = λ es. Changes es host (processes before) (processes rows) new.entries in
     let Q : Map → Type 0 = λ x. Keeps x.entries host rows new.entries in
     subst P same (record { was = processes-not_found m.entries host none ∙ sym empty; is = processes-put m.entries new.entries host rows (subst Q is updates.0) })
 
--- the node runs what it ran
+-- replacing the processes of a host by themselves changes nothing
 pub with_host-same : (on : ℕ → ℕ → Processes) (host : Host) → with_host on host (on host.node host.incarnation) ≡ on
 with_host-same on host j n i = same n i j
   where
@@ -124,7 +124,7 @@ with_host-same on host j n i = same n i j
       | inr differs ↦ rw differs refl
     ]
 
--- where nothing is kept, nothing changes
+-- if the host has no entry and the map is unchanged nothing changes
 pub changes-nothing : (old : HostRows) (m new : Map) (host : Host) → m.entries ≡ old → None ≡ kept m.entries host → new ≡ m → Changes old host no_processes no_processes new.entries
 changes-nothing old m new host same none stays =
     let not_found = processes-not_found old host (none ∙ ap (λ es. kept es host) same) in
@@ -133,7 +133,7 @@ changes-nothing old m new host same none stays =
       is = ap processes_of (ap (λ (x : Map). x.entries) stays ∙ same) ∙ (sym (with_host-same (processes_of old) host) ∙ ap (with_host (processes_of old) host) not_found);
     }
 
--- each is still a node that can be
+-- each entry is still of a host with numbers in range
 hosts-kept : (old new : HostRows) (host : Host) (rows : List ProcessEntry) → AreHosts old → IsHost host.node host.incarnation → Keeps old host rows new → AreHosts new
 hosts-kept old new host rows are is keeps q found some =
     by (derived.ghosts.eq host q) (host_eq host q) (sym (keeps q) ∙ (kept-by_test new q ∙ some))
@@ -162,7 +162,7 @@ hosts-same m new are same =
     let P : Map → Type 0 = λ x. AreHosts x.entries in
     subst P (sym same) are
 
--- on what can be no node none runs
+-- no process runs on a host whose numbers are out of range
 pub not_host-idle : (hosts : HostRows) (node incarnation pid : ℕ) → AreHosts hosts → (IsHost node incarnation → ⊥) → (processes_of hosts node incarnation).runs pid ≡ false
 unfolding processes_of
 not_host-idle hosts node incarnation pid are none = by (lookup (same_host (at node incarnation)) hosts) refl
@@ -171,25 +171,25 @@ not_host-idle hosts node incarnation pid are none = by (lookup (same_host (at no
     by None e = ap (λ (ps : Processes). ps.runs pid) none_run
     by (Some rows) e = absurd (none (are (at node incarnation) rows e))
 
--- what is true of the processes of a node by what is kept of it
+-- a statement about the processes of a host's entry is one about the host's processes
 pub by_found : (P : Processes → Type 0) (hosts : HostRows) (host : Host) (rows : List ProcessEntry) → Some rows ≡ kept hosts host → P (processes rows) → P (processes_of hosts host.node host.incarnation)
 by_found P hosts host rows is p = subst P (sym (processes-found hosts host rows is)) p
 
 pub by_not_found : (P : Processes → Type 0) (hosts : HostRows) (host : Host) → None ≡ kept hosts host → P no_processes → P (processes_of hosts host.node host.incarnation)
 by_not_found P hosts host is p = subst P (sym (processes-not_found hosts host is)) p
 
--- an edit of what is kept of the node
+-- an edit that fits the rows of a host's entry fits the host
 pub fits_on : (hosts : HostRows) (host : Host) (rows : List ProcessEntry) (edit : ProcessEdit) → Some rows ≡ kept hosts host → Fits rows edit → FitsOn hosts host edit
 fits_on hosts host rows edit is fits = record { rows = rows; kept = sym (is ∙ kept-by_test hosts host); fits = fits }
 
--- is an edit of the rows that are found
+-- an edit that fits the host fits the rows of the host's entry
 pub fits_found : (hosts : HostRows) (host : Host) (rows : List ProcessEntry) (edit : ProcessEdit) → Some rows ≡ kept hosts host → FitsOn hosts host edit → Fits rows edit
 fits_found hosts host rows edit is on =
     let same : Some rows ≡ Some on.rows = is ∙ (kept-by_test hosts host ∙ on.kept) in
     let e : on.rows ≡ rows = cc in
     subst (λ (r : List ProcessEntry). Fits r edit) e on.fits
 
--- nothing is kept
+-- a failed look-up says that the host has no entry
 pub not_kept : (hosts : HostRows) (host : Host) (b : Bool) → b ≡ is_some (kept hosts host) → b ≡ false → None ≡ kept hosts host
 not_kept hosts host b is none = by (kept hosts host) (sym is ∙ none)
   where
@@ -197,16 +197,16 @@ not_kept hosts host b is none = by (kept hosts host) (sym is ∙ none)
     by None e = refl
     by (Some rows) e = absurd (cc)
 
--- processes of which none runs are put in where nothing was kept
+-- an entry without running processes is added for a host without one
 pub admitted : (old new : HostRows) (host : Host) (rows : List ProcessEntry) → Changes old host (processes rows) (processes rows) new → processes_of new ≡ processes_of old
 admitted old new host rows changes = changes.is ∙ (ap (with_host (processes_of old) host) (sym changes.was) ∙ with_host-same (processes_of old) host)
 
--- an edit that is made in the processes of a node
+-- the table after an edit of the processes of a host
 pub made_on : (old new : HostRows) (host : Host) (before after : Processes) (edit : ProcessEdit) → Changes old host before after new → after ≡ edited before edit → processes_of new ≡ with_host (processes_of old) host (edited (processes_of old host.node host.incarnation) edit)
 made_on old new host before after edit changes is =
     changes.is ∙ ap (with_host (processes_of old) host) (is ∙ ap (λ (ps : Processes). edited ps edit) (sym changes.was))
 
--- what a change of one node's processes and of the locks makes of the whole table
+-- the whole table after one host's processes and the locks change
 pub shut_on : (F : Table → Table) (old new : HostRows) (host : Host) (rows written : List ProcessEntry) (locks left : TableParts) → Changes old host (processes rows) (processes written) new → ((on : ℕ → ℕ → Processes) → shown on host written left ≡ F (shown on host rows locks)) → table_with new left ≡ F (table_with old locks)
 shut_on F old new host rows written locks left changes made =
     let on : ℕ → ℕ → Processes = processes_of old in
@@ -215,11 +215,11 @@ shut_on F old new host rows written locks left changes made =
     let before : shown on host rows locks ≡ table_with old locks = λ i. record { limit = locks.limit; on = whole i; locks = held locks } in
     after ∙ (made on ∙ ap F before)
 
--- a process runs only on a node of which something is kept
+-- a process runs only on a host with an entry
 pub runs-nowhere : (hosts : HostRows) (host : Host) (pid : ℕ) → processes_of hosts host.node host.incarnation ≡ no_processes → (processes_of hosts host.node host.incarnation).runs pid ≡ true → ⊥
 runs-nowhere hosts host pid none runs = false≢true (ap (λ (ps : Processes). ps.runs pid) (sym none) ∙ runs)
 
--- so something is kept of a node where one runs
+-- a host on which a process runs has an entry
 pub runs-kept : (hosts : HostRows) (host : Host) (pid : ℕ) → (processes_of hosts host.node host.incarnation).runs pid ≡ true → IsKept hosts host
 unfolding processes_of
 runs-kept hosts host pid = by (lookup (same_host host) hosts)
@@ -228,7 +228,7 @@ runs-kept hosts host pid = by (lookup (same_host host) hosts)
     by None runs = absurd (false≢true (ap (λ (ps : Processes). ps.runs pid) (sym none_run) ∙ runs))
     by (Some rows) runs = refl
 
--- a host of which none runs is kept no longer
+-- the new map lacks the entry of the host, and has the entries of the other hosts
 abbrev pub Removes : HostRows → Host → HostRows → Type 0
 Removes old host new = (q : Host) → kept new q ≡ cond (derived.ghosts.eq host q) None (kept old q)
 
@@ -260,7 +260,7 @@ hosts-removed m new host are updates q found some = by (derived.ghosts.eq host q
     by true e = absurd (cc)
     by false e = are q found (sym (kept-by_test m.entries q) ∙ e)
 
--- where nothing is kept of the node, no process of it runs, so each call but `Spawn` is refused; where one begins, the node is kept
+-- on a host without an entry no process runs, so each call but `Spawn` is refused
 pub none-refused : (hosts : HostRows) (host : Host) (pid : ℕ) (call : ProcessCall) → None ≡ kept hosts host → (call ≡ Spawn → IsKept hosts host) → after no_processes pid call ≡ Err NoProcess
 none-refused hosts host pid Spawn none is_kept = absurd (no_rows (kept hosts host) none (subst (λ (r : Option (List ProcessEntry)). IsSome r) (sym (kept-by_test hosts host)) (is_kept refl)))
   where

@@ -1,4 +1,4 @@
--- What a single machine's table answers.
+-- What the code's table replies, by the definitions of the one table.
 use Rattle.std.proofs.Common.{◌≡◌, ℕ, Bool, true, false, if◌then◌else◌, refl, sym, ◌∙◌, ap, subst, Option, Some, None, Result, Ok, Err, ℤ}
 use Rattle.std.specs.Prelude.{IfOk, IsOk, MatchResult}
 use Rattle.intervals.specs.declared.span.SpanError.{SpanError}
@@ -35,7 +35,7 @@ use Rattle.fcntl_table.specs.Edits.{edited}
 use Rattle.descriptors.specs.declared.edit.ProcessEdit.{ProcessEdit}
 use Rattle.descriptors.specs.Edits.{edited as edited_processes}
 
--- at first
+-- the empty table
 pub table-empty : (m : FcntlTable) → ((node incarnation : ℕ) → processes_of m.hosts node incarnation ≡ no_processes) → held m.locks ≡ no_locks → table_of m ≡ empty_table m.locks.limit
 unfolding table_of
 table-empty m none free i = record { limit = m.locks.limit; on = λ n k. none n k i; locks = free i }
@@ -44,26 +44,26 @@ table-empty m none free i = record { limit = m.locks.limit; on = λ n k. none n 
 abbrev pub host_of : Process → Host
 host_of p = record { node = p.node; incarnation = p.incarnation }
 
--- what a descriptor of the process refers to
+-- what a descriptor of the process refers to, in its host's processes
 found-around : (m : FcntlTable) (p : Process) (host : Host) (pid fd : ℕ) (found : Result Opened FdError) → host ≡ host_of p → pid ≡ p.pid → found ≡ resolved (processes_of m.hosts host.node host.incarnation) pid fd → resolved (around (table_of m) p) p.pid fd ≡ found
 unfolding table_of
 found-around m p host pid fd found of_p is e =
     ap (λ k. resolved (around (table_of m) p) k fd) (sym is)
     ∙ (ap (λ (h : Host). resolved (processes_of m.hosts h.node h.incarnation) pid fd) (sym of_p) ∙ sym e)
 
--- what a lock call is about, by what its descriptor refers to
+-- what a lock call is about, where its descriptor refers to something
 pub target-of : (m : FcntlTable) (p : Process) (need : Option Mode) (host : Host) (pid fd : ℕ) (kind : Kind) (start len : ℤ) (opened : Opened) (segment : Result Range SpanError) (r : Result LockTarget Reply) → host ≡ host_of p → pid ≡ p.pid → Ok opened ≡ resolved (processes_of m.hosts host.node host.incarnation) pid fd → segment ≡ seg start len → r ≡ target_at p need kind (Some opened) segment → r ≡ target (table_of m) p need fd kind start len
 target-of m p need host pid fd kind start len opened segment r of_p is found cut e =
     e
     ∙ (ap (target_at p need kind (Some opened)) cut
     ∙ sym (target-ok (around (table_of m) p) p need fd kind (seg start len) opened (found-around m p host pid fd (Ok opened) of_p is found)).1)
 
--- or by the first test that fails
+-- a lock call whose descriptor refers to nothing is refused by its first failing test
 pub target-refused : (m : FcntlTable) (p : Process) (need : Option Mode) (host : Host) (pid fd : ℕ) (kind : Kind) (start len : ℤ) (error : FdError) (refusal : Reply) → host ≡ host_of p → pid ≡ p.pid → Err error ≡ resolved (processes_of m.hosts host.node host.incarnation) pid fd → refusal ≡ fd_reply error → Err refusal ≡ target (table_of m) p need fd kind start len
 target-refused m p need host pid fd kind start len error refusal of_p is found told =
     ap Err told ∙ sym (target-err (around (table_of m) p) p need fd kind (seg start len) error (found-around m p host pid fd (Err error) of_p is found))
 
--- a descriptor that refers to something is one of a process that runs
+-- a descriptor that refers to something belongs to a running process
 pub found_there : (b : Bool) (x : Option Opened) (opened : Opened) → (if b then opened_or x else Err NoProcess) ≡ Ok opened → (b ≡ true) × (x ≡ Some opened)
 found_there true (Some o) opened h = (refl, ap Some (ok_is o opened h))
 found_there true None opened h = absurd (cc)
@@ -74,7 +74,7 @@ closes_there t p fd true (Some o) opened runs there = refl
 closes_there t p fd true None opened runs there = absurd (cc)
 closes_there t p fd false x opened runs there = absurd (cc)
 
--- a close that will be done
+-- a close of an open descriptor is done
 pub close-found : (m : FcntlTable) (p : Process) (host : Host) (pid fd : ℕ) (opened : Opened) → host ≡ host_of p → pid ≡ p.pid → Ok opened ≡ resolved (processes_of m.hosts host.node host.incarnation) pid fd → Is (after_close (table_of m) p fd) Done (edited (table_of m) (Closes p fd)) × (is_running (table_of m) p ≡ true)
 close-found m p host pid fd opened of_p is found =
     let t = table_of m in
@@ -89,32 +89,32 @@ refused_there t p fd true None BadFd h = refl
 refused_there t p fd false x NoProcess h = refl
 refused_there t p fd false x BadFd h = absurd (cc)
 
--- or refused
+-- a close of a descriptor that isn't open is refused
 pub close-refused : (m : FcntlTable) (p : Process) (host : Host) (pid fd : ℕ) (error : FdError) (refusal : Reply) → host ≡ host_of p → pid ≡ p.pid → Err error ≡ resolved (processes_of m.hosts host.node host.incarnation) pid fd → refusal ≡ fd_reply error → Is (after_close (table_of m) p fd) refusal (table_of m)
 close-refused m p host pid fd error refusal of_p is found told =
     let t = table_of m in
     let done = refused_there t p fd (is_running t p) (descriptor t p fd) error (found-around m p host pid fd (Err error) of_p is found) in
     (told ∙ ap (λ (a : Table × Reply). a.1) (sym done), ap (λ (a : Table × Reply). a.0) (sym done))
 
--- a call beside the locks that the processes of its node take
+-- a planned call on processes and descriptors is done
 pub planned-ok : (t : Table) (p : Process) (host : Host) (e : ProcessEdit) (r : Processes → Result (Processes × Reply) Reply) (reply : Reply) → host ≡ host_of p → r (t.on host.node host.incarnation) ≡ Ok (edited_processes (t.on host.node host.incarnation) e, reply) → Is (beside t p (r (around t p))) reply (edited t (OfProcess host e))
 planned-ok t p host e r reply of_p is =
     let P : Host → Type 0 = λ h. r (t.on h.node h.incarnation) ≡ Ok (edited_processes (t.on h.node h.incarnation) e, reply) → Is (beside t p (r (around t p))) reply (edited t (OfProcess h e)) in
     subst P (sym of_p) (λ e. (ap (λ x. (beside t p x).1) (sym e), ap (λ x. (beside t p x).0) (sym e))) is
 
--- and one that they refuse
+-- a refused call on processes and descriptors changes nothing
 pub planned-refused : (t : Table) (p : Process) (host : Host) (edit : TableEdit) (r : Processes → Result (Processes × Reply) Reply) (refusal : Reply) → host ≡ host_of p → edit ≡ Nothing → r (t.on host.node host.incarnation) ≡ Err refusal → Is (beside t p (r (around t p))) refusal (edited t edit)
 planned-refused t p host edit r refusal of_p nothing is =
     let here : r (around t p) ≡ Err refusal = ap (λ (h : Host). r (t.on h.node h.incarnation)) (sym of_p) ∙ is in
     (ap (λ x. (beside t p x).1) (sym here), ap (edited t) nothing ∙ ap (λ x. (beside t p x).0) (sym here))
 
--- what they answer is no refusal
+-- a result that is Ok is not a refusal
 pub not-refused : (t : Table) (p : Process) (host : Host) (r : Processes → Result (Processes × Reply) Reply) (answer : Processes × Reply) (refusal : Reply) → host ≡ host_of p → r (t.on host.node host.incarnation) ≡ Ok answer → r (around t p) ≡ Err refusal → ⊥
 not-refused t p host r answer refusal of_p is refused =
     let never : ◌≡◌ {A = Result (Processes × Reply) Reply} (Ok answer) (Err refusal) = sym is ∙ (ap (λ (h : Host). r (t.on h.node h.incarnation)) of_p ∙ refused) in
     absurd (cc)
 
--- what the rule refuses is planned so, and never for want of memory
+-- a call that the rule refuses is planned as refused, whether or not there is memory
 pub refused-outright : {B : Type 0} (t : Table) (p : Process) (host : Host) (r : Processes → Result (Processes × Reply) Reply) (e : ProcessError) (refusal : Reply) (result : Result Planned B) → host ≡ host_of p → Refuses e (r (t.on host.node host.incarnation)) → MatchResult result (λ planned. (planned.edit ≡ Nothing) × ((answer : Result (Processes × Reply) Reply) → Refuses e answer → answer ≡ Err planned.reply)) (λ _. e ≡ error.NoMemory) → r (around t p) ≡ Err refusal → result ≡ Ok (record { edit = Nothing; reply = refusal })
 refused-outright t p host r e refusal (Ok planned) of_p refuses m refused =
     let told : ◌≡◌ {A = Result (Processes × Reply) Reply} (Err planned.reply) (Err refusal) = sym (m.1 _ refuses) ∙ (ap (λ (h : Host). r (t.on h.node h.incarnation)) of_p ∙ refused) in
@@ -125,7 +125,7 @@ refused-outright t p host r e refusal (Err failed) of_p refuses m refused =
     let not : IsOk {T = Processes × Reply} {E = Reply} (Err refusal) = subst (λ (x : Result (Processes × Reply) Reply). IsOk x) (ap (λ (h : Host). r (t.on h.node h.incarnation)) of_p ∙ refused) answered in
     absurd (cc)
 
--- a process that runs already is one of a node that is kept
+-- if a spawn is refused, the process runs already, and its host has an entry
 pub refused-kept : (m : FcntlTable) (p : Process) (host : Host) (refusal : Reply) → host ≡ host_of p → after_spawn (around (table_of m) p) p.pid ≡ Err refusal → Keeps m host
 unfolding table_of
 refused-kept m p host refusal of_p refused =
@@ -135,7 +135,7 @@ refused-kept m p host refusal of_p refused =
     by true x e = refl
     by false x e = absurd (cc)
 
--- what a result that is Ok comes with
+-- what an Ok result satisfies
 pub if_matched : {A B : Type 0} (r : Result A B) (P Q : A → Type 0) (R : B → Type 0) → MatchResult r P R → ((x : A) → P x → Q x) → IfOk r Q
 if_matched (Ok x) P Q R m f = f x m
 if_matched (Err e) P Q R m f = tt

@@ -1,4 +1,4 @@
--- The tests of a lock call, one after the other.
+-- The tests of a lock call, in their order.
 use Rattle.std.specs.Prelude.{◌≡◌, ℕ, Bool, true, false, if◌then◌else◌, Option, Some, None, Result, Ok, Err, IfOk, IfErr, refl}
 use Rattle.std.proofs.Common.{ap, sym}
 use Rattle.intervals.specs.declared.span.SpanError.{SpanError}
@@ -15,7 +15,7 @@ use Rattle.descriptors.specs.declared.error.FdError.{FdError}
 use Rattle.descriptors.specs.declared.error.FdError.TheVariants.{NoProcess, BadFd}
 use Rattle.descriptors.specs.Rows.{resolved, opened_or, fd_reply}
 
--- the tests of a lock call, one after the other
+-- the target of a lock call, from its tests in their order
 abbrev pub target_in : Processes → Process → Option Mode → ℕ → Kind → Result Range SpanError → Result LockTarget Reply
 target_in ps p need fd kind segment = if ps.runs p.pid then target_at p need kind (ps.opened p.pid fd) segment else Err reply.NoProcess
 

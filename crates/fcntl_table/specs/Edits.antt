@@ -11,7 +11,7 @@ use Rattle.fcntl_table.specs.declared.table.FcntlTable.{FcntlTable}
 use Rattle.fcntl_table.specs.Hosts.{FitsOn, with_host}
 use Rattle.fcntl_table.specs.Tables.{table_of}
 
--- the table once the edit is made
+-- the table after the edit is made
 abbrev pub edited : Table → TableEdit → Table
 edited t Nothing = t
 edited t (OfProcess host e) = record t { on = with_host t.on host (edited_processes (t.on host.node host.incarnation) e) }
@@ -19,7 +19,7 @@ edited t (OfLocks e) = record t { locks = with_lock t.locks e.file e.owner e.wri
 edited t (Closes p fd) = closed_if t p fd (descriptor t p fd)
 edited t (Exits p) = exited t p
 
--- what the edit needs
+-- the edit can be made: its parts fit the table, and the process that closes or exits runs
 abbrev pub Fits : FcntlTable → TableEdit → Type 0
 Fits t Nothing = Unit {0}
 Fits t (OfProcess host e) = FitsOn t.hosts host e

@@ -1,13 +1,13 @@
--- The table of the definitions that is kept.
+-- The table of the definitions that the code's table stands for.
 use Rattle.model.specs.Table.{Table}
 use Rattle.model.specs.declared.host.Host.{Host}
 use Rattle.fcntl_table.specs.declared.table.FcntlTable.{FcntlTable}
 use Rattle.fcntl_table.specs.Hosts.{table_with, IsKept}
 
--- the one table that is kept
+-- the one table that the code's table stands for
 unfoldable pub table_of : FcntlTable → Table
 table_of t = table_with t.hosts t.locks
 
--- processes are kept of the node, be there none that runs
+-- there is an entry for the host, even if no process of it runs
 abbrev pub Keeps : FcntlTable → Host → Type 0
 Keeps t host = IsKept t.hosts host

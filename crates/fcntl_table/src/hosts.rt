@@ -1,4 +1,4 @@
-//! The processes of each host: a node in one of its incarnations.
+//! The processes of each host; a host is a node in one of its incarnations.
 ghost use Rattle.std.specs.Prelude.{◌≡◌, ◌≢◌, ℕ, true, false, Ok, IfOk, IfErr, IsOk, IsTrue, ◌↔◌, OnOk, MatchOption};
 ghost use Rattle.model.specs.Limits.{IsHost, IsNumber, most_processes, most_descriptions};
 ghost use Rattle.model.specs.Descriptors.{no_processes};
@@ -22,7 +22,7 @@ use model::reply::Reply;
 use std::alloc::{AllocError, Global};
 use std::marker::Model;
 
-/// The processes of each host.
+/// The processes of each host, by the host.
 #[derive(Drop)]
 pub(crate) struct Hosts {
     alloc: Global,
@@ -39,7 +39,7 @@ impl Model for Hosts {
     ghost invariant = { λ h. AreHosts h.by_host.entries };
 }
 
-// Whether a node can have that number and incarnation.
+// Whether the numbers of a node and of an incarnation are in range.
 fn is_host(node: u8, incarnation: u16) -> bool
     ensures { IsTrue result ↔ IsHost node incarnation }
 {
@@ -47,7 +47,7 @@ fn is_host(node: u8, incarnation: u16) -> bool
 }
 
 impl Hosts {
-    /// No process runs.
+    /// The processes of all hosts where none runs.
     pub(crate) fn new(alloc: Global) -> Self
         ensures { (node incarnation : ℕ) → processes_of result node incarnation ≡ no_processes }
     {
@@ -57,10 +57,10 @@ impl Hosts {
         }
     }
 
-    /// What the descriptor of the node's process refers to.
+    /// What the descriptor of the host's process refers to.
     ///
     /// # Errors
-    /// Those of `Processes::resolve`.
+    /// The errors of `Processes::resolve`, in the same cases.
     pub(crate) fn resolve(&self, host: Host, pid: u16, fd: u8) -> Result<Opened, FdError>
         ensures value { result ≡ resolved (processes_of self.now host.node host.incarnation) pid fd }
         ensures number { IfOk result (λ opened. IsNumber most_descriptions opened.description) }
@@ -71,11 +71,11 @@ impl Hosts {
         }
     }
 
-    /// Something is kept of the host from now on, be there no process that runs. Takes no memory where
-    /// something is kept already.
+    /// Makes an entry for the host, without a running process, if it has none. Takes no memory if
+    /// it has one.
     ///
     /// # Errors
-    /// `AllocError`.
+    /// `AllocError` where a request for memory was refused.
     pub(crate) fn admit(&mut self, host: Host) -> Result<(), AllocError>
         ensures same { processes_of self.new ≡ processes_of self.old }
         ensures kept { OnOk result (IsKept self.new host) }
@@ -84,16 +84,16 @@ impl Hosts {
         if self.by_host.contains_key(&host) {
             return Ok(());
         }
-        let _ = &host.node; // tells the proof which nodes there can be
+        let _ = &host.node; // tells the proof that the numbers of a host are in range
         self.by_host.insert(host, Processes::new(self.alloc))?;
         Ok(())
     }
 
-    /// What the call of the host's process would change, and its reply. Takes memory only where a
-    /// process would begin.
+    /// The change that the call of the host's process would make, and its reply. Takes memory only
+    /// where a process would begin.
     ///
     /// # Errors
-    /// Those of `Processes::plan`.
+    /// The errors of `Processes::plan`, in the same cases.
     pub(crate) fn plan(
         &self,
         host: Host,
@@ -124,25 +124,26 @@ impl Hosts {
         node.apply(edit);
     }
 
-    /// The node in its incarnation, if there can be one; else none of its processes runs.
+    /// The host with these numbers, if they are in range; else no process of it runs.
     pub(crate) fn host(&self, node: u8, incarnation: u16) -> Option<Host>
         ensures { MatchOption result ((pid : ℕ) → (processes_of self.now node incarnation).runs pid ≡ false) (λ host. (host.node ≡ node) × (host.incarnation ≡ incarnation)) }
     {
-        let _ = &self.by_host; // tells the proof whose processes are kept
+        let _ = &self.by_host; // tells the proof that the entries are of hosts
         if !is_host(node, incarnation) {
             return None;
         }
         Some(Host { node, incarnation })
     }
 
-    /// Whether the process runs on the node.
+    /// Whether the process of the host runs.
     pub(crate) fn is_running(&self, host: Host, pid: u16) -> bool
         ensures { result ≡ (processes_of self.now host.node host.incarnation).runs pid }
     {
         self.resolve(host, pid, 0) != Err(FdError::NoProcess)
     }
 
-    /// The descriptor of the node's process is closed, if there is one, with the locks that hang on it.
+    /// Closes the descriptor of the host's process, if it is open, and drops the locks that depend
+    /// on it.
     pub(crate) fn close(&mut self, locks: &mut LockTable, host: Host, pid: u16, fd: u8)
         requires number { IsNumber most_processes pid }
         requires runs { (processes_of self.old host.node host.incarnation).runs pid ≡ true }
@@ -154,7 +155,7 @@ impl Hosts {
         close_at(node, locks, host, pid, fd);
     }
 
-    /// The node's process exits.
+    /// Lets the process of the host exit.
     pub(crate) fn exit(&mut self, locks: &mut LockTable, host: Host, pid: u16)
         requires number { IsNumber most_processes pid }
         requires runs { (processes_of self.old host.node host.incarnation).runs pid ≡ true }
@@ -166,7 +167,7 @@ impl Hosts {
         exit_at(node, locks, host, pid);
     }
 
-    // Whether no process runs on the host.
+    // Whether no process of the host runs.
     fn is_idle(&self, host: Host) -> bool
         ensures { result ≡ true → processes_of self.now host.node host.incarnation ≡ no_processes }
     {
@@ -176,7 +177,7 @@ impl Hosts {
         }
     }
 
-    /// Nothing is kept of the host from now on, if no process runs on it.
+    /// Removes the entry of the host, if no process of the host runs.
     pub(crate) fn forget_idle(&mut self, host: Host)
         ensures { processes_of self.new ≡ processes_of self.old }
     {

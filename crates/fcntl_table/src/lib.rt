@@ -1,4 +1,5 @@
-//! The table of a single machine's `fcntl`: the processes of hosts, what they have open, and the locks.
+//! The one table that a single machine's `fcntl()` would keep: the processes of all hosts, their
+//! open files, and the locks. This crate knows nothing of tokens, messages or files on a disk.
 #![tactic(auto)]
 
 pub mod edit;

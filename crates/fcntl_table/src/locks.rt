@@ -1,14 +1,14 @@
-//! Replies that tell of refused locks.
+//! The replies to calls whose locks are refused.
 ghost use Rattle.std.specs.Prelude.{◌≡◌, MatchResult};
 
 use lock_table::error::LockError;
 use model::reply::Reply;
 use std::alloc::AllocError;
 
-/// The reply that tells of the refusal.
+/// The reply that says why the locks are refused.
 ///
 /// # Errors
-/// `AllocError` for `NoMemory`, which no reply tells.
+/// `AllocError` for `NoMemory`, for which there is no reply.
 pub fn lock_reply(error: LockError) -> Result<Reply, AllocError>
     ensures { MatchResult result (λ reply. (error ≡ LockError.NoLocks) × (reply ≡ Reply.NoLocks)) (λ _. error ≡ LockError.NoMemory) }
 {

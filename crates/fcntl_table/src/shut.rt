@@ -1,4 +1,4 @@
-//! One host's descriptors that are closed, and its processes that exit.
+//! How a host's descriptors are closed and its processes exit, with the locks that depend on them.
 ghost use Rattle.std.specs.Prelude.{◌≡◌, ℕ, true, IfSome};
 ghost use Rattle.model.specs.Limits.{IsNumber, most_of, most_processes, most_descriptions};
 ghost use Rattle.model.specs.Descriptors.{Processes as ProcessTable};
@@ -26,7 +26,8 @@ fn owner(host: Host, kind: Kind, number: u16) -> Owner
     }
 }
 
-// The descriptor is closed. What it referred to, and whether the description went.
+// Closes the descriptor, if it is open. The result is what it referred to, and whether no
+// descriptor refers to that description any more.
 fn close_in(node: &mut Processes, pid: u16, fd: u8) -> Option<(Opened, bool)>
     ensures closes { Closes (processes_of node.old) pid fd result (processes_of node.new) }
     ensures number { IfSome result (λ closed. IsNumber most_descriptions closed.0.description) }
@@ -36,10 +37,10 @@ fn close_in(node: &mut Processes, pid: u16, fd: u8) -> Option<(Opened, bool)>
     Some((opened, went))
 }
 
-/// The descriptor of the host's process is closed, if there is one: it refers to nothing from now on; the
-/// locks of the process in that file go, and those of the description if no descriptor of the host refers
-/// to it any more (POSIX.1-2017 `close()`, `fcntl()`; Linux `fcntl(2)`). The number of the process is from
-/// 1 to 256. Takes no memory.
+/// Closes the descriptor of the host's process, if it is open. The locks of the process in its file
+/// are dropped, and the locks of its description too, if no descriptor of the host refers to that
+/// any more (POSIX.1-2017 `close()`, `fcntl()`; Linux `fcntl(2)`). The number of the process is
+/// from 1 to 256. Takes no memory.
 pub fn close_at(processes: &mut Processes, locks: &mut LockTable, host: Host, pid: u16, fd: u8)
     requires number { IsNumber most_processes pid }
     requires runs { (processes_of processes.old).runs pid ≡ true }
@@ -54,8 +55,8 @@ pub fn close_at(processes: &mut Processes, locks: &mut LockTable, host: Host, pi
     }
 }
 
-/// The process of the host exits: each of its descriptors is closed, and it runs no longer (POSIX.1-2017
-/// `_Exit()`). Its number is from 1 to 256. Takes no memory.
+/// Lets the process of the host exit: each of its descriptors is closed, and it doesn't run any
+/// more (POSIX.1-2017 `_Exit()`). Its number is from 1 to 256. Takes no memory.
 pub fn exit_at(processes: &mut Processes, locks: &mut LockTable, host: Host, pid: u16)
     requires number { IsNumber most_processes pid }
     requires runs { (processes_of processes.old).runs pid ≡ true }

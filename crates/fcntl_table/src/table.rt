@@ -1,4 +1,4 @@
-//! The table of a single machine.
+//! The one table of a single machine, and the calls that plan and make its changes.
 ghost use Rattle.std.specs.Prelude.{◌≡◌, ◌<◌, None, false, IfOk, IsOk, IsTrue, ◌↔◌, OnOk, OnErr, MatchOption, MatchResult, Result, Ok, Err};
 ghost use Rattle.model.specs.Locks.{IsRegion, IsLowestBlocker};
 ghost use Rattle.model.specs.Descriptors.{Processes};
@@ -31,10 +31,10 @@ use std::alloc::{AllocError, Global};
 
 mod exits;
 
-/// The table that a single machine's `fcntl` keeps: the processes of hosts (each a node in one of its
-/// incarnations), what each of their descriptors refers to, and the locks of each file. A call is
-/// planned on the table as it is, and made by `apply`, which takes no memory. A call that answers an
-/// error leaves the table as it was.
+/// The table that a single machine's `fcntl()` keeps: the processes of hosts (a host is a node in
+/// one of its incarnations), what each of their descriptors refers to, and the locks of each file.
+/// A call is planned on the table as it is, and then made by `apply`, which takes no memory. A call
+/// that errs leaves the table as it was.
 #[derive(Drop)]
 pub struct FcntlTable {
     hosts: Hosts,
@@ -51,7 +51,7 @@ fn host_of(process: Process) -> Host
     }
 }
 
-// What a call that is refused so comes to.
+// The outcome of a call that is refused for this reason.
 fn refused(error: ProcessError) -> Result<Planned, AllocError>
     ensures { MatchResult result (λ planned. (planned.edit ≡ Nothing) × ((answer : Result (Processes × Reply) Reply) → Refuses error answer → answer ≡ Err planned.reply)) (λ _. error ≡ ProcessError.NoMemory) }
 {
@@ -62,8 +62,8 @@ fn refused(error: ProcessError) -> Result<Planned, AllocError>
 }
 
 impl FcntlTable {
-    /// The table in which no process runs, nothing is open and no byte is locked, and in which an owner
-    /// may have so many regions in a file.
+    /// The table in which no process runs, nothing is open and no byte is locked; an owner may have
+    /// `limit` regions in a file.
     pub fn new(alloc: Global, limit: usize) -> Self
         ensures { table_of result ≡ empty_table limit }
     {
@@ -73,11 +73,11 @@ impl FcntlTable {
         }
     }
 
-    /// The table keeps processes of the host from now on, be there none that runs. Takes no memory where
-    /// it keeps them already.
+    /// Makes an entry for the host, without a running process, if it has none. Takes no memory if
+    /// it has one.
     ///
     /// # Errors
-    /// `AllocError`.
+    /// `AllocError` where a request for memory was refused.
     #[tactic(auto, unfolding(crate::specs::Tables::table_of))]
     pub fn admit(&mut self, host: Host) -> Result<(), AllocError>
         ensures same { table_of self.new ≡ table_of self.old }
@@ -90,7 +90,7 @@ impl FcntlTable {
     /// What a lock call of the process is about.
     ///
     /// # Errors
-    /// The reply of the first of its tests that fails: the process, the descriptor, the segment, the open
+    /// The reply of the first test that fails: the process, the descriptor, the segment, the access
     /// mode of the descriptor (POSIX.1-2017 `fcntl()`).
     pub fn target(
         &self,
@@ -111,8 +111,8 @@ impl FcntlTable {
         }
     }
 
-    /// The lowest region of another owner that blocks the call (POSIX.1-2017 `fcntl()`, F_GETLK): by first
-    /// byte, then by owner. Takes no memory.
+    /// The lowest region of another owner that blocks the call, by first byte and then by owner
+    /// (POSIX.1-2017 `fcntl()`, F_GETLK). Takes no memory.
     #[tactic(auto, unfolding(crate::specs::Tables::table_of))]
     pub fn blocker(&self, call: LockTarget, mode: Mode) -> Option<LockInfo>
         ensures { MatchOption result (Unblocked (table_of self.now) call mode) (IsLowestBlocker ((table_of self.now).locks call.file) call.owner call.span mode) }
@@ -128,11 +128,12 @@ impl FcntlTable {
         self.locks.has_region(file, lock)
     }
 
-    /// What the call of the process would change, and its reply (`call` has them). Takes memory only
-    /// where a process would begin.
+    /// The change that `call` would make, and its reply. Takes memory only where a process would
+    /// begin.
     ///
     /// # Errors
-    /// `AllocError`, never in place of a reply that refuses the call.
+    /// `AllocError` where a request for memory was refused; never in place of a reply that refuses
+    /// the call.
     pub fn plan_call(&self, process: Process, call: ProcessCall) -> Result<Planned, AllocError>
         requires number { CanBegin process.pid call }
         requires kept { call ≡ ProcessCall.Spawn → Keeps self.now (record { node = process.node; incarnation = process.incarnation }) }
@@ -151,7 +152,8 @@ impl FcntlTable {
         }
     }
 
-    /// What `close` would change, and its reply: `Done`, `NoProcess` or `BadFd`. Takes no memory.
+    /// The change that `close` would make, and its reply: `Done`, `NoProcess` or `BadFd`. Takes no
+    /// memory.
     pub fn plan_close(&self, process: Process, fd: u8) -> Planned
         ensures is { Is (after_close (table_of self.now) process fd) result.reply (edited (table_of self.now) result.edit) }
         ensures fits { Fits self.now result.edit }
@@ -168,7 +170,7 @@ impl FcntlTable {
         }
     }
 
-    /// What `exit` would change, and its reply: `Done` or `NoProcess`. Takes no memory.
+    /// The change that `exit` would make, and its reply: `Done` or `NoProcess`. Takes no memory.
     #[tactic(auto, unfolding(crate::specs::Tables::table_of))]
     pub fn plan_exit(&self, process: Process) -> Planned
         ensures is { Is (after_exit (table_of self.now) process) result.reply (edited (table_of self.now) result.edit) }
@@ -186,11 +188,11 @@ impl FcntlTable {
         }
     }
 
-    /// What `lock_within` would change, and its reply: `Done`, or `NoLocks` where the owner would have more
-    /// regions in the file than the limit.
+    /// The change that `lock_within` would make, and its reply: `Done`, or `NoLocks` where the
+    /// owner would have more regions in the file than the limit.
     ///
     /// # Errors
-    /// `AllocError`, never in place of `NoLocks`.
+    /// `AllocError` where a request for memory was refused; never in place of `NoLocks`.
     #[tactic(auto, unfolding(crate::specs::Tables::table_of))]
     pub fn plan_lock(&self, call: LockTarget, mode: Option<Mode>) -> Result<Planned, AllocError>
         ensures ok { IfOk result (λ planned. Is (lock_within (table_of self.now) call mode) planned.reply (edited (table_of self.now) planned.edit)) }
@@ -224,7 +226,7 @@ impl FcntlTable {
         }
     }
 
-    // Processes of the host are kept, where the call is `Spawn`.
+    // Makes an entry for the process's host if the call is `Spawn`.
     fn make_room(&mut self, process: Process, call: ProcessCall) -> Result<(), AllocError>
         ensures same { table_of self.new ≡ table_of self.old }
         ensures kept { OnOk result (call ≡ ProcessCall.Spawn → Keeps self.new (record { node = process.node; incarnation = process.incarnation })) }
@@ -238,15 +240,17 @@ impl FcntlTable {
         }
     }
 
-    /// The call of a process on processes and descriptors. `Spawn`: it begins, with no descriptors; answers
-    /// `Done`, or `Exists` where it runs already. `Fork` (POSIX.1-2017 `fork()`): the child, whose number is
-    /// from 1 to 256, begins with its descriptors; `Done`, `NoProcess`, or `Exists` where the child runs
-    /// already. `Open` (POSIX.1-2017 `open()`): the descriptor, `NoProcess` or `TooManyFiles`. `Dup`
-    /// (POSIX.1-2017 `dup()`): the descriptor, `NoProcess`, `BadFd` or `TooManyFiles`. Takes memory only where
-    /// a process would begin.
+    /// Makes the call of a process on processes and descriptors. `Spawn` begins the calling process
+    /// without descriptors: the reply is `Done`, or `Exists` where it runs already. `Fork` begins
+    /// the child, 1 to 256, with the caller's descriptors (POSIX.1-2017 `fork()`): `Done`,
+    /// `NoProcess`, or `Exists` where the child runs already. `Open` opens a file (POSIX.1-2017
+    /// `open()`): the descriptor, `NoProcess` or `TooManyFiles`. `Dup` makes one more descriptor
+    /// (POSIX.1-2017 `dup()`): that descriptor, `NoProcess`, `BadFd` or `TooManyFiles`. Takes
+    /// memory only where a process begins.
     ///
     /// # Errors
-    /// `AllocError`, never in place of a reply that refuses the call.
+    /// `AllocError` where a request for memory was refused; never in place of a reply that refuses
+    /// the call.
     pub fn call(&mut self, process: Process, call: ProcessCall) -> Result<Reply, AllocError>
         requires { CanBegin process.pid call }
         ensures ok { IfOk result (λ reply. Is (beside (table_of self.old) process (after (around (table_of self.old) process) process.pid call)) reply (table_of self.new)) }
@@ -260,9 +264,10 @@ impl FcntlTable {
         Ok(reply)
     }
 
-    /// The descriptor goes, and all locks of the process on its file; where it was the last of its
-    /// description, so do the locks of that (POSIX.1-2017 `close()`, `fcntl()`; Linux `fcntl(2)`).
-    /// Answers `Done`, `NoProcess` or `BadFd`. Takes no memory.
+    /// Closes the descriptor and drops all locks of the process on its file; if it was the last
+    /// descriptor of its description, the description's locks are dropped too (POSIX.1-2017
+    /// `close()`, `fcntl()`; Linux `fcntl(2)`). The reply is `Done`, `NoProcess` or `BadFd`. Takes
+    /// no memory.
     pub fn close(&mut self, process: Process, fd: u8) -> Reply
         ensures { Is (after_close (table_of self.old) process fd) result (table_of self.new) }
     {
@@ -271,8 +276,8 @@ impl FcntlTable {
         reply
     }
 
-    /// Every descriptor of the process is closed, and the process goes (POSIX.1-2017 `_exit()`).
-    /// Answers `Done` or `NoProcess`. Takes no memory.
+    /// Closes each descriptor of the process and ends it (POSIX.1-2017 `_exit()`). The reply is
+    /// `Done` or `NoProcess`. Takes no memory.
     pub fn exit(&mut self, process: Process) -> Reply
         ensures { Is (after_exit (table_of self.old) process) result (table_of self.new) }
     {
@@ -281,12 +286,12 @@ impl FcntlTable {
         reply
     }
 
-    /// The bytes of the call are locked in the mode, or freed, whatever other owners hold: a caller that
-    /// wants no two locks to conflict asks `blocker` first. Answers `Done`, or `NoLocks` where the owner
-    /// would have more regions in the file than the limit (ENOLCK).
+    /// Locks the bytes of the call in the mode, or frees them, whatever other owners hold. To
+    /// prevent conflicting locks, ask `blocker` first. The reply is `Done`, or `NoLocks` where the
+    /// owner would have more regions in the file than the limit (ENOLCK).
     ///
     /// # Errors
-    /// `AllocError`, never in place of `NoLocks`.
+    /// `AllocError` where a request for memory was refused; never in place of `NoLocks`.
     pub fn lock_within(&mut self, call: LockTarget, mode: Option<Mode>) -> Result<Reply, AllocError>
         ensures ok { IfOk result (λ reply. Is (lock_within (table_of self.old) call mode) reply (table_of self.new)) }
         ensures refused { (table_of self.old).limit < regions_with (table_of self.old) call mode → result ≡ Ok Reply.NoLocks }

@@ -1,4 +1,4 @@
-//! What a lock call is about.
+//! What a lock call is about: its file, the owner of the lock, and the bytes.
 ghost use Rattle.std.specs.Prelude.{◌≡◌, Some, Ok, IfOk};
 ghost use Rattle.model.specs.Limits.{IsNumber, most_descriptions};
 ghost use Rattle.model.specs.Table.{permits, allows, owner_of, target_at};
@@ -13,7 +13,7 @@ use model::owner::{Kind, Owner};
 use model::process::Process;
 use model::reply::Reply;
 
-// Whether a descriptor that is open so may be used for a lock in this mode.
+// Whether a descriptor with this access may be used for a lock in this mode.
 fn permits(access: Access, mode: Mode) -> bool
     ensures { result ≡ permits access mode }
 {
@@ -23,7 +23,8 @@ fn permits(access: Access, mode: Mode) -> bool
     }
 }
 
-// Whether it may be used for what the call needs, if it needs anything.
+// Whether a descriptor with this access may be used for the mode that the call needs, if it needs
+// one.
 fn allows(access: Access, need: Option<Mode>) -> bool
     ensures { result ≡ allows access need }
 {
@@ -33,7 +34,7 @@ fn allows(access: Access, need: Option<Mode>) -> bool
     }
 }
 
-// Whose lock it is: the process's, or the description's.
+// The owner of the lock: the process, or the description that the descriptor refers to.
 fn owner_of(process: Process, kind: Kind, opened: Opened) -> Owner
     requires { IsNumber most_descriptions opened.description }
     ensures value { result ≡ owner_of process kind opened }
@@ -51,11 +52,11 @@ fn owner_of(process: Process, kind: Kind, opened: Opened) -> Owner
     }
 }
 
-/// What a lock call of the process is about, by what its descriptor refers to and the bytes that the
-/// call names.
+/// What a lock call of the process is about, by what its descriptor refers to and by the segment
+/// that it names.
 ///
 /// # Errors
-/// The reply of the first test that fails: `Invalid` or `Overflow` for the bytes, `BadFd` for a
+/// The reply of the first test that fails: `Invalid` or `Overflow` for the segment, `BadFd` for a
 /// descriptor that isn't open for the mode that the call needs.
 pub fn target_at(
     process: Process,
@@ -75,7 +76,7 @@ pub fn target_at(
         Err(SpanError::Invalid) => return Err(Reply::Invalid),
         Err(SpanError::Overflow) => return Err(Reply::Overflow),
     };
-    let _ = &span.lo; // tells the proof what each span keeps
+    let _ = &span.lo; // tells the proof that a span has a byte and ends at the greatest offset or below it
     if !allows(opened.access, need) {
         return Err(Reply::BadFd);
     }

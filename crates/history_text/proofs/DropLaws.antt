@@ -1,4 +1,4 @@
--- Files with what their owners lost and with exits.
+-- The calls of a file that is read to its end.
 use Rattle.std.proofs.Common.{◌≡◌, ℕ, ◌≤◌, ◌<◌, ◌+◌, Bool, true, false, List, [], ◌∷◌, ◌++◌, length, take, drop, None, Some, refl, sym, ap, subst, ◌∙◌, arith, append-nil, append_assoc, length-append}
 use Rattle.std.proofs.lemmas.Bool.{true≢false, false≢true}
 use Rattle.std.specs.List.{All}
@@ -61,7 +61,7 @@ module _ (allowed : Allowed) (lives : List Life) (lines : ℕ) where
     within = All-append (IsWithin 1 lines) p.numbers q.numbers p.within q.within;
   }
 
-  -- an owner's exit as a call
+  -- the exit of an owner as a call
   pub exit_call : (owner : Owner) (exit : Exit) (call : ClientCall) → call ≡ record { owner = owner; begin = exit.begin; end = exit.end; act = Drops; is_last = true; follows = None }
       → HasExit lives owner exit → AreLives lines lives → IsWithin 1 lines exit.line × IsDrop allowed lives call
   exit_call owner exit call made has are =
@@ -83,7 +83,7 @@ module _ (allowed : Allowed) (lives : List Life) (lines : ℕ) where
         }),
       )
 
-  -- what an owner lost, as a call
+  -- the loss of an owner as a call
   pub loss_call : (loss : Loss) (call : ClientCall) → IsLoss allowed lines loss → IsLossOf lives loss call → IsDrop allowed lives call
   loss_call loss call is of = record {
     call_is = record {
@@ -99,7 +99,7 @@ module _ (allowed : Allowed) (lives : List Life) (lines : ℕ) where
     exits = λ none. absurd (true≢false (sym is.counts ∙ none));
   }
 
-  -- a call that was read is one at the end
+  -- a call that was read is one of the file at its end
   call_at_end : AreLives lines lives → (call : ClientCall) → IsCallOf lives call → IsCallAtEnd lives call
   call_at_end are call c = record {
     number = c.number;
@@ -115,14 +115,14 @@ module _ (allowed : Allowed) (lives : List Life) (lines : ℕ) where
     told_lines : take new.told new.lines.items ≡ old.lines.items
     told_lines = ap (take new.told) adds.lines_are ∙ take_at old.lines.items adds.numbers new.told (sym adds.told)
 
-    -- the lines are those that were read
+    -- the file has the lines of calls that were read
     pub same_calls : calls_in new ≡ lines_in old
     same_calls = ap runs told_lines
 
     pub alone_at_end : IsAlone old → IsAloneAtEnd new
     alone_at_end alone = ap runs told_lines ∙ alone ∙ sym adds.told
 
-    -- and the file is read to its end
+    -- the file is read to its end
     pub is_ended : AreLives lines lives → IsFileOf lives lines old → IsEnded allowed lives lines new
     is_ended are was =
         let told : length old.calls.items ≡ new.told = sym was.paired ∙ sym adds.told in

@@ -12,7 +12,7 @@ use Rattle.history_text.specs.Files.{AreFilesOf, IsAlone, IsFileOf, calls_in, li
 use Rattle.history_text.specs.Lives.{AreLives}
 use Rattle.history_text.proofs.DropLaws.{alone_at_end, is_ended, same_calls}
 
--- the files behind a place are those that were there
+-- the files from a place on are not read to their ends yet
 module _ (files first : List FileCalls) (i : ℕ) where
   pub count_more : (new : FileCalls) → length files ≡ length first → length (set files i new) ≡ length first
   count_more new same = length-set files i new ∙ same
@@ -41,7 +41,7 @@ module _ (allowed : Allowed) (lives : List Life) (lines : ℕ) where
     old_is : IsFileOf lives lines old
     old_is = subst (IsFileOf lives lines) (sym at) (are i old below)
 
-    -- one more
+    -- one more file is read to its end
     pub ended_more : AreEndedOf allowed lives lines (take (i + 1) first) (take (i + 1) (set files i new))
     ended_more = record {
       files = subst (All (IsEnded allowed lives lines)) (sym now) (All-push (IsEnded allowed lives lines) (take i files) new was.files (is_ended allowed lives lines old new adds are_lives old_is));

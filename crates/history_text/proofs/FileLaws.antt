@@ -1,4 +1,4 @@
--- Calls of files stay calls of them.
+-- Calls of files that stay so.
 use Rattle.std.proofs.Common.{◌≡◌, ℕ, ◌<◌, ◌≤◌, ◌+◌, List, [], ◌∷◌, ◌++◌, length, set, get_or, sum_by, sym, ap, subst, ◌∙◌, arith, length-append}
 use Rattle.std.specs.List.{All}
 use Rattle.std.proofs.lemmas.List.Elements.{All-push, All-set, All-weaker}
@@ -34,11 +34,11 @@ file_extends first last m n extends le file f = record {
   within = All-weaker (IsWithin 1 m) (IsWithin 1 n) (λ line w. (w.0, omega (arith, w.1))) file.lines.items f.within;
 }
 
--- where more is known of owners, and more lines were read
+-- calls of files stay so where more is known of owners, and more lines were read
 pub files_extend : (first last : List Life) (m n : ℕ) → Extends first last → m ≤ n → (files : List FileCalls) → AreFilesOf first m files → AreFilesOf last n files
 files_extend first last m n extends le files all = All-weaker (IsFileOf first m) (IsFileOf last n) (file_extends first last m n extends le) files all
 
--- where a call comes last in a file
+-- calls of a file stay so where one more comes last
 pub file_push : (lives : List Life) (lines line : ℕ) (call : ClientCall) (old new : FileCalls)
     → new.calls.items ≡ old.calls.items ++ call ∷ [] → new.lines.items ≡ old.lines.items ++ line ∷ []
     → IsWithin 1 lines line → IsCallOf lives call → IsFileOf lives lines old → IsFileOf lives lines new
@@ -48,11 +48,11 @@ file_push lives lines line call old new calls numbers within is f = record {
   within = subst (All (IsWithin 1 lines)) (sym numbers) (All-push (IsWithin 1 lines) old.lines.items line f.within within);
 }
 
--- the second step of a call is one as well
+-- the second step of a call is a call as well
 pub second_is : (lives : List Life) (first : ℕ) (call : ClientCall) → IsCallOf lives call → IsCallOf lives (second_step first call)
 second_is lives first call c = record { number = c.number; life = c.life; known = c.known; owner = c.owner; begun = c.begun; timed = c.timed; goes_on = c.goes_on }
 
--- where two do
+-- calls of a file stay so where two more come last
 pub file_push_two : (lives : List Life) (lines line : ℕ) (first second : ClientCall) (old new : FileCalls)
     → new.calls.items ≡ old.calls.items ++ first ∷ [] ++ second ∷ [] → new.lines.items ≡ old.lines.items ++ line ∷ [] ++ line ∷ []
     → IsWithin 1 lines line → IsCallOf lives first → IsCallOf lives second → IsFileOf lives lines old → IsFileOf lives lines new
@@ -69,7 +69,7 @@ files_before lives lines files all =
     (λ file f. All-weaker (IsWithin 1 lines) (λ n. n < lines + 1) (λ n w. let le : n ≤ lines = w.1 in omega arith) file.lines.items f.within)
     files all
 
--- where a line behind all is written to a file
+-- a line behind all is written to a file
 module _ (files : List FileCalls) (i line : ℕ) (old new : FileCalls) (lt : i < length files) (at : old ≡ get_or files i old) (before : AreBefore line files) where
   old_before : All (λ n. n < line) old.lines.items
   old_before = subst (λ (file : FileCalls). All (λ n. n < line) file.lines.items) (sym at) (before i old lt)
@@ -81,17 +81,17 @@ module _ (files : List FileCalls) (i line : ℕ) (old new : FileCalls) (lt : i <
     one : lines_in new ≡ lines_in old + 1
     one = ap runs lines ∙ runs_push old.lines.items line old_before
 
-    -- it is one more
+    -- the file has one line more
     pub one_more : sum_by lines_in (set files i new) ≡ sum_by lines_in files + 1
     one_more = lines_set one
 
     alone : IsAlone old → IsAlone new
     alone was = omega (arith, one, was, ap length lines, length-append old.lines.items (line ∷ []))
 
-    -- for one call
+    -- each call still has a line of its own
     pub stay_alone : All IsAlone files → All IsAlone (set files i new)
     stay_alone all = All-set IsAlone files i new (alone (subst IsAlone (sym at) (all i old lt))) all
 
-  -- for two steps of a call
+  -- two steps of a call are one line more
   pub one_more_for_two : new.lines.items ≡ old.lines.items ++ line ∷ [] ++ line ∷ [] → sum_by lines_in (set files i new) ≡ sum_by lines_in files + 1
   one_more_for_two lines = lines_set (ap runs lines ∙ runs_twice old.lines.items line ∙ runs_push old.lines.items line old_before)

@@ -83,7 +83,7 @@ module _ (allowed : Allowed) (text : List ℕ) (count : ℕ) (reader : Reader) (
     counted_is = ap counted counts ∙ was.counted_is;
   }
 
-  -- with what owners lost and with the exits in the files it is the history of the text
+  -- the history with losses and exits in its files is that of the text
   pub is_history : IsHistoryOf allowed text history
   is_history = record {
     lines = was.lines;

@@ -1,4 +1,4 @@
--- What was known of owners stays so.
+-- Facts of owners that stay so.
 use Rattle.std.proofs.Common.{◌≡◌, ℕ, ◌≤◌, List, Option, Some, None, IfSome, subst, arith}
 use Rattle.history_text.specs.declared.known.Known.{Known}
 use Rattle.history_text.specs.declared.life.Exit.{Exit}
@@ -22,7 +22,7 @@ extends_both first last end p q k life at =
     let c = q k b.0 b.1 in
     (c.0, c.1, grows_both life b.0 c.0 b.2 c.2)
 
--- where words were read and then more words of one line
+-- words were read, and then more words of the same line
 pub learns_both : (line : ℕ) (a b c : Known) → Learns line a b → Learns line b c → Learns line a c
 learns_both line a b c p q = record {
   sound = q.sound;
@@ -30,11 +30,11 @@ learns_both line a b c p q = record {
   lives = λ lines within all. q.lives lines within (p.lives lines within all);
 }
 
--- an owner's exit is as its life tells it
+-- the exit in an owner's life is one of its lines
 pub exit_is : (lines : ℕ) (life : Life) (exit : Exit) → IsLife lines life → life.exit ≡ Some exit → IsExit lines life.latest exit
 exit_is lines life exit is e = subst (λ (o : Option Exit). IfSome o (IsExit lines life.latest)) e is
 
--- what begins earlier has the same ends
+-- what begins earlier may have the same ends
 pub timed_earlier : (a b : ℕ) (end : Option ℕ) → a ≤ b → IsTimed b end → IsTimed a end
 timed_earlier a b None le timed = tt
 timed_earlier a b (Some time) le timed = omega arith

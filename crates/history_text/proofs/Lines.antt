@@ -10,7 +10,7 @@ use Rattle.history_text.specs.declared.rule.Allowed.{Allowed}
 use Rattle.history_text.specs.Calls.{counted, is_call, with_feed}
 use Rattle.history_text.specs.Readings.{HasRead, IsPaired, IsRead}
 
--- lines are no more than their bytes
+-- there are no more lines than bytes
 pub lines_fit : (lines : List (List ℕ)) (rest : List ℕ) → length lines ≤ length (flat_map with_feed lines ++ rest)
 lines_fit [] rest = omega arith
 lines_fit (line ∷ lines) rest =
@@ -18,13 +18,13 @@ lines_fit (line ∷ lines) rest =
     omega (arith, lines_fit lines rest, ap length shown, length-append (line ++ line_feed ∷ []) (flat_map with_feed lines ++ rest), length-append line (line_feed ∷ []))
 
 module _ (allowed : Allowed) (text rest : List ℕ) (count : ℕ) (reader : Reader) (was : HasRead allowed text rest count reader) where
-  -- lines that were counted are no more than the bytes of the text
+  -- no more lines were counted than the text has bytes
   pub count_fits : count ≤ length text
   count_fits = omega (arith, was.count_is, ap length was.parts, lines_fit was.lines rest)
 
   module _ (line behind : List ℕ) (next : Reader) (lacks : Lacks line_feed line) (parts : rest ≡ line ++ line_feed ∷ behind)
       (read : IsRead allowed (count + 1) next) (paired : IsPaired next) (more : counted next.counts ≡ counted reader.counts + (if is_call line then 1 else 0)) where
-    -- a line more was read
+    -- one more line was read
     pub has_read_more : HasRead allowed text behind (count + 1) next
     has_read_more = record {
       lines = was.lines ++ line ∷ [];

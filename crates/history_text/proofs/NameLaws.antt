@@ -24,7 +24,7 @@ module _ {Z : Type 0} (ks : List (String Z)) where
       let no : bytes_eq (string_bytes a) (string_bytes b) ≡ false = subst (λ (x : String Z). string_eq a x ≡ false) second (subst (λ (x : String Z). string_eq x (get_or ks j a) ≡ false) first differ) in
       true≢false (sym ((bytes_eq-Decides (string_bytes a) (string_bytes b)).1 same) ∙ no)
 
-  -- texts that differ as keys are distinct names
+  -- keys that differ are distinct names
   pub distinct_names : IsDistinct string_eq ks → AreDistinct (map string_bytes ks)
   distinct_names d i j name p q =
       let a = map_get string_bytes ks i name p in
@@ -34,7 +34,7 @@ module _ {Z : Type 0} (ks : List (String Z)) where
       (λ above. absurd (apart d j i b.0 a.0 above b.1 a.1 (b.2 ∙ sym a.2)))) (cases_order i j)
 
   module _ (name : List ℕ) where
-    -- the key that a name finds has it
+    -- the key that a name finds has that name
     pub found_name : (i : ℕ) → i < length ks → position (λ (k : String Z). bytes_eq name (string_bytes k)) ks ≡ Some i → slice_get (map string_bytes ks) i ≡ Some name
     found_name i lt at =
         ⊎_elim (λ there.
@@ -51,10 +51,10 @@ module _ {Z : Type 0} (ks : List (String Z)) where
         ap (λ (b : Bool). if b then ks else ks ++ k ∷ []) test
 
     module _ (k : String Z) (is : string_bytes k ≡ name) where
-      -- then there is one more
+      -- after a new name there is one more
       pub added_count : length (map string_bytes (ks ++ k ∷ [])) ≡ length ks + 1
       added_count = length-map (ks ++ k ∷ []) string_bytes ∙ length-append ks (k ∷ [])
 
-      -- which is this one
+      -- the last name is the new one
       pub added_last : slice_get (map string_bytes (ks ++ k ∷ [])) (length ks) ≡ Some name
       added_last = slice_get-map string_bytes (ks ++ k ∷ []) (length ks) ∙ ap (option_map string_bytes) (get_last ks k) ∙ ap Some is

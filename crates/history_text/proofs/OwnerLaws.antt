@@ -6,14 +6,14 @@ use Rattle.model.specs.Limits.{OwnerFields}
 use Rattle.history_text.specs.Histories.{AreOneToOne}
 use Rattle.history_text.specs.Owners.{AreDistinct, owner_numbered}
 
--- numbers with one quotient and one rest are one
+-- numbers with equal quotients and remainders are equal
 one_by_parts : (n i j : ℕ) → i / n ≡ j / n → i % n ≡ j % n → i ≡ j
 one_by_parts n i j q r = sym (div-add-mod i n) ∙ ap (λ (x : ℕ). n * x + i % n) q ∙ ap (λ (x : ℕ). n * (j / n) + x) r ∙ div-add-mod j n
 
 one_less : (a b : ℕ) → a + 1 ≡ b + 1 → a ≡ b
 one_less a b same = omega arith
 
--- two numbers stand for two owners
+-- different numbers stand for different owners
 pub one_number : (i j : ℕ) → owner_numbered i ≡ owner_numbered j → i ≡ j
 one_number i j same =
     let node = one_less (i / 256 / 65535) (j / 256 / 65535) (ap (λ (o : OwnerFields). o.node) same) in
@@ -21,7 +21,7 @@ one_number i j same =
     let number = one_less (i % 256) (j % 256) (ap (λ (o : OwnerFields). o.number) same) in
     one_by_parts 256 i j (one_by_parts 65535 (i / 256) (j / 256) node incarnation) number
 
--- so owners and names that are distinct go one by one
+-- owners and distinct names go one by one
 pub one_to_one : (names : List (List ℕ)) → AreDistinct names → AreOneToOne names
 one_to_one names distinct = record {
   one_name = λ owner a b p q.

@@ -18,12 +18,12 @@ use Rattle.history_text.specs.Readings.{IsRead}
 use Rattle.history_text.proofs.FileLaws.{files_extend}
 use Rattle.history_text.proofs.LifeLaws.{extends_none}
 
--- losses that stay stay those of the lines
+-- losses that stay are those of the lines still
 pub kept_losses : {T E : Type 0} (result : Result T E) (allowed : Allowed) (line : ℕ) (old new : Losses) → new ≡ old → OnOk result (AreLosses allowed line old → AreLosses allowed line new)
 kept_losses (Ok value) allowed line old new same = λ are. subst (AreLosses allowed line) (sym same) are
 kept_losses (Err error) allowed line old new same = tt
 
--- a line that is not one of a call tells at most of losses
+-- a line that is not one of a call changes at most losses
 pub read_other : (allowed : Allowed) (line : ℕ) (old new : Reader) → new.known.owners ≡ old.known.owners → new.known.files ≡ old.known.files → new.files ≡ old.files → new.counts ≡ old.counts
     → (AreLosses allowed line old.losses → AreLosses allowed line new.losses) → IsRead allowed line old → IsRead allowed line new
 read_other allowed line old new owners names files counts losses read = record {
@@ -44,7 +44,7 @@ losses_later allowed m n le losses are = All-weaker (λ here. All (IsLoss allowe
     (λ here all. All-weaker (IsLoss allowed m) (IsLoss allowed n) (λ loss is. let low = is.within.1 in record { counts = is.counts; within = (is.within.0, omega arith); timed = is.timed }) here.items all)
     losses.losses.items are
 
--- what was read is read where there are more lines
+-- what was read is read of more lines as well
 pub read_later : (allowed : Allowed) (m n : ℕ) → m ≤ n → (reader : Reader) → IsRead allowed m reader → IsRead allowed n reader
 read_later allowed m n le reader read =
     let lives : List Life = reader.known.owners.lives.items in

@@ -1,4 +1,4 @@
--- Lines of calls, and how many there are.
+-- Lines of calls, and their numbers.
 use Rattle.std.specs.Prelude.{ℕ, ◌+◌, ◌++◌, Bool, nat_eq, List, [], ◌∷◌, codes}
 use Rattle.std.specs.List.{starts_with}
 use Rattle.texts.specs.LineFeeds.{line_feed}
@@ -12,6 +12,6 @@ with_feed line = line ++ line_feed ∷ []
 abbrev pub is_call : List ℕ → Bool
 is_call line = starts_with nat_eq line (codes "call ")
 
--- how many lines of calls there are
+-- the number of lines of calls
 abbrev pub counted : Counts → ℕ
 counted counts = counts.calls + counts.exits + counts.silent

@@ -1,4 +1,4 @@
--- Files with what their owners lost and with exits.
+-- The calls of a file that is read to its end: those of lines, then what owners lost, then exits.
 use Rattle.std.specs.Prelude.{◌≡◌, ℕ, ◌≤◌, ◌++◌, true, false, List, slice_get, length, take, drop, sum_by, Some, IfSome, All}
 use Rattle.texts.specs.Reads.{IsWithin}
 use Rattle.client_history.specs.declared.act.Act.TheVariants.{Drops}
@@ -13,7 +13,7 @@ use Rattle.history_text.specs.Lives.{HasLife}
 use Rattle.history_text.specs.Owners.{owner_numbered}
 use Rattle.history_text.specs.Times.{IsTimed}
 
--- what an owner lost, as a call: it begins no later than the owner's exit ends
+-- the call is the loss of an owner, whose exit did not end before the loss began
 pub record IsLossOf (lives : List Life) (loss : Loss) (call : ClientCall) : Type 0 where
   pub life : Life
   pub known : HasLife lives call.owner life
@@ -23,7 +23,7 @@ pub record IsLossOf (lives : List Life) (loss : Loss) (call : ClientCall) : Type
   pub drops : call.act ≡ Drops
   pub goes_on : call.is_last ≡ false
 
--- a call of an owner that is known, which begins no later than its exit ends; if it is an exit, it is that one
+-- a call of a known owner, which begins no later than the owner's exit ends; if it is an exit, it is that one
 pub record IsCallAtEnd (lives : List Life) (call : ClientCall) : Type 0 where
   pub number : ℕ
   pub life : Life
@@ -33,13 +33,13 @@ pub record IsCallAtEnd (lives : List Life) (call : ClientCall) : Type 0 where
   pub in_time : (exit : Exit) → life.exit ≡ Some exit → IsTimed call.begin exit.end
   pub last : call.is_last ≡ true → (exit : Exit) × (life.exit ≡ Some exit) × (call.end ≡ exit.end)
 
--- a call that drops all that its owner has: an exit, where no rule lets losses count
+-- a call that drops all that its owner has: an exit, unless a rule lets losses count
 pub record IsDrop (allowed : Allowed) (lives : List Life) (call : ClientCall) : Type 0 where
   pub call_is : IsCallAtEnd lives call
   pub drops : call.act ≡ Drops
   pub exits : allowed.lost_at ≡ false → call.is_last ≡ true
 
--- such calls came behind those that were there
+-- calls that drop all were appended to those of the file
 pub record Adds (allowed : Allowed) (lives : List Life) (lines : ℕ) (old new : FileCalls) : Type 0 where
   pub calls : List ClientCall
   pub numbers : List ℕ
@@ -50,11 +50,11 @@ pub record Adds (allowed : Allowed) (lives : List Life) (lines : ℕ) (old new :
   pub drops : All (IsDrop allowed lives) calls
   pub within : All (IsWithin 1 lines) numbers
 
--- the file, in which what is there is told by lines of calls
+-- the file, where all calls so far are those of lines
 abbrev pub with_told : FileCalls → FileCalls
 with_told file = record file { told = length file.lines.items }
 
--- a file that is read to its end: first calls that are no exits, and behind them drops
+-- a file that is read to its end: first calls of lines, of which none is an exit, and behind them calls that drop all
 pub record IsEnded (allowed : Allowed) (lives : List Life) (lines : ℕ) (file : FileCalls) : Type 0 where
   pub calls : All (IsCallAtEnd lives) file.calls.items
   pub paired : length file.lines.items ≡ length file.calls.items
@@ -63,11 +63,11 @@ pub record IsEnded (allowed : Allowed) (lives : List Life) (lines : ℕ) (file :
   pub go_on : All (λ call. call.is_last ≡ false) (take file.told file.calls.items)
   pub drops : All (IsDrop allowed lives) (drop file.told file.calls.items)
 
--- each call that lines of calls tell has a line of its own
+-- each call of a line has a line of its own
 abbrev pub IsAloneAtEnd : FileCalls → Type 0
 IsAloneAtEnd file = runs (take file.told file.lines.items) ≡ file.told
 
--- files that are read to their ends, as they were before that
+-- the files are read to their ends, with the calls of lines that they had
 pub record AreEndedOf (allowed : Allowed) (lives : List Life) (lines : ℕ) (old new : List FileCalls) : Type 0 where
   pub files : All (IsEnded allowed lives lines) new
   pub calls : sum_by calls_in new ≡ sum_by lines_in old

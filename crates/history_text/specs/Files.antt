@@ -7,13 +7,13 @@ use Rattle.history_text.specs.declared.life.Life.{Life}
 use Rattle.history_text.specs.Times.{IsTimed}
 use Rattle.history_text.specs.Owners.{owner_numbered}
 
--- how many lines these are, each of which stands there once or more, one after the other
+-- the number of different lines in the list, in which equal ones stand together
 abbrev pub runs : List ℕ → ℕ
 runs [] = 0
 runs (line ∷ []) = 1
 runs (line ∷ (next ∷ lines)) = (if nat_eq line next then 0 else 1) + runs (next ∷ lines)
 
--- a call of an owner that is known, which is no exit
+-- a call of a known owner, which is no exit
 pub record IsCallOf (lives : List Life) (call : ClientCall) : Type 0 where
   pub number : ℕ
   pub life : Life
@@ -23,7 +23,7 @@ pub record IsCallOf (lives : List Life) (call : ClientCall) : Type 0 where
   pub timed : IsTimed call.begin call.end
   pub goes_on : call.is_last ≡ false
 
--- calls of one file, each with the number of its line, of so many lines
+-- calls of one file, each with the number of its line, from 1 to that many
 pub record IsFileOf (lives : List Life) (lines : ℕ) (file : FileCalls) : Type 0 where
   pub calls : All (IsCallOf lives) file.calls.items
   pub paired : length file.lines.items ≡ length file.calls.items
@@ -32,18 +32,18 @@ pub record IsFileOf (lives : List Life) (lines : ℕ) (file : FileCalls) : Type 
 abbrev pub AreFilesOf : List Life → ℕ → List FileCalls → Type 0
 AreFilesOf lives lines files = All (IsFileOf lives lines) files
 
--- how many lines of calls of the file were read
+-- the number of lines of calls of the file that were read
 abbrev pub lines_in : FileCalls → ℕ
 lines_in file = runs file.lines.items
 
--- each call has a line of its own
+-- each call of the file has a line of its own
 abbrev pub IsAlone : FileCalls → Type 0
 IsAlone file = runs file.lines.items ≡ length file.lines.items
 
--- no line of a call is that one, or one behind it
+-- each line of a call is before that line
 abbrev pub AreBefore : ℕ → List FileCalls → Type 0
 AreBefore line files = All (λ (file : FileCalls). All (λ n. n < line) file.lines.items) files
 
--- how many lines of calls the file has, which is read to its end
+-- the number of lines of calls of a file that is read to its end
 abbrev pub calls_in : FileCalls → ℕ
 calls_in file = runs (take file.told file.lines.items)

@@ -19,7 +19,8 @@ pub record IsCall (names : List (List ℕ)) (call : ClientCall) : Type 0 where
   pub named : IsNamed names call.owner name
   pub timed : IsTimed call.begin call.end
 
--- calls, each with the number of its line, of so many lines: first those that lines of calls tell, of which none is an exit, and behind them drops. Without `wait-drops` each of the first ones has a line of its own, and without `lost-at` each of the others is an exit
+-- The calls of a file, each with the number of its line: first those of lines, none of them an exit, then calls that drop all. Without `wait-drops` each of the
+-- first has a line of its own. Without `lost-at` each of the others is an exit.
 pub record IsFile (allowed : Allowed) (names : List (List ℕ)) (lines : ℕ) (file : FileCalls) : Type 0 where
   pub calls : All (IsCall names) file.calls.items
   pub paired : length file.lines.items ≡ length file.calls.items
@@ -30,16 +31,16 @@ pub record IsFile (allowed : Allowed) (names : List (List ℕ)) (lines : ℕ) (f
   pub alone : allowed.wait_drops ≡ false → runs (take file.told file.lines.items) ≡ file.told
   pub exits : allowed.lost_at ≡ false → All (λ call. call.is_last ≡ true) (drop file.told file.calls.items)
 
--- no call of the second file begins behind the end of its owner's exit, as the first one has it
+-- no call of the second file begins behind the end of its owner's exit in the first
 abbrev pub EndWithExits : FileCalls → FileCalls → Type 0
 EndWithExits first second = (i j : ℕ) (exit call : ClientCall) → slice_get first.calls.items i ≡ Some exit → slice_get second.calls.items j ≡ Some call → exit.is_last ≡ true → call.owner ≡ exit.owner → IsTimed call.begin exit.end
 
--- each owner stands for one name, and each name has one owner
+-- each owner stands for at most one name, and each name has at most one owner
 pub record AreOneToOne (names : List (List ℕ)) : Type 0 where
   pub one_name : (owner : Owner) (a b : List ℕ) → IsNamed names owner a → IsNamed names owner b → a ≡ b
   pub one_owner : (a b : Owner) (name : List ℕ) → IsNamed names a name → IsNamed names b name → a ≡ b
 
--- a history of so many lines, of which so many are those of calls, where these rules are allowed
+-- a history of that many lines and lines of calls, where these rules are allowed
 pub record IsHistory (allowed : Allowed) (lines calls : ℕ) (history : History) : Type 0 where
   pub owners : AreOneToOne history.owners
   pub names : AreDistinct history.names

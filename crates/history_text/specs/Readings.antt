@@ -13,23 +13,23 @@ use Rattle.history_text.specs.Lives.{AreLives, AreOwners, Extends}
 use Rattle.history_text.specs.Losses.{AreLosses, ArePaired}
 use Rattle.history_text.specs.Owners.{AreDistinct}
 
--- owners and files are told apart by name
+-- the names of owners are distinct and each has a life, and the names of files are distinct
 pub record IsSound (known : Known) : Type 0 where
   pub owners : AreOwners known.owners.names known.owners.lives.items
   pub files : AreDistinct known.files
 
--- words of the line of this number were read
+-- what is known after words of the line of this number were read
 pub record Learns (line : ℕ) (old new : Known) : Type 0 where
   pub sound : IsSound new
   pub extends : Extends old.owners.lives.items new.owners.lives.items
   pub lives : (lines : ℕ) → IsWithin 1 lines line → AreLives lines old.owners.lives.items → AreLives lines new.owners.lives.items
 
--- of so many files as before, and now, a call is about one that was there before, or about one more
+-- the file of a call is one of those that were known before, or one more
 abbrev pub NamesOf : Deed → ℕ → ℕ → Type 0
 NamesOf Exits before after = after ≡ before
 NamesOf (Asks file asked) before after = (file ≤ before) × (after ≡ max before (file + 1))
 
--- so many lines were read, where these rules are allowed
+-- the reader has read that many lines, where these rules are allowed
 pub record IsRead (allowed : Allowed) (lines : ℕ) (reader : Reader) : Type 0 where
   pub sound : IsSound reader.known
   pub lives : AreLives lines reader.known.owners.lives.items
@@ -38,12 +38,12 @@ pub record IsRead (allowed : Allowed) (lines : ℕ) (reader : Reader) : Type 0 w
   pub alone : allowed.wait_drops ≡ false → All IsAlone reader.files.items
   pub losses : AreLosses allowed lines reader.losses
 
--- each name of a file is that of one, also where losses name it
+-- there are as many names of files as lists of calls, and of losses
 pub record IsPaired (reader : Reader) : Type 0 where
   pub files : length reader.files.items ≡ length reader.known.files
   pub losses : ArePaired reader.losses
 
--- so many lines of the text were read, and this is left
+-- the reader has read that many lines of the text, and this rest is left
 pub record HasRead (allowed : Allowed) (text rest : List ℕ) (count : ℕ) (reader : Reader) : Type 0 where
   pub lines : List (List ℕ)
   pub parts : text ≡ flat_map with_feed lines ++ rest

@@ -1,4 +1,4 @@
--- Known differences from one table of record locks.
+-- Rules: the known ways in which lock managers differ from one table of record locks.
 use Rattle.std.specs.Prelude.{ℕ, Bool, true, List, codes}
 use Rattle.history_text.specs.declared.rule.Allowed.{Allowed}
 use Rattle.history_text.specs.declared.rule.Rule.{Rule}
@@ -12,7 +12,7 @@ rule_text NoQuery = codes "no-query"
 rule_text StaleReadDenial = codes "stale-read-denial"
 rule_text LostAt = codes "lost-at"
 
--- the rule is one of those that are allowed
+-- the set of rules has the rule
 abbrev pub allows : Allowed → Rule → Bool
 allows allowed WaitDrops = allowed.wait_drops
 allows allowed CloseOwnDescriptor = allowed.close_own_descriptor
@@ -20,7 +20,7 @@ allows allowed NoQuery = allowed.no_query
 allows allowed StaleReadDenial = allowed.stale_read_denial
 allows allowed LostAt = allowed.lost_at
 
--- the same rules and this one
+-- the set of rules with this one as well
 abbrev pub with_rule : Allowed → Rule → Allowed
 with_rule allowed WaitDrops = record allowed { wait_drops = true }
 with_rule allowed CloseOwnDescriptor = record allowed { close_own_descriptor = true }

@@ -1,9 +1,9 @@
--- What calls did to locks.
+-- The steps of calls on locks.
 use Rattle.std.specs.Prelude.{⊤}
 use Rattle.history_text.specs.declared.steps.Steps.{Steps}
 use Rattle.history_text.specs.declared.steps.Steps.TheVariants as steps
 
--- it was done in one step, if in any
+-- the call was done in one step, or in none
 abbrev pub IsWhole : Steps → Type 0
 IsWhole steps.None = ⊤
 IsWhole (steps.One act) = ⊤

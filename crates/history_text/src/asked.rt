@@ -1,9 +1,10 @@
-//! Calls of files with their replies.
+//! The operation of a call on a file, with its reply.
 use crate::operation::Operation;
 use crate::reply::Answer;
 use client_history::told_lock::ToldLock;
 
-/// What was asked for of a file, the first word of the reply, if there is one, and the lock that is told behind it.
+/// The operation of a call on a file, the first word of the reply, if there is one, and the lock that the reply
+/// names.
 #[derive(Clone, Copy)]
 pub(crate) struct Asked {
     pub(crate) operation: Operation,

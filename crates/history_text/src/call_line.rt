@@ -1,16 +1,16 @@
-//! Lines of calls.
+//! A line of a call, as it is read.
 use crate::asked::Asked;
 
-/// What a call is about.
+/// The deed of a call: what it is about.
 #[derive(Clone, Copy)]
 pub(crate) enum Deed {
-    /// The exit of its owner.
+    /// The exit of the call's owner.
     Exits,
-    /// The file of this number, and what was asked for of it.
+    /// An operation with its reply, on the file of this number.
     Asks { file: usize, asked: Asked },
 }
 
-/// A call as a line says it: the number of its owner, when it began, and when it had ended, if that is known.
+/// A call as its line says it: the number of its owner, its begin, and its end, if that is known.
 #[derive(Clone, Copy)]
 pub(crate) struct CallLine {
     pub(crate) owner: usize,

@@ -1,7 +1,7 @@
-//! How many calls there are.
+//! The numbers of lines of calls in a history.
 
-/// How many lines of a history are those of calls: those that stand in a file, the exits, and those that say nothing of locks,
-/// as calls that were interrupted or refused, and queries without a reply.
+/// The numbers of lines of calls in a history: of calls that stand in a file, of exits, and of calls that say nothing
+/// of locks, as those that were interrupted or refused, and queries without a reply.
 #[derive(Clone, Copy, Debug, PartialEq, Eq)]
 pub struct Counts {
     pub calls: u64,

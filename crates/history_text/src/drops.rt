@@ -1,4 +1,5 @@
-//! Calls that drop what owners have in a file: losses and exits.
+//! Calls that drop all that an owner has in a file: losses and exits. A function here that gives a `Result` answers
+//! `AllocError` where a request for memory was refused.
 ghost use Rattle.std.specs.Prelude.{◌≡◌, ℕ, true, None, All, IfSome, OnOk};
 ghost use Rattle.client_history.specs.declared.act.Act.TheVariants.{Drops};
 ghost use Rattle.history_text.specs.declared.rule.Allowed.{Allowed as Rules};
@@ -16,10 +17,7 @@ use indexmap::IndexSet;
 use model::owner::Owner;
 use std::alloc::{AllocError, Global};
 
-/// Behind the calls of the file come what their owners lost there and the exits of their owners.
-///
-/// # Errors
-/// `AllocError`.
+/// Appends to the calls of the file what their owners lost there, and then the exits of their owners.
 pub(crate) fn add_drops(
     alloc: Global,
     file: &mut FileCalls,
@@ -45,7 +43,7 @@ fn owners_in(alloc: Global, calls: &[ClientCall]) -> Result<IndexSet<Owner>, All
     Ok(owners)
 }
 
-// What each of these owners lost comes last.
+// Appends the loss of each of these owners.
 fn add_loss(
     file: &mut FileCalls,
     owners: &Owners,
@@ -62,7 +60,7 @@ fn add_loss(
     Ok(())
 }
 
-// The exit of each of these owners comes last.
+// Appends the exit of each of these owners that has one.
 fn add_exits(file: &mut FileCalls, owners: &Owners, there: &[Owner]) -> Result<(), AllocError>
     ensures { OnOk result ((allowed : Rules) (lines : ℕ) → AreLives lines owners.now.lives.items → Adds allowed owners.now.lives.items lines file.old file.new) }
 {
@@ -74,7 +72,7 @@ fn add_exits(file: &mut FileCalls, owners: &Owners, there: &[Owner]) -> Result<(
     Ok(())
 }
 
-// What the owner lost, as a call, unless its exit had ended before.
+// The owner's loss as a call, unless the owner's exit had ended before it.
 fn loss_of(owners: &Owners, owner: Owner, loss: Loss) -> Option<ClientCall>
     ensures { IfSome result (IsLossOf owners.now.lives.items loss) }
 {
@@ -92,7 +90,7 @@ fn loss_of(owners: &Owners, owner: Owner, loss: Loss) -> Option<ClientCall>
     })
 }
 
-// The exit of the owner, as a call about a file.
+// The owner's exit as a call about a file.
 fn call_of(owner: Owner, exit: &Exit) -> ClientCall
     ensures { result ≡ record { owner = owner; begin = exit.now.begin; end = exit.now.end; act = Drops; is_last = true; follows = None } }
 {

@@ -1,16 +1,16 @@
-//! Why a text is no history.
+//! The reasons why a text is no history.
 use crate::reason::Reason;
 use std::alloc::AllocError;
 use thiserror::Error;
 
-/// Why a text is no history.
+/// The reason why a text is no history.
 #[derive(Clone, Copy, Debug, PartialEq, Eq, Error)]
 pub enum ReadError {
     /// A request for memory was refused.
     #[error("no memory")]
     NoMemory,
-    /// The first line that may not stand there, by its number, and the first word in it that may not, by the place
-    /// of its first character, both from 1; behind the last character where a word is missing.
+    /// The number, from 1, of the first line that may not stand there, and the column, from 1, of the first character
+    /// of the first word in it that may not; one behind the last character where a word is missing.
     #[error("bad line {line}, column {column}: {reason}")]
     BadLine {
         line: u64,

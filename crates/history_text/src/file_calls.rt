@@ -1,14 +1,15 @@
-//! Calls about one file.
+//! The calls about one file. A function here that gives a `Result` answers `AllocError` where a request for memory
+//! was refused.
 ghost use Rattle.std.specs.Prelude.{◌≡◌, ◌++◌, ◌∷◌, [], length, OnOk};
 ghost use Rattle.history_text.specs.Seconds.{second_step};
 
 use client_history::client_call::ClientCall;
 use std::alloc::{AllocError, Global};
 
-/// What the clients of a file saw: calls, and of each at the same place the number of its line, from 1. The first ones, `told` of
-/// them, stand in the order of their lines, which are those of calls; a wait that was done in two steps is two calls of one line.
-/// Behind them stand those that drop all that an owner has in the file: for each line `lost` the owners that lost something
-/// between its times, and then the exits.
+/// The calls about one file that its clients saw, and for each call, at the same index, the number of its line, from
+/// 1. The first `told` calls stand in the order of their lines, which are lines of calls; a wait that was done in two
+/// steps is two calls of one line. Behind them stand calls that drop all that an owner has in the file: for each line
+/// `lost` the owners that lost something between its times, and then the exits.
 #[derive(Drop)]
 pub struct FileCalls {
     pub calls: Vec<ClientCall>,
@@ -29,25 +30,19 @@ impl FileCalls {
         }
     }
 
-    /// The call of this line comes last.
-    ///
-    /// # Errors
-    /// `AllocError`.
+    /// Appends the call of this line.
     pub(crate) fn push(&mut self, line: u64, call: &ClientCall) -> Result<(), AllocError>
         ensures calls { OnOk result (self.new.calls.items ≡ self.old.calls.items ++ call.now ∷ []) }
         ensures lines { OnOk result (self.new.lines.items ≡ self.old.lines.items ++ line ∷ []) }
         ensures told { self.new.told ≡ self.old.told }
     {
-        let end: Option<u64> = call.end; // tells the proof of a type that a call has
+        let end: Option<u64> = call.end; // tells the proof the type of a call's end
         self.calls.push(ClientCall { end, ..*call })?;
         self.lines.push(line)?;
         Ok(())
     }
 
-    /// The two calls of this line, which are steps of one, come last; where it has ended the second follows the first.
-    ///
-    /// # Errors
-    /// `AllocError`.
+    /// Appends the two calls of this line, which are steps of one. If they have ended, the second follows the first.
     pub(crate) fn push_steps(
         &mut self,
         line: u64,
@@ -64,7 +59,7 @@ impl FileCalls {
     }
 }
 
-// The call, which follows the one of this index where it has ended.
+// The call as the second step: if it has ended, it follows the call with that index.
 fn second_step(first: usize, call: &ClientCall) -> ClientCall
     ensures { result ≡ second_step first call.now }
 {

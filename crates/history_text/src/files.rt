@@ -1,4 +1,5 @@
-//! The files of a history.
+//! The files of a history, with their calls. A function here that gives a `Result` answers `AllocError` where a
+//! request for memory was refused.
 ghost use Rattle.std.specs.Prelude.{◌≡◌, ◌≤◌, ◌<◌, ◌+◌, ℕ, List, All, length, max, sum_by, OnOk};
 ghost use Rattle.texts.specs.Reads.{IsWithin};
 ghost use Rattle.history_text.specs.declared.life.Life.{Life};
@@ -16,10 +17,7 @@ use crate::owners::Owners;
 use client_history::client_call::ClientCall;
 use std::alloc::{AllocError, Global};
 
-/// The file of this number is one of them; it comes last where it is a new one.
-///
-/// # Errors
-/// `AllocError`.
+/// Appends a file, if the file of this number is a new one.
 pub(crate) fn add_file(
     alloc: Global,
     files: &mut Vec<FileCalls>,
@@ -38,10 +36,7 @@ pub(crate) fn add_file(
     Ok(())
 }
 
-/// The call, which is that of this line, comes last in the file. No line of a call before is that one.
-///
-/// # Errors
-/// `AllocError`.
+/// Appends the call of this line to the file. No call before is of that line.
 pub(crate) fn push_call(
     files: &mut Vec<FileCalls>,
     file: usize,
@@ -59,10 +54,7 @@ pub(crate) fn push_call(
     Ok(())
 }
 
-/// The two calls, which are the steps of the call of this line, come last in the file. No line of a call before is that one.
-///
-/// # Errors
-/// `AllocError`.
+/// Appends the two calls of this line, which are steps of one, to the file. No call before is of that line.
 pub(crate) fn push_steps(
     files: &mut Vec<FileCalls>,
     file: usize,
@@ -80,10 +72,7 @@ pub(crate) fn push_steps(
     Ok(())
 }
 
-/// Behind the calls of each file, which has its name at the same place, come what its owners lost there and their exits.
-///
-/// # Errors
-/// `AllocError`.
+/// Appends to the calls of each file, whose name is at the same index, what their owners lost there, and their exits.
 pub(crate) fn end_files(
     alloc: Global,
     files: &mut Vec<FileCalls>,

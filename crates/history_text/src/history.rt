@@ -1,4 +1,4 @@
-//! Histories.
+//! A history, as a text writes it.
 ghost use Rattle.std.specs.Prelude.{◌≡◌, ℕ, List, All, IsTrue, ◌↔◌, MatchOption};
 ghost use Rattle.history_text.specs.Owners.{IsNamed};
 
@@ -10,10 +10,10 @@ use crate::owner_numbers::number_of;
 use crate::unit::Unit;
 use model::owner::Owner;
 
-/// What clients of a lock manager saw, as a text tells it: the unit of its times; the machines that it declares; the names of
-/// owners; of each file its name in `names` and at the same place its calls, in the order in which files are first mentioned; and
-/// how many lines of calls there are. An owner of the calls stands for a name, as `name_of` says; else its
-/// fields say nothing.
+/// What clients of a lock manager saw, as a text writes it: the unit of its times; the machines that it declares; the
+/// names of owners; the names of files, and at the same index the calls of each file, in the order in which files are
+/// first mentioned; and the numbers of lines of calls. An owner of the calls stands for a name, as `name_of` says;
+/// its fields say nothing else.
 #[derive(Drop)]
 pub struct History {
     pub unit: Unit,
@@ -33,7 +33,7 @@ impl History {
         self.owners.get(number)
     }
 
-    /// Whether its times are of one clock: no clock of a machine is off.
+    /// Whether the times of the history are of one clock: no machine's clock is off.
     pub fn has_one_clock(&self) -> bool
         ensures { IsTrue result ↔ All (λ machine. machine.skew ≡ 0) self.now.machines.items }
     {

@@ -1,4 +1,4 @@
-//! What lines tell of machines, owners and files.
+//! The machines, owners and files that the lines read so far name.
 ghost use Rattle.std.specs.Prelude.{◌≡◌, ◌<◌, ℕ, [], length, IfOk, OnOk};
 ghost use Rattle.history_text.specs.Times.{IsTimed};
 ghost use Rattle.history_text.specs.Lives.{HasBegun};
@@ -22,7 +22,7 @@ use client_history::told_lock::ToldLock;
 use model::owner::Owner;
 use std::alloc::Global;
 
-/// The machines that lines declare, and the owners and the files that they name.
+/// The machines that lines declare, and the owners and files that they name.
 #[derive(Drop)]
 pub(crate) struct Known {
     pub(crate) machines: Vec<Machine>,
@@ -31,7 +31,7 @@ pub(crate) struct Known {
 }
 
 impl Known {
-    /// None.
+    /// Nothing is known before the first line.
     pub(crate) fn new(alloc: Global) -> Known
         ensures sound { IsSound result }
         ensures lives { result.owners.lives.items ≡ [] }
@@ -44,10 +44,10 @@ impl Known {
         }
     }
 
-    /// Takes the words of a call, which stand in a line of this number behind the word `call`.
+    /// Takes the words of a call behind the word `call`, in the line of this number.
     ///
     /// # Errors
-    /// `NoMemory`, and `Bad` with the first word that may not stand there.
+    /// `NoMemory` where a request for memory was refused; `Bad` with the first word that may not stand there.
     pub(crate) fn next_call(
         &mut self,
         alloc: Global,
@@ -75,7 +75,7 @@ impl Known {
         })
     }
 
-    // The number of the owner that the word names, which begins a call then.
+    // The number of the owner that the word names, which begins a call at that time.
     fn caller(&mut self, alloc: Global, name: &Word<'_>, begin: u64) -> Result<usize, LineError>
         requires { IsSound self.old }
         ensures learns { OnOk result ((line : ℕ) → Learns line self.old self.new) }
@@ -100,7 +100,7 @@ impl Known {
         self.owners.number_of(alloc, name)
     }
 
-    // Takes what a call is about, which is the exit of its owner if it is one.
+    // Takes the deed of a call. If it is an exit, it is that of the owner.
     fn next_deed(
         &mut self,
         alloc: Global,
@@ -122,7 +122,7 @@ impl Known {
         self.next_asked(alloc, verb, exit.end.is_some(), words)
     }
 
-    // Takes what stands behind the word `exit`.
+    // Takes the words behind the word `exit`.
     fn next_exit(
         &mut self,
         owner: usize,
@@ -200,7 +200,7 @@ impl Known {
         })
     }
 
-    // Takes what stands behind the first word of a reply: what it tells of a lock.
+    // Takes the words behind the first word of a reply: what they say of a lock.
     fn next_told(
         &mut self,
         alloc: Global,
@@ -243,7 +243,7 @@ impl Known {
     }
 }
 
-// Nothing is told of a lock.
+// A reply that says nothing of a lock.
 fn untold() -> ToldLock {
     ToldLock {
         mode: None,
@@ -252,7 +252,7 @@ fn untold() -> ToldLock {
     }
 }
 
-// That the word is the reply to an exit.
+// Refuses a word that is not the reply to an exit.
 fn check_done(word: &Word<'_>) -> Result<(), Fault> {
     if Answer::of(word)? == Answer::Done {
         Ok(())

@@ -1,4 +1,6 @@
-//! Histories of lock calls as text: what clients of a lock manager saw, one line for a call.
+//! Histories of lock calls as text, in which each line is a call that clients of a lock manager saw, and the rules by
+//! which such managers are known to differ from one table. It knows nothing of whether a history is explained, of
+//! files of the operating system, or of how a history is shown.
 #![tactic(auto)]
 
 mod asked;

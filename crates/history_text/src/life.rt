@@ -1,4 +1,4 @@
-//! When owners live.
+//! The time in which an owner lived, as lines say it.
 ghost use Rattle.std.specs.Prelude.{◌≡◌, ◌≤◌, ℕ, Some, IfOk, IfSome, IsTrue, ◌↔◌};
 ghost use Rattle.texts.specs.Reads.{IsWithin};
 ghost use Rattle.history_text.specs.Times.{IsTimed};
@@ -6,7 +6,7 @@ ghost use Rattle.history_text.specs.Lives.{Grows, IsLife};
 
 use crate::reason::Reason;
 
-/// An exit: the number of its line, when it began, and when it had ended, if that is known.
+/// An exit: the number of its line, its begin, and its end, if that is known.
 #[derive(Clone, Copy)]
 pub(crate) struct Exit {
     pub(crate) line: u64,
@@ -14,7 +14,7 @@ pub(crate) struct Exit {
     pub(crate) end: Option<u64>,
 }
 
-/// What lines tell of when an owner lived: when the latest of its calls began, its exit with them, and its exit.
+/// The life of an owner, as lines say it: the latest begin of its calls, with its exit, and its exit, if it has one.
 #[derive(Clone, Copy)]
 pub(crate) struct Life {
     pub(crate) latest: u64,
@@ -22,7 +22,7 @@ pub(crate) struct Life {
 }
 
 impl Life {
-    /// Of an owner that is only named.
+    /// The life of an owner that is only named.
     pub(crate) fn new() -> Life
         ensures { (lines : ℕ) → IsLife lines result }
     {
@@ -32,10 +32,10 @@ impl Life {
         }
     }
 
-    /// With a call that begins then.
+    /// The life with a call that begins at that time.
     ///
     /// # Errors
-    /// `BehindExit`.
+    /// `BehindExit` where the owner's exit ends before that time.
     pub(crate) fn with_call(&self, begin: u64) -> Result<Life, Reason>
         ensures grows { IfOk result (Grows self.now) }
         ensures begun { IfOk result (λ life. begin ≤ life.latest) }
@@ -50,10 +50,11 @@ impl Life {
         })
     }
 
-    /// With this exit, which is one of the calls.
+    /// The life with this exit, whose begin is counted with the calls.
     ///
     /// # Errors
-    /// `SecondExit`, and `EarlyExit`.
+    /// `SecondExit` where the owner has an exit; then `EarlyExit` where the latest of its calls begins behind the end
+    /// of this one.
     pub(crate) fn with_exit(&self, exit: Exit) -> Result<Life, Reason>
         requires { exit.begin ≤ self.now.latest }
         ensures grows { IfOk result (Grows self.now) }
@@ -73,7 +74,7 @@ impl Life {
     }
 }
 
-/// Whether a call of an owner with this exit, if it has one, may begin then.
+/// Whether a call of an owner with this exit, if it has one, may begin at that time.
 pub(crate) fn may_begin(exit: Option<Exit>, begin: u64) -> bool
     ensures { IsTrue result ↔ IfSome exit (λ exit. IsTimed begin exit.end) }
 {
@@ -83,7 +84,7 @@ pub(crate) fn may_begin(exit: Option<Exit>, begin: u64) -> bool
     }
 }
 
-// Whether what begins then may have this end.
+// Whether what begins at that time may have this end: no earlier one.
 fn is_timed(begin: u64, end: Option<u64>) -> bool
     ensures { IsTrue result ↔ IsTimed begin end }
 {

@@ -1,22 +1,22 @@
-//! Why a line is not read.
+//! The reasons why a line is not read.
 use crate::error::ReadError;
 use crate::reason::Reason;
 use std::alloc::AllocError;
 
-/// The first word of a line that may not stand there, by how many bytes of the line stand from its first one on, and
-/// why it may not.
+/// A fault of a line: the first word that may not stand there, by the number of the line's bytes from its first one
+/// on, and the reason.
 #[derive(Clone, Copy)]
 pub(crate) struct Fault {
     pub(crate) left: usize,
     pub(crate) reason: Reason,
 }
 
-/// Why a line is not read.
+/// The reason why a line is not read.
 #[derive(Clone, Copy)]
 pub(crate) enum LineError {
     /// A request for memory was refused.
     NoMemory,
-    /// A word may not stand there.
+    /// The word may not stand there.
     Bad(Fault),
 }
 
@@ -46,7 +46,7 @@ impl LineError {
     }
 }
 
-// The place of a character in a line, from 1, by how many bytes stand from its first one on.
+// The column, from 1, of a character in the line, by the number of the line's bytes from its first one on.
 fn column_of(line: &str, left: usize) -> u64 {
     let bytes = line.as_bytes();
     let front = &bytes[..bytes.len().saturating_sub(left)];

@@ -1,4 +1,4 @@
-//! Losses of the locks of files.
+//! Losses of the locks of files, as where a lock server began again.
 ghost use Rattle.std.specs.Prelude.{◌≡◌, ◌≤◌, ℕ, [], All, IfOk, OnOk};
 ghost use Rattle.history_text.specs.declared.rule.Allowed.{Allowed as Rules};
 ghost use Rattle.history_text.specs.Losses.{AreLosses, ArePaired, IsLoss};
@@ -18,7 +18,8 @@ pub(crate) struct Loss {
     pub(crate) end: u64,
 }
 
-/// The losses of files: the names of these, and of each at the same place its losses in the order of their lines.
+/// The losses of all files: the files' names, and at the same index the losses of each file, in the order of their
+/// lines.
 #[derive(Drop)]
 pub(crate) struct Losses {
     pub(crate) files: Names,
@@ -26,7 +27,7 @@ pub(crate) struct Losses {
 }
 
 impl Losses {
-    /// None.
+    /// No losses.
     pub(crate) fn new(alloc: Global) -> Losses
         ensures paired { ArePaired result }
         ensures none { result.losses.items ≡ [] }
@@ -37,10 +38,10 @@ impl Losses {
         }
     }
 
-    /// The loss of the file of this name comes last.
+    /// Appends the loss of the file of this name.
     ///
     /// # Errors
-    /// `AllocError`.
+    /// `AllocError` where a request for memory was refused.
     pub(crate) fn push(&mut self, alloc: Global, file: &str, loss: Loss) -> Result<(), AllocError>
         requires { ArePaired self.old }
         ensures paired { OnOk result (ArePaired self.new) }
@@ -66,10 +67,10 @@ impl Losses {
     }
 }
 
-/// Takes the words BEGIN and END of a loss, which stand in a line of this number.
+/// Takes the words BEGIN and END of a loss, in the line of this number.
 ///
 /// # Errors
-/// `Missing`, `NotANumber`, `TooLarge`, and at END `LossEndsBeforeBegin`.
+/// `Missing` where a word is missing, `NotANumber` and `TooLarge` as in `time_of`, and at END `LossEndsBeforeBegin`.
 pub(crate) fn next_loss(line: u64, words: &mut Words<'_>) -> Result<Loss, Fault>
     ensures line { IfOk result (λ loss. loss.line ≡ line) }
     ensures timed { IfOk result (λ loss. loss.begin ≤ loss.end) }

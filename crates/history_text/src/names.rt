@@ -1,4 +1,4 @@
-//! Names in order.
+//! Names, numbered in the order in which they are first mentioned.
 ghost use Rattle.std.specs.Prelude.{◌≡◌, ◌≤◌, ◌<◌, ◌+◌, [], length, max, slice_get, Some, IfOk, IfSome, MatchOption, OnOk};
 
 use indexmap::IndexSet;
@@ -36,14 +36,14 @@ impl Names {
         }
     }
 
-    /// How many there are.
+    /// The number of names.
     pub fn count(&self) -> usize
         ensures { result ≡ length self.now }
     {
         self.names.len()
     }
 
-    /// The name of this number, if there are so many.
+    /// The name of that number, if there are so many.
     pub fn get(&self, number: usize) -> Option<&str>
         ensures { MatchOption result (length self.now ≤ number) (λ name. slice_get self.now number ≡ Some name.now) }
     {
@@ -53,17 +53,17 @@ impl Names {
         }
     }
 
-    /// The number of the name, if it is one of them.
+    /// The number of the name, if it is known.
     pub(crate) fn find(&self, name: &str) -> Option<usize>
         ensures { IfSome result (λ number. number < length self.now) }
     {
         self.names.get_index_of(name)
     }
 
-    /// The number of the name, which comes last where it is a new one.
+    /// The number of the name. A new name comes last.
     ///
     /// # Errors
-    /// `AllocError`.
+    /// `AllocError` where a request for memory was refused.
     pub(crate) fn number_of(&mut self, alloc: Global, name: &str) -> Result<usize, AllocError>
         ensures within { IfOk result (λ number. number ≤ length self.old) }
         ensures count { IfOk result (λ number. length self.new ≡ max (length self.old) (number + 1)) }

@@ -1,4 +1,4 @@
-//! Times, offsets and modes of a line.
+//! The times, offsets and modes that words of a line say.
 ghost use Rattle.std.specs.Prelude.{◌≤◌, IfOk, IfSome};
 
 use crate::line_error::Fault;
@@ -12,7 +12,8 @@ use texts::words::Named;
 /// The time, or the length of time, that the word says: a whole number below 2 to the power of 63.
 ///
 /// # Errors
-/// `NotANumber`, and `TooLarge`.
+/// `NotANumber` where the word is not written as a whole number; `TooLarge` where the number is 2 to the power of 63
+/// or more.
 pub(crate) fn time_of(word: &Word<'_>) -> Result<u64, Fault> {
     match number_of(word.text, 0, GREATEST) {
         Some(time) => Ok(time),
@@ -20,10 +21,10 @@ pub(crate) fn time_of(word: &Word<'_>) -> Result<u64, Fault> {
     }
 }
 
-/// The end that the word says of a call that began at that time: none for `-`.
+/// The end that the word says, of a call that began at that time; none for `-`.
 ///
 /// # Errors
-/// As `time_of`, and `EndsBeforeBegin`.
+/// As `time_of`, and `EndsBeforeBegin` where the end is before the begin.
 pub(crate) fn end_of(word: &Word<'_>, begin: u64) -> Result<Option<u64>, Fault>
     ensures { IfOk result (λ end. IfSome end (λ time. begin ≤ time)) }
 {
@@ -40,7 +41,7 @@ pub(crate) fn end_of(word: &Word<'_>, begin: u64) -> Result<Option<u64>, Fault>
 /// Takes the next word, which names a mode.
 ///
 /// # Errors
-/// `Missing`, and `UnknownMode`.
+/// `Missing` where there is no word, and `UnknownMode` where it names no mode.
 pub(crate) fn next_mode(words: &mut Words<'_>) -> Result<Mode, Fault> {
     let word = words.next_word()?;
     match Mode::of_word(word.text) {
@@ -49,10 +50,11 @@ pub(crate) fn next_mode(words: &mut Words<'_>) -> Result<Mode, Fault> {
     }
 }
 
-/// Takes the next two words, START and LEN, as in `struct flock`: the bytes that they name.
+/// Takes the next two words, START and LEN, as in `struct flock`. Gives the bytes that they name.
 ///
 /// # Errors
-/// `Missing`, `NotANumber`, `TooLarge`, and at START `NoBytes`.
+/// `Missing` where a word is missing, `NotANumber` and `TooLarge` where one is no offset, and at START `NoBytes`
+/// where they name no bytes.
 pub(crate) fn next_span(words: &mut Words<'_>) -> Result<Span, Fault> {
     let first = words.next_word()?;
     let start = offset_in(&first)?;
@@ -75,7 +77,7 @@ fn offset_in(word: &Word<'_>) -> Result<i64, Fault> {
     }
 }
 
-// Why a word was not read as a number.
+// The reason why a word was not read as a number.
 fn unread_number(word: &str) -> Reason {
     if is_number(word) {
         Reason::TooLarge
@@ -84,7 +86,7 @@ fn unread_number(word: &str) -> Reason {
     }
 }
 
-// Whether the word is written as a number is, of any size.
+// Whether the word is written as a number of any size.
 fn is_number(word: &str) -> bool {
     !word.starts_with('0') && word.bytes().all(|byte| byte.is_ascii_digit())
 }

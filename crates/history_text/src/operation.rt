@@ -1,4 +1,4 @@
-//! Operations of calls.
+//! The operations of calls on files.
 use crate::line_error::Fault;
 use crate::numbers::{next_mode, next_span};
 use crate::reason::Reason;
@@ -6,18 +6,19 @@ use crate::words::{Word, Words};
 use intervals::span::Span;
 use model::mode::Mode;
 
-/// What a client asked for of a file.
+/// The operation of a call on a file.
 #[derive(Clone, Copy)]
 pub(crate) enum Operation {
     Set { mode: Mode, span: Span },
     Wait { mode: Mode, span: Span },
     Unlock { span: Span },
     Query { mode: Mode, span: Span },
-    /// Of a descriptor by which its owner never set, waited for or gave back a lock, if it is unused.
+    /// A close; `is_unused` says that it is of a descriptor by which its owner never set, waited for or gave back a
+    /// lock.
     Close { is_unused: bool },
 }
 
-/// The word of an operation of a file.
+/// The word of an operation on a file.
 #[derive(Clone, Copy)]
 pub(crate) enum Verb {
     Set,
@@ -28,10 +29,10 @@ pub(crate) enum Verb {
 }
 
 impl Verb {
-    /// The one that the word names.
+    /// The operation word that the word is.
     ///
     /// # Errors
-    /// `UnknownOperation`.
+    /// `UnknownOperation` where it is none.
     pub(crate) fn of(word: &Word<'_>) -> Result<Verb, Fault> {
         match word.text {
             "set" => Ok(Verb::Set),

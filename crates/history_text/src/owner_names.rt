@@ -1,14 +1,16 @@
-//! Words that name owners.
+//! The words that name owners.
 use crate::line_error::Fault;
 use crate::machine::{Machine, is_declared};
 use crate::reason::Reason;
 use crate::words::Word;
 use texts::text::split_at_first;
 
-/// That the word names an owner: any word but `?`, and where machines are declared one with `@` and a machine's name behind it.
+/// Refuses a word that names no owner. An owner is any word but `?`; where machines are declared, it is one with `@`
+/// and a machine's name behind it.
 ///
 /// # Errors
-/// `NoOwner`, `NoMachine`, and `UnknownMachine`.
+/// `NoOwner` where the word is `?` or has no name before its `@`; where machines are declared, `NoMachine` where it
+/// names none, and `UnknownMachine` where it names one that isn't declared.
 pub(crate) fn check_owner(word: &Word<'_>, machines: &[Machine]) -> Result<(), Fault> {
     match unnamed(word.text, machines) {
         Some(reason) => Err(word.fault(reason)),
@@ -16,7 +18,7 @@ pub(crate) fn check_owner(word: &Word<'_>, machines: &[Machine]) -> Result<(), F
     }
 }
 
-// Why the word names no owner, if it names none.
+// The reason why the word names no owner, if it names none.
 fn unnamed(word: &str, machines: &[Machine]) -> Option<Reason> {
     match split_at_first(word, b'@') {
         Some((name, machine)) => {

@@ -1,19 +1,19 @@
-//! Owners by the numbers of their names.
+//! The owners that stand for names, by the names' numbers.
 ghost use Rattle.std.specs.Prelude.{◌≡◌, ◌≢◌, ◌<◌, ℕ, MatchOption};
 ghost use Rattle.history_text.specs.Owners.{owner_numbered, most_owners};
 
 use model::owner::{Kind, Owner};
 
-/// As many owners can be told apart.
+/// The number of owners that can be told apart.
 pub(crate) const MOST_OWNERS: usize = 1_073_725_440;
 
-// Processes of an incarnation of a node.
+// The number of processes of an incarnation of a node.
 const PROCESSES: usize = 256;
 
-// Incarnations of a node.
+// The number of incarnations of a node.
 const INCARNATIONS: usize = 65_535;
 
-/// The owner that stands for the name of this number.
+/// The owner that stands for the name of that number, from 0.
 pub(crate) fn owner_of(number: usize) -> Owner
     requires { number < most_owners }
     ensures { result ≡ owner_numbered number }

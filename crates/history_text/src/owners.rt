@@ -1,4 +1,4 @@
-//! Owners of a history.
+//! The owners that lines name, with their lives.
 ghost use Rattle.std.specs.Prelude.{◌≡◌, ◌<◌, ◌+◌, ℕ, [], length, IfOk, IfSome, OnOk};
 ghost use Rattle.texts.specs.Reads.{IsWithin};
 ghost use Rattle.history_text.specs.Lives.{AreLives, AreOwners, Extends, HasBegun, HasExit, HasLife};
@@ -12,7 +12,7 @@ use crate::words::Word;
 use model::owner::Owner;
 use std::alloc::{AllocError, Global};
 
-/// The owners that lines name, and when each lived.
+/// The owners that lines name, and the life of each.
 #[derive(Drop)]
 pub(crate) struct Owners {
     pub(crate) names: Names,
@@ -31,10 +31,11 @@ impl Owners {
         }
     }
 
-    /// The number of the owner that the word names.
+    /// The number of the owner that the word names. A new owner comes last.
     ///
     /// # Errors
-    /// `NoMemory`, and `TooManyOwners`.
+    /// `NoMemory` where a request for memory was refused, and `TooManyOwners` where the owner would be one more than
+    /// 1,073,725,440.
     pub(crate) fn number_of(&mut self, alloc: Global, word: &Word<'_>) -> Result<usize, LineError>
         requires { AreOwners self.old.names self.old.lives.items }
         ensures owners { OnOk result (AreOwners self.new.names self.new.lives.items) }
@@ -52,10 +53,10 @@ impl Owners {
         Ok(number)
     }
 
-    /// The owner begins a call then.
+    /// Notes that the owner begins a call at that time.
     ///
     /// # Errors
-    /// `BehindExit`.
+    /// `BehindExit` where the owner's exit ends before that time.
     pub(crate) fn begin_call(&mut self, number: usize, begin: u64) -> Result<(), Reason>
         requires owners { AreOwners self.old.names self.old.lives.items }
         requires within { number < length self.old.lives.items }
@@ -69,10 +70,11 @@ impl Owners {
         Ok(())
     }
 
-    /// The owner exits, which is a call that it has begun.
+    /// Notes the exit of the owner, a call that it has begun.
     ///
     /// # Errors
-    /// `SecondExit`, and `EarlyExit`.
+    /// `SecondExit` where the owner has an exit; then `EarlyExit` where a call of it begins behind the end of this
+    /// one.
     pub(crate) fn exit(&mut self, number: usize, exit: Exit) -> Result<(), Reason>
         requires owners { AreOwners self.old.names self.old.lives.items }
         requires begun { HasBegun self.old.lives.items number exit.begin }
@@ -85,7 +87,7 @@ impl Owners {
         Ok(())
     }
 
-    /// When the owner lived, if it is one of them.
+    /// The life of the owner, if it is one of them.
     pub(crate) fn life_of(&self, owner: &Owner) -> Option<Life>
         ensures { IfSome result (HasLife self.now.lives.items owner.now) }
     {
@@ -101,7 +103,7 @@ impl Owners {
     }
 }
 
-// One more owner is named.
+// Appends the life of one more owner.
 fn push_life(lives: &mut Vec<Life>) -> Result<(), AllocError>
     ensures extends { OnOk result (Extends lives.old.items lives.new.items) }
     ensures lives { OnOk result ((lines : ℕ) → AreLives lines lives.old.items → AreLives lines lives.new.items) }

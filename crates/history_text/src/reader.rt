@@ -1,4 +1,4 @@
-//! A history as far as its lines were read.
+//! The reader of a history, line by line.
 ghost use Rattle.std.specs.Prelude.{◌≡◌, ◌≤◌, ◌<◌, ◌+◌, if◌then◌else◌, false, None, OnOk};
 ghost use Rattle.texts.specs.Reads.{IsWithin};
 ghost use Rattle.history_text.specs.Calls.{counted, is_call};
@@ -30,8 +30,8 @@ use client_history::client_call::ClientCall;
 use std::alloc::{AllocError, Global};
 use texts::text::after;
 
-/// What the lines of a history told that were read: the unit, behind the first of them that is not passed; machines, owners and
-/// files; the calls of each file; losses of locks, where they count; how many calls.
+/// What the lines read so far say: the unit, once a line said it; machines, owners and files; the calls of each file;
+/// losses of locks, if the rules let them count; and the numbers of lines of calls.
 #[derive(Drop)]
 pub(crate) struct Reader {
     pub(crate) unit: Option<Unit>,
@@ -42,7 +42,7 @@ pub(crate) struct Reader {
 }
 
 impl Reader {
-    /// No line was read.
+    /// The reader before the first line.
     pub(crate) fn new(alloc: Global) -> Reader
         ensures read { (allowed : Allowed) → IsRead allowed 0 result }
         ensures paired { IsPaired result }
@@ -64,7 +64,8 @@ impl Reader {
     /// Takes the line of this number, where these rules are allowed.
     ///
     /// # Errors
-    /// `NoMemory`, and `Bad` with the first word of the line that may not stand there.
+    /// `NoMemory` where a request for memory was refused; `Bad` with the first word of the line that may not stand
+    /// there.
     pub(crate) fn take(
         &mut self,
         alloc: Global,
@@ -128,7 +129,7 @@ impl Reader {
         }
     }
 
-    // Takes what stands behind the word `lost` in the line of this number.
+    // Takes the words behind the word `lost` in the line of this number.
     fn take_loss(
         &mut self,
         alloc: Global,
@@ -153,7 +154,7 @@ impl Reader {
         Ok(())
     }
 
-    // Takes the line `history 1 clock UNIT`, of which this is the first word.
+    // Takes the line `history 1 clock UNIT`, from its first word on.
     fn take_head(&mut self, word: &Word<'_>, words: &mut Words<'_>) -> Result<(), LineError>
         ensures known { self.new.known ≡ self.old.known }
         ensures files { self.new.files ≡ self.old.files }
@@ -174,7 +175,7 @@ impl Reader {
         Ok(())
     }
 
-    // Takes the line `machine NAME skew S`, of which this is the first word.
+    // Takes the line `machine NAME skew S`, from its first word on.
     fn take_machine(
         &mut self,
         alloc: Global,
@@ -202,7 +203,7 @@ impl Reader {
         Ok(())
     }
 
-    // Takes what stands behind the word `call` in the line of this number.
+    // Takes the words behind the word `call` in the line of this number.
     fn take_call(
         &mut self,
         alloc: Global,
@@ -228,7 +229,7 @@ impl Reader {
         match deed {
             Deed::Exits => self.counts.exits += 1,
             Deed::Asks { file, asked } => {
-                let operation: Operation = asked.operation; // tells the proof of a type that a call has
+                let operation: Operation = asked.operation; // tells the proof the type of a call's operation
                 add_file(alloc, &mut self.files, file)?;
                 match steps_of(&Asked { operation, ..asked }, allowed) {
                     Steps::None => self.counts.silent += 1,
@@ -270,7 +271,7 @@ fn has_calls(counts: &Counts) -> bool {
     counts.calls > 0 || counts.exits > 0 || counts.silent > 0
 }
 
-// The machine of this name comes last.
+// Appends the machine of this name.
 fn push_machine(
     alloc: Global,
     machines: &mut Vec<Machine>,

@@ -1,4 +1,4 @@
-//! Reading of histories.
+//! The reading of a history from its text.
 ghost use Rattle.std.specs.Prelude.{[], IfOk};
 ghost use Rattle.history_text.specs.Histories.{IsHistoryOf};
 ghost use Rattle.history_text.specs.Readings.{HasRead};
@@ -81,7 +81,7 @@ pub fn read(alloc: Global, text: &str, allowed: Allowed) -> Result<History, Read
     })
 }
 
-// Takes all lines of the text: how many there are.
+// Takes all lines of the text. Gives their number.
 fn read_lines(
     alloc: Global,
     reader: &mut Reader,
@@ -108,7 +108,7 @@ fn read_lines(
     Ok(count)
 }
 
-// That the last line, which has this number, has no line feed.
+// The error that the last line, which has this number, has no line feed.
 fn unfinished(number: u64, line: &str) -> ReadError {
     let fault = Fault {
         left: 0,
@@ -117,7 +117,7 @@ fn unfinished(number: u64, line: &str) -> ReadError {
     LineError::Bad(fault).at(number, line)
 }
 
-// That none of so many lines is the first one of a history.
+// The error that none of that many lines is the first one of a history.
 fn no_head(count: u64) -> ReadError {
     ReadError::BadLine {
         line: count.saturating_add(1),

@@ -1,20 +1,20 @@
-//! Why a line is bad.
+//! The reasons why a line of a history is bad.
 use intervals::span::SpanError;
 use thiserror::Error;
 
-/// Why a line of a history is bad.
+/// The reason why a line of a history is bad.
 #[derive(Clone, Copy, Debug, PartialEq, Eq, Error)]
 pub enum Reason {
-    /// The text ends in the line.
+    /// The text ends within the line: it has no line feed.
     #[error("no line feed stands at the end of the last line")]
     Unfinished,
-    /// The first line that is not passed is another one, or there is none.
+    /// The first line that is not passed is not `history 1 clock UNIT`, or there is none.
     #[error("the first line is `history 1 clock UNIT`")]
     NoHead,
-    /// A history has one such line.
+    /// The history has had such a line.
     #[error("the line `history` stands once, before all others")]
     SecondHead,
-    /// The word begins no line.
+    /// The word begins no kind of line.
     #[error("expected `call`, `machine`, `note` or `lost`")]
     UnknownLine,
     /// The word names no unit.
@@ -35,14 +35,13 @@ pub enum Reason {
     /// The word is not `->`.
     #[error("expected `->`")]
     NoArrow,
-    /// No word stands there.
+    /// A word is missing here.
     #[error("a word is missing")]
     Missing,
-    /// A word stands there.
+    /// The line goes on, where it has to end.
     #[error("expected the end of the line")]
     MoreWords,
-    /// The word is no whole number, or is not written as one: decimal, without a plus sign and without
-    /// leading zeros.
+    /// The word is no whole number, or is not written as one: decimal, without a plus sign and without leading zeros.
     #[error("expected a whole number")]
     NotANumber,
     /// The number is past its limit.
@@ -63,31 +62,31 @@ pub enum Reason {
     /// Machines are declared, and the owner names none.
     #[error("the owner names no machine")]
     NoMachine,
-    /// The machine that the owner names is not declared before.
+    /// The machine that the owner names was not declared before.
     #[error("the machine is not declared")]
     UnknownMachine,
-    /// A machine of this name is declared before.
+    /// A machine of this name was declared before.
     #[error("the machine is declared before")]
     SecondMachine,
-    /// Machines are declared before the first call.
+    /// A machine is declared after the first call.
     #[error("a machine is declared before the first call")]
     LateMachine,
-    /// The call has no end and a reply.
+    /// The call has a reply, but no end.
     #[error("a call without an end has no reply")]
     ReplyWithoutEnd,
-    /// The call has an end and no reply.
+    /// The call has an end, but no reply.
     #[error("the reply is missing")]
     NoReply,
     /// No such call has this reply.
     #[error("the reply does not go with the call")]
     WrongReply,
-    /// The owner has an exit before.
+    /// The owner had an exit before.
     #[error("the owner has another exit")]
     SecondExit,
-    /// The owner's exit, which stands before, ends before the call begins.
+    /// The owner's exit, in an earlier line, ends before the call begins.
     #[error("the call begins behind the end of its owner's exit")]
     BehindExit,
-    /// A call of the owner, which stands before, begins behind the end of the exit.
+    /// A call of the owner, in an earlier line, begins behind the end of the exit.
     #[error("the exit ends before a call of its owner begins")]
     EarlyExit,
     /// More owners are named than can be told apart.

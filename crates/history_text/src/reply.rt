@@ -1,4 +1,4 @@
-//! Replies to calls.
+//! The replies to calls, as lines write them.
 use crate::line_error::Fault;
 use crate::operation::Operation;
 use crate::reason::Reason;
@@ -16,10 +16,10 @@ pub(crate) enum Answer {
 }
 
 impl Answer {
-    /// The one that the word names.
+    /// The first word of a reply that the word is.
     ///
     /// # Errors
-    /// `UnknownReply`.
+    /// `UnknownReply` where it is none.
     pub(crate) fn of(word: &Word<'_>) -> Result<Answer, Fault> {
         match word.text {
             "done" => Ok(Answer::Done),
@@ -32,7 +32,7 @@ impl Answer {
         }
     }
 
-    /// Whether a lock may be told behind it.
+    /// Whether words that name a lock may follow.
     pub(crate) fn tells_lock(self) -> bool {
         match self {
             Answer::Again | Answer::Blocked => true,
@@ -40,7 +40,7 @@ impl Answer {
         }
     }
 
-    /// Whether such a call may have it.
+    /// Whether a call with that operation may have the reply.
     pub(crate) fn goes_with(self, operation: &Operation) -> bool {
         match operation {
             Operation::Set { .. } => match self {
@@ -63,10 +63,11 @@ impl Answer {
     }
 }
 
-/// Takes the `->` and the first word of a reply, if the line goes on; a reply goes with an end.
+/// Takes the `->` and the first word of a reply, if the line goes on. Only a call with an end has a reply.
 ///
 /// # Errors
-/// `ReplyWithoutEnd` where the call has no end and a reply, `NoArrow`, and `Missing`.
+/// `ReplyWithoutEnd` where the call has a reply and no end, `NoArrow` where another word stands in the place of `->`,
+/// and `Missing` where no word follows.
 pub(crate) fn next_reply<'a>(
     words: &mut Words<'a>,
     has_end: bool,

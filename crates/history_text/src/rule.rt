@@ -1,4 +1,4 @@
-//! Known differences from one table of record locks.
+//! Rules: the known ways in which lock managers differ from one table of record locks.
 ghost use Rattle.std.specs.Prelude.{◌≡◌, false};
 ghost use Rattle.history_text.specs.Rules.{allows, rule_text, with_rule};
 
@@ -12,7 +12,7 @@ pub enum Rule {
     WaitDrops,
     /// A `close F unused` says nothing.
     CloseOwnDescriptor,
-    /// What a query told says nothing: queries are only counted.
+    /// The reply to a query says nothing: queries are only counted.
     NoQuery,
     /// A read that is denied, a `set` with `again` or a `query` with `blocked`, says nothing: locks that are gone may deny readers.
     StaleReadDenial,
@@ -21,7 +21,7 @@ pub enum Rule {
     LostAt,
 }
 
-/// All rules, in the order in which they are told.
+/// All rules, in the order in which they are listed.
 pub const RULES: [Rule; 5] = [
     Rule::WaitDrops,
     Rule::CloseOwnDescriptor,
@@ -30,7 +30,7 @@ pub const RULES: [Rule; 5] = [
     Rule::LostAt,
 ];
 
-/// `wait-drops`, `close-own-descriptor`, `no-query`, `stale-read-denial` or `lost-at`.
+/// The words are `wait-drops`, `close-own-descriptor`, `no-query`, `stale-read-denial` and `lost-at`.
 impl Named for Rule {
     ghost word_of = { rule_text };
 
@@ -66,7 +66,7 @@ impl Named for Rule {
     fn are_words() {}
 }
 
-/// The rules by which a lock manager may differ from one table: those whose fields are true.
+/// The set of rules by which a lock manager may differ from one table: those whose fields are true.
 #[derive(Clone, Copy, Debug, PartialEq, Eq)]
 pub struct Allowed {
     pub wait_drops: bool,
@@ -77,7 +77,7 @@ pub struct Allowed {
 }
 
 impl Allowed {
-    /// No rule.
+    /// The empty set: no rule is allowed.
     pub fn nothing() -> Allowed
         ensures { (rule : Rule) → allows result rule ≡ false }
     {
@@ -90,7 +90,7 @@ impl Allowed {
         }
     }
 
-    /// The same and this rule.
+    /// The set with this rule as well.
     pub fn with(self, rule: Rule) -> Allowed
         ensures { result ≡ with_rule self rule }
     {
@@ -105,7 +105,7 @@ impl Allowed {
         allowed
     }
 
-    /// Whether the rule is one of them.
+    /// Whether the set has the rule.
     pub fn has(&self, rule: Rule) -> bool
         ensures { result ≡ allows self.now rule }
     {

@@ -1,4 +1,4 @@
-//! What calls did to locks, where a lock manager may differ from one table.
+//! The steps of calls: what each did to locks, where a lock manager may differ from one table.
 ghost use Rattle.std.specs.Prelude.{◌≡◌, false};
 ghost use Rattle.history_text.specs.Steps.{IsWhole};
 
@@ -10,7 +10,7 @@ use client_history::act::Act;
 use intervals::span::Span;
 use model::mode::Mode;
 
-/// What a call did to the locks of its file, as far as it says that: in how many steps, and what each did.
+/// The steps of a call on the locks of its file, as far as its reply says: none, one or two acts.
 #[derive(Clone, Copy)]
 pub(crate) enum Steps {
     None,
@@ -18,7 +18,7 @@ pub(crate) enum Steps {
     Two(Act, Act),
 }
 
-/// What the call did to the locks of its file where these rules are allowed.
+/// The steps of the call on the locks of its file, where these rules are allowed.
 pub(crate) fn steps_of(asked: &Asked, allowed: Allowed) -> Steps
     ensures { allowed.wait_drops ≡ false → IsWhole result }
 {
@@ -36,7 +36,7 @@ pub(crate) fn steps_of(asked: &Asked, allowed: Allowed) -> Steps
     }
 }
 
-// Whether a rule takes from the call what it says.
+// Whether a rule lets the call say nothing.
 fn is_silenced(asked: &Asked, allowed: Allowed) -> bool {
     match asked.operation {
         Operation::Set { mode, .. } => allowed.stale_read_denial && is_denied_read(asked, mode),
@@ -53,8 +53,8 @@ fn is_denied_read(asked: &Asked, mode: Mode) -> bool {
     mode == Mode::Read && asked.answer.is_some_and(|answer| answer.tells_lock())
 }
 
-// What a wait did that first gives back the caller's own locks on its span. What is interrupted gave them back; where there is no
-// reply it may have done that and may have got the lock.
+// The steps of a wait that first gives back the caller's own locks on its span. A wait that was interrupted gave them
+// back. One without a reply may have done that, and may have got the lock.
 fn steps_of_wait(answer: Option<Answer>, mode: Mode, span: Span) -> Steps {
     match answer {
         None | Some(Answer::Done) => Steps::Two(Act::Frees { span }, Act::Locks { mode, span }),
@@ -63,8 +63,8 @@ fn steps_of_wait(answer: Option<Answer>, mode: Mode, span: Span) -> Steps {
     }
 }
 
-// What the call did by one table, as far as its answer says that; none is as one that is done, where the call may have changed
-// something.
+// The act of the call by one table, as far as its reply says. A call without a reply has the act of one that is done,
+// if that may change a lock.
 fn act_of(asked: &Asked) -> Option<Act> {
     let (answer, told) = (asked.answer, asked.told);
     match asked.operation {

@@ -1,9 +1,9 @@
-//! Words of a line.
+//! The words of a line.
 use crate::line_error::Fault;
 use crate::reason::Reason;
 use texts::text::split_field;
 
-/// A word, and how many bytes of its line stand from its first one on.
+/// A word, and the number of the line's bytes from its first one on.
 #[derive(Clone, Copy)]
 pub(crate) struct Word<'a> {
     pub(crate) text: &'a str,
@@ -11,7 +11,7 @@ pub(crate) struct Word<'a> {
 }
 
 impl Word<'_> {
-    /// That the word may not stand there.
+    /// The fault that the word may not stand there, for this reason.
     pub(crate) fn fault(&self, reason: Reason) -> Fault {
         Fault {
             left: self.left,
@@ -20,14 +20,14 @@ impl Word<'_> {
     }
 }
 
-/// What is left of a line, from the next word on. Words have one space between them.
+/// The rest of a line, from the next word on. Words have one space between them.
 #[derive(Drop)]
 pub(crate) struct Words<'a> {
     rest: Option<&'a str>,
 }
 
 impl<'a> Words<'a> {
-    /// All words of a line, or of the end of one.
+    /// The words of a line, or of the end of one.
     pub(crate) fn of(line: &'a str) -> Words<'a> {
         Words { rest: Some(line) }
     }
@@ -62,10 +62,10 @@ impl<'a> Words<'a> {
         Ok(Word { text, left })
     }
 
-    /// Takes the next word, which is this one.
+    /// Takes the next word, which has to be this one.
     ///
     /// # Errors
-    /// `Missing` where there is none, and this reason where it is another one.
+    /// `Missing` where there is none, and this reason where it is another word.
     pub(crate) fn expect_word(&mut self, expected: &str, reason: Reason) -> Result<(), Fault> {
         let word = self.next_word()?;
         if word.text == expected {
@@ -75,7 +75,7 @@ impl<'a> Words<'a> {
         }
     }
 
-    /// Takes the next word if it is this one: whether it was.
+    /// Takes the next word if it is this one. Answers whether it was.
     pub(crate) fn skip_word(&mut self, expected: &str) -> bool {
         let Some(line) = self.rest else {
             return false;
@@ -93,7 +93,7 @@ impl<'a> Words<'a> {
         }
     }
 
-    /// That there is no next word.
+    /// Checks that there is no next word.
     ///
     /// # Errors
     /// `MoreWords` where there is one.
@@ -105,7 +105,7 @@ impl<'a> Words<'a> {
         }
     }
 
-    /// That the line may not go on so behind the words that were taken.
+    /// The fault that the line may not go on like this behind the words that were taken.
     pub(crate) fn fault(&self, reason: Reason) -> Fault {
         let left = match self.rest {
             Some(rest) => rest.len(),
@@ -115,7 +115,7 @@ impl<'a> Words<'a> {
     }
 }
 
-// That a word is missing, with so many bytes of the line behind the place where it should stand.
+// The fault that a word is missing, with that many bytes of the line behind the place where it should stand.
 fn missing(left: usize) -> Fault {
     Fault {
         left,

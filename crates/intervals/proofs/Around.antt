@@ -1,4 +1,4 @@
--- How far bytes that are not barred go on, below and above.
+-- How far bytes that are not barred go on, downwards and upwards.
 use Rattle.std.proofs.Common.{◌≡◌, ℕ, ◌+◌, ◌-◌, ◌<◌, ◌≤◌, ◌⊎◌, max, length, List, [], ◌∷◌, ◌++◌, Option, Some, None, refl, sym, ◌∙◌, inl, inr, arith}
 use Rattle.std.proofs.lemmas.Bool.{cases_lt}
 use Rattle.std.proofs.lemmas.Bool.Decides.{nat_tests}
@@ -10,7 +10,7 @@ use Rattle.intervals.proofs.Find.{BarredLeft, left-none, barred-some, barred-val
 use Rattle.intervals.proofs.Split.{ends-before, runs-front, at-front, barred-back}
 
 module _ {V : Type 0} (runs : List (Run V)) (bar : Option V) (to high : ℕ) (order : to ≤ high) where
-  -- no barred run is left
+  -- where no barred run is left the bytes are free up to `high`
   pub highest_end : BarredLeft runs [] bar (record { lo = to + 1; hi = high }) → IsHighestFree (IsBarred (value_at runs) bar) to high high
   highest_end left = record {
     above = order;
@@ -19,7 +19,7 @@ module _ {V : Type 0} (runs : List (Run V)) (bar : Option V) (to high : ℕ) (or
     full_above = λ lt. absurd (omega arith);
   }
 
-  -- those that are left begin above `high`
+  -- where the runs that are left begin above `high` the bytes are free up to `high`
   pub highest_stop : (rest : List (Run V)) (r : Run V) → BarredLeft runs (r ∷ rest) bar (record { lo = to + 1; hi = high }) → AreRuns (r ∷ rest) → high < r.lo → IsHighestFree (IsBarred (value_at runs) bar) to high high
   highest_stop rest r left made over = record {
     above = order;
@@ -28,7 +28,7 @@ module _ {V : Type 0} (runs : List (Run V)) (bar : Option V) (to high : ℕ) (or
     full_above = λ lt. absurd (omega arith);
   }
 
-  -- a barred run
+  -- where the next run is barred the bytes are free up to the byte below it
   pub highest_before : (rest : List (Run V)) (r : Run V) (hi : ℕ) → BarredLeft runs (r ∷ rest) bar (record { lo = to + 1; hi = high }) → AreRuns (r ∷ rest) → IsRun (value_at runs) (bytes_of r) r.value → IsBarredValue bar r.value → to < r.hi → r.lo ≤ high → hi ≡ max (r.lo - 1) to → IsHighestFree (IsBarred (value_at runs) bar) to high hi
   highest_before rest r hi left made run barred over starts e = record {
     above = omega arith;
@@ -56,7 +56,7 @@ order-last : {V : Type 0} (l : List (Run V)) (r : Run V) → AreRuns (l ++ r ∷
 order-last [] r runs = runs.0
 order-last (s ∷ l) r runs = order-last l r runs.2
 
--- past the last run there is no value
+-- a byte past the last run has no value
 none_past : {V : Type 0} (l : List (Run V)) (r : Run V) (b : ℕ) → AreRuns (l ++ r ∷ []) → r.hi < b → value_at (l ++ r ∷ []) b ≡ None
 none_past l r b runs past =
     let ended = ends-before l [] r runs in
@@ -65,11 +65,11 @@ none_past l r b runs past =
     let at = at-append l r b ended in
     grind (arith, nat_tests)
 
--- in the last run there is its value
+-- a byte of the last run has its value
 some_last : {V : Type 0} (l : List (Run V)) (r : Run V) (b : ℕ) → AreRuns (l ++ r ∷ []) → r.lo ≤ b → b ≤ r.hi → value_at (l ++ r ∷ []) b ≡ Some r.value
 some_last l r b runs lo hi = let at = at-append l r b (ends-before l [] r runs) in grind (arith, nat_tests)
 
--- any other byte has what it has before
+-- a byte outside the last run has the value that the runs before it give
 other_last : {V : Type 0} (l : List (Run V)) (r : Run V) (b : ℕ) → AreRuns (l ++ r ∷ []) → b < r.lo → value_at (l ++ r ∷ []) b ≡ value_at l b
 other_last l r b runs lt = let at = at-append l r b (ends-before l [] r runs) in grind (arith, nat_tests)
 
@@ -77,7 +77,7 @@ module _ {V : Type 0} (runs : List (Run V)) (bar : Option V) (low from : ℕ) wh
   pub lowest_start : AreRuns runs → EndsBelow runs from → LeftBelow runs runs bar low from
   lowest_start made ended = record { made = made; ended = ended; part = λ b v some. some; left = λ b lo hi barred. barred }
 
-  -- no run is left
+  -- where no run is left the bytes are free down to `low`
   pub lowest_end : (rest : List (Run V)) → length rest ≡ 0 → low ≤ from → LeftBelow runs rest bar low from → IsLowestFree (IsBarred (value_at runs) bar) low from low
   lowest_end (r ∷ rest) none order w = absurd (omega arith)
   lowest_end [] none order w = record {
@@ -88,7 +88,7 @@ module _ {V : Type 0} (runs : List (Run V)) (bar : Option V) (low from : ℕ) wh
   }
 
   module _ (l : List (Run V)) (r : Run V) (w : LeftBelow runs (l ++ r ∷ []) bar low from) where
-    -- what is left ends below `low`
+    -- where the last run that is left ends below `low` the bytes are free down to `low`
     pub lowest_stop : low ≤ from → r.hi < low → IsLowestFree (IsBarred (value_at runs) bar) low from low
     lowest_stop order under = record {
       above = omega arith;
@@ -97,7 +97,7 @@ module _ {V : Type 0} (runs : List (Run V)) (bar : Option V) (low from : ℕ) wh
       full_below = λ b e le. absurd (omega arith);
     }
 
-    -- a barred run
+    -- where the last run that is left is barred the bytes are free down to the byte above it
     pub lowest_after : low ≤ r.hi → IsBarredValue bar r.value → IsLowestFree (IsBarred (value_at runs) bar) low from (r.hi + 1)
     lowest_after over barred = record {
       above = omega arith;
@@ -106,7 +106,7 @@ module _ {V : Type 0} (runs : List (Run V)) (bar : Option V) (low from : ℕ) wh
       full_below = λ b e le. barred-some (value_at runs) bar b r.value (w.part b r.value (some_last l r b w.made (omega (arith, order-last l r w.made)) (omega arith))) barred;
     }
 
-    -- a run with another value
+    -- a run with another value than the barred one is passed over
     pub lowest_skip : (IsBarredValue bar r.value → ⊥) → LeftBelow runs l bar low from
     lowest_skip free = record {
       made = runs-front l (r ∷ []) w.made;
@@ -121,7 +121,7 @@ module _ {V : Type 0} (runs : List (Run V)) (bar : Option V) (low from : ℕ) wh
       ];
     }
 
--- a byte that has no value in the first part has what it has in the last
+-- a byte that has no value in the first part has the value that the last part gives
 at-other : {V : Type 0} (l m : List (Run V)) (b : ℕ) → value_at l b ≡ None → value_at (l ++ m) b ≡ value_at m b
 unfolding value_at
 at-other [] m b none = refl
@@ -133,7 +133,7 @@ module _ {V : Type 0} (l m : List (Run V)) (bar : Option V) where
   barred_parts b None is barred = inr (barred-along (value_at (l ++ m)) (value_at m) bar b (at-other l m b is) barred)
   barred_parts b (Some v) is barred = inl (barred-along (value_at (l ++ m)) (value_at l) bar b (at-front l m b v is ∙ sym is) barred)
 
-  -- what is barred in the first part is barred
+  -- a byte that is barred in the first part is barred in the whole
   barred_front : (b : ℕ) (x : Option V) → value_at l b ≡ x → IsBarred (value_at l) bar b → IsBarred (value_at (l ++ m)) bar b
   barred_front b None is barred = absurd (not_barred-none (value_at l) bar b is barred)
   barred_front b (Some v) is barred = barred-along (value_at l) (value_at (l ++ m)) bar b (is ∙ sym (at-front l m b v is)) barred
@@ -147,7 +147,7 @@ barred_up (r ∷ m) bar b from made ends le barred = elim (cases_lt b r.lo) [
 ]
 
 module _ {V : Type 0} (l m : List (Run V)) (bar : Option V) where
-  -- the runs that end below `from` tell how far down the bytes are free, if `from` is
+  -- the runs that end below `from` say how far down the bytes are free, if `from` is free
   pub lowest_all : (low from lo : ℕ) → AreRuns m → EndsBelow l from → EndsFrom m from → (IsBarred (value_at (l ++ m)) bar from → ⊥) → IsLowestFree (IsBarred (value_at l) bar) low from lo → IsLowestFree (IsBarred (value_at (l ++ m)) bar) low from lo
   lowest_all low from lo made ended reached free w = record {
     above = w.above;
@@ -159,7 +159,7 @@ module _ {V : Type 0} (l m : List (Run V)) (bar : Option V) where
     full_below = λ b e le. barred_front l m bar b (value_at l b) refl (w.full_below b e le);
   }
 
-  -- the runs that end above `to` tell how far up the bytes are free
+  -- the runs that end above `to` say how far up the bytes are free
   pub highest_all : (to high hi : ℕ) → EndsBelow l (to + 1) → IsHighestFree (IsBarred (value_at m) bar) to high hi → IsHighestFree (IsBarred (value_at (l ++ m)) bar) to high hi
   highest_all to high hi ended w = record {
     above = w.above;
@@ -168,7 +168,7 @@ module _ {V : Type 0} (l m : List (Run V)) (bar : Option V) where
     full_above = λ lt. (barred-back l m bar (to + 1) (hi + 1) ended (omega (arith, w.above))).0 (w.full_above lt);
   }
 
--- free bytes that go on as far as they can below and above
+-- free bytes that go on as far as they can at both ends are a largest span
 pub largest_from : (P : ℕ → Type 0) (required within : Range) (lo hi : ℕ) → NoneIn P required → IsLowestFree P within.lo required.lo lo → IsHighestFree P required.hi within.hi hi → IsLargest P required within (record { lo = lo; hi = hi })
 largest_from P required within lo hi free lowest highest = record {
   has_first = lowest.below;
@@ -186,7 +186,7 @@ largest_from P required within lo hi free lowest highest = record {
   full_above = highest.full_above;
 }
 
--- the same, from the runs that end below `required` and those that end above it
+-- a largest span is found from the runs that end below `required` and the ones that end above it
 pub largest_all : {V : Type 0} (runs l m k n : List (Run V)) (bar : Option V) (required within r w : Range) (lo hi : ℕ) → runs ≡ l ++ m → runs ≡ k ++ n → r ≡ required → w ≡ within → r.lo ≤ r.hi → AreRuns m → EndsBelow l r.lo → EndsFrom m r.lo → EndsBelow k (r.hi + 1) → NoneIn (IsBarred (value_at runs) bar) required → IsLowestFree (IsBarred (value_at l) bar) w.lo r.lo lo → IsHighestFree (IsBarred (value_at n) bar) r.hi w.hi hi → IsLargest (IsBarred (value_at runs) bar) required within (record { lo = lo; hi = hi })
 largest_all runs l m k n bar required within r w lo hi one two is_required is_within order made ended reached ended_past free lowest highest =
     let all_free : NoneIn (IsBarred (value_at runs) bar) r = rw is_required free in

@@ -1,4 +1,4 @@
--- What a byte of a list of runs tells about its runs.
+-- What a byte says of the runs of a list.
 use Rattle.std.proofs.Common.{◌≡◌, ℕ, zero, suc, ◌+◌, ◌<◌, ◌≤◌, ◌≢◌, ◌⊎◌, max, length, get_or, drop, List, [], ◌∷◌, Option, Some, None, IsSome, refl, ap, sym, ◌∙◌, inl, inr, arith}
 use Rattle.std.proofs.lemmas.Bool.{cases_lt}
 use Rattle.std.proofs.Math.Seq.{drop-nil}
@@ -27,7 +27,7 @@ pub first-some : {V : Type 0} (r : Run V) (rest : List (Run V)) (b : ℕ) → r.
 unfolding value_at
 first-some r rest b lo hi = grind (arith, nat_tests)
 
--- any other byte has what it has in the rest
+-- a byte outside the first run has the value that the rest gives
 pub first-other : {V : Type 0} (r : Run V) (rest : List (Run V)) (b : ℕ) → (b < r.lo) ⊎ (r.hi < b) → value_at (r ∷ rest) b ≡ value_at rest b
 unfolding value_at
 first-other r rest b (inl lt) = grind (arith, nat_tests)
@@ -52,7 +52,7 @@ first-is_run r rest runs = record {
   ends = λ some. next-other r rest runs.1 runs.2 (sym (first-other r rest (r.hi + 1) (inr (omega arith))) ∙ some);
 }
 
--- a longest run of the rest is one of all
+-- a longest run of the rest is a longest run of the whole
 pub lift-is_run : {V : Type 0} (r : Run V) (rest : List (Run V)) (s : Range) (v : V) → AreRuns (r ∷ rest) → IsRun (value_at rest) s v → IsRun (value_at (r ∷ rest)) s v
 lift-is_run r rest s v runs run =
     let above : r.hi < s.lo = elim (cases_lt r.hi s.lo) [
@@ -79,12 +79,12 @@ is_run_at [] i r runs lt is = absurd (omega arith)
 is_run_at (s ∷ rest) zero r runs lt is = rw is (first-is_run s rest runs)
 is_run_at (s ∷ rest) (suc i) r runs lt is = lift-is_run s rest (bytes_of r) r.value runs (is_run_at rest i r runs.2 (omega arith) is)
 
--- no runs, no value
+-- an empty list of runs gives no value
 pub value_at-none : {V : Type 0} (b : ℕ) → value_at {V = V} [] b ≡ None
 unfolding value_at
 value_at-none b = refl
 
--- what is left after some runs is runs
+-- a list of runs without its first ones is a list of runs
 pub runs-drop : {V : Type 0} (l : List (Run V)) (i : ℕ) → AreRuns l → AreRuns (drop i l)
 runs-drop [] i runs = rw drop-nil runs
 runs-drop (r ∷ l) zero runs = runs
@@ -95,7 +95,7 @@ pub barred-some : {V : Type 0} (f : ℕ → Option V) (bar : Option V) (b : ℕ)
 barred-some f None b v has barred = rw has refl
 barred-some f (Some w) b v has barred = has ∙ ap Some barred
 
--- and one that is barred has a barred value
+-- a barred byte has a barred value
 pub barred-value : {V : Type 0} (f : ℕ → Option V) (bar : Option V) (b : ℕ) (v : V) → f b ≡ Some v → IsBarred f bar b → IsBarredValue bar v
 barred-value f None b v has barred = tt
 barred-value f (Some w) b v has barred = cc
@@ -110,7 +110,7 @@ pub barred-along : {V : Type 0} (f g : ℕ → Option V) (bar : Option V) (b : �
 barred-along f g None b same barred = rw (sym same) barred
 barred-along f g (Some w) b same barred = sym same ∙ barred
 
--- a barred byte that stands in runs stands in what is left
+-- a barred byte of the span in the whole list is barred in the runs that are left
 abbrev pub BarredLeft : {V : Type 0} → List (Run V) → List (Run V) → Option V → Range → Type 0
 BarredLeft runs rest bar s = (b : ℕ) → s.lo ≤ b → b ≤ s.hi → IsBarred (value_at runs) bar b → IsBarred (value_at rest) bar b
 
@@ -137,11 +137,11 @@ left-first runs rest r bar s left are run order low high barred =
       none_before = λ c from to hit. not_barred-none (value_at (r ∷ rest)) bar c (before-none r rest c are (omega arith)) (left c from (omega arith) hit);
     }
 
--- the runs that are left begin above the span
+-- where the runs that are left begin above the span no byte of it is barred
 pub left-stop : {V : Type 0} (runs rest : List (Run V)) (r : Run V) (bar : Option V) (s : Range) → BarredLeft runs (r ∷ rest) bar s → AreRuns (r ∷ rest) → s.hi < r.lo → NoneIn (IsBarred (value_at runs) bar) s
 left-stop runs rest r bar s left are above b low high barred = not_barred-none (value_at (r ∷ rest)) bar b (before-none r rest b are (omega arith)) (left b low high barred)
 
--- nothing left, nothing barred
+-- where no run is left no byte of the span is barred
 pub left-none : {V : Type 0} (runs : List (Run V)) (bar : Option V) (s : Range) → BarredLeft runs [] bar s → NoneIn (IsBarred (value_at runs) bar) s
 left-none runs bar s left b low high barred = not_barred-none (value_at []) bar b (value_at-none b) (left b low high barred)
 

@@ -1,4 +1,4 @@
--- Runs before and after a byte.
+-- Runs below and above a byte.
 use Rattle.intervals.proofs.Starts as starts
 use Rattle.std.proofs.lemmas.Bool.Decides.{nat_tests}
 use Rattle.std.proofs.lemmas.List.{append_assoc}
@@ -20,7 +20,7 @@ ends_before (s ∷ t ∷ l) r m runs =
     let later = ends_before (t ∷ l) r m runs.2 in
     (omega (arith, runs.1.0, runs.2.0, later.0), later)
 
--- what begins above byte n has nothing up to it
+-- runs that begin above byte n give no value up to it
 pub none_above : {V : Type 0} (l : List (Run V)) (n b : ℕ) → BeginAbove l n → b ≤ n → value_at l b ≡ None
 none_above [] n b above le = value_at-none b
 none_above (r ∷ l) n b above le = first-other r l b (inl (omega (arith, above.0))) ∙ none_above l n b above.1 le
@@ -32,19 +32,19 @@ module _ {V : Type 0} (l m : List (Run V)) (r : Run V) (made : AreRuns (l ++ r �
       let own = runs-back l (r ∷ m) made in
       (stands_at l (r ∷ m) r.hi r made (ends_below_le l r.lo r.hi own.0 (ends_before l r m made)) (omega arith) refl).run
 
-  -- and ends where all do
+  -- r ends where all runs do
   pub ends : (n : ℕ) → EndsBelow (l ++ r ∷ m) n → r.hi < n
   ends n below =
       let own = runs-back l (r ∷ m) made in
       (stands_at l (r ∷ m) r.hi r made (ends_below_le l r.lo r.hi own.0 (ends_before l r m made)) (omega arith) refl).bounded n below
 
-  -- between its end and those that begin above it there is nothing
+  -- no byte between the end of r and the runs behind it has a value
   pub none_between : (n b : ℕ) → BeginAbove m n → r.hi < b → b ≤ n → value_at (l ++ r ∷ m) b ≡ None
   none_between n b above past le =
       let own = runs-back l (r ∷ m) made in
       at-back l (r ∷ m) r.lo b (ends_before l r m made) (omega (arith, own.0)) ∙ (first-other r m b (inr past) ∙ none_above m n b above le)
 
-  -- nor below it, where what is before ends below byte n
+  -- no byte below r and past the runs before it has a value
   pub none_under : (n b : ℕ) → EndsBelow l n → n ≤ b → b < r.lo → value_at (l ++ r ∷ m) b ≡ None
   none_under n b below le lt =
       at-back l (r ∷ m) n b below le ∙ before-none r m b (runs-back l (r ∷ m) made) lt
@@ -75,13 +75,13 @@ abbrev pub BeginBelow : {V : Type 0} → List (Run V) → ℕ → Type 0
 BeginBelow [] n = Unit {0}
 BeginBelow (r ∷ rest) n = (r.lo < n) × BeginBelow rest n
 
--- the first runs that begin at byte n or below
+-- the runs before place p begin at byte n or below it
 pub begin_take : {V : Type 0} (l : List (Run V)) (p n : ℕ) → ((k : ℕ) (d : Run V) → k < p → (get_or l k d).lo ≤ n) → BeginBelow (take p l) (n + 1)
 begin_take l zero n begins = tt
 begin_take [] (suc p) n begins = tt
 begin_take (r ∷ l) (suc p) n begins = (let first = begins 0 r (omega arith) in omega (arith, first), begin_take l p n (λ k d lt. begins (suc k) d (omega arith)))
 
--- and the others
+-- the runs from place p on begin above byte n
 pub begin_drop : {V : Type 0} (l : List (Run V)) (p n : ℕ) → ((k : ℕ) (d : Run V) → p ≤ k → k < length l → n < (get_or l k d).lo) → BeginAbove (drop p l) n
 begin_drop [] zero n above = tt
 begin_drop [] (suc p) n above = tt
@@ -92,7 +92,7 @@ pub last_begins : {V : Type 0} (l : List (Run V)) (r : Run V) (n : ℕ) → Begi
 last_begins [] r n below = below.0
 last_begins (s ∷ l) r n below = last_begins l r n below.1
 
--- the last of those that begin at byte n or below
+-- r is the last of the runs that begin at byte n or below it
 pub last_of : {V : Type 0} (runs below after before : List (Run V)) (r : Run V) (n : ℕ) → runs ≡ below ++ after → below ≡ before ++ r ∷ [] → BeginBelow below (n + 1) → BeginAbove after n → IsLastTo runs n r
 last_of runs below after before r n whole is begins above = record {
   before = before;
@@ -102,7 +102,7 @@ last_of runs below after before r n whole is begins above = record {
   above = above;
 }
 
--- where none begins at byte n or below all begin above it
+-- where no run begins at byte n or below it all of them begin above it
 pub above_none : {V : Type 0} (l m : List (Run V)) (n : ℕ) → length l ≡ 0 → BeginAbove m n → BeginAbove (l ++ m) n
 above_none [] m n none above = above
 above_none (r ∷ l) m n none above = absurd (omega (arith, none))

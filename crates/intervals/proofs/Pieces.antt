@@ -1,4 +1,4 @@
--- Lists of runs that are put together of pieces of others.
+-- Lists of runs that are put together from pieces of other lists.
 use Rattle.std.proofs.Common.{◌≡◌, ℕ, max, ◌+◌, ◌-◌, ◌<◌, ◌≤◌, length, List, [], ◌∷◌, ◌++◌, Some, sym, ◌∙◌, inl, inr, arith}
 use Rattle.std.proofs.lemmas.Bool.{cases_lt}
 use Rattle.std.proofs.lemmas.Bool.Decides.{nat_tests}
@@ -9,7 +9,7 @@ use Rattle.intervals.proofs.Find.{value_at-none, after-none, before-none, first-
 use Rattle.intervals.proofs.Runs.{ends_below_le, at-past}
 use Rattle.intervals.proofs.Split.{runs-back, at-back, at-first, ends-before}
 
--- the first runs with what the next has below `to` are all that there is below it
+-- the runs before r with the piece of r below `to` give all values below `to`
 pub cut_below : {V : Type 0} (l m new : List (Run V)) (r : Run V) (to : ℕ) → AreRuns (l ++ r ∷ m) → r.lo < to → to ≤ r.hi → ((b : ℕ) → value_at new b ≡ put (value_at l) (record { lo = r.lo; hi = to - 1 }) (Some r.value) b) → (b : ℕ) → b < to → value_at new b ≡ value_at (l ++ r ∷ m) b
 cut_below l m new r to runs starts reached bytes b lt = elim (cases_lt b r.lo) [
   | inl below ↦
@@ -23,16 +23,16 @@ cut_below l m new r to runs starts reached bytes b lt = elim (cases_lt b r.lo) [
       grind (arith, nat_tests)
 ]
 
--- and so are they alone, where the next begins at `to` or above
+-- where the next run begins at `to` or above it the runs before it give all values below `to`
 pub none_cut : {V : Type 0} (l m : List (Run V)) (r : Run V) (to : ℕ) → AreRuns (l ++ r ∷ m) → to ≤ r.lo → (b : ℕ) → b < to → value_at l b ≡ value_at (l ++ r ∷ m) b
 none_cut l m r to runs starts b lt = sym (at-first l (r ∷ m) b (before-none r m b (runs-back l (r ∷ m) runs) (omega arith)))
 
--- where no run is added, none has a value from there on
+-- where no run is added no byte from `from` on has a value
 pub none_left : {V : Type 0} (l m : List (Run V)) (from : ℕ) → length m ≡ 0 → EndsBelow l from → (b : ℕ) → from ≤ b → value_at l b ≡ value_at m b
 none_left l [] from none below b le = at-past l b (ends_below_le l from b le below) ∙ sym (value_at-none b)
 none_left l (r ∷ m) from none below b le = absurd (omega arith)
 
--- runs of which the last ends as r does, followed by what follows r
+-- runs of which the last ends where r does may be followed by the runs that follow r
 pub runs-moved : {V : Type 0} (l rest : List (Run V)) (r : Run V) → AreRuns l → EndsBelow l (r.hi + 1) → value_at l r.hi ≡ Some r.value → Follows r rest → AreRuns rest → AreRuns (l ++ rest)
 runs-moved [] rest r runs ends last follows made = made
 runs-moved (s ∷ []) [] r runs ends last follows made = runs
@@ -51,7 +51,7 @@ runs-moved (s ∷ []) (t ∷ rest) r runs ends last follows made = (
 runs-moved (s ∷ u ∷ l) rest r runs ends last follows made =
     (runs.0, runs.1, runs-moved (u ∷ l) rest r runs.2 ends.1 (sym (first-other s (u ∷ l) r.hi (inr (omega (arith, runs.1.0, runs.2.0, ends.1.0)))) ∙ last) follows made)
 
--- what stands once the first of the runs is added, cut at `from`, and the rest has followed
+-- the runs after the first one is added, cut at `from`, and the rest follows
 module _ {V : Type 0} (l mid rest : List (Run V)) (r : Run V) (from : ℕ) (runs : AreRuns (r ∷ rest)) (below : EndsBelow l from) (reached : from ≤ r.hi) (made : AreRuns mid) (ends : EndsBelow mid (r.hi + 1)) (bytes : (b : ℕ) → value_at mid b ≡ put (value_at l) (record { lo = max r.lo from; hi = r.hi }) (Some r.value) b) where
   pub moved-runs : AreRuns (mid ++ rest)
   moved-runs =

@@ -1,4 +1,4 @@
--- The parts of rows, by their places.
+-- The parts of a row by their places, and the row after parts are replaced.
 use Rattle.std.proofs.Common.{◌≡◌, ℕ, zero, suc, pred, ◌+◌, ◌-◌, ◌<◌, ◌≤◌, length, get_or, set, take, drop, List, [], ◌∷◌, ◌++◌, Option, subst, refl, ap, sym, ◌∙◌, inl, inr, arith}
 use Rattle.std.specs.List.{insert, remove}
 use Rattle.std.proofs.lemmas.List.{append_assoc, append-nil, length-append, drop-drop, get_or-drop, take_more, length-drop}
@@ -17,27 +17,27 @@ use Rattle.intervals.proofs.Ordered.{none_above}
 use Rattle.intervals.proofs.Replaced.{AreReplaced, replaced}
 use Rattle.intervals.proofs.Rows.{all_runs-append, all_runs-push, all_runs-split, some-append, some-take, some-drop, begins_ends, above-back, above_more}
 
--- the runs of a part and of those above it
+-- the runs from part i on are the ones of part i and the ones of the parts above it
 pub read_all : {V : Type 0} (l : List (List (Run V))) (i : ℕ) → i < length l → all_runs (drop i l) ≡ get_or l i [] ++ all_runs (drop (suc i) l)
 read_all [] i lt = absurd (omega arith)
 read_all (p ∷ l) zero lt = refl
 read_all (p ∷ l) (suc i) lt = read_all l i (omega arith)
 
--- all runs of a row about a place
+-- the runs of a row are the ones below a place and the ones from it on
 pub row_split : {V : Type 0} (row : Row V) (i : ℕ) → i ≤ length row.rest.items → row_runs row ≡ runs_below row i ++ (part_at row i ++ runs_above row i)
 row_split row zero le = refl
 row_split row (suc i) le =
     let rest = row.rest.items in
     ap (λ x. row.first ++ x) (all_runs-split rest i ∙ ap (λ x. all_runs (take i rest) ++ x) (read_all rest i (omega arith))) ∙ sym (append_assoc row.first (all_runs (take i rest)) (get_or rest i [] ++ all_runs (drop (suc i) rest)))
 
--- and about several parts
+-- the runs of a row are the ones below, within and above several parts
 pub row_within : {V : Type 0} (row : Row V) (i n : ℕ) → i + n ≤ length row.rest.items → row_runs row ≡ runs_below row i ++ (runs_within row i n ++ runs_above row (i + n))
 row_within row i n le =
     let rest = row.rest.items in
     let more : runs_above row i ≡ all_runs (take n (drop i rest)) ++ runs_above row (i + n) = all_runs-split (drop i rest) n ∙ ap (λ x. all_runs (take n (drop i rest)) ++ all_runs x) (drop-drop n i rest) in
     row_split row i (omega arith) ∙ ap (λ x. runs_below row i ++ x) (ap (λ x. part_at row i ++ x) more ∙ sym (append_assoc (part_at row i) (all_runs (take n (drop i rest))) (runs_above row (i + n))))
 
--- the runs up to a part
+-- the runs of a row are the ones up to a part and the ones above it
 pub runs_to-split : {V : Type 0} (row : Row V) (i : ℕ) → row_runs row ≡ runs_to row i ++ runs_above row i
 runs_to-split row i = ap (λ x. row.first ++ x) (all_runs-split row.rest.items i) ∙ sym (append_assoc row.first (all_runs (take i row.rest.items)) (runs_above row i))
 
@@ -48,7 +48,7 @@ take_read (p ∷ l) (suc h) n lt =
     let more : suc h + n ≡ suc (h + n) = omega arith in
     rw more (ap (λ x. p ++ x) (take_read l h n (omega arith)) ∙ sym (append_assoc p (all_runs (take h l)) (get_or l h [] ++ all_runs (take n (drop (suc h) l)))))
 
--- those below a later part
+-- the runs up to a later part are the ones below the earlier one, and the ones within
 pub runs_to-within : {V : Type 0} (row : Row V) (i n : ℕ) → i + n ≤ length row.rest.items → runs_to row (i + n) ≡ runs_below row i ++ runs_within row i n
 runs_to-within row zero n le = let none : zero + n ≡ n = omega arith in rw none refl
 runs_to-within row (suc h) n le =
@@ -56,7 +56,7 @@ runs_to-within row (suc h) n le =
     let more : suc h + n ≡ suc (h + n) = omega arith in
     rw more (ap (λ x. row.first ++ x) (take_read rest h n (omega arith)) ∙ sym (append_assoc row.first (all_runs (take h rest)) (get_or rest h [] ++ all_runs (take n (drop (suc h) rest)))))
 
--- one part more
+-- the runs within one more part
 pub within_more : {V : Type 0} (row : Row V) (i n : ℕ) → i + n < length row.rest.items → runs_within row i (suc n) ≡ runs_within row i n ++ part_at row (suc (i + n))
 within_more row i n lt =
     let rest = row.rest.items in
@@ -69,7 +69,7 @@ pub above-front : {V : Type 0} (l m : List (Run V)) (n : ℕ) → BeginAbove (l 
 above-front [] m n above = tt
 above-front (r ∷ l) m n above = (above.0, above-front l m n above.1)
 
--- what is made of the runs of the first and the last of some parts has the value on the span alone
+-- a list made of the runs of the first and the last of several parts has the new value exactly on the span
 module _ {V : Type 0} (row : Row V) (i n : ℕ) (s : Range) (v : Option V) (new : List (Run V)) where
   pub bytes_within : i + n ≤ length row.rest.items → BeginAbove (runs_above row i) (s.lo - 1) → EndsBelow (runs_below row (i + n)) (s.hi + 1) → ((b : ℕ) → b < s.lo → value_at new b ≡ value_at (part_at row i) b) → ((b : ℕ) → s.lo ≤ b → b ≤ s.hi → value_at new b ≡ v) → ((b : ℕ) → s.hi < b → value_at new b ≡ value_at (part_at row (i + n)) b) → (b : ℕ) → value_at new b ≡ put (value_at (runs_within row i n)) s v b
   bytes_within le begin ended below inside above b = elim (cases_lt b s.lo) [
@@ -99,7 +99,7 @@ module _ {V : Type 0} (row : Row V) (i n : ℕ) (s : Range) (v : Option V) (new 
           let these : EndsBelow (runs_within row i k) (s.hi + 1) = ends_below-rest (runs_below row i) (runs_within row i k) (s.hi + 1) (subst (λ l. EndsBelow l (s.hi + 1)) (runs_to-within row i k (omega arith)) under) in
           rw same (ap (λ l. value_at l b) (within_more row i k (omega arith)) ∙ at-back (runs_within row i k) (part_at row (suc (i + k))) (s.hi + 1) b these (omega arith))
 
--- a row with runs in place of others is a row, and has the value on the span alone
+-- the row after a write: its runs are in order and give the new value exactly on the span, and their number is the counted one
 pub record IsWritten {V : Type 0} (was is : Row V) (s : Range) (v : Option V) (had has : ℕ) : Type 0 where
   pub runs : AreRuns (row_runs is)
   pub bounded : EndsBelow (row_runs is) (greatest + 1)
@@ -126,7 +126,7 @@ is_written was is i n s v had has order le made bounded ended above it =
       count = omega (arith, it.before, it.now, few, now);
     }
 
--- one part put in another's place
+-- the runs of all parts after one part is replaced
 pub all_runs-set : {V : Type 0} (l x : List (List (Run V))) (i : ℕ) (p : List (Run V)) → i < length l → all_runs (set (take (suc i) l ++ x) i p) ≡ all_runs (take i l) ++ (p ++ all_runs x)
 all_runs-set [] x i p lt = absurd (omega arith)
 all_runs-set (q ∷ l) x zero p lt = refl
@@ -146,14 +146,14 @@ all_runs-remove (q ∷ l) x (suc i) lt = ap (λ y. q ++ y) (all_runs-remove l x 
 pub some-remove : {V : Type 0} (l : List (List (Run V))) (i : ℕ) → AreSome l → AreSome (remove l i)
 some-remove l i some = some-append (take i l) (drop (suc i) l) (some-take l i some) (some-drop l (suc i) some)
 
--- one more part
+-- the runs of all parts after one part is inserted
 pub all_runs-insert : {V : Type 0} (l : List (List (Run V))) (i : ℕ) (p : List (Run V)) → all_runs (insert l i p) ≡ all_runs (take i l) ++ (p ++ all_runs (drop i l))
 all_runs-insert l i p = all_runs-append (take i l) (p ∷ drop i l)
 
 pub some-insert : {V : Type 0} (l : List (List (Run V))) (i : ℕ) (p : List (Run V)) → AreSome l → 0 < length p → AreSome (insert l i p)
 some-insert l i p some has = some-append (take i l) (p ∷ drop i l) (some-take l i some) (has, some-drop l i some)
 
--- what is below a part ends where it begins
+-- the runs below place i end below byte n where the part there begins at n or below it
 pub place_ended : {V : Type 0} (row : Row V) (i n : ℕ) → AreRuns (row_runs row) → (0 < i → BeginsTo (runs_above row (i - 1)) n) → EndsBelow (runs_below row i) n
 place_ended row zero n runs begins = tt
 place_ended row (suc i) n runs begins =
@@ -161,7 +161,7 @@ place_ended row (suc i) n runs begins =
     let to : BeginsTo (runs_above row i) n = subst (λ k. BeginsTo (runs_above row k) n) here (begins (omega arith)) in
     begins_ends (runs_to row i) (runs_above row i) n (subst AreRuns (runs_to-split row i) runs) to
 
--- what stands at a place, below it and above it
+-- the runs below, at and above a place are runs
 pub runs_near : {V : Type 0} (row : Row V) (i : ℕ) → i ≤ length row.rest.items → AreRuns (row_runs row) → AreRuns (part_at row i ++ runs_above row i)
 runs_near row i le runs = runs-back (runs_below row i) (part_at row i ++ runs_above row i) (subst AreRuns (row_split row i le) runs)
 
@@ -177,20 +177,20 @@ pub not_above : {V : Type 0} (l : List (Run V)) (m n : ℕ) → m ≤ n → Begi
 not_above [] m n le begins above = begins
 not_above (r ∷ l) m n le begins above = omega (arith, begins, above.0)
 
--- a later place is no lower
+-- the place of a greater byte is not lower
 pub places_rise : {V : Type 0} (row : Row V) (i j m n : ℕ) → m ≤ n → AreSome row.rest.items → i ≤ length row.rest.items → (0 < i → BeginsTo (runs_above row (i - 1)) m) → BeginAbove (runs_above row j) n → i ≤ j
 places_rise row i j m n le some within begins above = elim (cases_lt j i) [
   | inl lt ↦ absurd (not_above (runs_above row (i - 1)) m n le (begins (omega arith)) (above_more row.rest.items j (i - 1) n (omega arith) above))
   | inr ge ↦ ge
 ]
 
--- some parts have no more runs than the row
+-- several parts have no more runs than the row
 pub within_few : {V : Type 0} (row : Row V) (i n : ℕ) → i + n ≤ length row.rest.items → length (runs_within row i n) ≤ length (row_runs row)
 within_few row i n le =
     let all : length (row_runs row) ≡ length (runs_below row i) + (length (runs_within row i n) + length (runs_above row (i + n))) = ap length (row_within row i n le) ∙ (length-append (runs_below row i) (runs_within row i n ++ runs_above row (i + n)) ∙ ap (λ m. length (runs_below row i) + m) (length-append (runs_within row i n) (runs_above row (i + n)))) in
     omega (arith, all)
 
--- the runs of one part more
+-- the runs of the first parts with one more part
 pub take_part : {V : Type 0} (l : List (List (Run V))) (i : ℕ) (part : List (Run V)) → i < length l → part ≡ get_or l i part → all_runs (take (i + 1) l) ≡ all_runs (take i l) ++ part
 take_part l i part lt is = ap all_runs (take_more l i part lt ∙ ap (λ x. take i l ++ x ∷ []) (sym is)) ∙ all_runs-push (take i l) part
 
@@ -199,12 +199,12 @@ take_few l i =
     let all : length (all_runs l) ≡ length (all_runs (take i l)) + length (all_runs (drop i l)) = ap length (all_runs-split l i) ∙ length-append (all_runs (take i l)) (all_runs (drop i l)) in
     omega (arith, all)
 
--- runs in the first part's place
+-- a row after runs are put in place of its first part
 pub put_first : {V : Type 0} (row is : Row V) (i n : ℕ) (runs : List (Run V)) → i ≡ 0 → is.first ≡ runs → is.rest.items ≡ take i row.rest.items ++ drop (i + n) row.rest.items → AreSome row.rest.items → IsPut row is i n runs
 put_first row is zero n runs none first rest some = record { whole = λ j. first j ++ all_runs (rest j); some = subst AreSome (sym rest) (some-drop row.rest.items (0 + n) some) }
 put_first row is (suc i) n runs none first rest some = absurd (omega (arith, none))
 
--- no runs in a later one's
+-- a row after several later parts are taken out
 pub put_none : {V : Type 0} (row is : Row V) (i n : ℕ) (left : List (List (Run V))) (runs : List (Run V)) → (i ≡ 0 → ⊥) → i ≤ length row.rest.items → runs ≡ [] → left ≡ take i row.rest.items ++ drop (i + n) row.rest.items → is.first ≡ row.first → is.rest.items ≡ remove left (i - 1) → AreSome row.rest.items → IsPut row is i n runs
 put_none row is zero n left runs some le none here first rest has = absurd (some refl)
 put_none row is (suc i) n left runs some le none here first rest has =
@@ -216,7 +216,7 @@ put_none row is (suc i) n left runs some le none here first rest has =
       some = subst AreSome (sym items) (some-remove (take (suc i) l ++ drop (suc i + n) l) i (some-append (take (suc i) l) (drop (suc i + n) l) (some-take l (suc i) has) (some-drop l (suc i + n) has)));
     }
 
--- and some there
+-- a row after runs are put in place of several later parts
 pub put_part : {V : Type 0} (row is : Row V) (i n : ℕ) (left : List (List (Run V))) (runs : List (Run V)) → (i ≡ 0 → ⊥) → i ≤ length row.rest.items → 0 < length runs → left ≡ take i row.rest.items ++ drop (i + n) row.rest.items → is.first ≡ row.first → is.rest.items ≡ set left (i - 1) runs → AreSome row.rest.items → IsPut row is i n runs
 put_part row is zero n left runs some le more here first rest has = absurd (some refl)
 put_part row is (suc i) n left runs some le more here first rest has =
@@ -241,12 +241,12 @@ put_to row (suc i) n left runs some le here =
     let items : set left (suc i - 1) runs ≡ set (take (suc i) l ++ drop (suc i + n) l) i runs = λ j. set (here j) (at j) runs in
     ap (λ x. row.first ++ all_runs (take (suc i) x)) items ∙ (ap (λ x. row.first ++ x) (take-set l (drop (suc i + n) l) i runs (omega arith)) ∙ sym (append_assoc row.first (all_runs (take i l)) runs))
 
--- rows of the same parts have the same below a place
+-- rows with equal parts have equal runs below a place
 below_same : {V : Type 0} (was mid : Row V) (i : ℕ) → mid.first ≡ was.first → mid.rest.items ≡ was.rest.items → runs_below mid i ≡ runs_below was i
 below_same was mid zero first rest = refl
 below_same was mid (suc i) first rest = λ j. first j ++ all_runs (take i (rest j))
 
--- runs put in place of others in two parts
+-- a row after runs are put in place of others in two parts
 pub placed_both : {V : Type 0} (was mid left is : Row V) (i n : ℕ) (lower upper runs : List (Run V)) → mid.first ≡ was.first → mid.rest.items ≡ was.rest.items → lower ++ upper ≡ runs → IsPut mid left i n lower → (0 < length upper → 0 < length lower) → (0 < length lower → runs_to left i ≡ runs_below mid i ++ lower) → (0 < length lower → runs_above left i ≡ runs_above mid (i + n)) → (0 < length upper → row_runs is ≡ runs_to left i ++ (upper ++ runs_above left i)) → (length upper ≡ 0 → row_runs is ≡ row_runs left) → AreSome is.rest.items → IsPut was is i n runs
 placed_both was mid left is i n lower [] runs first rest both put kept below above more none some =
     let all : lower ≡ runs = sym (append-nil lower) ∙ both in
@@ -275,14 +275,14 @@ read_at [] i x lt is = absurd (omega arith)
 read_at (p ∷ l) zero x lt is = is
 read_at (p ∷ l) (suc i) x lt is = read_at l i x (omega arith) is
 
--- what is read of a later part
+-- a part that is read at a place other than the first
 pub part_read : {V : Type 0} (row : Row V) (i : ℕ) (x : List (Run V)) → (i ≡ 0 → ⊥) → i ≤ length row.rest.items → x ≡ get_or row.rest.items (i - 1) x → part_at row i ≡ x
 part_read row zero x some le is = absurd (some refl)
 part_read row (suc i) x some le is =
     let at : suc i - 1 ≡ i = omega arith in
     sym (read_at row.rest.items i x (omega arith) (is ∙ ap (λ k. get_or row.rest.items k x) at))
 
--- one part written
+-- a row after one part is written
 pub rewritten : {V : Type 0} (row is : Row V) (i : ℕ) (s : Range) (v : Option V) (old new : List (Run V)) (had has : ℕ) → IsPut row is i 0 new → part_at row i ≡ old → AreRuns new → EndsBelow new (greatest + 1) → ((b : ℕ) → value_at new b ≡ put (value_at old) s v b) → had ≡ length old → has ≡ length new → IsRewritten row is i 0 s v had has
 rewritten row is i s v old new had has placed part made bounded bytes before now =
     let same : runs_within row i 0 ≡ old = append-nil (part_at row i) ∙ part in
@@ -316,7 +316,7 @@ near_few row i le =
     let all : length (row_runs row) ≡ length (runs_below row i) + (length (part_at row i) + length (runs_above row i)) = ap length (row_split row i le) ∙ (length-append (runs_below row i) (part_at row i ++ runs_above row i) ∙ ap (λ m. length (runs_below row i) + m) (length-append (part_at row i) (runs_above row i))) in
     omega (arith, all)
 
--- a part of some, with those above it
+-- a part with the runs of the parts above it
 pub part_on : {V : Type 0} (l : List (List (Run V))) (i : ℕ) (part : List (Run V)) → i < length l → part ≡ get_or l i part → all_runs l ≡ all_runs (take i l) ++ (part ++ all_runs (drop (i + 1) l))
 part_on l i part lt is = all_runs-split l i ∙ ap (λ x. all_runs (take i l) ++ all_runs x) (drop_read l i part lt is)
 

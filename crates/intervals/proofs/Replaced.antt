@@ -1,4 +1,4 @@
--- Runs of which those in the middle are written anew.
+-- Runs of which some in the middle are rewritten.
 use Rattle.std.proofs.Common.{◌≡◌, ℕ, pred, ◌+◌, ◌<◌, ◌≤◌, ◌≢◌, List, [], ◌∷◌, ◌++◌, Option, Some, None, refl, ap, sym, ◌∙◌, inl, inr, arith}
 use Rattle.std.proofs.lemmas.List.{append-nil}
 use Rattle.std.proofs.lemmas.Bool.{cases_lt}
@@ -13,7 +13,7 @@ use Rattle.intervals.proofs.StartsWith.{put-in, put-below, put-above}
 use Rattle.intervals.proofs.Written.{runs-written, at-written}
 use Rattle.intervals.proofs.Ordered.{ends_before, none_above, stands}
 
--- the first where it has a value, or else the second
+-- the first value if there is one, else the second
 abbrev pub over : {V : Type 0} → Option V → Option V → Option V
 over None y = y
 over (Some v) y = Some v
@@ -22,7 +22,7 @@ over_nothing : {V : Type 0} (x : Option V) → over x None ≡ x
 over_nothing None = refl
 over_nothing (Some v) = refl
 
--- what the first list has at a byte, or else the second
+-- two lists together give the value of the first, or else of the second
 pub at-both : {V : Type 0} (l m : List (Run V)) (b : ℕ) → value_at (l ++ m) b ≡ over (value_at l b) (value_at m b)
 unfolding value_at
 at-both [] m b = refl
@@ -34,7 +34,7 @@ at-both (r ∷ l) m b = elim (cases_lt b r.lo) [
   ]
 ]
 
--- runs that have nothing from byte n on end below it
+-- runs that give no value from byte n on end below it
 ends_if_none : {V : Type 0} (l : List (Run V)) (n : ℕ) → AreRuns l → ((b : ℕ) → n ≤ b → value_at l b ≡ None) → EndsBelow l n
 ends_if_none [] n runs none = tt
 ends_if_none (r ∷ l) n runs none =
@@ -44,7 +44,7 @@ ends_if_none (r ∷ l) n runs none =
     ] in
     (under, ends_if_none l n runs.2 (λ b le. sym (first-other r l b (inr (omega arith))) ∙ none b le))
 
--- runs that do not join are runs
+-- two lists of runs that do not join are a list of runs together
 runs-both : {V : Type 0} (l : List (Run V)) (s : Run V) (m : List (Run V)) → AreRuns l → AreRuns (s ∷ m) → EndsBelow l s.lo → ((b : ℕ) → b + 1 ≡ s.lo → value_at l b ≢ Some s.value) → AreRuns (l ++ s ∷ m)
 runs-both [] s m runs others ends other = others
 runs-both (r ∷ []) s m runs others ends other = (runs.0, (ends.0, λ beside same. other r.hi beside (first-some r [] r.hi runs.0 (omega arith) ∙ ap Some same)), others)
@@ -54,7 +54,7 @@ module _ {V : Type 0} (old new after : List (Run V)) (lo hi : ℕ) (value : Opti
   past : (b : ℕ) → hi < b → value_at new b ≡ value_at old b
   past b lt = bytes b ∙ put-above (value_at old) (record { lo = lo; hi = hi }) value b lt
 
-  -- what is written, with the runs that begin past the byte after the span, are runs
+  -- the written runs with the ones that begin past the byte after the span are runs
   runs-before : BeginAbove after (hi + 1) → AreRuns (new ++ after)
   runs-before above = by after runs above
     where
@@ -65,7 +65,7 @@ module _ {V : Type 0} (old new after : List (Run V)) (lo hi : ℕ) (value : Opti
           let ends : EndsBelow new s.lo = ends_if_none new s.lo made (λ b le. past b (omega (arith, above.0)) ∙ at-below old b s.lo under le) in
           runs-both new s m made (runs-back old (s ∷ m) runs) ends (λ b beside some. (stands old m s runs).begins b beside (at-front old (s ∷ m) b s.value (sym (past b (omega (arith, above.0))) ∙ some)))
 
-  -- and have the value on the span alone
+  -- the written runs with the ones behind them have the new value exactly on the span
   at-before : BeginAbove after (hi + 1) → (b : ℕ) → value_at (new ++ after) b ≡ put (value_at (old ++ after)) (record { lo = lo; hi = hi }) value b
   at-before above b =
       let here : value_at (new ++ after) b ≡ over (put (value_at old) (record { lo = lo; hi = hi }) value b) (value_at after b) = at-both new after b ∙ ap (λ x. over x (value_at after b)) (bytes b) in
@@ -77,7 +77,7 @@ module _ {V : Type 0} (old new after : List (Run V)) (lo hi : ℕ) (value : Opti
         ]
       ]
 
--- runs of which those in the middle are written anew
+-- runs of which some in the middle are rewritten are runs, and have the new value exactly on the span
 pub record AreReplaced {V : Type 0} (before old new after : List (Run V)) (lo hi : ℕ) (value : Option V) : Type 0 where
   pub runs : AreRuns (before ++ (new ++ after))
   pub bytes : (b : ℕ) → value_at (before ++ (new ++ after)) b ≡ put (value_at (before ++ (old ++ after))) (record { lo = lo; hi = hi }) value b

@@ -1,4 +1,4 @@
--- How many runs of a row begin below a byte.
+-- The number of runs of a row that begin below a byte.
 use Rattle.std.proofs.Common.{◌≡◌, ℕ, ◌+◌, ◌<◌, ◌≤◌, length, List, [], ◌∷◌, ◌++◌, subst, refl, ap, ◌∙◌, arith}
 use Rattle.std.proofs.lemmas.Bool.Decides.{nat_tests}
 use Rattle.intervals.specs.declared.run.Run.{Run}
@@ -22,28 +22,28 @@ ended_both l lo hi order runs ends =
     let second = starts.begin_below_all l hi runs (ends_below_le l lo hi order ends) in
     omega arith
 
--- runs of which the first begins at byte n or above begin above that
+-- none of the runs begins below byte n where the first begins at it or above it
 none_below : {V : Type 0} (r : Run V) (l : List (Run V)) (n : ℕ) → AreRuns (r ∷ l) → n ≤ r.lo → starts.begin_below (r ∷ l) n ≡ 0
 none_below r [] n runs le = grind (arith, nat_tests)
 none_below r (s ∷ l) n runs le = let more = none_below s l n runs.2 (omega (arith, runs.0, runs.1.0)) in grind (arith, nat_tests)
 
--- and so do those that begin above it
+-- none of the runs begins below byte n where all begin above it
 pub none_begin : {V : Type 0} (l : List (Run V)) (n : ℕ) → BeginAbove l n → starts.begin_below l n ≡ 0
 none_begin [] n above = refl
 none_begin (r ∷ l) n above = let more = none_begin l n above.1 in let first : n < r.lo = above.0 in grind (arith, nat_tests)
 
--- what is counted up to a run that begins at the second byte or above is all
+-- a count up to a run that begins at `hi` or above it is complete
 pub counted_to : {V : Type 0} (l : List (Run V)) (r : Run V) (m : List (Run V)) (lo hi count : ℕ) → AreRuns (r ∷ m) → lo ≤ hi → hi ≤ r.lo → starts.begin_below l lo + count ≡ starts.begin_below l hi → starts.begin_below (l ++ r ∷ m) lo + count ≡ starts.begin_below (l ++ r ∷ m) hi
 counted_to l r m lo hi count runs order past counted =
     let first = none_below r m lo runs (omega arith) in
     let second = none_below r m hi runs past in
     omega (arith, begin_below-both l (r ∷ m) lo, begin_below-both l (r ∷ m) hi)
 
--- one more part
+-- a count with the runs of one more part
 pub counted_more : {V : Type 0} (l part : List (Run V)) (lo hi count more : ℕ) → starts.begin_below l lo + count ≡ starts.begin_below l hi → starts.begin_below part lo + more ≡ starts.begin_below part hi → starts.begin_below (l ++ part) lo + (count + more) ≡ starts.begin_below (l ++ part) hi
 counted_more l part lo hi count more counted here = omega (arith, begin_below-both l part lo, begin_below-both l part hi)
 
--- what is counted near a place is counted of the whole row
+-- a count near a place is a count of the whole row
 pub counted_all : {V : Type 0} (row : Row V) (i lo hi count : ℕ) → i ≤ length row.rest.items → lo ≤ hi → AreRuns (row_runs row) → EndsBelow (runs_below row i) lo → starts.begin_below (part_at row i ++ runs_above row i) lo + count ≡ starts.begin_below (part_at row i ++ runs_above row i) hi → starts.begin_below (row_runs row) lo + count ≡ starts.begin_below (row_runs row) hi
 counted_all row i lo hi count le order runs ends counted =
     let below = runs_below row i in

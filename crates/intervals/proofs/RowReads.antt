@@ -1,4 +1,4 @@
--- What is read of rows of parts.
+-- What reads of a row give.
 use Rattle.std.proofs.Common.{◌≡◌, ℕ, zero, suc, ◌+◌, ◌-◌, ◌<◌, ◌≤◌, max, length, get_or, drop, List, [], ◌∷◌, ◌++◌, Option, Some, None, MatchOption, subst, ap, sym, ◌∙◌, inr, arith}
 use Rattle.std.proofs.lemmas.List.{append_assoc}
 use Rattle.intervals.specs.declared.run.Run.{Run}
@@ -17,7 +17,7 @@ above-both : {V : Type 0} (l m : List (Run V)) (n : ℕ) → BeginAbove l n → 
 above-both [] m n above more = more
 above-both (r ∷ l) m n above more = (above.0, above-both l m n above.1 more)
 
--- the last runs, from the first on that ends at byte n or above
+-- `rest` is the runs from the first one on that ends at byte n or above it
 pub record IsRest {V : Type 0} (runs rest : List (Run V)) (n : ℕ) : Type 0 where
   pub before : List (Run V)
   pub whole : runs ≡ before ++ rest
@@ -29,7 +29,7 @@ reached_more (r ∷ l) m n runs reached above = reached
 reached_more [] [] n runs reached above = tt
 reached_more [] (r ∷ m) n runs reached above = omega (arith, runs.0, above.0)
 
--- those of a part, and of the parts above it
+-- the rest of the runs of a row: the rest of one part, and the parts above it
 pub rest_of : {V : Type 0} (row : Row V) (i n : ℕ) (near lower upper : List (Run V)) (above : List (List (Run V))) → i ≤ length row.rest.items → AreRuns (row_runs row) → EndsBelow (runs_below row i) n → BeginAbove (runs_above row i) n → near ≡ part_at row i → near ≡ lower ++ upper → EndsBelow lower n → EndsFrom upper n → above ≡ drop i row.rest.items → IsRest (row_runs row) (upper ++ all_runs above) n
 rest_of row i n near lower upper above le runs below begin here split ended reached is =
     let later : all_runs above ≡ runs_above row i = ap all_runs is in
@@ -42,7 +42,7 @@ rest_of row i n near lower upper above le runs below begin here split ended reac
       reached = reached_more upper (all_runs above) n rest reached (subst (λ l. BeginAbove l n) (sym later) begin);
     }
 
--- the first of them is the next run
+-- the first run of the rest is the next run
 pub rest_next : {V : Type 0} (runs rest : List (Run V)) (n : ℕ) (r : Run V) (more : List (Run V)) → AreRuns runs → EndsBelow runs (greatest + 1) → IsRest runs rest n → rest ≡ r ∷ more → IsNext (value_at runs) n r
 rest_next runs rest n r more made bounded it is =
     let whole : runs ≡ it.before ++ r ∷ more = it.whole ∙ ap (λ l. it.before ++ l) is in
@@ -57,15 +57,15 @@ rest_next runs rest n r more made bounded it is =
       none_before = λ b le lt. none_under it.before more r all n b it.ended le lt;
     })
 
--- and where there are none, nothing has a value
+-- where the rest has no run no byte from n on has a value
 pub rest_none : {V : Type 0} (runs rest : List (Run V)) (n : ℕ) → IsRest runs rest n → rest ≡ [] → NoneFrom (value_at runs) n
 rest_none runs rest n it is b le = ap (λ l. value_at l b) (it.whole ∙ ap (λ l. it.before ++ l) is) ∙ (at-back it.before [] n b it.ended le ∙ value_at-none b)
 
--- nor has byte n, where the first of them begins above it
+-- byte n has no value where the rest begins above it
 pub rest_lacks : {V : Type 0} (runs rest : List (Run V)) (n : ℕ) → IsRest runs rest n → BeginAbove rest n → value_at runs n ≡ None
 rest_lacks runs rest n it above = ap (λ l. value_at l n) it.whole ∙ (at-back it.before rest n n it.ended (omega arith) ∙ none_above rest n n above (omega arith))
 
--- where none of a part is left, those of the parts above begin above byte n
+-- where a part has no run left the parts above it give the rest
 pub above_only : {V : Type 0} (l m : List (Run V)) (n : ℕ) → length l ≡ 0 → BeginAbove m n → BeginAbove (l ++ m) n
 above_only [] m n none above = above
 above_only (r ∷ l) m n none above = absurd (omega (arith, none))
@@ -79,7 +79,7 @@ first_not_above : {V : Type 0} (l m : List (Run V)) (n : ℕ) → 0 < length l �
 first_not_above [] m n some above begins = absurd (omega arith)
 first_not_above (r ∷ l) m n some above begins = omega (arith, above.0, begins)
 
--- where all of a part begin above byte n, and an earlier part would begin below it, there is none
+-- no run begins at byte n or below it where all runs of its part begin above it
 none_near : {V : Type 0} (row : Row V) (i n : ℕ) → i ≤ length row.rest.items → AreSome row.rest.items → (0 < i → BeginsTo (runs_above row (i - 1)) n) → BeginAbove (part_at row i) n → BeginAbove (runs_above row i) n → BeginAbove (row_runs row) n
 none_near row zero n le some begins here above = above-both row.first (runs_above row 0) n here above
 none_near row (suc i) n le some begins here above =
@@ -131,17 +131,17 @@ module _ {V : Type 0} (runs left more : List (Run V)) (r : Run V) (bar : Option 
   barred_left : BarredLeft runs (r ∷ more) bar s
   barred_left = subst (λ l. BarredLeft runs l bar s) is it.barred
 
-  -- the first of them that is barred
+  -- the first run that is left, if barred, has the first barred byte
   pub left_found : s.lo ≤ s.hi → r.lo ≤ s.hi → IsBarredValue bar r.value → IsFirstIn (IsBarred (value_at runs) bar) s (max r.lo s.lo)
   left_found order within here =
       let run : IsRun (value_at runs) (bytes_of r) r.value = subst (λ l. IsRun (value_at l) (bytes_of r) r.value) (sym whole_left) (stands it.before more r all_left) in
       left-first runs more r bar s barred_left these_left run order (subst (λ l. EndsFrom l s.lo) is it.reached) within here
 
-  -- one that begins above the span
+  -- where the first run that is left begins above the span no byte of it is barred
   pub left_past : s.hi < r.lo → NoneIn (IsBarred (value_at runs) bar) s
   left_past above = left-stop runs more r bar s barred_left these_left above
 
-  -- one that is not barred
+  -- a run that is not barred is passed over
   pub left_more : (IsBarredValue bar r.value → ⊥) → IsLeft runs more bar s
   left_more free = record {
     before = it.before ++ r ∷ [];
@@ -150,6 +150,6 @@ module _ {V : Type 0} (runs left more : List (Run V)) (r : Run V) (bar : Option 
     barred = left-skip runs more r bar s barred_left (inr (inr free));
   }
 
--- none is left
+-- where no run is left no byte of the span is barred
 pub left_end : {V : Type 0} (runs left : List (Run V)) (bar : Option V) (s : Range) → IsLeft runs left bar s → left ≡ [] → NoneIn (IsBarred (value_at runs) bar) s
 left_end runs left bar s it is = left-none runs bar s (subst (λ l. BarredLeft runs l bar s) is it.barred)

@@ -1,4 +1,4 @@
--- The runs of rows of parts.
+-- The runs of the parts of rows.
 use Rattle.std.proofs.Common.{◌≡◌, ℕ, zero, suc, ◌+◌, ◌<◌, ◌≤◌, length, get_or, take, drop, List, [], ◌∷◌, ◌++◌, subst, refl, ap, sym, ◌∙◌, inl, inr, arith}
 use Rattle.std.proofs.lemmas.List.{append_assoc, append-nil, drop_all}
 use Rattle.std.proofs.lemmas.Bool.{cases_lt}
@@ -11,16 +11,16 @@ use Rattle.intervals.proofs.Runs.{ends_below_le}
 use Rattle.intervals.proofs.Split.{runs-back}
 use Rattle.intervals.proofs.Ordered.{ends_before}
 
--- the runs of more parts
+-- the runs of two lists of parts are the runs of both, in order
 pub all_runs-append : {V : Type 0} (parts more : List (List (Run V))) → all_runs (parts ++ more) ≡ all_runs parts ++ all_runs more
 all_runs-append [] more = refl
 all_runs-append (part ∷ parts) more = ap (λ x. part ++ x) (all_runs-append parts more) ∙ sym (append_assoc part (all_runs parts) (all_runs more))
 
--- the runs of one more
+-- the runs of parts with one more part at the end
 pub all_runs-push : {V : Type 0} (parts : List (List (Run V))) (part : List (Run V)) → all_runs (parts ++ part ∷ []) ≡ all_runs parts ++ part
 all_runs-push parts part = all_runs-append parts (part ∷ []) ∙ ap (λ x. all_runs parts ++ x) (append-nil part)
 
--- those before and after a place
+-- the runs of parts are the ones before and from a place
 pub all_runs-split : {V : Type 0} (parts : List (List (Run V))) (i : ℕ) → all_runs parts ≡ all_runs (take i parts) ++ all_runs (drop i parts)
 all_runs-split parts zero = refl
 all_runs-split [] (suc i) = refl
@@ -40,7 +40,7 @@ pub some-append : {V : Type 0} (parts more : List (List (Run V))) → AreSome pa
 some-append [] more some others = others
 some-append (part ∷ parts) more some others = (some.0, some-append parts more some.1 others)
 
--- the first run from a place on
+-- the parts have a first run, and it begins at byte n
 pub record FirstOf {V : Type 0} (parts : List (List (Run V))) (n : ℕ) : Type 0 where
   pub first : Run V
   pub others : List (Run V)
@@ -68,13 +68,13 @@ module _ {V : Type 0} (parts : List (List (Run V))) (made : AreRuns (all_runs pa
   pub runs_from : (i : ℕ) → AreRuns (all_runs (drop i parts))
   runs_from i = runs-back (all_runs (take i parts)) (all_runs (drop i parts)) (runs_at i)
 
-  -- the first run from it on begins there
+  -- the runs from place i on begin at byte n or below it
   pub begins_drop : (i n : ℕ) (d : List (Run V)) → i < length parts → begins_at (get_or parts i d) ≤ n → BeginsTo (all_runs (drop i parts)) n
   begins_drop i n d lt le =
       let it = first_from parts i d some lt in
       rw it.whole (omega (arith, it.begins))
 
-  -- and the others above that
+  -- the runs from place i on begin above byte n
   pub above_drop : (i n : ℕ) → ((d : List (Run V)) → i < length parts → n < begins_at (get_or parts i d)) → BeginAbove (all_runs (drop i parts)) n
   above_drop i n above = elim (cases_lt i (length parts)) [
     | inl lt ↦
@@ -95,7 +95,7 @@ begins_later (r ∷ part) ((s ∷ next) ∷ parts) (suc j) d runs some lt =
     let later = begins_later (s ∷ next) parts j d (runs-back (r ∷ part) ((s ∷ next) ++ all_runs parts) runs) some.1 (omega arith) in
     omega (arith, under.0, runs.0, later)
 
--- the first bytes of parts rise
+-- the first bytes of parts are in ascending order
 pub parts_rise : {V : Type 0} (parts : List (List (Run V))) → AreRuns (all_runs parts) → AreSome parts → IsNonDecreasingBy begins_at parts
 parts_rise [] runs some i j d le lt = absurd (omega arith)
 parts_rise (part ∷ parts) runs some zero zero d le lt = omega arith
@@ -103,17 +103,17 @@ parts_rise (part ∷ parts) runs some zero (suc j) d le lt = begins_later part p
 parts_rise (part ∷ parts) runs some (suc i) zero d le lt = absurd (omega arith)
 parts_rise (part ∷ parts) runs some (suc i) (suc j) d le lt = parts_rise parts (runs-back part (all_runs parts) runs) some.1 i j d (omega arith) (omega arith)
 
--- what is before runs of which the first begins at byte n or below ends below it
+-- runs end below byte n where the runs behind them begin at it or below it
 pub begins_ends : {V : Type 0} (l m : List (Run V)) (n : ℕ) → AreRuns (l ++ m) → BeginsTo m n → EndsBelow l n
 begins_ends l [] n runs begins = absurd begins
 begins_ends l (r ∷ m) n runs begins = ends_below_le l r.lo n begins (ends_before l r m runs)
 
--- what begins above byte n does so where some is left out before it
+-- the last part of runs that begin above byte n begins above it
 pub above-back : {V : Type 0} (l m : List (Run V)) (n : ℕ) → BeginAbove (l ++ m) n → BeginAbove m n
 above-back [] m n above = above
 above-back (r ∷ l) m n above = above-back l m n above.1
 
--- and so do those that are left of them
+-- the runs of later parts begin above byte n where the runs of earlier parts do
 pub above_more : {V : Type 0} (parts : List (List (Run V))) (i j n : ℕ) → i ≤ j → BeginAbove (all_runs (drop i parts)) n → BeginAbove (all_runs (drop j parts)) n
 above_more parts zero zero n le above = above
 above_more parts (suc i) zero n le above = absurd (omega arith)

@@ -1,4 +1,4 @@
--- What a list of runs has at a byte.
+-- The value that a list of runs gives at a byte.
 use Rattle.std.proofs.Common.{◌≡◌, ℕ, zero, suc, ◌+◌, ◌<◌, ◌≤◌, Bool, true, false, length, get_or, set, drop, drop-cons, add-one, ◌∙◌, List, [], ◌∷◌, ◌++◌, Some, None, refl, ap, inl, inr, arith}
 use Rattle.std.proofs.lemmas.Bool.{cases_lt, cases_Bool, and_parts}
 use Rattle.std.proofs.lemmas.Bool.Decides.{nat_tests}
@@ -8,30 +8,30 @@ use Rattle.intervals.specs.Bytes.{put}
 use Rattle.intervals.specs.Runs.{bytes_of, value_at, Follows, AreRuns, EndsBelow}
 use Rattle.intervals.proofs.Join.{joins, join}
 
--- the runs end below each greater number too
+-- runs that end below m end below each greater number
 pub ends_below_le : {V : Type 0} (l : List (Run V)) (m n : ℕ) → m ≤ n → EndsBelow l m → EndsBelow l n
 ends_below_le [] m n le h = tt
 ends_below_le (r ∷ rest) m n le h = (omega arith, ends_below_le rest m n le h.1)
 
--- past the runs there is no value
+-- a byte past all runs has no value
 pub at-past : {V : Type 0} (l : List (Run V)) (b : ℕ) → EndsBelow l b → value_at l b ≡ None
 unfolding value_at
 at-past [] b h = refl
 at-past (r ∷ rest) b h = grind (arith, nat_tests, at-past rest b h.1)
 
--- one more run at the end
+-- the value at a byte after one more run is added at the end
 pub at-append : {V : Type 0} (l : List (Run V)) (s : Run V) (b : ℕ) → EndsBelow l s.lo → value_at (l ++ s ∷ []) b ≡ put (value_at l) (bytes_of s) (Some s.value) b
 unfolding value_at
 at-append [] s b h = refl
 at-append (r ∷ rest) s b h = grind (arith, nat_tests, at-append rest s b h.1)
 
--- r is followed by what it was followed by, if one more run comes at the end
+-- run r still follows rightly if one more run is added at the end
 follows-join : {V : Type 0} (eq : V → V → Bool) (r t : Run V) (rest : List (Run V)) (s : Run V) → Follows r (t ∷ rest) → Follows r (join eq (t ∷ rest) s)
 unfolding join
 follows-join eq r t [] s h = elim (cases_Bool (joins eq t s)) [ inl side ↦ rw side h | inr apart ↦ rw apart h ]
 follows-join eq r t (u ∷ rest) s h = h
 
--- the runs end below the byte past the one that was added
+-- the runs end below the byte past the run that was added
 pub ends_below-join : {V : Type 0} (eq : V → V → Bool) (l : List (Run V)) (s : Run V) → EndsBelow l s.lo → s.lo ≤ s.hi → EndsBelow (join eq l s) (s.hi + 1)
 unfolding join
 ends_below-join eq [] s below order = (omega arith, tt)
@@ -43,7 +43,7 @@ module _ {V : Type 0} (eq : V → V → Bool) (exact : (a b : V) → eq a b ≡ 
   follows_apart : (r s : Run V) → r.hi < s.lo → joins eq r s ≡ false → Follows r (s ∷ [])
   follows_apart r s lt apart = (lt, λ beside same. grind (arith, nat_tests, reflexive r.value))
 
-  -- one more run leaves runs
+  -- runs with one more run are runs
   pub runs-join : (l : List (Run V)) (s : Run V) → AreRuns l → EndsBelow l s.lo → s.lo ≤ s.hi → AreRuns (join eq l s)
   unfolding join
   runs-join [] s runs below order = (order, tt, tt)
@@ -53,7 +53,7 @@ module _ {V : Type 0} (eq : V → V → Bool) (exact : (a b : V) → eq a b ≡ 
   ]
   runs-join (r ∷ t ∷ rest) s runs below order = (runs.0, follows-join eq r t rest s runs.1, runs-join (t ∷ rest) s runs.2 below.1 order)
 
-  -- and sets its bytes alone
+  -- one more run changes exactly its own bytes
   pub at-join : (l : List (Run V)) (s : Run V) (b : ℕ) → AreRuns l → EndsBelow l s.lo → s.lo ≤ s.hi → value_at (join eq l s) b ≡ put (value_at l) (bytes_of s) (Some s.value) b
   unfolding join value_at
   at-join [] s b runs below order = refl
@@ -71,7 +71,7 @@ last_below (r ∷ []) n (suc i) last h e is = absurd (omega arith)
 last_below (r ∷ t ∷ rest) n zero last h e is = absurd (omega arith)
 last_below (r ∷ t ∷ rest) n (suc i) last h e is = last_below (t ∷ rest) n i last h.1 (omega arith) is
 
--- a run that the last one takes up
+-- the last run, merged with an added run
 pub join_last : {V : Type 0} (eq : V → V → Bool) (l : List (Run V)) (s : Run V) (i : ℕ) (last : Run V) → i + 1 ≡ length l → last ≡ get_or l i last → joins eq last s ≡ true → join eq l s ≡ set l i (record last { hi = s.hi })
 unfolding join
 join_last eq [] s i last e is side = absurd (omega arith)
@@ -80,7 +80,7 @@ join_last eq (r ∷ []) s (suc i) last e is side = absurd (omega arith)
 join_last eq (r ∷ t ∷ rest) s zero last e is side = absurd (omega arith)
 join_last eq (r ∷ t ∷ rest) s (suc i) last e is side = ap (λ x. r ∷ x) (join_last eq (t ∷ rest) s i last (omega arith) is side)
 
--- a run that comes after the last one
+-- an added run that comes after the last one without joining it
 pub join_apart : {V : Type 0} (eq : V → V → Bool) (l : List (Run V)) (s : Run V) (i : ℕ) (last : Run V) → i + 1 ≡ length l → last ≡ get_or l i last → joins eq last s ≡ false → join eq l s ≡ l ++ s ∷ []
 unfolding join
 join_apart eq [] s i last e is apart = refl
@@ -89,32 +89,32 @@ join_apart eq (r ∷ []) s (suc i) last e is apart = absurd (omega arith)
 join_apart eq (r ∷ t ∷ rest) s zero last e is apart = absurd (omega arith)
 join_apart eq (r ∷ t ∷ rest) s (suc i) last e is apart = ap (λ x. r ∷ x) (join_apart eq (t ∷ rest) s i last (omega arith) is apart)
 
--- the first run
+-- an added run is alone in an empty list
 pub join_first : {V : Type 0} (eq : V → V → Bool) (l : List (Run V)) (s : Run V) → length l ≡ 0 → join eq l s ≡ l ++ s ∷ []
 unfolding join
 join_first eq [] s e = refl
 join_first eq (r ∷ rest) s e = absurd (omega arith)
 
--- writing back what is there
+-- a list is the same after an element is set to what it is
 pub set_self : {A : Type 0} (l : List A) (i : ℕ) (x : A) → i < length l → x ≡ get_or l i x → set l i x ≡ l
 set_self [] i x lt is = refl
 set_self (y ∷ l) zero x lt is = ap (λ z. z ∷ l) is
 set_self (y ∷ l) (suc i) x lt is = ap (λ z. y ∷ z) (set_self l i x (omega arith) is)
 
--- what has a value at b is not below b
+-- runs that end below n give no value from n on
 pub at-below : {V : Type 0} (l : List (Run V)) (b n : ℕ) → EndsBelow l n → n ≤ b → value_at l b ≡ None
 at-below l b n h le = at-past l b (ends_below_le l n b le h)
 
--- what is read at i is the first of the rest
+-- the element at i is the first of the list from i on
 pub drop_read : {A : Type 0} (l : List A) (i : ℕ) (x : A) → i < length l → x ≡ get_or l i x → drop i l ≡ x ∷ drop (i + 1) l
 drop_read l i x lt is = drop-cons l i x lt ∙ rw (← is, add-one) refl
 
--- past the end there is no rest
+-- the list from its end on is empty
 pub drop_all : {A : Type 0} (l : List A) (i : ℕ) → length l ≤ i → drop i l ≡ []
 drop_all l i le = grind (arith, common_steps)
 
 module _ {V : Type 0} (eq : V → V → Bool) (exact : (a b : V) → eq a b ≡ true → a ≡ b) (reflexive : (a : V) → eq a a ≡ true) where
-  -- what one more run leaves
+  -- the runs after one more run is added
   pub joined : (l new : List (Run V)) (s : Run V) → AreRuns l → EndsBelow l s.lo → s.lo ≤ s.hi → new ≡ join eq l s → record { made : AreRuns new; below : EndsBelow new (s.hi + 1); bytes : (b : ℕ) → value_at new b ≡ put (value_at l) (bytes_of s) (Some s.value) b }
   joined l new s made below rises e = record {
     made = rw e (runs-join eq exact reflexive l s made below rises);
@@ -122,7 +122,7 @@ module _ {V : Type 0} (eq : V → V → Bool) (exact : (a b : V) → eq a b ≡ 
     bytes = λ b. rw e (at-join eq exact reflexive l s b made below rises);
   }
 
--- no value, where there was none
+-- a write of no value changes nothing where there was none
 pub put_none : {V : Type 0} (l : List (Run V)) (lo hi b : ℕ) → EndsBelow l lo → value_at l b ≡ put (value_at l) (record { lo = lo; hi = hi }) None b
 put_none l lo hi b ends = elim (cases_lt b lo) [
   | inl lt ↦ grind (arith, nat_tests)

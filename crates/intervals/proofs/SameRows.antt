@@ -1,15 +1,15 @@
--- What is left of two lists that were passed side by side.
+-- What is left of two lists that are read side by side.
 use Rattle.std.proofs.Common.{◌≡◌, List, ◌++◌}
 use Rattle.intervals.specs.declared.part.Part.{Part}
 use Rattle.intervals.specs.declared.run.Run.{Run}
 use Rattle.intervals.specs.Parts.{all_runs, AreSome}
 
--- what is left of both is one list where both are
+-- the rests of two lists are equal exactly where the lists are
 pub record LeftOfBoth {X : Type 0} (whole other left behind : List X) : Type 0 where
   pub there : left ≡ behind → whole ≡ other
   pub back : whole ≡ other → left ≡ behind
 
--- so it is with these runs and parts left of both rows
+-- the rests of two rows: equal exactly where the rows have equal runs
 pub record AreLeft {V : Type 0} (whole other : List (Run V)) (runs : List (Run V)) (parts : List (Part V)) (others : List (Run V)) (behind : List (Part V)) : Type 0 where
   pub some : AreSome parts
   pub some_behind : AreSome behind

@@ -1,4 +1,4 @@
--- What `first` gives.
+-- What the search `first` gives, by cases.
 use Rattle.std.specs.Prelude.{◌≡◌, ℕ, zero, suc, ◌+◌, ◌<◌, ◌≤◌, Bool, true, false, refl}
 use Rattle.std.proofs.Common.{arith}
 use Rattle.intervals.specs.Search.{first, IsFirst, FirstIsFirst}
@@ -6,7 +6,7 @@ use Rattle.intervals.specs.Search.{first, IsFirst, FirstIsFirst}
 none : (j lo : ℕ) → lo ≤ j → j < lo → ⊥
 none j lo above below = omega arith
 
--- it is lo, if that passes
+-- `first` gives lo where lo passes
 at_once : (passes : ℕ → Bool) (lo n : ℕ) → passes lo ≡ true → IsFirst passes lo n lo
 at_once passes lo n yes_lo = record {
   least = omega arith;
@@ -15,7 +15,7 @@ at_once passes lo n yes_lo = record {
   here = λ h. yes_lo;
 }
 
--- no number is left
+-- `first` gives lo where no number is asked
 at_end : (passes : ℕ → Bool) (lo : ℕ) → IsFirst passes lo 0 lo
 at_end passes lo = record {
   least = omega arith;
@@ -27,7 +27,7 @@ at_end passes lo = record {
     too_far : lo < lo + 0 → ⊥
     too_far h = omega arith
 
--- or it is the first of the numbers after lo
+-- `first` gives the first of the numbers after lo where lo doesn't pass
 later : (passes : ℕ → Bool) (lo n k : ℕ) → passes lo ≡ false → IsFirst passes (lo + 1) n k → IsFirst passes lo (suc n) k
 later passes lo n k no_lo f = record {
   least = below k f.least;

@@ -1,9 +1,9 @@
--- A run, a first byte and a largest span are determined, and a largest one is found by search.
+-- A run, a first byte and a largest span are determined by the map, and a largest span is found by search.
 use Rattle.std.proofs.Common.{◌≡◌, ℕ, zero, suc, ◌+◌, ◌<◌, ◌≤◌, Option, inl, inr, arith}
 use Rattle.std.proofs.lemmas.Bool.{cases_lt}
 use Rattle.intervals.specs.Bytes.{Range, IsRun, IsFirstIn, IsLargest}
 
--- where a number has one below it, that one
+-- a number above another has a number below it
 below : (n m : ℕ) → m < n → (k : ℕ) × (k + 1 ≡ n)
 below zero m lt = absurd (omega arith)
 below (suc n) m lt = (n, omega arith)
@@ -16,7 +16,7 @@ module _ {V : Type 0} (f : ℕ → Option V) where
     | inr le ↦ le
   ]
 
-  -- nor does either end last
+  -- of two runs with one value that share a byte neither ends last
   not_last : (s t : Range) (v : V) (b : ℕ) → IsRun f s v → IsRun f t v → s.lo ≤ b → b ≤ s.hi → b ≤ t.hi → s.hi ≤ t.hi
   not_last s t v b r q low high to = elim (cases_lt t.hi s.hi) [
     | inl lt ↦ absurd (q.ends (r.all (t.hi + 1) (omega arith) (omega arith)))
@@ -38,7 +38,7 @@ module _ {V : Type 0} (f : ℕ → Option V) where
       (λ i. record { lo = starts i; hi = stops i }, values)
 
 module _ (P : ℕ → Type 0) where
-  -- a first byte is not above another
+  -- one first byte is not above another
   not_above : (s : Range) (b c : ℕ) → IsFirstIn P s b → IsFirstIn P s c → b ≤ c
   not_above s b c first other = elim (cases_lt c b) [
     | inl lt ↦ absurd (first.none_before c other.above lt other.here)
@@ -52,7 +52,7 @@ module _ (P : ℕ → Type 0) where
       omega arith
 
   module _ (required within : Range) (order : required.lo ≤ required.hi) where
-    -- a largest span does not begin above another
+    -- one largest span doesn't begin above another
     starts_under : (s t : Range) → IsLargest P required within s → IsLargest P required within t → t.lo ≤ s.lo
     starts_under s t one other = elim (cases_lt s.lo t.lo) [
       | inl lt ↦
@@ -63,7 +63,7 @@ module _ (P : ℕ → Type 0) where
       | inr le ↦ le
     ]
 
-    -- nor end below it
+    -- one largest span doesn't end below another
     ends_over : (s t : Range) → IsLargest P required within s → IsLargest P required within t → s.hi ≤ t.hi
     ends_over s t one other = elim (cases_lt t.hi s.hi) [
       | inl lt ↦

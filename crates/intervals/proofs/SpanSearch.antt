@@ -1,4 +1,4 @@
--- What the searches of spans give.
+-- What the searches for spans give.
 use Rattle.std.proofs.Common.{◌≡◌, ℕ, zero, suc, pred, ◌+◌, ◌-◌, ◌<◌, ◌≤◌, Bool, true, false, not, refl, inl, inr, arith}
 use Rattle.std.proofs.lemmas.Bool.{cases_lt, cases_Bool}
 use Rattle.std.proofs.lemmas.Bool.Decides.{nat_tests}
@@ -16,7 +16,7 @@ all_pass-each passes lo n all k low high =
     let none = is.none_before k low (omega arith) in
     elim (cases_Bool (passes k)) [ inl t ↦ t | inr f ↦ absurd (let h : not (passes k) ≡ true = rw f refl in cc) ]
 
--- and where not all do, one does not
+-- where not all of the numbers pass, one doesn't
 not_all-one : (passes : ℕ → Bool) (lo n : ℕ) → all_pass passes lo n ≡ false → (k : ℕ) × (lo ≤ k) × (k < lo + n) × (passes k ≡ false)
 not_all-one passes lo n some =
     let is = first_is_first (λ b. not (passes b)) lo n in
@@ -31,7 +31,7 @@ not-true b fails is = let other : not b ≡ false = rw is refl in cc
 not-false : (b : Bool) → not b ≡ false → b ≡ true
 not-false b fails = elim (cases_Bool b) [ inl t ↦ t | inr f ↦ absurd (let h : not b ≡ true = rw f refl in cc) ]
 
--- a number that has one below it
+-- a number from 1 on is one more than its predecessor
 pred-above : (n : ℕ) → 1 ≤ n → pred n + 1 ≡ n
 pred-above zero le = absurd (omega arith)
 pred-above (suc n) le = omega arith
@@ -44,7 +44,7 @@ module _ (barred : ℕ → Bool) where
   free_below-each : (from l : ℕ) → free_below from l ≡ true → (b : ℕ) → l ≤ b → b < from → barred b ≡ true → ⊥
   free_below-each from l all b ge lt hit = not-true (barred b) (all_pass-each (λ k. not (barred k)) l (from - l) all b ge (omega arith)) hit
 
-  -- the search down finds how far the bytes are free
+  -- the search downwards finds how far down the bytes are free
   lowest_is_lowest : (low from : ℕ) → low ≤ from → IsLowestFree (λ b. barred b ≡ true) low from (first (free_below from) low (from - low))
   lowest_is_lowest low from order =
       let is = first_is_first (free_below from) low (from - low) in
@@ -64,7 +64,7 @@ module _ (barred : ℕ → Bool) where
             ];
       }
 
-  -- and so does the search up
+  -- the search upwards finds how far up the bytes are free
   highest_is_highest : (to high : ℕ) → to ≤ high → IsHighestFree (λ b. barred b ≡ true) to high (pred (first barred (to + 1) (high - to)))
   highest_is_highest to high order =
       let is = first_is_first barred (to + 1) (high - to) in

@@ -12,7 +12,7 @@ abbrev begins_at : {V : Type 0} → List (Run V) → ℕ → Bool
 begins_at [] n = false
 begins_at (r ∷ rest) n = eqb r.lo n || begins_at rest n
 
--- how many runs of the list begin below n
+-- the number of runs of the list that begin below n
 abbrev pub begin_below : {V : Type 0} → List (Run V) → ℕ → ℕ
 begin_below [] n = 0
 begin_below (r ∷ rest) n = (if ltb r.lo n then 1 else 0) + begin_below rest n
@@ -24,7 +24,7 @@ none_begins r (s ∷ rest) b h runs le =
     let later = none_begins s rest b runs.1 runs.2 (omega (arith, runs.0)) in
     grind (arith, nat_tests)
 
--- one more byte has at most one more begin
+-- one more byte is the beginning of one more run, or of none
 begin_below_more : {V : Type 0} (l : List (Run V)) (n : ℕ) → AreRuns l → begin_below l (suc n) ≡ begin_below l n + (if begins_at l n then 1 else 0)
 begin_below_more [] n runs = refl
 begin_below_more (r ∷ rest) n runs =
@@ -46,7 +46,7 @@ begin_below_all (r ∷ rest) n runs ends =
     grind (arith, nat_tests)
 
 module _ {V : Type 0} (eq : V → V → Bool) (exact : (a b : V) → eq a b ≡ true → a ≡ b) (reflexive : (a : V) → eq a a ≡ true) where
-  -- after another value a run begins as after none
+  -- after a byte with another value a run begins as after a byte without one
   begins_other : (v : V) (x : Option V) → x ≢ Some v → begins_after eq (Some v) x ≡ begins_after eq None x
   begins_other v None differ = refl
   begins_other v (Some w) differ = elim (cases_Bool (eq v w)) [
@@ -57,7 +57,7 @@ module _ {V : Type 0} (eq : V → V → Bool) (exact : (a b : V) → eq a b ≡ 
   begins_same : (v : V) → begins_after eq (Some v) (Some v) ≡ false
   begins_same v = rw reflexive refl
 
-  -- a run of the function begins where one of the list does
+  -- a longest run of the function begins exactly where a run of the list does
   starts_are : (l : List (Run V)) (n : ℕ) → AreRuns l → is_start eq (value_at l) n ≡ begins_at l n
   unfolding is_start
   starts_are [] zero runs = rw value_at-none refl
@@ -96,7 +96,7 @@ module _ {V : Type 0} (eq : V → V → Bool) (exact : (a b : V) → eq a b ≡ 
   starts_below_are l zero runs = sym (begin_below_none l)
   starts_below_are l (suc n) runs = rw (starts_below_are l n runs, starts_are l n runs) (sym (begin_below_more l n runs))
 
-  -- so there are as many begins as runs
+  -- there are as many beginnings of longest runs as runs in the list
   pub number_of_runs-length : (l : List (Run V)) → AreRuns l → EndsBelow l (greatest + 1) → number_of_runs eq (value_at l) ≡ length l
   unfolding all_bytes
   number_of_runs-length l runs ends = starts_below_are l 9223372036854775808 runs ∙ begin_below_all l 9223372036854775808 runs ends

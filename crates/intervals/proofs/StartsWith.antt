@@ -1,4 +1,4 @@
--- How many runs there are once a span is written.
+-- The number of runs after a span is written.
 use Rattle.std.proofs.Common.{◌≡◌, ℕ, zero, suc, ◌+◌, ◌-◌, ◌<◌, ◌≤◌, Bool, true, false, if◌then◌else◌, length, get_or, List, [], ◌∷◌, Option, Some, None, refl, ap, sym, ◌∙◌, inl, inr, arith}
 use Rattle.std.proofs.lemmas.Bool.{cases_lt}
 use Rattle.std.proofs.lemmas.Bool.Decides.{nat_tests}
@@ -15,7 +15,7 @@ begins_later r [] j d runs lt = absurd (omega arith)
 begins_later r (s ∷ l) zero d runs lt = omega (arith, runs.0, runs.1.0)
 begins_later r (s ∷ l) (suc j) d runs lt = let later = begins_later s l j d runs.2 (omega arith) in omega (arith, later, runs.0, runs.1.0)
 
--- the first bytes of runs rise
+-- the first bytes of runs are in ascending order
 pub begins_rise : {V : Type 0} (l : List (Run V)) → AreRuns l → IsNonDecreasingBy (λ (r : Run V). r.lo) l
 begins_rise [] runs i j d le lt = absurd (omega arith)
 begins_rise (r ∷ l) runs zero zero d le lt = omega arith
@@ -23,7 +23,7 @@ begins_rise (r ∷ l) runs zero (suc j) d le lt = begins_later r l j d runs (ome
 begins_rise (r ∷ l) runs (suc i) zero d le lt = absurd (omega arith)
 begins_rise (r ∷ l) runs (suc i) (suc j) d le lt = begins_rise l runs.2 i j d (omega arith) (omega arith)
 
--- as many begin below n as stand before the first that doesn't
+-- the runs that begin below n are the ones before the first that doesn't
 pub begin_below_point : {V : Type 0} (l : List (Run V)) (p n : ℕ) → p ≤ length l → ((k : ℕ) (d : Run V) → k < p → (get_or l k d).lo < n) → ((k : ℕ) (d : Run V) → p ≤ k → k < length l → n ≤ (get_or l k d).lo) → begin_below l n ≡ p
 begin_below_point [] zero n le below above = refl
 begin_below_point [] (suc p) n le below above = absurd (omega arith)
@@ -36,7 +36,7 @@ begin_below_point (r ∷ l) (suc p) n le below above =
     let first : r.lo < n = below 0 r (omega arith) in
     grind (arith, nat_tests)
 
--- a byte of the span has what was put there, each other what it had
+-- a byte of the span has the written value, each other byte its old value
 pub put-in : {V : Type 0} (f : ℕ → Option V) (s : Range) (v : Option V) (b : ℕ) → s.lo ≤ b → b ≤ s.hi → put f s v b ≡ v
 put-in f s v b lo hi = grind (arith, nat_tests)
 
@@ -46,7 +46,7 @@ put-below f s v b lt = grind (arith, nat_tests)
 pub put-above : {V : Type 0} (f : ℕ → Option V) (s : Range) (v : Option V) (b : ℕ) → s.hi < b → put f s v b ≡ f b
 put-above f s v b lt = grind (arith, nat_tests)
 
--- what has the value in the span, and each other byte what it had, is what was put
+-- a function with the written value on the span and the old values elsewhere is the written function
 pub put-pieces : {V : Type 0} (f h : ℕ → Option V) (s : Range) (v : Option V) → ((b : ℕ) → b < s.lo → h b ≡ f b) → ((b : ℕ) → s.lo ≤ b → b ≤ s.hi → h b ≡ v) → ((b : ℕ) → s.hi < b → h b ≡ f b) → (b : ℕ) → h b ≡ put f s v b
 put-pieces f h s v below inside above b = elim (cases_lt b s.lo) [
   | inl lt ↦ below b lt ∙ sym (put-below f s v b lt)
@@ -56,7 +56,7 @@ put-pieces f h s v below inside above b = elim (cases_lt b s.lo) [
   ]
 ]
 
--- what stands before a byte
+-- the value of the byte below, if there is such a byte
 abbrev pub before : {V : Type 0} → (ℕ → Option V) → ℕ → Option V
 before f zero = None
 before f (suc b) = f b
@@ -78,7 +78,7 @@ module _ {V : Type 0} (eq : V → V → Bool) (reflexive : (a : V) → eq a a �
   begins_not None = refl
   begins_not (Some v) = rw reflexive refl
 
-  -- there are no more begins than bytes
+  -- no more runs begin below n than there are bytes
   pub starts-few : (f : ℕ → Option V) (n : ℕ) → starts_below eq f n ≤ n
   unfolding starts_below
   starts-few f zero = omega arith
@@ -88,7 +88,7 @@ module _ {V : Type 0} (eq : V → V → Bool) (reflexive : (a : V) → eq a a �
       by true le = omega (arith, le)
       by false le = omega (arith, le)
 
-  -- and no fewer below a later byte
+  -- no fewer runs begin below a greater number
   pub starts-more : (f : ℕ → Option V) (m n : ℕ) → m ≤ n → starts_below eq f m ≤ starts_below eq f n
   unfolding starts_below
   starts-more f m zero le = rw (m_is m le) (omega arith)
@@ -117,7 +117,7 @@ module _ {V : Type 0} (eq : V → V → Bool) (reflexive : (a : V) → eq a a �
     first-before zero le = refl
     first-before (suc n) le = put-below f s v n (omega arith)
 
-    -- in it one begins at the first byte alone
+    -- within the span at most one run begins, at its first byte
     starts-in : (n : ℕ) → s.lo < n → n ≤ s.hi + 1 → starts_below eq (put f s v) n ≡ starts_below eq f s.lo + one (begins_after eq (before f s.lo) v)
     unfolding starts_below
     starts-in zero lt le = absurd (omega arith)
@@ -136,7 +136,7 @@ module _ {V : Type 0} (eq : V → V → Bool) (reflexive : (a : V) → eq a a �
         inside zero lt le = absurd (omega arith)
         inside (suc n) lt le = put-in f s v n (omega arith) (omega arith)
 
-    -- one may begin right after it
+    -- at most one run begins right after the span
     starts-after : starts_below eq (put f s v) (s.hi + 1 + 1) ≡ starts_below eq f s.lo + one (begins_after eq (before f s.lo) v) + one (begins_after eq v (f (s.hi + 1)))
     unfolding starts_below
     starts-after =
@@ -148,7 +148,7 @@ module _ {V : Type 0} (eq : V → V → Bool) (reflexive : (a : V) → eq a a �
         inside zero at = absurd (omega (arith, at))
         inside (suc n) at = put-in f s v n (omega (arith, at, ordered)) (omega (arith, at))
 
-    -- and above that they begin where they did
+    -- above the byte after the span runs begin where they did
     starts-above : (n : ℕ) → s.hi + 1 + 1 ≤ n → starts_below eq (put f s v) n + starts_below eq f (s.hi + 1 + 1) ≡ starts_below eq (put f s v) (s.hi + 1 + 1) + starts_below eq f n
     unfolding starts_below
     starts-above zero le = absurd (omega arith)
@@ -164,29 +164,29 @@ module _ {V : Type 0} (eq : V → V → Bool) (reflexive : (a : V) → eq a a �
         was zero le = absurd (omega (arith, le))
         was (suc n) le = put-above f s v n (omega arith)
 
-    -- so a write leaves as many as it doesn't reach, and those that begin at its edges
+    -- after a write the runs are the ones that the span doesn't reach and the ones that begin at its edges
     pub starts-written : (n : ℕ) → s.hi + 1 + 1 ≤ n → starts_below eq (put f s v) n + starts_below eq f (s.hi + 1 + 1) ≡ starts_below eq f s.lo + one (begins_after eq (before f s.lo) v) + one (begins_after eq v (f (s.hi + 1))) + starts_below eq f n
     starts-written n le = rw (← starts-after) (starts-above n le)
 
--- the byte before one, as it is looked up
+-- the value of the byte below, as the code looks it up
 pub before-is : {V : Type 0} (f : ℕ → Option V) (n : ℕ) (r : Option V) → (n ≡ 0 → r ≡ None) → ((b : ℕ) → b + 1 ≡ n → r ≡ f b) → r ≡ before f n
 before-is f zero r first other = first refl
 before-is f (suc n) r first other = other n (omega arith)
 
--- all bytes are so many
+-- the number of all bytes is one more than the greatest offset
 bytes-are : all_bytes ≡ greatest + 1
 unfolding all_bytes
 bytes-are = refl
 
 module _ {V : Type 0} (eq : V → V → Bool) (exact : (a b : V) → eq a b ≡ true → a ≡ b) (reflexive : (a : V) → eq a a ≡ true) where
-  -- none begins at a byte without a value
+  -- no run begins at a byte without a value
   starts-none : (f : ℕ → Option V) (n : ℕ) → f n ≡ None → starts_below eq f (suc n) ≡ starts_below eq f n
   unfolding starts_below
   starts-none f n none =
       let here : is_start eq f n ≡ false = start-is eq reflexive f n ∙ ap (begins_after eq (before f n)) none in
       rw here (omega arith)
 
-  -- the runs that there are once the span is written
+  -- the number of runs after the span is written
   pub number-written : (l : List (Run V)) (s : Range) (v : Option V) (low high first next : ℕ) → AreRuns l → EndsBelow l (greatest + 1) → s.lo ≤ s.hi → s.hi ≤ greatest → low ≡ starts_below eq (value_at l) s.lo → high ≡ starts_below eq (value_at l) (s.hi + 1 + 1) → high ≤ length l → first ≡ one (begins_after eq (before (value_at l) s.lo) v) → next ≡ one (begins_after eq v (value_at l (s.hi + 1))) → low + (length l - high) + first + next ≡ number_of_runs eq (put (value_at l) s v)
   number-written l s v low high first next runs ends ordered within lows highs few firsts nexts =
       let f : ℕ → Option V = value_at l in

@@ -5,6 +5,6 @@ use Rattle.intervals.specs.declared.span_edit.SpanEdit.{SpanEdit}
 use Rattle.intervals.specs.Bytes.{put}
 use Rattle.intervals.specs.Runs.{value_at}
 
--- the value of each byte once the write is made; a map of more runs than the edit has memory for stays
+-- the value of each byte after a planned write; a map of more runs than the edit holds memory for stays as it is
 abbrev pub written : {V : Type 0} → SpanEdit V → List (Run V) → ℕ → Option V
 written e runs = if nat_le (length runs) e.runs then put (value_at runs) e.span e.value else value_at runs

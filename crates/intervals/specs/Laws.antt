@@ -1,4 +1,4 @@
--- What determines a run, a first byte and a largest span.
+-- Runs, first bytes and largest spans are each determined by the map.
 use Rattle.std.specs.Prelude.{◌≡◌, ℕ, ◌≤◌, Option}
 use Rattle.intervals.specs.Bytes.{Range, IsRun, IsBarred, IsFirstIn, IsLargest}
 
@@ -12,7 +12,7 @@ RunsAreOne V =
     → t.lo ≤ b × b ≤ t.hi
     → (s ≡ t) × (v ≡ w)
 
--- a span has one first barred byte at most
+-- a span has at most one first barred byte
 abbrev pub FirstIsOne : Type 0 → Type 0
 FirstIsOne V =
     (f : ℕ → Option V) (bar : Option V) (s : Range) (b c : ℕ)
@@ -20,7 +20,7 @@ FirstIsOne V =
     → IsFirstIn (IsBarred f bar) s c
     → b ≡ c
 
--- one span alone is the largest around `required`
+-- at most one span is the largest one around `required`
 abbrev pub LargestIsOne : Type 0 → Type 0
 LargestIsOne V =
     (f : ℕ → Option V) (bar : Option V) (required within s t : Range)

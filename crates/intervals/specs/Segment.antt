@@ -1,14 +1,14 @@
--- The bytes that a lock call names.
+-- The bytes that a lock call names by START and LEN.
 use Rattle.std.specs.Prelude.{ℕ, zero, suc, ◌+◌, ◌-◌, ℤ, pos, negsuc, nat_le, if◌then◌else◌, Result, Ok, Err}
 use Rattle.intervals.specs.Bytes.{Range, greatest}
 use Rattle.intervals.specs.declared.span.SpanError.{SpanError}
 use Rattle.intervals.specs.declared.span.SpanError.TheVariants.{Invalid, Overflow}
 
--- the bytes from lo to hi, if the last is not past the greatest offset
+-- the span from lo to hi; Overflow where hi is past the greatest offset
 abbrev pub up_to : ℕ → ℕ → Result Range SpanError
 up_to lo hi = if nat_le hi greatest then Ok (record { lo = lo; hi = hi }) else Err Overflow
 
--- POSIX.1-2017 fcntl(), l_start and l_len: `len` bytes from `start`; with 0 all to the greatest offset; with a negative `len` the bytes before `start`. That a negative `start` is Invalid by itself is this project's choice
+-- POSIX.1-2017 fcntl(), l_start, l_len: LEN bytes from START; 0: all from START; LEN < 0: those before START. START < 0 is Invalid by this project's choice
 abbrev pub seg : ℤ → ℤ → Result Range SpanError
 seg (negsuc s) len = Err Invalid
 seg (pos s) (pos zero) = if nat_le s greatest then Ok (record { lo = s; hi = greatest }) else Err Overflow

@@ -1,4 +1,4 @@
-//! Laws of the words of spans, each the contract of a function that does nothing.
+//! Laws of spans and runs; each is the contract of a function that does nothing.
 ghost use Rattle.intervals.specs.Search.{FirstIsFirst};
 ghost use Rattle.intervals.specs.Bytes.{LargestIsLargest};
 ghost use Rattle.intervals.specs.Laws.{RunsAreOne, FirstIsOne, LargestIsOne};
@@ -8,23 +8,25 @@ pub fn runs_are_one<V>()
     ensures { RunsAreOne V }
 {}
 
-/// A span has at most one first byte with the barred value.
+/// A span has at most one first byte with a barred value.
 pub fn first_is_one<V>()
     ensures { FirstIsOne V }
 {}
 
-/// One span alone is the largest that contains the required one, lies within another, and has no byte
-/// with the barred value.
+/// At most one span is the largest that contains the required span, lies within a given one, and
+/// has no byte with a barred value.
 pub fn largest_is_one<V>()
     ensures { LargestIsOne V }
 {}
 
-/// The search for the first number that passes a test gives the first, or the number after the last.
+/// The search for the first of n numbers that passes a test gives the first such number, or the
+/// number after the last one where none passes.
 pub fn first_is_first()
     ensures { FirstIsFirst }
 {}
 
-/// The search for the largest span with no barred byte gives the largest.
+/// The search for the largest span around a required one that has no barred byte gives the largest
+/// such span.
 pub fn largest_is_largest()
     ensures { LargestIsLargest }
 {}

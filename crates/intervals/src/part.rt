@@ -1,4 +1,4 @@
-//! Parts of rows of runs.
+//! A part of a row: a sorted vector of runs with the byte at which its first run begins.
 ghost use Rattle.std.specs.Prelude.{◌≡◌, ◌≤◌, ◌<◌, ◌+◌, ◌++◌, [], ℕ, ◌==◌, length, IfOk};
 ghost use Rattle.std.specs.Vec.{vec_len, vec_capacity};
 ghost use Rattle.intervals.specs.Bytes.{greatest, put};
@@ -10,15 +10,15 @@ use crate::span_map::Exact;
 use std::alloc::{AllocError, Global};
 use std::marker::Model;
 
-/// Some runs of a map from bytes to values, as a sorted vector, with the byte at which the first begins: a search in a
-/// row of parts reads no run of theirs.
+/// Some of a map's runs, as a sorted vector, with the byte at which the first of them begins. A
+/// search over the parts of a row compares these bytes and reads no run.
 #[derive(Drop)]
 pub(crate) struct Part<V> {
     first: u64,
     runs: Vec<Run<V>>,
 }
 
-// The byte at which the first of the runs begins; 0 where there is none.
+// The byte at which the first of the runs begins; 0 where there is no run.
 #[inline(always)]
 fn first_of<V: Exact>(runs: &[Run<V>]) -> u64
     ensures { result ≡ begins_at runs.now }
@@ -42,7 +42,7 @@ impl<V> Model for Part<V> {
 }
 
 impl<V: Exact> Part<V> {
-    // A part of no runs. It takes no memory.
+    // A part without runs. It takes no memory.
     pub(crate) fn new(alloc: Global) -> Part<V>
         ensures { result ≡ [] }
     {
@@ -52,7 +52,7 @@ impl<V: Exact> Part<V> {
         }
     }
 
-    // A part of no runs, with room for so many.
+    // A part without runs, with room for `most` of them.
     pub(crate) fn with_capacity(alloc: Global, most: usize) -> Result<Part<V>, AllocError>
         ensures { IfOk result (λ part. part ≡ []) }
     {
@@ -62,7 +62,7 @@ impl<V: Exact> Part<V> {
         })
     }
 
-    // The runs, from the lowest on.
+    // The runs of the part, in ascending order.
     #[inline(always)]
     pub(crate) fn runs(&self) -> &[Run<V>]
         ensures { result.now ≡ self.now }
@@ -70,7 +70,7 @@ impl<V: Exact> Part<V> {
         &self.runs
     }
 
-    // How many there are.
+    // The number of runs in the part.
     #[inline(always)]
     pub(crate) fn len(&self) -> usize
         ensures { result ≡ length self.now }
@@ -78,7 +78,7 @@ impl<V: Exact> Part<V> {
         self.runs.len()
     }
 
-    // The byte at which the first run begins; 0 where there is none.
+    // The byte at which the first run of the part begins; 0 where the part has no run.
     #[inline(always)]
     pub(crate) fn first(&self) -> u64
         ensures { result ≡ begins_at self.now }
@@ -86,7 +86,7 @@ impl<V: Exact> Part<V> {
         self.first
     }
 
-    // Gives each byte of the span the value, or none, as `write` does.
+    // Gives each byte of the span the value, or no value, by `run::write`.
     #[inline]
     pub(crate) fn write(&mut self, room: Vec<Run<V>>, span: Span, value: Option<V>)
         requires empty { room.items ≡ [] }
@@ -101,7 +101,8 @@ impl<V: Exact> Part<V> {
         self.first = first_of(&self.runs);
     }
 
-    // Takes these runs in place of its own: to its own memory, where that has room for them. Takes no memory.
+    // Replaces the runs of the part. Where its own memory has room for the new runs they are moved
+    // there. Takes no memory.
     pub(crate) fn put(&mut self, mut runs: Vec<Run<V>>)
         ensures { self.new ≡ runs.items }
     {
@@ -116,8 +117,8 @@ impl<V: Exact> Part<V> {
         };
     }
 
-    // This part with the runs behind the first `kept` in place of its own, if it has room for them, else with none.
-    // Takes no memory.
+    // Moves the runs behind the first `kept` ones from `runs` to this part, in place of its own
+    // runs, if it has room for them; else this part comes back without runs. Takes no memory.
     pub(crate) fn with_rest(mut self, runs: &mut Vec<Run<V>>, kept: usize) -> Part<V>
         requires { kept ≤ vec_len runs.old }
         ensures runs { runs.new.items ++ result ≡ runs.old.items }
@@ -135,7 +136,7 @@ impl<V: Exact> Part<V> {
         self
     }
 
-    // An equal part, with room for so many runs at least.
+    // An equal part, with room for at least `least` runs.
     pub(crate) fn copy(&self, alloc: Global, least: usize) -> Result<Part<V>, AllocError>
         ensures { IfOk result (λ copy. copy ≡ self.now) }
     {

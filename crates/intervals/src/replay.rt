@@ -1,4 +1,6 @@
-//! Maps made by commands.
+//! Maps that are made by a list of writes.
+//!
+//! Each function here that can fail errs with `AllocError`, where a request for memory was refused.
 ghost use Rattle.std.specs.Prelude.{◌≡◌, IfOk, OnOk};
 ghost use Rattle.intervals.specs.Bytes.{put};
 ghost use Rattle.intervals.specs.Replays.{replayed};
@@ -7,14 +9,14 @@ use crate::span::Span;
 use crate::span_map::{Exact, SpanMap};
 use std::alloc::{AllocError, Global};
 
-/// A write of a map: the value at each byte of the span, or none there.
+/// A write of a map: the value that each byte of the span gets, or none.
 #[derive(Clone, Copy)]
 pub struct Command<V> {
     pub span: Span,
     pub value: Option<V>,
 }
 
-// Makes one write.
+// Makes one write of the map.
 fn perform<V: Exact, S: SpanMap<V>>(map: &mut S, command: &Command<V>) -> Result<(), AllocError>
     ensures { OnOk result (S.at map.new ≡ put (S.at map.old) command.now.span command.now.value) }
 {
@@ -24,10 +26,7 @@ fn perform<V: Exact, S: SpanMap<V>>(map: &mut S, command: &Command<V>) -> Result
     }
 }
 
-/// The map in which no byte has a value, after the commands.
-///
-/// # Errors
-/// `AllocError` where a request for memory was refused.
+/// The map that the commands make in turn of one in which no byte has a value.
 pub fn replay<V: Exact, S: SpanMap<V>>(
     alloc: Global,
     commands: &[Command<V>],

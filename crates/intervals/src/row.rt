@@ -1,4 +1,4 @@
-//! Rows of parts.
+//! A row: all runs of a map, as parts of a limited size in ascending order.
 ghost use Rattle.std.specs.Prelude.{◌≡◌, true, ◌≤◌, ◌<◌, ◌+◌, ◌-◌, ◌++◌, ◌↔◌, [], ◌∷◌, take, drop, length, ℕ, IfOk, IfSome, IsTrue, MatchOption};
 ghost use Rattle.std.specs.Vec.{vec_len, vec_capacity};
 ghost use Rattle.intervals.specs.Bytes.{greatest, put, starts_below};
@@ -12,24 +12,25 @@ use crate::span::Span;
 use crate::span_map::Exact;
 use std::alloc::{AllocError, Global};
 
-// A part of more runs is cut in two.
+// The greatest number of runs in a part: a part of more runs is cut in two.
 pub(crate) const MOST: usize = 64;
 
-/// Runs in a row of parts, of which the first may be empty, and none of the rest is.
+/// A row of parts. The first part may have no runs, each other part has some.
 #[derive(Drop)]
 pub(crate) struct Row<V> {
     pub(crate) first: Part<V>,
     pub(crate) rest: Vec<Part<V>>,
 }
 
-/// Memory for one more part of a row: a part, and places for all parts, where the row has none for one more.
+/// Memory for one more part of a row: a part, and places for all parts in case the row has no place
+/// left.
 #[derive(Drop)]
 pub(crate) struct Spare<V> {
     part: Part<V>,
     places: Vec<Part<V>>,
 }
 
-// How many parts begin at the byte or below. It halves what is left at each step.
+// The number of the parts that begin at the byte or below it. Found by halving.
 #[inline(never)]
 fn begin_to<V: Exact>(parts: &[Part<V>], byte: u64) -> usize
     requires runs { AreRuns (all_runs parts.now) }
@@ -41,7 +42,7 @@ fn begin_to<V: Exact>(parts: &[Part<V>], byte: u64) -> usize
     parts.partition_point(|part| part.first() <= byte)
 }
 
-// The first of the runs and then of the parts, and what follows it.
+// The first run of `runs` and then of `parts`, with the runs and parts behind it.
 #[inline]
 pub(crate) fn next_of<'a, V: Exact>(
     runs: &'a [Run<V>],
@@ -59,7 +60,7 @@ pub(crate) fn next_of<'a, V: Exact>(
     Some((*run, rest, later))
 }
 
-// Moves the row to `room`, where it has no place for one more part, and `room` has.
+// Moves the row to `room` if the row has no place for one more part and `room` has one.
 fn make_room<V: Exact>(row: &mut Vec<Part<V>>, mut room: Vec<Part<V>>)
     ensures { row.new.items ≡ row.old.items }
 {
@@ -73,8 +74,9 @@ fn make_room<V: Exact>(row: &mut Vec<Part<V>>, mut room: Vec<Part<V>>)
     *row = room;
 }
 
-// How many of the runs, which are too many for a part, stay in it: where the span was written at an end of
-// them, all but some at that end, so that parts are full where runs come one after another.
+// Of runs that are too many for one part: how many stay in the lower one. It is half of them; one
+// eighth where the write was at their lower end, and seven eighths where it was at their upper end,
+// so that parts are full where runs are written in order.
 fn kept_of<V: Exact>(runs: &[Run<V>], span: Span) -> usize
     requires { 64 < length runs.now }
     ensures some { 0 < result }
@@ -88,14 +90,14 @@ fn kept_of<V: Exact>(runs: &[Run<V>], span: Span) -> usize
     }
 }
 
-// Whether these are the same runs, one after another.
+// Whether both lists have the same runs in the same order.
 fn are_same<V: Exact>(runs: &[Run<V>], others: &[Run<V>]) -> bool
     ensures { result ≡ true → runs.now ≡ others.now }
 {
     runs == others
 }
 
-// Whether the parts have the same runs, one after another.
+// Whether both lists of parts have the same runs in the same parts.
 fn are_same_parts<V: Exact>(parts: &[Part<V>], others: &[Part<V>]) -> bool
     ensures { result ≡ true → parts.now ≡ others.now }
 {
@@ -110,7 +112,7 @@ fn are_same_parts<V: Exact>(parts: &[Part<V>], others: &[Part<V>]) -> bool
     true
 }
 
-// Equal parts, each with room for so many runs at least.
+// Equal parts, each with room for at least `least` runs.
 fn copies<V: Exact>(
     alloc: Global,
     parts: &[Part<V>],
@@ -126,7 +128,7 @@ fn copies<V: Exact>(
 }
 
 impl<V: Exact> Row<V> {
-    // A row of no runs. It takes no memory.
+    // A row without runs. It takes no memory.
     pub(crate) fn new(alloc: Global) -> Row<V>
         ensures first { result.first ≡ [] }
         ensures rest { result.rest.items ≡ [] }
@@ -137,7 +139,7 @@ impl<V: Exact> Row<V> {
         }
     }
 
-    // An equal row. One of a single part has no more room than its runs take.
+    // An equal row. A row of one part is copied with no more room than its runs take and two more.
     pub(crate) fn copy(&self) -> Result<Row<V>, AllocError>
         ensures first { IfOk result (λ copy. copy.first ≡ self.now.first) }
         ensures rest { IfOk result (λ copy. copy.rest.items ≡ self.now.rest.items) }
@@ -150,14 +152,15 @@ impl<V: Exact> Row<V> {
         })
     }
 
-    // Whether both have the same runs in the same parts, as maps have that were written alike.
+    // Whether both rows have the same runs in the same parts, which rows have that were written
+    // alike.
     fn is_alike(&self, other: &Row<V>) -> bool
         ensures { result ≡ true → row_runs self.now ≡ row_runs other.now }
     {
         are_same(self.first.runs(), other.first.runs()) && are_same_parts(&self.rest, &other.rest)
     }
 
-    // Whether both have the same runs.
+    // Whether both rows have the same runs, in whichever parts.
     pub(crate) fn same(&self, other: &Row<V>) -> bool
         requires some { AreSome self.now.rest.items }
         requires other { AreSome other.now.rest.items }
@@ -166,7 +169,7 @@ impl<V: Exact> Row<V> {
         self.is_alike(other) || self.has_runs_of(other)
     }
 
-    // The same, in whichever parts.
+    // Whether both rows have the same runs, in whichever parts, found by reading them side by side.
     fn has_runs_of(&self, other: &Row<V>) -> bool
         requires some { AreSome self.now.rest.items }
         requires other { AreSome other.now.rest.items }
@@ -190,7 +193,8 @@ impl<V: Exact> Row<V> {
         }
     }
 
-    // The place of the last part that begins at the byte or below, or of the first.
+    // The place of the last part that begins at the byte or below it, or 0, the place of the first
+    // part.
     #[inline(always)]
     pub(crate) fn place(&self, byte: u64) -> usize
         requires runs { AreRuns (row_runs self.now) }
@@ -206,7 +210,7 @@ impl<V: Exact> Row<V> {
         begin_to(&self.rest, byte)
     }
 
-    // The runs of the part at a place.
+    // The runs of the part at place `at`.
     #[inline(always)]
     pub(crate) fn part(&self, at: usize) -> &[Run<V>]
         requires { at ≤ vec_len self.now.rest }
@@ -218,7 +222,7 @@ impl<V: Exact> Row<V> {
         self.rest[at - 1].runs()
     }
 
-    // The parts above the one at a place.
+    // The parts above the one at place `at`.
     #[inline]
     pub(crate) fn above(&self, at: usize) -> &[Part<V>]
         requires { at ≤ vec_len self.now.rest }
@@ -228,7 +232,7 @@ impl<V: Exact> Row<V> {
         above
     }
 
-    // How many runs begin from `lo` on and below `hi`.
+    // The number of runs that begin at `lo` or above and below `hi`.
     pub(crate) fn begin_within(&self, lo: u64, hi: u64) -> usize
         requires order { lo ≤ hi }
         requires runs { AreRuns (row_runs self.now) }
@@ -250,7 +254,7 @@ impl<V: Exact> Row<V> {
         count
     }
 
-    // How many runs the part at a place and so many parts above it have.
+    // The number of runs in the part at place `at` and the `more` parts above it.
     fn count(&self, at: usize, more: usize) -> usize
         requires within { at + more ≤ vec_len self.now.rest }
         requires few { length (row_runs self.now) ≤ greatest + 1 }
@@ -264,7 +268,7 @@ impl<V: Exact> Row<V> {
         count
     }
 
-    // Memory for one more part, if a write of the span may leave more runs in one than it is to have.
+    // Memory for one more part, if a write of the span may leave more than `MOST` runs in one part.
     pub(crate) fn spare_for(&self, span: Span) -> Result<Option<Box<Spare<V>>>, AllocError>
         requires runs { AreRuns (row_runs self.now) }
         requires some { AreSome self.now.rest.items }
@@ -284,7 +288,7 @@ impl<V: Exact> Row<V> {
         Ok(Some(self.spare(len)?))
     }
 
-    // Memory for one more part, of at least as many runs.
+    // Memory for one more part, of at least `least` runs.
     fn spare(&self, least: usize) -> Result<Box<Spare<V>>, AllocError> {
         let alloc = *self.rest.allocator();
         let mut places = Vec::new(alloc);
@@ -298,8 +302,8 @@ impl<V: Exact> Row<V> {
         Ok(Box::new(alloc, Spare { part, places })?)
     }
 
-    // Gives each byte of the span the value, or none, in the part at a place. How many runs it had, and how many it
-    // has. Takes no memory.
+    // Gives each byte of the span the value, or no value, in the part at place `at`. The result is
+    // the number of runs that the part had before and has after. Takes no memory.
     #[inline]
     fn write_part(
         &mut self,
@@ -330,8 +334,9 @@ impl<V: Exact> Row<V> {
         (had, has)
     }
 
-    // Where the runs are too many for a part, and there is memory for another, the upper ones in that. There is a
-    // place for it then. Takes no memory.
+    // Moves the upper ones of the runs to the spare part, if they are too many for one part and
+    // there is a spare one; else the result has no runs. Where it has some, the row has a place for
+    // it. Takes no memory.
     fn cut(&mut self, runs: &mut Vec<Run<V>>, spare: Option<Box<Spare<V>>>, span: Span) -> Part<V>
         ensures runs { runs.new.items ++ result ≡ runs.old.items }
         ensures first { self.new.first ≡ self.old.first }
@@ -355,7 +360,8 @@ impl<V: Exact> Row<V> {
         part.with_rest(runs, kept)
     }
 
-    // Puts the runs in place of those of the part at a place and so many parts above it. Takes no memory.
+    // Replaces the runs of the part at place `at` and of the `more` parts above it by `runs`. Takes
+    // no memory.
     fn put(&mut self, at: usize, more: usize, runs: Vec<Run<V>>)
         requires within { at + more ≤ vec_len self.old.rest }
         requires some { AreSome self.old.rest.items }
@@ -376,7 +382,7 @@ impl<V: Exact> Row<V> {
         }
     }
 
-    // One more part behind the one at a place, if it has any runs. There is a place for it.
+    // Inserts the part above the one at place `at`, if it has runs. The row has a place for it.
     fn insert(&mut self, at: usize, part: Part<V>)
         requires within { 0 < length part → at ≤ vec_len self.old.rest }
         requires place { 0 < length part → vec_len self.old.rest < vec_capacity self.old.rest }
@@ -393,8 +399,9 @@ impl<V: Exact> Row<V> {
         };
     }
 
-    // Gives each byte of the span the value, or none, in the part at a place and so many parts above it. How many
-    // runs they had, and how many they have. Takes no memory.
+    // Gives each byte of the span the value, or no value, in the part at place `at` and the `more`
+    // parts above it. The result is the number of runs that these parts had before and have after.
+    // Takes no memory.
     fn write_parts(
         &mut self,
         at: usize,
@@ -423,8 +430,9 @@ impl<V: Exact> Row<V> {
         (had, has)
     }
 
-    // Gives each byte of the span the value, or none: in a part alone, where it stays small, else in all parts near the
-    // span, with what memory there is for one more. How many runs they had, and how many they have. Takes no memory.
+    // Gives each byte of the span the value, or no value: in one part where that stays small, else
+    // in all parts near the span, one of which may be cut with the spare memory. The result is the
+    // number of runs that these parts had before and have after. Takes no memory.
     #[inline]
     pub(crate) fn write(
         &mut self,

@@ -1,4 +1,4 @@
-//! Runs of bytes that have one value, and what is searched and made in vectors of them.
+//! Runs of bytes that have one value, and searches and writes in sorted vectors of them.
 ghost use Rattle.std.specs.Prelude.{◌≡◌, ◌≤◌, ◌<◌, ◌+◌, ◌++◌, [], take, length, ℕ, if◌then◌else◌, Some, IsTrue, ◌↔◌, MatchOption};
 ghost use Rattle.std.specs.Vec.{vec_len, vec_capacity};
 ghost use Rattle.intervals.specs.Bytes.{greatest, put, begins_after, starts_below, IsBarred};
@@ -8,7 +8,7 @@ ghost use Rattle.intervals.specs.Entries.{BeginAbove, IsLastTo};
 use crate::span::Span;
 use crate::span_map::Exact;
 
-/// Consecutive bytes of a file, from `lo` to `hi`, both included, that have one value.
+/// Consecutive bytes of a file with one value, from `lo` to `hi`, both included.
 #[derive(Clone, Copy, PartialEq, Eq)]
 pub struct Run<V> {
     pub lo: u64,
@@ -16,7 +16,7 @@ pub struct Run<V> {
     pub value: V,
 }
 
-// The runs that end below the byte, and the others. It halves what is left at each step.
+// The runs that end below the byte, and the other ones. Found by halving.
 pub(crate) fn split_before<V>(runs: &[Run<V>], byte: u64) -> (&[Run<V>], &[Run<V>])
     requires { AreRuns runs.now }
     ensures whole { runs.now ≡ result.0.now ++ result.1.now }
@@ -28,7 +28,7 @@ pub(crate) fn split_before<V>(runs: &[Run<V>], byte: u64) -> (&[Run<V>], &[Run<V
     runs.split_at(runs.partition_point(|run| run.hi < byte))
 }
 
-// The last run that begins at the byte or below. It halves what is left at each step.
+// The last run that begins at the byte or below it. Found by halving.
 pub(crate) fn last_to<V: Exact>(runs: &[Run<V>], byte: u64) -> Option<Run<V>>
     requires { AreRuns runs.now }
     ensures { MatchOption result (BeginAbove runs.now byte) (IsLastTo runs.now byte) }
@@ -40,7 +40,7 @@ pub(crate) fn last_to<V: Exact>(runs: &[Run<V>], byte: u64) -> Option<Run<V>>
     }
 }
 
-// How many runs begin below the byte. It halves what is left at each step.
+// The number of runs that begin below the byte. Found by halving.
 pub(crate) fn begin_below<V: Exact>(runs: &[Run<V>], byte: u64) -> usize
     requires { AreRuns runs.now }
     ensures count { result ≡ starts_below V.PartialEq.eq (value_at runs.now) byte }
@@ -49,7 +49,7 @@ pub(crate) fn begin_below<V: Exact>(runs: &[Run<V>], byte: u64) -> usize
     runs.partition_point(|run| run.lo < byte)
 }
 
-// How many runs of the value, 1 or none, begin right after a byte that has `before`.
+// The number of runs of `value`, 0 or 1, that begin right after a byte with the value `before`.
 pub(crate) fn begin_after<V: Exact>(before: Option<V>, value: Option<V>) -> usize
     ensures { result ≡ (if begins_after V.PartialEq.eq before value then 1 else 0) }
 {
@@ -59,7 +59,7 @@ pub(crate) fn begin_after<V: Exact>(before: Option<V>, value: Option<V>) -> usiz
     1
 }
 
-// Whether a value is the barred one, or any is.
+// Whether `value` is the barred value `bar`, or `bar` is `None`, which bars every value.
 pub(crate) fn is_barred<V: Exact>(bar: Option<V>, value: V) -> bool
     ensures { IsTrue result ↔ IsBarredValue bar value }
 {
@@ -69,8 +69,8 @@ pub(crate) fn is_barred<V: Exact>(bar: Option<V>, value: V) -> bool
     }
 }
 
-// The lowest byte down to which none below `from` is barred, but not below `low`. The runs end below
-// `from`, and are read from the last one down to the first that is barred or ends below `low`.
+// The lowest byte, from `low` on, such that no byte from it on and below `from` is barred. The runs
+// end below `from`; they are read downwards to the first one that is barred or ends below `low`.
 pub(crate) fn lowest_free<V: Exact>(runs: &[Run<V>], low: u64, from: u64, bar: Option<V>) -> u64
     requires runs { AreRuns runs.now }
     requires ended { EndsBelow runs.now from }
@@ -90,8 +90,8 @@ pub(crate) fn lowest_free<V: Exact>(runs: &[Run<V>], low: u64, from: u64, bar: O
     low
 }
 
-// The highest byte up to which none above `to` is barred, but not above `high`. The runs end above
-// `to`, and are read up to the first that is barred or begins above `high`.
+// The highest byte, up to `high`, such that no byte above `to` and up to it is barred. The runs end
+// above `to`; they are read upwards to the first one that is barred or begins above `high`.
 pub(crate) fn highest_free<V: Exact>(runs: &[Run<V>], to: u64, high: u64, bar: Option<V>) -> u64
     requires runs { AreRuns runs.now }
     requires reached { EndsFrom runs.now (to + 1) }
@@ -109,7 +109,8 @@ pub(crate) fn highest_free<V: Exact>(runs: &[Run<V>], to: u64, high: u64, bar: O
     high
 }
 
-// Adds a run above the others, to the last one where they join. There is room for it.
+// Adds a run above the other runs; where it joins the last one, that one grows. There is room for
+// it.
 pub(crate) fn append<V: Exact>(runs: &mut Vec<Run<V>>, run: Run<V>)
     requires made { AreRuns runs.old.items }
     requires below { EndsBelow runs.old.items run.lo }
@@ -132,7 +133,7 @@ pub(crate) fn append<V: Exact>(runs: &mut Vec<Run<V>>, run: Run<V>)
     };
 }
 
-// Adds runs that stand above the others, all at once. There is room for them.
+// Adds runs that stand above the ones in `new`, all at once. There is room for them.
 #[inline]
 pub(crate) fn append_all<V: Exact>(new: &mut Vec<Run<V>>, runs: &[Run<V>])
     requires room { vec_len new.old + length runs.now ≤ vec_capacity new.old }
@@ -145,8 +146,8 @@ pub(crate) fn append_all<V: Exact>(new: &mut Vec<Run<V>>, runs: &[Run<V>])
     };
 }
 
-// Adds what the runs have below `to` to the empty list: at once those that end below it, and then the part
-// of the next that lies below. There is room for all of them.
+// Copies what the runs have below byte `to` into the empty vector: first the runs that end below
+// it, then the lower piece of the next run. There is room for all of them.
 fn append_below<V: Exact>(new: &mut Vec<Run<V>>, runs: &[Run<V>], to: u64)
     requires empty { new.old.items ≡ [] }
     requires runs { AreRuns runs.now }
@@ -172,8 +173,9 @@ fn append_below<V: Exact>(new: &mut Vec<Run<V>>, runs: &[Run<V>], to: u64)
     }
 }
 
-// Adds what the runs, which end at `from` or above, have from there on: the first of them is cut there, or
-// joins the last one, and the others follow at once. There is room for all of them.
+// Adds what the runs, which end at `from` or above, have from byte `from` on: the first run is cut
+// there and may join the last one of `new`, the other ones follow unchanged. There is room for all
+// of them.
 fn append_above<V: Exact>(new: &mut Vec<Run<V>>, runs: &[Run<V>], from: u64)
     requires made { AreRuns new.old.items }
     requires below { EndsBelow new.old.items from }
@@ -201,8 +203,8 @@ fn append_above<V: Exact>(new: &mut Vec<Run<V>>, runs: &[Run<V>], from: u64)
     }
 }
 
-// Adds what the first runs have below the span, the value at each byte of it, or none there, and what the
-// others have above it. There is room for all of them, and one more.
+// Fills the empty vector with what `first` has below the span, the value (or none) at each byte of
+// the span, and what `last` has above it. There is room for all of these runs and one more.
 pub(crate) fn splice<V: Exact>(
     new: &mut Vec<Run<V>>,
     first: &[Run<V>],
@@ -237,7 +239,7 @@ pub(crate) fn splice<V: Exact>(
     append_above(new, above, span.hi + 1);
 }
 
-// Puts the new runs in place of those after the first `kept`. There is room for them.
+// Replaces the runs behind the first `kept` ones by `new`. There is room for them.
 fn replace_rest<V: Exact>(runs: &mut Vec<Run<V>>, kept: usize, mut new: Vec<Run<V>>)
     requires kept { kept ≤ vec_len runs.old }
     requires room { kept + vec_len new ≤ vec_capacity runs.old }
@@ -249,9 +251,9 @@ fn replace_rest<V: Exact>(runs: &mut Vec<Run<V>>, kept: usize, mut new: Vec<Run<
     };
 }
 
-// Gives each byte of the span the value, or none: only the runs from the first on that reaches the
-// span are written. Where there is no place for them, all move over to `room`, which is empty and has
-// room for twice as many runs as there are, and one more. Takes no memory.
+// Gives each byte of the span the value, or no value. Only the runs from the first one on that
+// reaches the span are rewritten. Where `runs` has no place for them all runs move to `room`, which
+// is empty and has room for more than twice as many runs as there are. Takes no memory.
 pub(crate) fn write<V: Exact>(
     runs: &mut Vec<Run<V>>,
     mut room: Vec<Run<V>>,

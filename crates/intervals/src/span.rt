@@ -1,4 +1,4 @@
-//! Spans of bytes.
+//! Spans of bytes, and how a lock call names one.
 ghost use Rattle.std.specs.Prelude.{◌≡◌, ◌≤◌, IfOk, IfErr, Ok, Err};
 ghost use Rattle.intervals.specs.Segment.{seg};
 
@@ -8,8 +8,8 @@ use thiserror::Error;
 /// The greatest offset of a byte, `M`: the greatest `off_t` of 64 bits.
 pub const GREATEST: u64 = 9_223_372_036_854_775_807;
 
-/// Consecutive bytes of a file, from `lo` to `hi`, both included. A span is never empty, and none
-/// ends past the greatest offset.
+/// Consecutive bytes of a file, from `lo` to `hi`, both included. A span has at least one byte, and
+/// ends at the greatest offset or below it.
 #[derive(Clone, Copy, Debug, PartialEq, Eq, Hash)]
 pub struct Span {
     pub lo: u64,
@@ -32,10 +32,10 @@ impl Model for Span {
 /// Why a segment names no bytes.
 #[derive(Clone, Copy, Debug, PartialEq, Eq, Error)]
 pub enum SpanError {
-    /// It begins before byte 0.
+    /// The segment begins before byte 0.
     #[error("the segment begins before byte 0")]
     Invalid,
-    /// It ends past the greatest offset.
+    /// The segment ends past the greatest offset.
     #[error("the segment ends past the greatest offset")]
     Overflow,
 }

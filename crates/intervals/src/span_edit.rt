@@ -1,4 +1,4 @@
-//! Planned writes of span maps.
+//! A planned write of a span map, with the memory that it takes.
 ghost use Rattle.std.specs.Prelude.{◌≡◌, ◌+◌, ◌<◌, []};
 ghost use Rattle.std.specs.Vec.{vec_capacity};
 
@@ -6,9 +6,9 @@ use crate::row::Spare;
 use crate::run::Run;
 use crate::span::Span;
 
-/// A write of a map that is planned: the value at each byte of the span, or none there. It brings
-/// memory for a map of up to so many runs, and changes no map of more. Where a part of the map that it
-/// was planned for may have to be cut in two, it brings memory for one more.
+/// A planned write of a map: the value, or none, that each byte of the span gets. It holds memory
+/// for a map of up to `runs` runs, and doesn't change a map of more. If a part of the map that it
+/// was planned for may have to be cut in two it also holds memory for one more part.
 #[derive(Drop)]
 pub struct SpanEdit<V> {
     pub span: Span,

@@ -1,36 +1,37 @@
-//! Maps from bytes to values.
+//! What a map from bytes to values can do, however it is kept.
 ghost use Rattle.std.specs.Prelude.{◌≡◌, ℕ, ◌≤◌, ◌<◌, true, Bool, Option, Some, None, IsTrue, ◌↔◌, OnOk, OnErr, IfOk, MatchOption};
 ghost use Rattle.intervals.specs.Bytes.{greatest, put, nothing, AllAre, IsBarred, NoneIn, IsFirstIn, IsRun, IsLargest, number_of_runs};
 
 use crate::span::Span;
 use std::alloc::{AllocError, Global};
 
-/// Values that are one and the same wherever `==` says so.
+/// Values that are equal exactly where `==` holds of them.
 pub trait Exact: Copy + Eq {
     ghost exact: { (a b : Self) → Self.PartialEq.eq a b ≡ true → a ≡ b };
 }
 
 /// A map from the bytes of a file to values, however it is kept. No byte past the greatest offset
-/// has a value. A call that answers `AllocError` leaves the map as it was.
+/// has a value. A call that fails with `AllocError`, because a request for memory was refused,
+/// leaves the map as it was.
 pub trait SpanMap<V: Exact>: Drop {
-    /// The value of each byte.
+    /// The value of each byte of a map, if it has one.
     ghost at: { Self → ℕ → Option V };
 
     /// The map in which no byte has a value.
     fn new(alloc: Global) -> Self
         ensures { at result ≡ nothing };
 
-    /// Gives each byte of the span the value, and leaves the others.
+    /// Gives each byte of the span the value, and leaves the other bytes as they were.
     fn set(&mut self, span: Span, value: V) -> Result<(), AllocError>
         ensures ok { OnOk result (at self.new ≡ put (at self.old) span (Some value)) }
         ensures err { OnErr result (self.new ≡ self.old) };
 
-    /// Takes away the value of each byte of the span, and leaves the others.
+    /// Takes the value from each byte of the span, and leaves the other bytes as they were.
     fn clear(&mut self, span: Span) -> Result<(), AllocError>
         ensures ok { OnOk result (at self.new ≡ put (at self.old) span None) }
         ensures err { OnErr result (self.new ≡ self.old) };
 
-    /// The value of a byte.
+    /// The value of the byte, if it has one.
     fn get(&self, byte: u64) -> Option<V>
         ensures { result ≡ at self.now byte };
 
@@ -43,11 +44,13 @@ pub trait SpanMap<V: Exact>: Drop {
     fn covers(&self, span: Span, value: V) -> bool
         ensures { IsTrue result ↔ AllAre (at self.now) span (Some value) };
 
-    /// The lowest byte of the span that has the value `bar`, or any value where that is `None`.
+    /// The lowest byte of the span that has the barred value `bar`; with `bar` `None`, the lowest
+    /// byte that has any value.
     fn first_where(&self, span: Span, bar: Option<V>) -> Option<u64>
         ensures { MatchOption result (NoneIn (IsBarred (at self.now) bar) span) (λ b. IsFirstIn (IsBarred (at self.now) bar) span b) };
 
-    /// The longest run of one value that has the byte, with that value.
+    /// The longest run of one value that contains the byte, with that value; `None` where the byte
+    /// has no value.
     fn run_at(&self, byte: u64) -> Option<(Span, V)>
         ensures { MatchOption result (at self.now byte ≡ None) (λ run. IsRun (at self.now) run.0 run.1 × (run.0.lo ≤ byte) × (byte ≤ run.0.hi)) };
 
@@ -55,8 +58,8 @@ pub trait SpanMap<V: Exact>: Drop {
     fn starts(&self) -> usize
         ensures { result ≡ number_of_runs V.PartialEq.eq (at self.now) };
 
-    /// The largest span that contains `required`, lies in `within`, and has no byte with the value
-    /// `bar`, or with any value where that is `None`.
+    /// The largest span that contains `required`, lies in `within`, and has no byte with the barred
+    /// value `bar`; with `bar` `None`, no byte with any value.
     fn largest_around(&self, required: Span, within: Span, bar: Option<V>) -> Span
         requires starts_within { within.lo ≤ required.lo }
         requires ends_within { required.hi ≤ within.hi }
@@ -67,7 +70,7 @@ pub trait SpanMap<V: Exact>: Drop {
     fn copy(&self) -> Result<Self, AllocError>
         ensures { IfOk result (λ copy. copy ≡ self.now) };
 
-    /// Whether both have the same value at each byte.
+    /// Whether both maps have the same value at each byte.
     fn same(&self, other: &Self) -> bool
         ensures { IsTrue result ↔ (at self.now ≡ at other.now) };
 }

@@ -1,4 +1,6 @@
 //! A span map as a row of small sorted vectors of runs.
+//!
+//! Each function here that can fail errs with `AllocError`, where a request for memory was refused.
 ghost use Rattle.std.specs.Prelude.{◌≡◌, ◌≤◌, ◌+◌, ℕ, nat_le, length, None, [], IfOk, MatchOption};
 ghost use Rattle.intervals.specs.Bytes.{greatest, nothing, number_of_runs, put, IsRun, IsBarred, NoneIn, IsFirstIn, IsLargest};
 ghost use Rattle.intervals.specs.Runs.{bytes_of, value_at, IsLowestFree, IsHighestFree};
@@ -13,13 +15,13 @@ use crate::span_map::{Exact, SpanMap};
 use std::alloc::{AllocError, Global};
 use std::marker::Model;
 
-// Memory for a write of more runs than this is asked for by the thousand.
+// A write of a map of at least so many runs takes memory for a multiple of this number.
 const MANY: usize = 1024;
 
-/// A map from bytes to values, as a row of sorted vectors of longest runs, of some 64 runs at most. A look-up halves
-/// the row, and then one vector, until it is at the byte. A write finds both ends of its span so, and moves the runs
-/// behind it in its vector alone. A vector that comes to have more runs than it is to have is cut in two, where the
-/// planned write has memory for that.
+/// A map from bytes to values, as a row of sorted vectors of longest runs, of 64 runs at most if
+/// memory allows. A look-up halves the row, and then one vector, until it is at the byte. A write
+/// finds both ends of its span in the same way and moves only the runs behind it in its own vector.
+/// A vector with more than 64 runs is cut in two if the planned write holds memory for that.
 #[derive(Drop)]
 pub struct TreeMap<V> {
     row: Row<V>,
@@ -40,7 +42,8 @@ impl<V> Model for TreeMap<V> {
     ghost invariant = { λ m. AreRuns (row_runs m.row) × EndsBelow (row_runs m.row) (greatest + 1) × AreSome m.row.rest.items × (m.starts ≡ length (row_runs m.row)) };
 }
 
-// For how many runs a write brings memory, where the map has so many. So the request for it seldom changes as a map grows.
+// The number of runs for which a write of a map of `runs` runs takes memory. It is rounded up, so
+// that the size of the request seldom changes as a map grows.
 fn rounded(runs: usize) -> usize
     ensures { runs ≤ result }
 {
@@ -51,11 +54,8 @@ fn rounded(runs: usize) -> usize
 }
 
 impl<V: Exact> TreeMap<V> {
-    /// A write that is planned: the value at each byte of the span, or none there. It is sure to be
-    /// made as long as the map has no more runs than now.
-    ///
-    /// # Errors
-    /// `AllocError` where a request for memory was refused.
+    /// Plans a write: the value, or none, that each byte of the span gets. `apply` makes it as long
+    /// as the map has no more runs than now.
     pub fn plan(&self, span: Span, value: Option<V>) -> Result<SpanEdit<V>, AllocError>
         ensures written { IfOk result (λ edit. written edit self.now ≡ put (value_at self.now) span value) }
         ensures span { IfOk result (λ edit. edit.span ≡ span) }
@@ -74,15 +74,15 @@ impl<V: Exact> TreeMap<V> {
         })
     }
 
-    /// Whether `apply` makes this write: the map has no more runs than the edit has room for.
+    /// Whether `apply` makes this write: the map has no more runs than the edit holds memory for.
     pub fn fits(&self, edit: &SpanEdit<V>) -> bool
         ensures { result ≡ nat_le (length self.now) edit.now.runs }
     {
         self.starts <= edit.runs
     }
 
-    /// Makes a planned write, and takes no memory. A map of more runs than the edit has room for stays
-    /// as it is.
+    /// Makes a planned write, and takes no memory. A map of more runs than the edit holds memory
+    /// for stays as it is.
     pub fn apply(&mut self, edit: SpanEdit<V>)
         ensures { value_at self.new ≡ written edit self.old }
     {
@@ -100,7 +100,7 @@ impl<V: Exact> TreeMap<V> {
         self.starts = self.starts - had + has;
     }
 
-    // The run that has the byte.
+    // The run that contains the byte, if the byte has a value.
     #[inline]
     fn run_of(&self, byte: u64) -> Option<Run<V>>
         ensures { MatchOption result (value_at self.now byte ≡ None) (λ run. IsRun (value_at self.now) (bytes_of run) run.value × (run.lo ≤ byte) × (byte ≤ run.hi) × (run.hi ≤ greatest)) }
@@ -125,7 +125,7 @@ impl<V: Exact> TreeMap<V> {
         }
     }
 
-    // The value of the byte before this one, if there is one.
+    // The value of the byte below `byte`, if there is such a byte and it has a value.
     fn before(&self, byte: u64) -> Option<V>
         ensures first { byte ≡ 0 → result ≡ None }
         ensures other { (b : ℕ) → b + 1 ≡ byte → result ≡ value_at self.now b }
@@ -136,8 +136,8 @@ impl<V: Exact> TreeMap<V> {
         self.get(byte - 1)
     }
 
-    /// The number of bytes at which a longest run would begin with the value at each byte of the span, or
-    /// with none there. Takes no memory. It reads the vectors around the span alone.
+    /// The number of bytes at which a longest run would begin if each byte of the span had the
+    /// value, or none. Takes no memory, and reads only the vectors around the span.
     pub fn starts_with(&self, span: Span, value: Option<V>) -> usize
         ensures { result ≡ number_of_runs V.PartialEq.eq (put (value_at self.now) span value) }
     {
@@ -158,7 +158,7 @@ impl<V: Exact> TreeMap<V> {
         last_to(part, byte - 1)
     }
 
-    // The lowest byte down to which none below `from` is barred, but not below `low`.
+    // The lowest byte, from `low` on, such that no byte from it on and below `from` is barred.
     fn lowest_free(&self, low: u64, from: u64, bar: Option<V>) -> u64
         requires free { IsBarred (value_at self.now) bar from → ⊥ }
         requires order { low ≤ from }
@@ -177,7 +177,7 @@ impl<V: Exact> TreeMap<V> {
         low
     }
 
-    // The highest byte up to which none above `to` is barred, but not above `high`.
+    // The highest byte, up to `high`, such that no byte above `to` and up to it is barred.
     fn highest_free(&self, to: u64, high: u64, bar: Option<V>) -> u64
         requires order { to ≤ high }
         requires bounded { high ≤ greatest }

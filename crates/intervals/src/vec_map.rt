@@ -1,4 +1,6 @@
-//! A span map as a sorted vector of runs.
+//! A span map as one sorted vector of runs.
+//!
+//! Each function here that can fail errs with `AllocError`, where a request for memory was refused.
 ghost use Rattle.std.specs.Prelude.{◌≡◌, ◌≤◌, ◌<◌, ◌+◌, ℕ, nat_le, length, [], IfOk, OnOk, OnErr, IsTrue, ◌↔◌, MatchOption, Some, None};
 ghost use Rattle.intervals.specs.Bytes.{greatest, nothing, number_of_runs, put, IsBarred, NoneIn, IsFirstIn, IsLargest, IsRun};
 ghost use Rattle.intervals.specs.Runs.{bytes_of, value_at};
@@ -13,10 +15,10 @@ use crate::span_map::{Exact, SpanMap};
 use std::alloc::{AllocError, Global};
 use std::marker::Model;
 
-/// A map from bytes to values, as a sorted vector of longest runs. A look-up halves the runs until it
-/// is at the byte, and then reads only those up to the answer. A write finds both ends of its span so, and
-/// moves the runs behind it at once, in place; where there is no place for more of them, all move to
-/// memory for twice as many.
+/// A map from bytes to values, as a sorted vector of longest runs. A look-up halves the runs until
+/// it is at the byte, and then reads only the runs up to the answer. A write finds both ends of its
+/// span in the same way and moves the runs behind it once, in place; where the vector has no room
+/// all runs move to memory for twice as many.
 #[derive(Drop)]
 pub struct VecMap<V> {
     runs: Vec<Run<V>>,
@@ -36,11 +38,8 @@ impl<V> Model for VecMap<V> {
 }
 
 impl<V: Exact> VecMap<V> {
-    /// A write that is planned: the value at each byte of the span, or none there. It is sure to be
-    /// made as long as the map has no more runs than now.
-    ///
-    /// # Errors
-    /// `AllocError` where a request for memory was refused.
+    /// Plans a write: the value, or none, that each byte of the span gets. `apply` makes it as long
+    /// as the map has no more runs than now.
     pub fn plan(&self, span: Span, value: Option<V>) -> Result<SpanEdit<V>, AllocError>
         ensures written { IfOk result (λ edit. written edit self.now ≡ put (value_at self.now) span value) }
         ensures span { IfOk result (λ edit. edit.span ≡ span) }
@@ -59,8 +58,8 @@ impl<V: Exact> VecMap<V> {
         })
     }
 
-    /// Makes a planned write, and takes no memory. A map of more runs than the edit has room for stays
-    /// as it is.
+    /// Makes a planned write, and takes no memory. A map of more runs than the edit holds memory
+    /// for stays as it is.
     pub fn apply(&mut self, edit: SpanEdit<V>)
         ensures { value_at self.new ≡ written edit self.old }
     {
@@ -76,21 +75,21 @@ impl<V: Exact> VecMap<V> {
         }
     }
 
-    /// Whether `apply` makes this write: the map has no more runs than the edit has room for.
+    /// Whether `apply` makes this write: the map has no more runs than the edit holds memory for.
     pub fn fits(&self, edit: &SpanEdit<V>) -> bool
         ensures { result ≡ nat_le (length self.now) edit.now.runs }
     {
         self.runs.len() <= edit.runs
     }
 
-    /// The longest runs of one value, from the lowest on.
+    /// The longest runs of one value, in ascending order.
     pub fn runs(&self) -> &[Run<V>]
         ensures { result.now ≡ self.now }
     {
         &self.runs
     }
 
-    // The run that has the byte.
+    // The run that contains the byte, if the byte has a value.
     fn run_of(&self, byte: u64) -> Option<Run<V>>
         ensures { MatchOption result (value_at self.now byte ≡ None) (λ run. IsRun (value_at self.now) (bytes_of run) run.value × (run.lo ≤ byte) × (byte ≤ run.hi) × (run.hi ≤ greatest)) }
     {
@@ -101,7 +100,7 @@ impl<V: Exact> VecMap<V> {
         }
     }
 
-    // The value of the byte before this one, if there is one.
+    // The value of the byte below `byte`, if there is such a byte and it has a value.
     fn before(&self, byte: u64) -> Option<V>
         ensures first { byte ≡ 0 → result ≡ None }
         ensures other { (b : ℕ) → b + 1 ≡ byte → result ≡ value_at self.now b }
@@ -112,8 +111,8 @@ impl<V: Exact> VecMap<V> {
         self.get(byte - 1)
     }
 
-    /// The number of bytes at which a longest run would begin with the value at each byte of the span, or
-    /// with none there. Takes no memory.
+    /// The number of bytes at which a longest run would begin if each byte of the span had the
+    /// value, or none. Takes no memory.
     pub fn starts_with(&self, span: Span, value: Option<V>) -> usize
         ensures { result ≡ number_of_runs V.PartialEq.eq (put (value_at self.now) span value) }
     {
@@ -208,7 +207,7 @@ impl<V: Exact> SpanMap<V> for VecMap<V> {
         }
     }
 
-    // It has room for the two runs more that a write can make.
+    // The copy has room for the two more runs that a write can make.
     fn copy(&self) -> Result<Self, AllocError> {
         let most = self.runs.len().saturating_add(2);
         let mut runs = Vec::with_capacity(*self.runs.allocator(), most)?;

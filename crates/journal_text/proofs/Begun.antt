@@ -1,4 +1,4 @@
--- What is known of a text of which some lines of a journal were read.
+-- What is known of a text some of whose lines were read as lines of a journal.
 use Rattle.std.proofs.Common.{◌≡◌, ℕ, ◌+◌, List, [], ◌∷◌, ◌++◌, length, map, Option, Some, None, refl, sym, ap, subst, ◌∙◌, arith, append_assoc, length-append}
 use Rattle.std.specs.List.{All, flat_map}
 use Rattle.std.proofs.lemmas.Grind.{flat_map-append}
@@ -30,7 +30,7 @@ use Rattle.journal_text.proofs.Runs.{run, run-append, run-journal, run-none}
 use Rattle.journal_text.proofs.Steps.{Further, Reading, empty-open, entries, named, none-some, phase_of-open, place_of, read_lines, some-same}
 use Rattle.journal_text.proofs.Steps.Reading.{nothing, some, whole}
 
--- the texts of lines, behind the first line
+-- the texts of a journal's lines, the first one among them
 abbrev pub texts_of : ShapeFields → List JournalLine → List (List ℕ)
 texts_of s js = head_text s ∷ map (line_text s.version) js
 
@@ -43,7 +43,7 @@ pub record Begun (text : List ℕ) (s : ShapeFields) (r : Reading) (rest : List 
   pub fits : IsCount (place_of r).count
   pub ran : run (Some start) (read_lines r) ≡ Some (place_of r)
 
--- no line, and one line more
+-- a reading that passes no line, and one that passes one line more
 pub passes-none : (text : List ℕ) → Passes text [] text
 passes-none text = record { parts = refl; single = All-nil IsSingle }
 
@@ -82,7 +82,7 @@ begun-line text s r rest taken j q after begun stands f =
       ran = ap (run (Some start)) f.lines ∙ run-append (Some start) (read_lines r) (j ∷ []) ∙ ap (λ (p : Option Place). run p (j ∷ [])) begun.ran ∙ stands.next ∙ ap (λ (p : Place). Some p) (sym f.stands);
     }
 
--- behind the last line the text is a journal
+-- a text that ends behind the last line is a journal
 pub journal-begun : (text : List ℕ) (s : ShapeFields) (r : Reading) (taken : ℕ) → Begun text s r [] taken → (place_of r).phase ≡ Ended → IsJournalText text s (entries r)
 journal-begun text s nothing taken begun e = absurd (empty-open e)
 journal-begun text s (some es event reply sends) taken begun e = absurd (phase_of-open reply sends e)
@@ -92,7 +92,7 @@ journal-begun text s (whole es) taken begun e = record {
   writes = record { texts = refl; shape_in = begun.shape_in; lines_in = begun.lines_in };
 }
 
--- the last line is enough for a journal
+-- lines that may be followed by the last line begin a journal
 begins-end : (s : ShapeFields) (es : List NamedEntry) (js : List JournalLine) → body_lines es ≡ js ++ End (length es) ∷ [] → IsShape s → All (IsServedLine s.version) js → IsCount (length es) → Begins AreJournal (texts_of s js)
 begins-end s es js e shape_in lines_in fits = (
   line_text s.version (End (length es)) ∷ [],
@@ -123,7 +123,7 @@ heads x y xs ys e = cc
 pub tails : (x y : List ℕ) (xs ys : List (List ℕ)) → x ∷ xs ≡ y ∷ ys → xs ≡ ys
 tails x y xs ys e = cc
 
--- lines that are written alike
+-- two lists of lines with equal texts are equal
 pub lines-same : (v : Version) (js ks : List JournalLine) → All (IsServedLine v) js → All (IsServedLine v) ks → map (line_text v) js ≡ map (line_text v) ks → js ≡ ks
 lines-same v [] [] js_in ks_in e = refl
 lines-same v [] (k ∷ ks) js_in ks_in e = absurd (cc)
@@ -133,7 +133,7 @@ lines-same v (j ∷ js) (k ∷ ks) js_in ks_in e =
     let rest = lines-same v js ks (All-tail (IsServedLine v) j js js_in) (All-tail (IsServedLine v) k ks ks_in) (tails (line_text v j) (line_text v k) (map (line_text v) js) (map (line_text v) ks) e) in
     ap (λ (x : JournalLine). x ∷ js) one ∙ ap (λ (xs : List JournalLine). k ∷ xs) rest
 
--- lines that begin as others do, with one line behind them
+-- the lines ks begin with the lines js, and go on with this line
 record Continues (v : Version) (js ks : List JournalLine) (line : List ℕ) : Type 0 where
   next_line : JournalLine
   behind : List JournalLine
@@ -170,7 +170,7 @@ not-next v js p es line ran wrong c =
     let ends = sym (run-journal es) ∙ ap (run (Some start)) c.same ∙ stopped in
     none-some (place (length es) Ended) (sym ends)
 
--- lines behind one head are of its version
+-- two journals with one first line are of one version
 pub one-version : (s t : ShapeFields) (texts : List (List ℕ)) (ks : List JournalLine) → IsShape s → IsShape t → All (IsServedLine t.version) ks → head_text s ∷ texts ≡ head_text t ∷ map (line_text t.version) ks → (texts ≡ map (line_text s.version) ks) × All (IsServedLine s.version) ks
 one-version s t texts ks s_in t_in ks_in e =
     let same = head.apart s t s_in t_in (heads (head_text s) (head_text t) texts (map (line_text t.version) ks) e) in (
@@ -187,7 +187,7 @@ not-begun s js p line s_in js_in ran wrong b =
     let rest = one-version s t (map (line_text s.version) js ++ line ∷ b.0) (body_lines es) s_in writes.shape_in writes.lines_in e in
     not-next s.version js p es line ran wrong (continues s.version js (body_lines es) line b.0 js_in rest.1 rest.0)
 
--- lines behind which the last one may stand are no journal
+-- lines behind which the last line may stand are not yet a journal
 not-whole : (s t : ShapeFields) (js : List JournalLine) (p : Place) (es : List NamedEntry) → IsShape s → All (IsServedLine s.version) js → run (Some start) js ≡ Some p → (p.phase ≡ Ended → ⊥) → Writes (texts_of s js) t es → ⊥
 not-whole s t js p es s_in js_in ran unended w =
     let rest = one-version s t (map (line_text s.version) js) (body_lines es) s_in w.shape_in w.lines_in w.texts in
@@ -210,7 +210,7 @@ stuck-begun text s r rest taken begun stuck = record {
   bad = bad-begun s (read_lines r) (place_of r) rest begun.shape_in begun.lines_in begun.ran stuck;
 }
 
--- some journal begins with no line
+-- some journal begins with no line at all
 some-journal : Begins AreJournal []
 some-journal = (
   texts_of smallest (body_lines []),
@@ -233,11 +233,11 @@ bad-at-first text bad = record { lines = []; rest = text; before = passes-none t
 no-lines : (s : ShapeFields) (js : List JournalLine) → [] ≡ texts_of s js → ⊥
 no-lines s js e = absurd (cc)
 
--- there is no first line
+-- a text without a line feed has a bad first line
 pub bad-no_line : (text : List ℕ) → line_feeds text ≡ 0 → IsFirstBad text 1
 bad-no_line text none = bad-at-first text (has_no_line none (λ gone are. no-lines are.0 (body_lines are.1.0) are.1.1.texts))
 
--- the first line names no shape
+-- a text whose first line names no shape has a bad first line
 pub bad-first : (text line after : List ℕ) → BeginsWithLine text line after → Reads head_text IsShape line None → IsFirstBad text 1
 bad-first text line after begins none =
     bad-at-first text (stands_wrong line after begins (λ b. not-head b.1.0 b.1.1.0 b.0 b.1.1.1))

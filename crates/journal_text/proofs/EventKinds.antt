@@ -1,4 +1,4 @@
--- The kinds of events.
+-- The kinds of events, by the words with which their texts begin.
 use Rattle.std.proofs.Common.{◌≡◌, true, ℕ, List, [], ◌∷◌, inl, inr, refl, codes}
 use Rattle.messages.specs.Versions.{may_rebuild}
 use Rattle.messages.specs.declared.version.Version.{Version}
@@ -12,7 +12,7 @@ use Rattle.lockscript.proofs.OperationKinds.{op}
 use Rattle.journal_text.specs.declared.named_event.NamedEvent.TheVariants.{Call, Deliver, Interrupt, Retry, Resend, Declare, Restart, Learn, FailServer, StartServer}
 use Rattle.journal_text.specs.Events.{IsServedEvent, named_text}
 
--- the words that events begin with
+-- the words with which the texts of events begin
 abbrev pub words : List (List ℕ)
 words = codes "call" ∷ codes "deliver" ∷ codes "interrupt" ∷ codes "retry" ∷ codes "resend" ∷ codes "declare" ∷ codes "restart" ∷ codes "learn" ∷ codes "fail-server" ∷ codes "start-server" ∷ []
 

@@ -1,4 +1,4 @@
--- The first lines of texts that begin as a journal does.
+-- The first lines of texts that begin as journals do.
 use Rattle.std.proofs.Common.{◌≡◌, List, [], ◌++◌, ℕ, map, None, subst}
 use Rattle.std.specs.List.{flat_map}
 use Rattle.messages.specs.Entries.{EntryFields}
@@ -14,11 +14,11 @@ use Rattle.journal_text.specs.Lines.{line_text}
 use Rattle.journal_text.proofs.HeadKinds.{head}
 use Rattle.journal_text.specs.Readings.{BeginsAs, IsOld, WritesJournal, body_lines}
 
--- a first line that names no cluster is none of a journal of version 1
+-- a first line that names no shape is not that of a journal of version 1
 pub old-no_head : (text line rest : List ℕ) → BeginsWithLine text line rest → Reads head_text IsShape line None → IsOld text → ⊥
 old-no_head text line rest begins none old = none old.shape old.shape_in (line-same text line rest (head_text old.shape) old.rest begins old.begins).0
 
--- a text that writes a journal begins as one
+-- a text that is a journal begins with that journal's first line
 pub begins_as : (text : List ℕ) (s : ShapeFields) (es : List EntryFields) → WritesJournal text s es → BeginsAs text s
 begins_as text s es writes =
     let journal = writes.written in
@@ -26,13 +26,13 @@ begins_as text s es writes =
     let whole = subst (λ (lines : List (List ℕ)). Passes text lines []) journal.writes.texts journal.whole in
     (flat_map ended body ++ [], begins-front text (head_text s) body [] whole.parts whole.single, journal.writes.shape_in)
 
--- in version 1 too
+-- a text that is a journal of version 1 begins with a first line of version 1
 pub old_text : (text : List ℕ) (s : ShapeFields) (es : List EntryFields) → WritesJournal text s es → s.version ≡ First → IsOld text
 old_text text s es writes is =
     let begins = begins_as text s es writes in
     record { shape = s; rest = begins.0; begins = begins.1; shape_in = begins.2; is_first = is }
 
--- and as none of another shape
+-- a text that is a journal begins with the first line of no other shape
 pub one_shape : (text : List ℕ) (s t : ShapeFields) (es : List EntryFields) → BeginsAs text s → WritesJournal text t es → s ≡ t
 one_shape text s t es first writes =
     let begins = begins_as text t es writes in

@@ -1,4 +1,4 @@
--- The first lines of journals, of which each version has its own.
+-- The first lines of journals, which differ by version.
 use Rattle.std.proofs.Common.{◌≡◌, ◌≢◌, List, [], ◌∷◌, ◌++◌, ℕ, false, true, eqb, Option, Some, None, inl, inr, refl, sym, ap, subst, ◌∙◌, arith}
 use Rattle.std.specs.Prelude.{◌⊎◌}
 use Rattle.std.specs.List.{starts_with}
@@ -16,7 +16,7 @@ use Rattle.journal_text.specs.Journals.{head_front, head_text}
 pub shape-fits : (v : Version) (c : ℕ × (ℕ × Policy)) → IsCounts c → IsShape (shape_with v c)
 shape-fits v c fits = record { nodes_in = (fits.0.0, omega (arith, fits.0.1)); files_in = fits.1.0 }
 
--- the shape is of the version, or its line begins with another
+-- the shape is of the version, or its line begins otherwise
 abbrev pub IsTold : Version → ShapeFields → Type 0
 IsTold v s = ((c : ℕ × (ℕ × Policy)) × IsCounts c × (s ≡ shape_with v c)) ⊎ (starts_with eqb (head_text s) (head_front v) ≡ false)
 
@@ -52,7 +52,7 @@ begins-one Second bytes = refl
 pub head : AreTexts head_text IsShape
 head = of_variants kinds (λ s. begins-one s.version (counts_text s))
 
--- behind what the first line of a version begins with, a shape of that version is named, or none is
+-- a line that begins as one of this version names a shape of the version, or none
 pub head-read : (version : Version) (line operands : List ℕ) → line ≡ head_front version ++ operands → (made : Option ShapeFields) → Reads counts_text (IsShapeOf version) operands made → Reads head_text IsShape line made
 head-read version line operands parts None none =
     subst (λ (bytes : List ℕ). Reads head_text IsShape bytes None) (sym parts)
@@ -64,6 +64,6 @@ begins-none : (version : Version) (line operands : List ℕ) → ((rest : List �
 begins-none First line operands no_first no_second = no_first operands
 begins-none Second line operands no_first no_second = no_second operands
 
--- what begins as none does names no shape
+-- a line that begins as one of no version names no shape
 pub head-none : (line : List ℕ) → ((rest : List ℕ) → line ≢ head_front First ++ rest) → ((rest : List ℕ) → line ≢ head_front Second ++ rest) → Reads head_text IsShape line None
 head-none line no_first no_second s fits e = begins-none s.version line (counts_text s) no_first no_second e

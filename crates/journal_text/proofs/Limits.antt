@@ -1,4 +1,4 @@
--- The entries of a run are within the limits of a journal's text, where they fit their types.
+-- The entries of a run that fit their types are within the limits of a journal's text.
 use Rattle.std.proofs.Common.{◌≡◌, ℕ, ◌+◌, ◌≤◌, true, false, List, [], ◌∷◌, ◌++◌, length, map, Option, Some, None, refl, sym, ap, subst, ◌∙◌, arith}
 use Rattle.std.specs.Prelude.{◌&&◌, IfSome, nat_le, slice_index_or}
 use Rattle.std.specs.List.{All}
@@ -50,7 +50,7 @@ within few most n room h =
     let below : n ≤ few = grind (arith, nat_tests, tests.1) in
     (above, omega arith)
 
--- an operation that the cluster knows
+-- an operation that the cluster admits is within its limits
 op-served : (s : ShapeFields) (o : Op) → IsShape s → is_in_shape s o ≡ true → FitsOp o → IsServedOp o
 op-served s op.Spawn shape known fits = tt
 op-served s (op.Fork child) shape known fits = within most_processes most_processes child (omega arith) known
@@ -63,7 +63,7 @@ op-served s (op.Wait fd kind mode start len) shape known fits = fits
 op-served s (op.Unlock fd kind start len) shape known fits = fits
 op-served s (op.Query fd kind mode start len) shape known fits = fits
 
--- a message that version 2 writes, and another version where its number is one of the first epoch
+-- the number of a command is within its limits, if in version 1 it is of the first epoch
 number-served : (version : Version) (number : ℕ) → IsCommand number → (may_rebuild version ≡ false → number ≤ greatest_number) → IsCommandNumber version number
 number-served First number command early = let begun = command.begun in (omega arith, early refl)
 number-served Second number command early = command
@@ -87,7 +87,7 @@ message-served version (message.Report file number holder runs) fits early = (re
 messages-served : (version : Version) (ms : List Message) → All FitsMessage ms → (may_rebuild version ≡ false → All IsEarly ms) → All (IsServedMessage version) ms
 messages-served version ms fits early k d lt = message-served version (slice_index_or ms k d) (fits k d lt) (λ is. early is k d lt)
 
--- an event with the names that its entry gives it, which may be written
+-- an event with its names, within its limits
 record IsNamed (version : Version) (e : Event) (incarnation : ℕ) (call : Option CallId) : Type 0 where
   name : NamedEvent
   event_is : e ≡ event_of name
@@ -151,13 +151,13 @@ module _ (w : WorldState) (incarnation : ℕ) (shape : IsShape w.shape) (fits : 
       let parts = and_parts (may_rebuild w.shape.version) (has_file w file) known in
       record { name = named.StartServer file incarnation; event_is = refl; incarnation_is = refl; call_is = names; event_in = (parts.0, file-in file parts.1, (from, fits)) }
 
--- an entry that may be written
+-- an entry within its limits
 record IsServedEntry (version : Version) (e : EntryFields) : Type 0 where
   event_in : IsNamed version e.event e.incarnation e.call
   reply_in : IfSome e.reply IsServedAnswer
   sends_in : All (IsServedMessage version) e.sends
 
--- what was sent before an entry, and what the entry sends, is of the first epoch where servers are not rebuilt
+-- in version 1 all messages that were sent before an entry, and the ones it sends, are of the first epoch
 delivered-known : (w : WorldState) (e : Event) (m : Message) → is_known w e ≡ true → e ≡ event.Deliver m → is_among w.sent m ≡ true
 delivered-known w e m known is = (and_parts (has_actor w (addressee m)) (is_among w.sent m) (sym (ap (is_known w) is) ∙ known)).1
 
@@ -188,7 +188,7 @@ sends-in : (version : Version) (sends : List Message) → All (IsServedMessage v
 sends-in version [] good = All-nil (IsServedLine version)
 sends-in version (m ∷ ms) good = All-cons (IsServedLine version) (Send m) (map Send ms) (All-head (IsServedMessage version) m ms good) (sends-in version ms (All-tail (IsServedMessage version) m ms good))
 
--- entries with the names in their events, which are written from this position on
+-- entries with the names in their events, whose lines from this position on are within their limits
 record Named (version : Version) (position : ℕ) (es : List EntryFields) : Type 0 where
   entries : List NamedEntry
   same : es ≡ map entry_in entries
@@ -221,7 +221,7 @@ entries-served s es shape few good =
           (All-cons (IsServedLine s.version) (End (length n.entries)) [] (subst (λ (k : ℕ). k ≤ 4294967295) (sym count) few) (All-nil (IsServedLine s.version)));
     }
 
--- what is printed of a run is read as that run
+-- the text that is printed of a run is that run
 pub read-run : (s : ShapeFields) (es : List EntryFields) → IsShape s → length es ≤ journal_limit → IsRun s es → All FitsEntry es → WritesJournal (journal_text s es) s es
 read-run s es shape few run fits =
     read-printed s es (entries-served s es shape (omega (arith, few)) (leads-served s [] (first_world s) run.0 es shape refl refl run.1 fits))

@@ -1,4 +1,4 @@
--- The kinds of lines of journals.
+-- The kinds of lines of journals, by the words with which they begin.
 use Rattle.std.proofs.Common.{ℕ, List, [], ◌∷◌, inl, inr, refl, arith, codes, decimal}
 use Rattle.std.proofs.lemmas.Fmt.{decimal_injective}
 use Rattle.messages.specs.declared.version.Version.{Version}
@@ -18,7 +18,7 @@ position = up_to 4294967295 (omega arith)
 pub count : AreTexts decimal IsCount
 count = record { apart = λ m n m_in n_in e. decimal_injective m n (omega (arith, m_in)) (omega (arith, n_in)) e; feedless = λ n fits. number n (omega (arith, fits)) }
 
--- the words that lines begin with
+-- the words with which lines begin
 abbrev pub words : List (List ℕ)
 words = codes "entry" ∷ codes "reply" ∷ codes "send" ∷ codes "end" ∷ []
 

@@ -1,4 +1,4 @@
--- A text is one journal, or has one first bad line.
+-- Each text is one journal, or has one first bad line.
 use Rattle.std.proofs.Common.{◌≡◌, ℕ, ◌+◌, List, [], ◌∷◌, ◌++◌, length, map, Option, Some, None, sym, ap, subst, ◌∙◌, append_assoc}
 use Rattle.std.proofs.lemmas.List.{append-nil}
 use Rattle.model.specs.declared.call.CallId.{CallId}
@@ -21,7 +21,7 @@ use Rattle.journal_text.proofs.HeadKinds.{head}
 use Rattle.journal_text.proofs.Printed.{journal-printed, read-printed}
 use Rattle.journal_text.proofs.Steps.{named}
 
--- what lines build, one after the other
+-- the entries that lines build, one line after another
 abbrev collected : BuilderFields → List JournalLine → BuilderFields
 collected b [] = b
 collected b (j ∷ js) = collected (built b j) js
@@ -32,13 +32,13 @@ collected-sends done event reply sends [] js = ap (λ (ms : List Message). colle
 collected-sends done event reply sends (m ∷ more) js =
     collected-sends done event reply (sends ++ m ∷ []) more js ∙ ap (λ (ms : List Message). collected (fields done (Some (named event reply ms))) js) (append_assoc sends (m ∷ []) more)
 
--- the lines of an entry behind its first
+-- the lines of an entry behind its first one complete the entry
 collected-rest : (done : List EntryFields) (event : NamedEvent) (reply : Option (CallId × Reply)) (sends : List Message) (js : List JournalLine)
     → collected (fields done (Some (named event None []))) ((answer_lines reply ++ map Send sends) ++ js) ≡ collected (fields done (Some (named event reply sends))) js
 collected-rest done event None sends js = collected-sends done event None [] sends js
 collected-rest done event (Some answer) sends js = collected-sends done event (Some answer) [] sends js
 
--- entries, and then the last line
+-- the lines of entries and the last line build the entries
 collected-entries : (position : ℕ) (es : List NamedEntry) (told : ℕ) (done : List EntryFields) (last : Option NamedEntry)
     → collected (fields done last) (lines_of position es ++ End told ∷ []) ≡ fields (closed done last ++ map entry_in es) None
 collected-entries position [] told done last = ap (λ (xs : List EntryFields). fields xs None) (sym (append-nil (closed done last)))
@@ -48,7 +48,7 @@ collected-entries position (e ∷ es) told done last =
     ∙ collected-entries (position + 1) es told (closed done last) (Some e)
     ∙ ap (λ (xs : List EntryFields). fields xs None) (append_assoc (closed done last) (entry_in e ∷ []) (map entry_in es))
 
--- no two lists of entries have the same lines
+-- two lists of entries with equal lines are equal
 entries-same : (es fs : List NamedEntry) → body_lines es ≡ body_lines fs → map entry_in es ≡ map entry_in fs
 entries-same es fs e =
     let both = sym (collected-entries 1 es (length es) [] None) ∙ ap (collected (fields [] None)) e ∙ collected-entries 1 fs (length fs) [] None in
@@ -77,6 +77,6 @@ one_reading text = record {
   as_printed = λ s es a. journal-printed text s a.named a.written ∙ ap (journal_text s) (sym a.same);
 }
 
--- two journals within the limits with one text are one
+-- two journals within their limits with one text are equal
 pub apart-journal : (s t : ShapeFields) (es fs : List EntryFields) → IsServedJournal s es → IsServedJournal t fs → journal_text s es ≡ journal_text t fs → (s ≡ t) × (es ≡ fs)
 apart-journal s t es fs a b e = one_journal (journal_text t fs) s t es fs (subst (λ (x : List ℕ). WritesJournal x s es) e (read-printed s es a)) (read-printed t fs b)

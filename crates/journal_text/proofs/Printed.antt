@@ -1,4 +1,4 @@
--- A journal that a text writes is printed as that text.
+-- A text that is a journal is the one that is printed of it.
 use Rattle.std.proofs.Common.{◌≡◌, ℕ, ◌+◌, List, [], ◌∷◌, ◌++◌, length, map, Option, Some, None, refl, sym, ap, ◌∙◌, append_assoc, codes, decimal}
 use Rattle.std.specs.List.{All, flat_map}
 use Rattle.std.proofs.lemmas.Grind.{flat_map-append}
@@ -25,7 +25,7 @@ use Rattle.journal_text.specs.Readings.{IsJournalText, WritesJournal, answer_lin
 use Rattle.journal_text.proofs.HeadKinds.{head}
 use Rattle.journal_text.proofs.LineKinds.{line}
 
--- lines, each with its line feed
+-- the texts of lines, each with its line feed
 abbrev lines_text : Version → List JournalLine → List ℕ
 lines_text v js = flat_map ended (map (line_text v) js)
 
@@ -64,7 +64,7 @@ entries-printed v position (e ∷ es) =
 journal-parts : (first entries last : List ℕ) → ((first ++ 10 ∷ []) ++ (entries ++ ((last ++ 10 ∷ []) ++ []))) ++ [] ≡ first ++ (10 ∷ []) ++ entries ++ last ++ (10 ∷ [])
 journal-parts first entries last = simp (append_assoc, append-nil)
 
--- whole lines are a printed journal
+-- the whole lines of a journal are its printed text
 pub lines-printed : (s : ShapeFields) (es : List NamedEntry) → flat_map ended (head_text s ∷ map (line_text s.version) (body_lines es)) ++ [] ≡ journal_text s (map entry_in es)
 lines-printed s es =
     let entries = entries_text s.version 1 (map entry_in es) in
@@ -80,7 +80,7 @@ lines-single : (v : Version) (js : List JournalLine) → All (IsServedLine v) js
 lines-single v [] served = All-nil IsSingle
 lines-single v (j ∷ js) served = All-cons IsSingle (line_text v j) (map (line_text v) js) (none_is-line_feeds (line_text v j) ((line v).feedless j (All-head (IsServedLine v) j js served))) (lines-single v js (All-tail (IsServedLine v) j js served))
 
--- a journal within the limits is read of the text that it is printed as
+-- the text that is printed of a journal within its limits is this journal
 pub read-printed : (s : ShapeFields) (es : List EntryFields) → IsServedJournal s es → WritesJournal (journal_text s es) s es
 read-printed s es j = record {
   named = j.named;

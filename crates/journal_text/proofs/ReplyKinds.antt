@@ -1,4 +1,4 @@
--- The kinds of replies.
+-- The kinds of replies, by the words with which their texts begin.
 use Rattle.std.proofs.Common.{ℕ, List, [], ◌∷◌, inl, inr, refl, codes}
 use Rattle.model.specs.declared.reply.Reply.TheVariants.{Done, Fd, Again, Free, Blocked, Interrupted, NoProcess, Exists, BadFd, TooManyFiles, NoLocks, Invalid, Overflow}
 use Rattle.texts.proofs.FirstWords.{BeginsWithWord}
@@ -57,7 +57,7 @@ replies = fds ∷ agains ∷ blocks ∷ dones ∷ frees ∷ interrupts ∷ no_pr
 pub reply : AreTexts reply_text IsServedReply
 reply = of_variants replies (elim [ Done ↦ refl | _ ↦ refl ])
 
--- the words of replies with a field, and of the others
+-- the words of replies with a field, and the ones without
 abbrev pub words : List (List ℕ)
 words = codes "fd" ∷ codes "again" ∷ codes "blocked" ∷ []
 

@@ -1,4 +1,4 @@
--- Lines one after the other, each where it may stand: those of a journal lead to its end.
+-- The lines of a journal, each where it may stand, lead to its end.
 use Rattle.std.proofs.Common.{◌≡◌, ℕ, ◌+◌, Bool, if◌then◌else◌, List, [], ◌∷◌, ◌++◌, length, map, Option, Some, None, refl, sym, ap, ◌∙◌, arith, append_assoc}
 use Rattle.std.proofs.lemmas.Bool.{eq-eqb}
 use Rattle.model.specs.declared.call.CallId.{CallId}
@@ -18,7 +18,7 @@ abbrev pub next : Option Place → JournalLine → Option Place
 next None j = None
 next (Some p) j = next_place p.count p.phase j
 
--- the place behind lines that may all stand where they do
+-- the place behind lines each of which may stand where it does
 abbrev pub run : Option Place → List JournalLine → Option Place
 run p [] = p
 run p (j ∷ js) = run (next p j) js
@@ -35,14 +35,14 @@ run-sends : (count : ℕ) (sends : List Message) (more : List JournalLine) → r
 run-sends count [] more = refl
 run-sends count (m ∷ ms) more = run-sends count ms more
 
--- the lines of an entry behind its first
+-- the place behind the lines of an entry after its first one
 run-rest : (count : ℕ) (reply : Option (CallId × Reply)) (sends : List Message) (more : List JournalLine)
     → run (Some (place count Begun)) ((answer_lines reply ++ map Send sends) ++ more) ≡ run (Some (place count (phase_of reply sends))) more
 run-rest count None [] more = refl
 run-rest count None (m ∷ ms) more = run-sends count ms more
 run-rest count (Some answer) sends more = run-sends count sends more
 
--- the first line of an entry
+-- the place behind the first line of an entry
 next-entry : (count : ℕ) (phase : Phase) (e : NamedEntry) → (phase ≡ Ended → ⊥) → next (Some (place count phase)) (Entry (count + 1) e.event) ≡ Some (place (count + 1) Begun)
 next-entry count phase e unended =
     entry-open count phase (count + 1) unended ∙ ap (λ (b : Bool). if b then Some (place (count + 1) Begun) else None) (eq-eqb (count + 1) (count + 1) refl)
@@ -52,7 +52,7 @@ run-entry : (count : ℕ) (phase : Phase) (e : NamedEntry) (more : List JournalL
 run-entry count phase e more unended =
     ap (λ (p : Option Place). run p ((answer_lines e.reply ++ map Send e.sends) ++ more)) (next-entry count phase e unended) ∙ run-rest (count + 1) e.reply e.sends more
 
--- entries, and then the last line
+-- the place behind the lines of entries and the last line
 run-entries : (count : ℕ) (phase : Phase) (es : List NamedEntry) (told : ℕ) → (phase ≡ Ended → ⊥) → told ≡ count + length es
     → run (Some (place count phase)) (lines_of (count + 1) es ++ End told ∷ []) ≡ Some (place told Ended)
 run-entries count phase [] told unended e =
@@ -64,6 +64,6 @@ run-entries count phase (x ∷ es) told unended e =
     ∙ run-entry count phase x (lines_of (count + 1 + 1) es ++ End told ∷ []) unended
     ∙ run-entries (count + 1) (phase_of x.reply x.sends) es told (phase_of-open x.reply x.sends) rest
 
--- a journal leads to its end
+-- the place behind all lines of a journal is its end
 pub run-journal : (es : List NamedEntry) → run (Some start) (body_lines es) ≡ Some (place (length es) Ended)
 run-journal es = run-entries 0 Empty es (length es) empty-open (omega arith)

@@ -17,21 +17,21 @@ use Rattle.journal_text.proofs.Begun.{Begun, begun-first, begun-line, journal-be
 use Rattle.journal_text.proofs.Steps.{Reading, built_of, entries, further, phase_of-open, place_of}
 use Rattle.journal_text.proofs.Steps.Reading.{nothing, some, whole}
 
--- the text begins with so many lines of a journal, which lead to this place and build this
+-- the text begins with `taken` lines of a journal, which lead to this place and build these entries
 pub record Standing (text : List ℕ) (s : ShapeFields) (rest : List ℕ) (taken : ℕ) (p : Place) (b : BuilderFields) : Type 0 where
   pub reading : Reading
   pub begun : Begun text s reading rest taken
   pub here : place_of reading ≡ p
   pub made : built_of reading ≡ b
 
--- behind the first line
+-- the reader stands behind the first line
 pub standing-first : (text from : List ℕ) (s : ShapeFields) (rest : List ℕ) (taken : ℕ) (p : Place) (b : BuilderFields) → from ≡ text → BeginsWithLine from (head_text s) rest → IsShape s → taken ≡ 1 → p ≡ start → b ≡ built_of nothing
     → Standing text s rest taken p b
 standing-first text from s rest taken p b same begins shape_in one first empty =
     let begun = begun-first text s rest (subst (λ (t : List ℕ). BeginsWithLine t (head_text s) rest) same begins) shape_in in
     record { reading = nothing; begun = subst (λ (n : ℕ). Begun text s nothing rest n) (sym one) begun; here = sym first; made = sym empty }
 
--- behind one line more
+-- the reader stands behind one line more
 pub standing-line : (text : List ℕ) (s : ShapeFields) (rest : List ℕ) (taken : ℕ) (p : Place) (b : BuilderFields) (j : JournalLine) (q : Place) (after : List ℕ) (passed : ℕ) (c : BuilderFields)
     → Standing text s rest taken p b → StandsNext s.version p rest j q after → passed ≡ taken + 1 → c ≡ built b j → Standing text s after passed q c
 standing-line text s rest taken p b j q after passed c a stands counted same =
@@ -66,7 +66,7 @@ standing-whole text s rest taken p b a gone ends =
       written = journal-begun text s a.reading taken (subst (λ (x : List ℕ). Begun text s a.reading x taken) gone a.begun) phase;
     }
 
--- and as many entries were built as were read
+-- behind the last line as many entries were built as the line says
 counted-whole : (r : Reading) → (place_of r).phase ≡ Ended → (place_of r).count ≡ length (built_of r).entries
 counted-whole nothing e = refl
 counted-whole (some es event reply sends) e = absurd (phase_of-open reply sends e)
@@ -76,12 +76,12 @@ pub standing-counted : (text : List ℕ) (s : ShapeFields) (rest : List ℕ) (ta
 standing-counted text s rest taken p b a ends =
     ap (λ (x : Place). x.count) (sym a.here) ∙ counted-whole a.reading (ap (λ (x : Place). x.phase) a.here ∙ ends) ∙ ap (λ (x : BuilderFields). length x.entries) a.made
 
--- a bad line refuses the text
+-- a text with a bad line is refused for it
 pub bad-refused : (text : List ℕ) (error : ParseError) → IsBadLine text error → IsRefused text error
 bad-refused text NoMemory bad = absurd bad
 bad-refused text (BadLine number) bad = bad
 
--- where the text writes a journal, want of memory is all that can be told beside
+-- a text that is a journal is refused only for lack of memory
 pub refused-later : (text : List ℕ) (s : ShapeFields) (count : ℕ) (error : ParseError) → HasLength text s count → (error ≢ NoMemory → IsBadLine text error) → IsRefused text error
 refused-later text s count NoMemory has bad = (s, (has.1.named, has.1.written))
 refused-later text s count (BadLine number) has bad = bad (λ e. absurd (cc))

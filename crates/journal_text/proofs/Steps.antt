@@ -1,4 +1,4 @@
--- Journals as far as they were read, and what a line more makes of them.
+-- Readings of the beginning of a journal, and one more line.
 use Rattle.std.proofs.Common.{◌≡◌, ℕ, ◌+◌, Bool, true, false, if◌then◌else◌, List, [], ◌∷◌, ◌++◌, length, map, Option, Some, None, refl, sym, ap, ◌∙◌, arith, eqb, append_assoc, length-append}
 use Rattle.std.proofs.lemmas.Bool.{eqb-true}
 use Rattle.std.proofs.lemmas.List.{append-nil, map-append}
@@ -19,7 +19,7 @@ use Rattle.journal_text.specs.Lines.{IsCount, IsServedLine}
 use Rattle.journal_text.specs.Places.{after_answer, after_end, after_entry, after_send, next_place, place, start}
 use Rattle.journal_text.specs.Readings.{answer_lines, body_lines, entry_in, entry_lines, lines_of}
 
--- as far as it was read: no entry, some and the last of them, or all
+-- the part of a journal that was read: no entry; some entries, the last of them open; or all
 pub data Reading : Type 0 where
   nothing : Reading
   some : List NamedEntry → NamedEvent → Option (CallId × Reply) → List Message → Reading
@@ -53,7 +53,7 @@ built_of nothing = fields [] None
 built_of (some es event reply sends) = fields (map entry_in es) (Some (named event reply sends))
 built_of (whole es) = fields (map entry_in es) None
 
--- what a line makes of the open entry does not depend on those that are whole
+-- what a line makes of the open entry doesn't depend on the complete ones
 pub last-only : (b : BuilderFields) (j : JournalLine) (last : Option NamedEntry) → b.last ≡ last → (built b j).last ≡ (built (fields [] last) j).last
 last-only b (Entry position event) last same = refl
 last-only b (Answer call reply) last same = ap (λ (x : Option NamedEntry). (built (fields [] x) (Answer call reply)).last) same
@@ -69,7 +69,7 @@ some-same p q e = cc
 pub empty-open : Empty ≡ Ended → ⊥
 empty-open e = absurd (cc)
 
--- an entry is open behind its lines
+-- an entry is open behind its lines so far
 pub phase_of-open : (reply : Option (CallId × Reply)) (sends : List Message) → phase_of reply sends ≡ Ended → ⊥
 phase_of-open None [] e = absurd (cc)
 phase_of-open None (m ∷ ms) e = absurd (cc)
@@ -97,7 +97,7 @@ phase_of-send None [] message = refl
 phase_of-send None (m ∷ ms) message = refl
 phase_of-send (Some answer) sends message = refl
 
--- one more entry
+-- the lines of entries with one more at the end
 pub lines_of-push : (position : ℕ) (es : List NamedEntry) (e : NamedEntry) → lines_of position (es ++ e ∷ []) ≡ lines_of position es ++ entry_lines (position + length es) e
 lines_of-push position [] e =
     let here : position ≡ position + length {A = NamedEntry} [] = omega arith in
@@ -107,7 +107,7 @@ lines_of-push position (f ∷ es) e =
     ap (λ (js : List JournalLine). entry_lines position f ++ js) (lines_of-push (position + 1) es e ∙ ap (λ (k : ℕ). lines_of (position + 1) es ++ entry_lines k e) counted)
     ∙ sym (append_assoc (entry_lines position f) (lines_of (position + 1) es) (entry_lines (position + length (f ∷ es)) e))
 
--- a line more in the last entry
+-- the lines of entries whose last one gets one more line
 last-more : (es : List NamedEntry) (e f : NamedEntry) (j : JournalLine) → ((k : ℕ) → entry_lines k f ≡ entry_lines k e ++ j ∷ []) → lines_of 1 (es ++ f ∷ []) ≡ lines_of 1 (es ++ e ∷ []) ++ j ∷ []
 last-more es e f j more =
     lines_of-push 1 es f ∙ ap (λ (js : List JournalLine). lines_of 1 es ++ js) (more (1 + length es))
@@ -124,7 +124,7 @@ if-some : (b : Bool) (p q : Place) → (if b then Some p else None) ≡ Some q �
 if-some true p q e = (refl, some-same p q e)
 if-some false p q e = absurd (none-some q e)
 
--- as far as it was read with a line more
+-- the part of a journal that was read, with one more line
 pub record Further (r : Reading) (j : JournalLine) (q : Place) : Type 0 where
   pub reading : Reading
   pub lines : read_lines reading ≡ read_lines r ++ j ∷ []

@@ -11,7 +11,7 @@ use Rattle.journal_text.specs.declared.named_event.NamedEvent.{NamedEvent}
 use Rattle.journal_text.specs.Events.{event_of, incarnation_of}
 use Rattle.journal_text.specs.Readings.{entry_in}
 
--- the entries that are whole, and the one that may have more lines
+-- the complete entries, and the open one, which may have more lines
 pub record BuilderFields : Type 0 where
   pub entries : List EntryFields
   pub last : Option NamedEntry
@@ -19,12 +19,12 @@ pub record BuilderFields : Type 0 where
 abbrev pub fields : List EntryFields → Option NamedEntry → BuilderFields
 fields entries last = record { entries = entries; last = last }
 
--- the incarnation in it is one that an entry may name
+-- the event of the open entry names an incarnation if and only if its kind does
 abbrev pub IsOpen : Option NamedEntry → Type 0
 IsOpen None = ⊤
 IsOpen (Some e) = NamesItsIncarnation (event_of e.event) (incarnation_of e.event)
 
--- an entry that nothing is known of but its event
+-- the entry of an event, without an answer and messages so far
 abbrev pub begun : NamedEvent → NamedEntry
 begun event = record { event = event; reply = None; sends = [] }
 
@@ -36,12 +36,12 @@ abbrev pub sending : Message → Option NamedEntry → Option NamedEntry
 sending message None = None
 sending message (Some e) = Some (record { event = e.event; reply = e.reply; sends = e.sends ++ message ∷ [] })
 
--- the entries, with the open one
+-- the complete entries, after the open one is completed
 abbrev pub closed : List EntryFields → Option NamedEntry → List EntryFields
 closed entries None = entries
 closed entries (Some e) = entries ++ entry_in e ∷ []
 
--- with one line more
+-- the entries after one more line
 abbrev pub built : BuilderFields → JournalLine → BuilderFields
 built b (Entry position event) = fields (closed b.entries b.last) (Some (begun event))
 built b (Answer call reply) = fields b.entries (answered (call, reply) b.last)

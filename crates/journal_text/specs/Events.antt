@@ -25,7 +25,7 @@ event_of (Learn file host) = event.Learn file host.node host.incarnation
 event_of (FailServer file epoch) = event.FailServer file
 event_of (StartServer file epoch) = event.StartServer file
 
--- the incarnation, of a server the epoch, that an entry of the event names, 0 for none
+-- the incarnation, or the epoch of a server, that an entry of the event names; 0 for none
 abbrev pub incarnation_of : NamedEvent → ℕ
 incarnation_of (Interrupt host pid) = host.incarnation
 incarnation_of (Retry host pid) = host.incarnation
@@ -35,7 +35,7 @@ incarnation_of (FailServer file epoch) = epoch
 incarnation_of (StartServer file epoch) = epoch
 incarnation_of _ = 0
 
--- the call that an entry of the event names
+-- the call that an entry of the event names, if it names one
 abbrev pub call_of : NamedEvent → Option CallId
 call_of (Call call pid op) = Some call
 call_of _ = None
@@ -43,7 +43,7 @@ call_of _ = None
 abbrev pub named_text : Version → NamedEvent → List ℕ
 named_text version e = event_text version (event_of e) (incarnation_of e) (call_of e)
 
--- numbers within their limits; servers fail and are rebuilt in no version in which none may
+-- the numbers of the event are within their limits; servers fail and are rebuilt only in a version in which they may
 abbrev pub IsServedEvent : Version → NamedEvent → Type 0
 IsServedEvent version (Call call pid op) = IsCall call × IsNumber most_processes pid × IsServedOp op
 IsServedEvent version (Deliver message) = IsServedMessage version message

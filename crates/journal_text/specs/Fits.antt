@@ -1,4 +1,4 @@
--- What the types of its parts hold an entry to.
+-- What the types of an entry's parts guarantee.
 use Rattle.std.specs.Prelude.{ℕ, ◌≤◌, All, FitsSigned, IfSome, ⊤}
 use Rattle.std.specs.Int.{w64}
 use Rattle.model.specs.declared.call.CallId.{CallId}
@@ -15,7 +15,7 @@ use Rattle.lockscript.specs.Served.{IsDescriptor}
 use Rattle.message_text.specs.Served.{IsServedMessage}
 use Rattle.journal_text.specs.Served.{IsServedReply}
 
--- a byte for a descriptor, 64 bits for a start and a length
+-- the numbers of an operation fit their types: 8 bits for a descriptor, 64 bits for a start and a length
 abbrev pub FitsOp : Op → Type 0
 FitsOp (Dup fd) = IsDescriptor fd
 FitsOp (Close fd) = IsDescriptor fd
@@ -25,11 +25,11 @@ FitsOp (Unlock fd kind start len) = IsDescriptor fd × FitsSigned w64 start × F
 FitsOp (Query fd kind mode start len) = IsDescriptor fd × FitsSigned w64 start × FitsSigned w64 len
 FitsOp _ = ⊤
 
--- an incarnation that fits its type
+-- an incarnation fits its type, of 16 bits
 abbrev pub FitsIncarnation : ℕ → Type 0
 FitsIncarnation incarnation = incarnation ≤ 65535
 
--- a message that version 2 writes
+-- a message has a text in version 2
 abbrev pub FitsMessage : Message → Type 0
 FitsMessage = IsServedMessage Second
 
@@ -39,11 +39,11 @@ FitsEvent (Deliver message) = FitsMessage message
 FitsEvent (Learn file node incarnation) = FitsIncarnation incarnation
 FitsEvent _ = ⊤
 
--- an answer to a call
+-- the name of a call and the reply to it are within their limits
 abbrev pub IsServedAnswer : CallId × Reply → Type 0
 IsServedAnswer answer = IsCall answer.0 × IsServedReply answer.1
 
--- all but the numbers of nodes, processes and files in its event
+-- an entry fits its types, and all its numbers are within their limits but those of nodes, processes and files in its event
 pub record FitsEntry (e : EntryFields) : Type 0 where
   pub event_in : FitsEvent e.event
   pub incarnation_in : FitsIncarnation e.incarnation

@@ -1,4 +1,4 @@
--- Lines of journals behind the first.
+-- The lines of journals behind the first one.
 use Rattle.std.specs.Prelude.{ℕ, ◌≤◌, List, ◌++◌, codes, decimal}
 use Rattle.model.specs.Limits.{IsCall, IsNumber}
 use Rattle.messages.specs.declared.version.Version.{Version}
@@ -12,11 +12,11 @@ use Rattle.message_text.specs.Served.{IsServedMessage}
 use Rattle.journal_text.specs.Served.{IsServedReply}
 use Rattle.message_text.specs.Texts.{message_text}
 
--- the place of an entry
+-- the position of an entry is in range
 abbrev pub IsPosition : ℕ → Type 0
 IsPosition = IsNumber 4294967295
 
--- how many entries there are
+-- the number of entries is in range
 abbrev pub IsCount : ℕ → Type 0
 IsCount count = count ≤ 4294967295
 
@@ -26,7 +26,7 @@ line_text version (Answer call reply) = codes "reply " ++ pair_text call_text re
 line_text version (Send message) = codes "send " ++ message_text version message
 line_text version (End count) = codes "end " ++ decimal count
 
--- its numbers are within their limits
+-- the numbers of the line are within their limits
 abbrev pub IsServedLine : Version → JournalLine → Type 0
 IsServedLine version (Entry position event) = IsPosition position × IsServedEvent version event
 IsServedLine version (Answer call reply) = IsCall call × IsServedReply reply

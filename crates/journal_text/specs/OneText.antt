@@ -1,4 +1,4 @@
--- One text writes one value.
+-- Each text is that of one value at most.
 use Rattle.std.specs.Prelude.{◌≡◌, ℕ, List, All, map}
 use Rattle.message_text.specs.OneText.{HasOneValue}
 use Rattle.lockscript.specs.Texts.{reply_text}
@@ -14,14 +14,14 @@ use Rattle.message_text.specs.Served.{IsServedMessage}
 use Rattle.journal_text.specs.Served.{IsServedReply}
 use Rattle.message_text.specs.Texts.{message_text}
 
--- a journal whose numbers are within their limits, in each of its lines
+-- a journal each of whose lines has its numbers within their limits
 pub record IsServedJournal (s : ShapeFields) (es : List EntryFields) : Type 0 where
   pub named : List NamedEntry
   pub same : es ≡ map entry_in named
   pub shape_in : IsShape s
   pub lines_in : All (IsServedLine s.version) (body_lines named)
 
--- the texts of journals of each version, and of what stands in them
+-- two journals of one version with one text are equal, and so are two messages, events, replies or lines
 pub record EachTextHasOneValue : Type 0 where
   pub messages : (version : Version) → HasOneValue (message_text version) (IsServedMessage version)
   pub events : (version : Version) → HasOneValue (named_text version) (IsServedEvent version)
@@ -29,11 +29,11 @@ pub record EachTextHasOneValue : Type 0 where
   pub lines : (version : Version) → HasOneValue (line_text version) (IsServedLine version)
   pub journals : (s t : ShapeFields) (es fs : List EntryFields) → IsServedJournal s es → IsServedJournal t fs → journal_text s es ≡ journal_text t fs → (s ≡ t) × (es ≡ fs)
 
--- what is printed of a journal within the limits is read as that journal
+-- the text that is printed of a journal within its limits is this journal
 abbrev pub EveryJournalIsRead : Type 0
 EveryJournalIsRead = (s : ShapeFields) (es : List EntryFields) → IsServedJournal s es → WritesJournal (journal_text s es) s es
 
--- the text writes at most one journal, and is what is printed of it, or has one first bad line
+-- the text is one journal at most, and then the one that is printed of it, or has one first bad line, and not both
 pub record HasOneReading (text : List ℕ) : Type 0 where
   pub one_journal : (s t : ShapeFields) (es fs : List EntryFields) → WritesJournal text s es → WritesJournal text t fs → (s ≡ t) × (es ≡ fs)
   pub one_bad_line : (m n : ℕ) → IsFirstBad text m → IsFirstBad text n → m ≡ n

@@ -16,7 +16,7 @@ use Rattle.journal_text.specs.Events.{call_of, event_of, incarnation_of}
 use Rattle.journal_text.specs.Journals.{head_text}
 use Rattle.journal_text.specs.Lines.{IsServedLine, line_text}
 
--- as an entry of a journal
+-- an entry with the names in its event, as an entry of a journal
 abbrev pub entry_in : NamedEntry → EntryFields
 entry_in e = record { event = event_of e.event; incarnation = incarnation_of e.event; call = call_of e.event; reply = e.reply; sends = e.sends }
 
@@ -28,34 +28,34 @@ answer_lines (Some answer) = Answer answer.0 answer.1 ∷ []
 abbrev pub entry_lines : ℕ → NamedEntry → List JournalLine
 entry_lines position e = Entry position e.event ∷ (answer_lines e.reply ++ map Send e.sends)
 
--- the lines of entries, the first at this position
+-- the lines of the entries, the first one at this position
 abbrev pub lines_of : ℕ → List NamedEntry → List JournalLine
 lines_of position [] = []
 lines_of position (e ∷ es) = entry_lines position e ++ lines_of (position + 1) es
 
--- the lines behind the first
+-- the lines of a journal behind the first one
 abbrev pub body_lines : List NamedEntry → List JournalLine
 body_lines es = lines_of 1 es ++ End (length es) ∷ []
 
--- the lines, without their line feeds, are a journal of these entries
+-- the lines, without their line feeds, are those of a journal of these entries
 pub record Writes (lines : List (List ℕ)) (s : ShapeFields) (es : List NamedEntry) : Type 0 where
   pub texts : lines ≡ head_text s ∷ map (line_text s.version) (body_lines es)
   pub shape_in : IsShape s
   pub lines_in : All (IsServedLine s.version) (body_lines es)
 
--- the text writes a journal of these entries
+-- the text is a journal of these entries, with the names in their events
 pub record IsJournalText (text : List ℕ) (s : ShapeFields) (es : List NamedEntry) : Type 0 where
   pub lines : List (List ℕ)
   pub whole : Passes text lines []
   pub writes : Writes lines s es
 
--- the same of the entries without the names in their events
+-- the text is a journal of these entries
 pub record WritesJournal (text : List ℕ) (s : ShapeFields) (entries : List EntryFields) : Type 0 where
   pub named : List NamedEntry
   pub same : entries ≡ map entry_in named
   pub written : IsJournalText text s named
 
--- the text writes a journal of so many entries
+-- the text is a journal of that many entries
 abbrev pub HasLength : List ℕ → ShapeFields → ℕ → Type 0
 HasLength text s count = (entries : List EntryFields) × WritesJournal text s entries × (count ≡ length entries)
 
@@ -71,7 +71,7 @@ pub record IsOld (text : List ℕ) : Type 0 where
   pub shape_in : IsShape shape
   pub is_first : shape.version ≡ First
 
--- the text writes some journal
+-- the text is some journal
 abbrev pub HasJournal : List ℕ → Type 0
 HasJournal text = (s : ShapeFields) × ((es : List NamedEntry) × IsJournalText text s es)
 
@@ -83,12 +83,12 @@ AreJournal lines = (s : ShapeFields) × ((es : List NamedEntry) × Writes lines 
 abbrev pub IsFirstBad : List ℕ → ℕ → Type 0
 IsFirstBad = IsFirstBadOf AreJournal
 
--- the first bad line is told
+-- the error has the number of the first bad line
 abbrev pub IsBadLine : List ℕ → ParseError → Type 0
 IsBadLine text NoMemory = ⊥
 IsBadLine text (BadLine number) = IsFirstBad text number
 
--- why the text is no journal, or for what journal there was no memory
+-- the text is no journal for this reason, or it is one for which there was no memory
 abbrev pub IsRefused : List ℕ → ParseError → Type 0
 IsRefused text NoMemory = HasJournal text
 IsRefused text (BadLine number) = IsFirstBad text number

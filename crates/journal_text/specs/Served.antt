@@ -1,4 +1,4 @@
--- What replies may write: numbers within their limits, and spans that are not empty.
+-- The limits of replies: numbers in range, and spans that aren't empty.
 use Rattle.std.specs.Prelude.{⊤}
 use Rattle.model.specs.declared.reply.Reply.{Reply}
 use Rattle.model.specs.declared.reply.Reply.TheVariants.{Fd, Again, Blocked}

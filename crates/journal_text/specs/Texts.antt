@@ -1,4 +1,4 @@
--- Texts of events.
+-- The texts of events.
 use Rattle.std.specs.Prelude.{ℕ, List, [], ◌++◌, codes, decimal, Option, Some, None}
 use Rattle.model.specs.declared.call.CallId.{CallId}
 use Rattle.messages.specs.declared.event.Event.{Event}
@@ -9,7 +9,7 @@ use Rattle.message_text.specs.Names.{call_text, host_text, server_text}
 use Rattle.message_text.specs.Texts.{message_text}
 use Rattle.lockscript.specs.Texts.{op_text}
 
--- an event, with the incarnation and the call that its entry names; a call without its name, which no entry has, is written nowhere
+-- an event, with the incarnation and the call that its entry names; a call without a name, which no entry has, has the empty text
 abbrev pub event_text : Version → Event → ℕ → Option CallId → List ℕ
 event_text version (Call node pid op) incarnation None = []
 event_text version (Call node pid op) incarnation (Some call) = codes "call " ++ pair_text call_text (pair_text decimal op_text) (call, (pid, op))

@@ -1,4 +1,6 @@
-//! The entries of a journal, built line by line.
+//! Builds the entries of a journal from its lines.
+//!
+//! Each function here that can fail errs with `AllocError`, where a request for memory was refused.
 ghost use Rattle.std.specs.Prelude.{◌≡◌, [], List, Some, None, IfOk, OnOk};
 ghost use Rattle.messages.specs.Entries.{EntryFields, NamesItsIncarnation};
 ghost use Rattle.messages.specs.Shapes.{ShapeFields};
@@ -23,7 +25,8 @@ use model::reply::Reply;
 use std::alloc::{AllocError, Global};
 use std::marker::Model;
 
-/// The entry that may have more lines, if there is one. Those that are whole go to a sink.
+/// The open entry, which may have more lines, if there is one. Entries that are complete go to a
+/// sink.
 #[derive(Drop)]
 pub(crate) struct Builder<'a> {
     last: Option<NamedEntry<'a>>,
@@ -42,17 +45,15 @@ impl<'a> Model for Builder<'a> {
 }
 
 impl<'a> Builder<'a> {
-    /// No entry.
+    /// The builder without an open entry.
     pub(crate) fn new() -> Builder<'a>
         ensures { result ≡ None }
     {
         Builder { last: None }
     }
 
-    /// Takes the next line. The entry that it ends, if it ends one, goes to the sink.
-    ///
-    /// # Errors
-    /// `AllocError` where a request for memory was refused.
+    /// Takes the next line of the journal. If the line completes the open entry, that goes to the
+    /// sink.
     pub(crate) fn take<K: Sink>(
         &mut self,
         alloc: Global,
@@ -85,7 +86,7 @@ impl<'a> Builder<'a> {
         }
     }
 
-    // The open entry is whole.
+    // Completes the open entry, which goes to the sink.
     fn close<K: Sink>(&mut self, alloc: Global, sink: &mut K) -> Result<(), AllocError>
         ensures taken { OnOk result ((s : ShapeFields) (es : List EntryFields) → K.took sink.old s es → K.took sink.new s (closed es self.old)) }
         ensures last { self.new ≡ None }
@@ -97,7 +98,7 @@ impl<'a> Builder<'a> {
     }
 }
 
-// The entry with this answer.
+// The open entry with this answer.
 fn answered<'a>(answer: (CallId, Reply), named: Option<NamedEntry<'a>>) -> Option<NamedEntry<'a>>
     ensures { result ≡ answered answer named.entry }
 {
@@ -106,7 +107,7 @@ fn answered<'a>(answer: (CallId, Reply), named: Option<NamedEntry<'a>>) -> Optio
     Some(entry)
 }
 
-// The entry with this message.
+// The open entry with one more message.
 fn sending<'a>(
     alloc: Global,
     message: WrittenMessage<'a>,
@@ -121,7 +122,7 @@ fn sending<'a>(
     Ok(Some(entry))
 }
 
-// The entry without the names in its event.
+// The complete entry, whose event loses the names in it.
 fn entry_of(alloc: Global, named: NamedEntry<'_>) -> Result<Entry, AllocError>
     requires { NamesItsIncarnation (event_of named.event) (incarnation_of named.event) }
     ensures { IfOk result (λ entry. entry ≡ entry_in named.entry) }

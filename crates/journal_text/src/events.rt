@@ -1,4 +1,4 @@
-//! Events from their texts.
+//! Reads the events of journals from their texts.
 ghost use Rattle.std.specs.Prelude.{◌≡◌, true};
 ghost use Rattle.messages.specs.Versions.{may_rebuild};
 ghost use Rattle.texts.specs.Reads.{Reads};
@@ -17,7 +17,7 @@ use message_text::names::{HostName, server_of};
 use message_text::numbers::FileField;
 use texts::text::{Text, split_field};
 
-/// The event that the text writes in a journal of the version, with the names in it.
+/// The event, with the names in it, whose text in the version of `V` this is.
 pub(crate) fn event_in<V: Edition>(text: &str) -> Option<NamedEvent<'_>>
     ensures { Reads (named_text V.version) (IsServedEvent V.version) text.now result }
 {
@@ -37,7 +37,8 @@ pub(crate) fn event_in<V: Edition>(text: &str) -> Option<NamedEvent<'_>>
     }
 }
 
-// The file and the epoch of its server, in a version in which servers are rebuilt.
+// The file and the epoch of its server that the text names, in a version in which servers can be
+// rebuilt.
 fn epoch_in<V: Edition>(text: &str) -> Option<(u16, u16)>
     ensures { Reads server_text (λ p. (may_rebuild V.version ≡ true) × AreServerParts p) text.now result }
 {

@@ -1,4 +1,5 @@
-//! What the types of the parts of an entry hold it to. These functions only say it: they change nothing.
+//! Laws that say what the types of an entry's parts guarantee; each is the contract of a function
+//! that does nothing.
 ghost use Rattle.std.specs.Prelude.{All};
 ghost use Rattle.journal_text.specs.Fits.{FitsEntry, FitsEvent, FitsMessage, FitsOp};
 ghost use Rattle.journal_text.specs.Served.{IsServedReply};
@@ -64,7 +65,7 @@ fn entry_fits(entry: &Entry)
     messages_fit(entry.sends());
 }
 
-/// Every entry is within its limits, but for the numbers of nodes, processes and files in its event.
+/// Each entry is within its limits, but for the numbers of nodes, processes and files in its event.
 pub(crate) fn entries_fit(entries: &[Entry])
     ensures { All FitsEntry entries.now }
 {

@@ -9,7 +9,7 @@ use messages::shape::Shape;
 use messages::version::Version;
 use texts::text::after;
 
-/// What the first line of a journal of this version begins with.
+/// The text with which the first line of a journal of this version begins.
 pub(crate) fn head_front(version: Version) -> &'static str
     ensures { result.now ≡ head_front version }
 {
@@ -19,8 +19,8 @@ pub(crate) fn head_front(version: Version) -> &'static str
     }
 }
 
-/// The shape that `journal V nodes N files F policy P` names, if the line is that, V is 1 or 2, and such
-/// a cluster is served. Its version is V.
+/// The shape that the line `journal V nodes N files F policy P` names; its version is V. `None` if
+/// the line isn't one of these, V is neither 1 nor 2, or no cluster may have that shape.
 pub fn head_of(line: &str) -> Option<Shape>
     ensures { Reads head_text IsShape line.now result }
 {

@@ -1,4 +1,6 @@
-//! Journals.
+//! Writes journals as texts, whole or entry by entry.
+//!
+//! Each function here that can fail errs with `AllocError`, where a request for memory was refused.
 ghost use Rattle.std.specs.Prelude.{◌≡◌, ◌++◌, codes, flat_map, string_bytes, IfOk, OnOk};
 ghost use Rattle.journal_text.specs.Journals.{end_text, entries_text, entry_text, head_text, journal_text, reply_line, send_line};
 
@@ -18,11 +20,9 @@ use std::alloc::{AllocError, Global};
 use std::fmt::Write;
 use texts::words::Named;
 
-/// The journal of a cluster of this shape as text, in the version of the shape: a first line with the shape, the lines of each
-/// entry, the first at position 1, and a last line with how many entries there are.
-///
-/// # Errors
-/// `AllocError` where a request for memory was refused.
+/// The journal of a cluster of this shape as a text, in the version of the shape: a first line with
+/// the shape, the lines of each entry, the first at position 1, and a last line with the number of
+/// entries.
 pub fn print(alloc: Global, shape: &Shape, entries: &[Entry]) -> Result<String, AllocError>
     ensures { IfOk result (λ text. string_bytes text ≡ journal_text shape.now entries.now) }
 {
@@ -33,10 +33,7 @@ pub fn print(alloc: Global, shape: &Shape, entries: &[Entry]) -> Result<String, 
     Ok(out)
 }
 
-/// Writes the first line of a journal.
-///
-/// # Errors
-/// `AllocError` where a request for memory was refused.
+/// Adds the first line of a journal.
 pub fn push_head(out: &mut String, shape: &Shape) -> Result<(), AllocError>
     ensures { OnOk result (string_bytes out.new ≡ string_bytes out.old ++ head_text shape.now ++ codes "\n") }
 {
@@ -47,17 +44,14 @@ pub fn push_head(out: &mut String, shape: &Shape) -> Result<(), AllocError>
     writeln!(out, "{nodes} files {files} policy {policy}")
 }
 
-/// Writes the last line of a journal of so many entries.
-///
-/// # Errors
-/// `AllocError` where a request for memory was refused.
+/// Adds the last line of a journal of `count` entries.
 pub fn push_end(out: &mut String, count: usize) -> Result<(), AllocError>
     ensures { OnOk result (string_bytes out.new ≡ string_bytes out.old ++ end_text count ++ codes "\n") }
 {
     writeln!(out, "end {count}")
 }
 
-// Writes the lines of entries as this version has them, the first of them at position 1.
+// Adds the lines of entries as journals of this version have them, the first entry at position 1.
 fn push_entries(out: &mut String, version: Version, entries: &[Entry]) -> Result<(), AllocError>
     ensures { OnOk result (string_bytes out.new ≡ string_bytes out.old ++ entries_text version 1 entries.now) }
 {
@@ -69,10 +63,7 @@ fn push_entries(out: &mut String, version: Version, entries: &[Entry]) -> Result
     Ok(())
 }
 
-/// Writes the lines of an entry at this position, as journals of this version have them.
-///
-/// # Errors
-/// `AllocError` where a request for memory was refused.
+/// Adds the lines of an entry at this position, as journals of this version have them.
 pub fn push_entry(
     out: &mut String,
     version: Version,
@@ -94,7 +85,7 @@ pub fn push_entry(
     push_sends(out, version, entry.sends())
 }
 
-// Writes the line of an answer, or nothing where there is none.
+// Adds the line of an answer, if there is one.
 fn push_answer(out: &mut String, answer: &Option<(CallId, Reply)>) -> Result<(), AllocError>
     ensures { OnOk result (string_bytes out.new ≡ string_bytes out.old ++ reply_line answer.now) }
 {
@@ -108,7 +99,7 @@ fn push_answer(out: &mut String, answer: &Option<(CallId, Reply)>) -> Result<(),
     out.push_str("\n")
 }
 
-// Writes the lines of messages that are sent.
+// Adds the lines of messages that an entry sends.
 fn push_sends(out: &mut String, version: Version, sends: &[SharedMessage]) -> Result<(), AllocError>
     ensures { OnOk result (string_bytes out.new ≡ string_bytes out.old ++ flat_map (send_line version) sends.now) }
 {

@@ -1,4 +1,4 @@
-//! What holds of every text.
+//! Laws of every text that may be a journal.
 ghost use Rattle.journal_text.specs.Journals.{journal_text};
 ghost use Rattle.journal_text.specs.Readings.{WritesJournal};
 ghost use Rattle.journal_text.specs.OneText.{EachTextHasOneValue, EveryJournalIsRead, EveryTextHasOneReading};
@@ -6,27 +6,27 @@ ghost use Rattle.journal_text.specs.OneText.{EachTextHasOneValue, EveryJournalIs
 use crate::fits::entries_fit;
 use cluster_core::journal::Journal;
 
-/// Two messages within their limits that have one text are one message. So it is with events, with
-/// replies, with the lines of journals, and with whole journals.
+/// Two values within their limits that have one text are equal, be they messages, events, replies,
+/// lines of journals, or whole journals.
 pub fn each_text_has_one_value()
     ensures { EachTextHasOneValue }
 {}
 
-/// What `print` writes of a journal within its limits is a text that writes this journal, so `parse`
-/// answers it.
+/// `print` writes of each journal within its limits a text that is this journal, so `parse` gives
+/// the journal back.
 pub fn every_journal_is_read()
     ensures { EveryJournalIsRead }
 {}
 
-/// No text writes two journals, has two first bad lines, or writes a journal and has a bad line, and
-/// a text that writes a journal is what `print` writes of it. So what `parse` promises leaves it no
-/// choice, but for a refusal of memory.
+/// No text is two journals, has two first bad lines, or is a journal and has a bad line, and each
+/// text that is a journal is the one that `print` writes of it. So the contract of `parse` leaves
+/// it no choice, but for a refused request for memory.
 pub fn every_text_has_one_reading()
     ensures { EveryTextHasOneReading }
 {}
 
-/// What `print` writes of the shape and the entries of a journal is a text that writes this very
-/// journal, so `parse` answers it: a run is within the limits of its text.
+/// `print` writes of a run's shape and entries a text that is this very journal, so `parse` gives
+/// it back: each run is within the limits of its text.
 pub fn each_journal_is_read(journal: &Journal)
     ensures { WritesJournal (journal_text journal.now.shape journal.now.entries) journal.now.shape journal.now.entries }
 {

@@ -1,4 +1,5 @@
-//! Journals as text.
+//! Journals as texts: how a journal is written, read back, and checked line by line. This crate
+//! doesn't check that the entries are a run, and knows nothing of files on a disk, or of threads.
 #![tactic(auto)]
 
 mod builder;

@@ -1,4 +1,4 @@
-//! Lines of journals from their texts.
+//! Reads the lines of journals from their texts.
 ghost use Rattle.std.specs.Prelude.{◌++◌, codes};
 ghost use Rattle.texts.specs.Reads.{Reads};
 ghost use Rattle.journal_text.specs.Lines.{IsServedLine, line_text};
@@ -15,28 +15,28 @@ use model::call::CallId;
 use model::reply::Reply;
 use texts::text::{Text, split_field};
 
-/// A line of a journal behind the first.
+/// A line of a journal behind the first one.
 #[derive(Drop)]
 pub enum JournalLine<'a> {
-    /// An entry begins, with its event.
+    /// An entry begins, with its position and its event.
     Entry {
         position: u32,
         event: NamedEvent<'a>,
     },
-    /// The entry answers a call.
+    /// The open entry answers a call.
     Answer {
         call: CallId,
         reply: Reply,
     },
-    /// The entry sends a message.
+    /// The open entry sends a message.
     Send(WrittenMessage<'a>),
-    /// The journal has so many entries.
+    /// The journal ends, with the number of its entries.
     End {
         count: u32,
     },
 }
 
-/// What a line behind the first says in a journal of this version.
+/// The line behind the first one, in a journal of this version, whose text this is.
 pub fn line_of(version: Version, line: &str) -> Option<JournalLine<'_>>
     ensures { Reads (line_text version) (IsServedLine version) line.now result }
 {
@@ -46,7 +46,7 @@ pub fn line_of(version: Version, line: &str) -> Option<JournalLine<'_>>
     }
 }
 
-// What a line behind the first says in a journal of the version.
+// The line behind the first one, in a journal of the version of `V`, whose text this is.
 fn line_in<V: Edition>(line: &str) -> Option<JournalLine<'_>>
     ensures { Reads (line_text V.version) (IsServedLine V.version) line.now result }
 {
@@ -63,7 +63,7 @@ fn line_in<V: Edition>(line: &str) -> Option<JournalLine<'_>>
     }
 }
 
-// `entry POS EVENT`, of which this stands behind the word.
+// The line `entry POS EVENT` whose text behind the word this is.
 fn entry_line<V: Edition>(text: &str) -> Option<JournalLine<'_>>
     ensures { Reads (line_text V.version) (IsServedLine V.version) (codes "entry " ++ text.now) result }
 {

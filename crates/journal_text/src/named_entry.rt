@@ -1,4 +1,4 @@
-//! Entries with the names that their lines give them.
+//! Entries whose events have their names in them.
 use crate::named_event::NamedEvent;
 use messages::items::Items;
 use messages::message::Message;

@@ -1,4 +1,6 @@
 //! Events with the names that their entries give them.
+//!
+//! Each function here that can fail errs with `AllocError`, where a request for memory was refused.
 ghost use Rattle.std.specs.Prelude.{◌≡◌, IfOk};
 ghost use Rattle.journal_text.specs.Events as named;
 
@@ -13,33 +15,30 @@ use std::alloc::{AllocError, Global};
 /// An event with the incarnation, the epoch or the call that its entry names.
 #[derive(Drop)]
 pub enum NamedEvent<'a> {
-    /// A process makes a call, which takes this name.
+    /// A process makes a call, which gets this name.
     Call { call: CallId, pid: u16, op: Op },
-    /// A message comes to its addressee.
+    /// A message is delivered to its addressee.
     Deliver(WrittenMessage<'a>),
     /// The wait of a process is interrupted.
     Interrupt { host: Host, pid: u16 },
-    /// The open call of a process is tried again.
+    /// A node tries the open call of a process again.
     Retry { host: Host, pid: u16 },
-    /// The token server of a file sends again what has no answer.
+    /// The token server of a file sends again each message that has no answer yet.
     Resend { file: u16 },
     /// The node is declared failed in this incarnation.
     Declare { host: Host },
     /// The node begins again in this incarnation.
     Restart { host: Host },
-    /// The token server of a file learns that this incarnation of a node was declared.
+    /// The token server of a file learns that this incarnation of a node was declared failed.
     Learn { file: u16, host: Host },
     /// The token server of a file is declared failed in this epoch.
     FailServer { file: u16, epoch: u16 },
-    /// The token server of a file is rebuilt, with this epoch.
+    /// The token server of a file is rebuilt in this epoch.
     StartServer { file: u16, epoch: u16 },
 }
 
 impl NamedEvent<'_> {
-    /// The event without those names.
-    ///
-    /// # Errors
-    /// `AllocError` where a request for memory was refused.
+    /// The event without the names in it.
     pub fn event(self, alloc: Global) -> Result<Event, AllocError>
         ensures { IfOk result (λ event. event ≡ named.event_of self.entry) }
     {
@@ -73,7 +72,7 @@ impl NamedEvent<'_> {
         })
     }
 
-    /// The incarnation, of a server the epoch, that the event's entry names, 0 for none.
+    /// The incarnation, or the epoch of a server, that the event's entry names; 0 for none.
     pub fn incarnation(&self) -> u16
         ensures { result ≡ named.incarnation_of self.now }
     {
@@ -87,7 +86,7 @@ impl NamedEvent<'_> {
         }
     }
 
-    /// The call that the event's entry names.
+    /// The call that the event's entry names, if it names one.
     pub fn call(&self) -> Option<CallId>
         ensures { result ≡ named.call_of self.now }
     {

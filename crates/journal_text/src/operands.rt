@@ -1,17 +1,17 @@
-//! The fields of lines of journals.
+//! The operands of lines of journals, as types. N.I is a node in an incarnation.
 use crate::replies::ReplyText;
 use lockscript::operations::Operation;
 use message_text::names::{CallName, HostName};
 use message_text::numbers::{FileField, PidField};
 
-/// `CALL PID OP`.
+/// The operands of `call`: `CALL PID OP`.
 pub(crate) type CallFields = (CallName, (PidField, Operation));
 
-/// `N.I PID`.
+/// The operands of `interrupt` and `retry`: `N.I PID`.
 pub(crate) type ProcessFields = (HostName, PidField);
 
-/// `F N.I`.
+/// The operands of `learn`: `F N.I`.
 pub(crate) type LearnFields = (FileField, HostName);
 
-/// `CALL REPLY`.
+/// The operands of `reply`: `CALL REPLY`.
 pub(crate) type AnswerFields = (CallName, ReplyText);

@@ -1,24 +1,25 @@
-//! Places in journals, between two lines behind the first.
+//! Places in journals, between two lines behind the first one.
 ghost use Rattle.std.specs.Prelude.{◌≡◌, ◌↔◌, IsTrue};
 ghost use Rattle.journal_text.specs.declared.place.Phase.TheVariants as phase;
 ghost use Rattle.journal_text.specs.Places.{after_end, after_entry, next_place, place, start};
 
 use crate::lines::JournalLine;
 
-/// What stands before a place.
+/// What stands just before a place.
 #[derive(Clone, Copy)]
 pub enum Phase {
-    /// No entry.
+    /// No entry stands before the place.
     Empty,
-    /// The line of an event.
+    /// The first line of an entry, with its event, stands before the place.
     Begun,
-    /// A reply or a message.
+    /// A reply or a message of an entry stands before the place.
     Sending,
-    /// The last line.
+    /// The last line stands before the place.
     Ended,
 }
 
-/// How many entries began before a place, and what stands before it.
+/// A place in a journal: the number of entries that begin before it, and what stands just before
+/// it.
 #[derive(Clone, Copy)]
 pub struct Place {
     pub count: u32,
@@ -26,7 +27,7 @@ pub struct Place {
 }
 
 impl Place {
-    /// Behind the first line.
+    /// The place behind the first line.
     pub(crate) fn start() -> Place
         ensures { result ≡ start }
     {
@@ -36,7 +37,7 @@ impl Place {
         }
     }
 
-    /// Whether the last line stands before it.
+    /// Whether the last line stands before the place.
     pub(crate) fn is_end(self) -> bool
         ensures { IsTrue result ↔ (self.phase ≡ phase.Ended) }
     {
@@ -61,7 +62,7 @@ impl Place {
         }
     }
 
-    // The place behind the first line of an entry.
+    // The place behind the first line of an entry at this position, if that may stand here.
     fn behind_entry(self, position: u32) -> Option<Place>
         ensures { result ≡ after_entry self.count self.phase position }
     {
@@ -84,7 +85,7 @@ impl Place {
         }
     }
 
-    // The place behind the last line.
+    // The place behind the last line, if that may stand here and has the right number of entries.
     fn behind_end(self, told: u32) -> Option<Place>
         ensures { result ≡ after_end self.count self.phase told }
     {

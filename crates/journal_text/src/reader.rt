@@ -1,4 +1,4 @@
-//! Reading a journal line by line.
+//! Reads a journal line by line.
 ghost use Rattle.std.specs.Prelude.{◌≡◌, ◌+◌, ◌<◌, ◌^◌, [], true, false, length, IfErr, IfOk, MatchOption};
 ghost use Rattle.messages.specs.Shapes.{IsShape};
 ghost use Rattle.texts.specs.LineFeeds.{line_feeds, BeginsWithLine};
@@ -17,7 +17,7 @@ use lockscript::lines::split_line;
 use messages::shape::Shape;
 use messages::version::Version;
 
-/// What is left of a journal, how many of its lines were read, and the place behind them.
+/// The rest of a journal, the number of its lines that were read, and the place behind these lines.
 #[derive(Drop)]
 pub(crate) struct Reader<'a> {
     rest: &'a str,
@@ -27,7 +27,7 @@ pub(crate) struct Reader<'a> {
 }
 
 impl<'a> Reader<'a> {
-    /// Before the first line.
+    /// The reader before the first line.
     pub(crate) fn new(text: &'a str) -> Reader<'a>
         ensures rest { result.rest.now ≡ text.entry.now }
         ensures place { result.place ≡ start }
@@ -39,10 +39,10 @@ impl<'a> Reader<'a> {
         }
     }
 
-    /// The shape that the first line names.
+    /// Reads the first line, and gives the shape that it names.
     ///
     /// # Errors
-    /// `BadLine` with 1 where it names none.
+    /// `BadLine` with 1, if the first line names no shape.
     pub(crate) fn first_line(&mut self) -> Result<Shape, ParseError>
         ensures begins { IfOk result (λ shape. BeginsWithLine self.old.rest.now (head_text shape) self.new.rest.now × (self.new.taken ≡ 1) × IsShape shape) }
         ensures place { self.new.place ≡ self.old.place }
@@ -55,7 +55,7 @@ impl<'a> Reader<'a> {
         Ok(shape)
     }
 
-    /// How many entries were read.
+    /// The number of entries that began so far.
     pub(crate) fn count(&self) -> u32
         ensures { result ≡ self.now.place.count }
     {
@@ -65,7 +65,8 @@ impl<'a> Reader<'a> {
     /// The next line of a journal of this version, or `None` behind the last one.
     ///
     /// # Errors
-    /// `BadLine` with its number where it is missing, has no line feed or may not stand there.
+    /// `BadLine` with the number of the next line, if that is missing, has no line feed or may not
+    /// stand there.
     pub(crate) fn next_line(
         &mut self,
         version: Version,
@@ -93,10 +94,10 @@ impl<'a> Reader<'a> {
         }
     }
 
-    /// Passes over the next line; `false` behind the last one.
+    /// Passes over the next line; the result is whether there was one.
     ///
     /// # Errors
-    /// As `next_line`.
+    /// `BadLine`, as for `next_line`.
     pub(crate) fn pass_line(&mut self, version: Version) -> Result<bool, ParseError>
         ensures passed { IfOk result (λ more. more ≡ true → (line : Line) × StandsNext version self.old.place self.old.rest.now line self.new.place self.new.rest.now × (self.new.taken ≡ self.old.taken + 1)) }
         ensures ended { IfOk result (λ more. more ≡ false → (self.new.rest.now ≡ []) × (self.new.place.phase ≡ phase.Ended) × (self.new.rest.now ≡ self.old.rest.now) × (self.new.place ≡ self.old.place)) }

@@ -1,4 +1,4 @@
-//! Replies and their texts.
+//! The replies in journals, and their texts.
 ghost use Rattle.texts.specs.Reads.{Reads};
 ghost use Rattle.lockscript.specs.Texts.{reply_text};
 ghost use Rattle.journal_text.specs.Served.{IsServedReply};
@@ -10,7 +10,7 @@ use model::reply::Reply;
 use std::alloc::AllocError;
 use texts::text::{Text, split_field};
 
-/// The reply that the text writes.
+/// The reply whose text this is, if there is one.
 pub fn reply_of(text: &str) -> Option<Reply>
     ensures { Reads reply_text IsServedReply text.now result }
 {
@@ -37,7 +37,7 @@ pub fn reply_of(text: &str) -> Option<Reply>
     }
 }
 
-/// A reply.
+/// A reply, as a field of a line.
 pub(crate) struct ReplyText;
 
 impl Text for ReplyText {

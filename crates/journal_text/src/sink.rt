@@ -1,4 +1,6 @@
-//! Where the entries go that are read of a journal.
+//! The receivers of the entries that are read of a journal.
+//!
+//! Each function here that can fail errs with `AllocError`, where a request for memory was refused.
 ghost use Rattle.std.specs.Prelude.{◌≡◌, ◌++◌, ◌∷◌, [], List, ⊤, OnOk};
 ghost use Rattle.messages.specs.Entries.{EntryFields};
 ghost use Rattle.messages.specs.Shapes.{ShapeFields};
@@ -6,20 +8,18 @@ ghost use Rattle.messages.specs.Shapes.{ShapeFields};
 use messages::entry::Entry;
 use std::alloc::{AllocError, Global};
 
-/// What takes the entries of a journal, one after the other.
+/// A receiver of the entries of a journal, which takes them in order.
 pub trait Sink {
-    // These are the entries that it took, in order, of a journal of this shape, where that is known.
+    // The receiver has taken these entries, in order, of a journal of this shape, where that is
+    // known.
     ghost took: { Self → ShapeFields → List EntryFields → Type 0 } = { λ _ _ _. ⊤ };
 
     /// Takes the next entry.
-    ///
-    /// # Errors
-    /// `AllocError` where a request for memory was refused.
     fn take(&mut self, alloc: Global, entry: Entry) -> Result<(), AllocError>
         ensures { OnOk result ((s : ShapeFields) (es : List EntryFields) → took self.old s es → took self.new s (es ++ entry ∷ [])) };
 }
 
-/// A vector keeps them.
+/// A vector keeps the entries.
 impl Sink for Vec<Entry> {
     ghost took = { λ v s es. v.items ≡ es };
 

@@ -1,4 +1,6 @@
-//! Texts of events.
+//! Writes the events of journals as texts.
+//!
+//! Each function here that can fail errs with `AllocError`, where a request for memory was refused.
 ghost use Rattle.std.specs.Prelude.{◌≡◌, ◌++◌, string_bytes, OnOk};
 ghost use Rattle.journal_text.specs.Texts.{event_text};
 
@@ -10,11 +12,8 @@ use model::call::CallId;
 use std::alloc::AllocError;
 use std::fmt::Write;
 
-/// Writes an event as journals of this version do, with the incarnation and the call that its entry
-/// names.
-///
-/// # Errors
-/// `AllocError` where a request for memory was refused.
+/// Adds the text of an event as journals of this version have it, with the incarnation and the call
+/// that its entry names.
 pub fn push_event(
     out: &mut String,
     version: Version,

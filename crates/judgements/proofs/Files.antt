@@ -1,4 +1,4 @@
--- Lemmas on the files of a history that are looked at one after the other.
+-- The files of a history, judged one after the other.
 use Rattle.std.proofs.Common.{◌≡◌, ℕ, ◌+◌, ◌<◌, ◌≤◌, List, length, take, get_or, inl, inr, refl, sym, subst, arith, ◌∙◌}
 use Rattle.std.specs.Prelude.{◌⊎◌, ⊤, All, Any}
 use Rattle.std.proofs.lemmas.List.{take_all}
@@ -11,7 +11,7 @@ use Rattle.judgements.specs.declared.outcome.Outcome.{Outcome}
 use Rattle.judgements.specs.declared.outcome.Outcome.TheVariants as outcome
 use Rattle.judgements.specs.Judgements.{HasOneClock, IsContradicted, IsExplained, IsJudged, IsOutcome, outcome_of}
 
--- so many files were looked at: of a history with one clock each is explained, where that is said, and one isn't, where that is
+-- the outcome of the first files is true of them, where the history has one clock: each is explained, or one isn't
 pub record SoFar (history : History) (said : Outcome) (count : ℕ) : Type 0 where
   pub yes : said ≡ outcome.Yes → HasOneClock history → All IsExplained (take count history.files.items)
   pub no : said ≡ outcome.No → HasOneClock history → Any IsContradicted history.files.items
@@ -29,7 +29,7 @@ contradicted-file file (Unknown call) word is = absurd (cc)
 pub none-yet : (history : History) → SoFar history outcome.Yes 0
 none-yet history = record { yes = λ word clock. All-nil IsExplained; no = λ word clock. absurd (cc) }
 
--- one file more
+-- one more file is judged
 pub so-far-more : (history : History) (was now said : Outcome) (count : ℕ) (file : FileCalls) (found : Judged) → count < length history.files.items → file ≡ get_or history.files.items count file
     → (HasOneClock history → IsJudged file found) → now ≡ outcome_of found → (said ≡ outcome.Yes → (was ≡ outcome.Yes) × (now ≡ outcome.Yes)) → (said ≡ outcome.No → (was ≡ outcome.No) ⊎ (now ≡ outcome.No))
     → SoFar history was count → SoFar history said (count + 1)
@@ -43,7 +43,7 @@ so-far-more history was now said count file found lt at judged is explained cont
   ];
 }
 
--- all of them
+-- all files are judged
 pub so-far-all : (history : History) (said : Outcome) (count : ℕ) → length history.files.items ≤ count → SoFar history said count → IsOutcome history said
 so-far-all history outcome.Yes count whole far = λ clock. subst (All IsExplained) (take_all count history.files.items whole) (far.yes refl clock)
 so-far-all history outcome.Unknown count whole far = tt

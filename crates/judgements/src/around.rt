@@ -1,8 +1,9 @@
-//! The calls around one of them, in time.
+//! The calls of a history around one of them, in time. A function here that gives a `Result` answers `AllocError`
+//! where a request for memory was refused.
 use crate::line_call::LineCall;
 use std::alloc::{AllocError, Global};
 
-// How many calls there are at most that end before, and how many that begin or end behind.
+// The greatest number of calls that end before the one, and of those that begin or end behind it.
 const BESIDE: usize = 10;
 
 // A time, and the index of a call.
@@ -12,11 +13,8 @@ struct Event {
     call: usize,
 }
 
-/// The call with this index and those around it, by their begins: the ten others that end last by the time it ends, and the ten that
-/// begin or end next behind that. What began before and never ends comes last of these.
-///
-/// # Errors
-/// `AllocError`.
+/// The call with this index and those around it, by their begins: the ten others that end last by the time it ends,
+/// and the ten that begin or end next behind that. Of these ten, calls that began before and never end come last.
 pub(crate) fn around(
     alloc: Global,
     calls: &[LineCall],
@@ -39,12 +37,12 @@ pub(crate) fn around(
     by_begin(alloc, calls, &indexes)
 }
 
-// When the call ends, or behind all times.
+// The end of the call, or a time behind all others.
 fn end_of(near: &LineCall) -> u64 {
     near.call.end.unwrap_or(u64::MAX)
 }
 
-// The ends of the other calls that end by this time, in order.
+// The ends of the other calls that end at this time or earlier, in order.
 fn ended_by(
     alloc: Global,
     calls: &[LineCall],
@@ -64,7 +62,7 @@ fn ended_by(
     Ok(events)
 }
 
-// Of the other calls that end behind this time the begins, or where they have begun by then the ends, in order.
+// The begins of the other calls that end behind this time, or, where they have begun by then, their ends, in order.
 fn next_behind(
     alloc: Global,
     calls: &[LineCall],
@@ -89,7 +87,7 @@ fn next_behind(
     Ok(events)
 }
 
-// The calls with these indexes, by their begins, and those that begin at the same time as they stand.
+// The calls with these indexes, by their begins; those that begin at the same time keep their order.
 fn by_begin(
     alloc: Global,
     calls: &[LineCall],

@@ -1,4 +1,5 @@
-//! Bars of calls.
+//! The bars of calls in a picture. A function here that gives a `Result` answers `AllocError` where a request for
+//! memory was refused.
 use crate::call_words::{asked, push_answer};
 use crate::drawing::{Bar, Drawing, Look, Row, Words};
 use crate::line_call::LineCall;
@@ -7,11 +8,8 @@ use client_history::act::Act;
 use model::owner::Owner;
 use std::alloc::{AllocError, Global};
 
-/// Adds a bar of each of these calls that the owner of this name makes, in rows of its own. The calls stand by their begins, and lines of
-/// the text write them; the one in line `misfit` fits nowhere.
-///
-/// # Errors
-/// `AllocError`.
+/// Adds a bar for each of these calls that the owner of this name makes, in rows of the owner's own. The calls stand
+/// by their begins, and are in lines of the text. The call in line `misfit` fits nowhere.
 pub(crate) fn add_owner(
     alloc: Global,
     drawing: &mut Drawing,
@@ -33,7 +31,7 @@ pub(crate) fn add_owner(
     Ok(())
 }
 
-// Adds the bar of a call to the row with this index, which is free from its begin on.
+// Adds the bar of a call to the row with this index, which is free from the call's begin on.
 fn add_bar(
     drawing: &mut Drawing,
     row: usize,
@@ -63,7 +61,7 @@ fn add_bar(
     Ok(())
 }
 
-// How a call looks, where the one in line `misfit` fits nowhere.
+// The look of a call, where the one in line `misfit` fits nowhere.
 fn look_of(near: &LineCall, misfit: u64) -> Look {
     if near.line == misfit {
         return Look::Misfit;
@@ -77,7 +75,7 @@ fn look_of(near: &LineCall, misfit: u64) -> Look {
     }
 }
 
-// The words of a call, which a line of the text writes.
+// The words of a call, which is in a line of the text.
 fn words_of(alloc: Global, text: &str, near: &LineCall) -> Result<Words, AllocError> {
     let number = near.line;
     let line = line_of(text, number);
@@ -90,7 +88,8 @@ fn words_of(alloc: Global, text: &str, near: &LineCall) -> Result<Words, AllocEr
     })
 }
 
-// The first of the rows from the one with index `first` on that is free from the place on; where none is, a new one.
+// The index of the first row, from the one with index `first` on, that is free from the place on; of a new row where
+// none is.
 fn free_row(
     alloc: Global,
     rows: &mut Vec<Row>,

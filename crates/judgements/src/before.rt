@@ -1,4 +1,5 @@
-//! What there may be before a call that fits nowhere.
+//! The tables that there may be before a call that fits nowhere. A function here that gives a `Result` answers
+//! `AllocError` where a request for memory was refused.
 use client_history::act::Act;
 use client_history::client_call::ClientCall;
 use history_text::file_calls::FileCalls;
@@ -7,11 +8,11 @@ use model::lock_info::LockInfo;
 use model::owner::Owner;
 use std::alloc::{AllocError, Global};
 
-// The file whose locks a table has.
+// The file number for all locks of a table here.
 const FILE: u16 = 1;
 
-/// What there may be before a call that fits nowhere: the locks of a table, the one of them that is in the call's way, if one
-/// is, and the lines of the calls that are open, which may or may not be done there.
+/// A table that there may be before a call that fits nowhere: its locks, the one of them that blocks the call, if one
+/// does, and the lines of the calls that are open there, which may be done or not.
 #[derive(Drop)]
 pub struct Before {
     pub locks: Vec<LockInfo>,
@@ -19,10 +20,7 @@ pub struct Before {
     pub open: Vec<u64>,
 }
 
-/// What there may be before the call, behind each of these ways, which are orders of calls by their indexes.
-///
-/// # Errors
-/// `AllocError`.
+/// The table before the call behind each of these ways, which are orders of calls by their indexes.
 pub(crate) fn tables_before(
     alloc: Global,
     file: &FileCalls,
@@ -38,7 +36,7 @@ pub(crate) fn tables_before(
     Ok(tables)
 }
 
-// What there is behind one way.
+// The table before the call behind one way.
 fn table_before(
     alloc: Global,
     file: &FileCalls,
@@ -54,7 +52,7 @@ fn table_before(
     })
 }
 
-// The table to which calls lead in this order.
+// The table that the calls lead to in this order.
 fn table_behind(
     alloc: Global,
     calls: &[ClientCall],
@@ -69,7 +67,7 @@ fn table_behind(
     Ok(table)
 }
 
-// Does to the table what the call did.
+// Makes the act of the call in the table.
 fn follow(table: &mut LockTable, call: &ClientCall) -> Result<(), AllocError> {
     let done = match call.act {
         Act::Locks { mode, span } => table.set(call.owner, FILE, span, mode),
@@ -83,7 +81,7 @@ fn follow(table: &mut LockTable, call: &ClientCall) -> Result<(), AllocError> {
     done.map_err(|_| AllocError)
 }
 
-// The lock that is in the way of the bytes that the call names.
+// The lock that blocks the bytes that the call names, if one does.
 fn in_way(table: &LockTable, call: &ClientCall) -> Option<LockInfo> {
     match call.act {
         Act::Locks { mode, span } | Act::IsFree { mode, span } | Act::IsDenied { mode, span, .. } =>
@@ -92,8 +90,8 @@ fn in_way(table: &LockTable, call: &ClientCall) -> Option<LockInfo> {
     }
 }
 
-// The lines of the calls that have begun by the end of the call and that the way leaves out, but for it and for those whose
-// owner's exit the way has.
+// The lines of the open calls: those that begin no later than this one ends and that the way leaves out, without this
+// call, and without calls of owners whose exit the way has.
 fn open_lines(
     alloc: Global,
     file: &FileCalls,
@@ -115,7 +113,7 @@ fn open_lines(
     Ok(open)
 }
 
-// Of so many calls, whether the way has each.
+// The marks of that many calls, by their indexes: whether the way has each.
 fn taken_by(alloc: Global, count: usize, way: &[usize]) -> Result<Vec<bool>, AllocError> {
     let mut taken = vec![in alloc; false; count]?;
     for index in way {
@@ -126,7 +124,7 @@ fn taken_by(alloc: Global, count: usize, way: &[usize]) -> Result<Vec<bool>, All
     Ok(taken)
 }
 
-// The owners whose exit the way has.
+// The owners whose exits the way has.
 fn exited(alloc: Global, calls: &[ClientCall], way: &[usize]) -> Result<Vec<Owner>, AllocError> {
     let mut gone = Vec::new(alloc);
     for index in way {

@@ -1,4 +1,4 @@
-//! What is drawn below the calls.
+//! The drawing of the tables below the calls of a picture.
 ghost use Rattle.std.specs.Prelude.{◌<◌, ◌^◌};
 
 use crate::drawing::{Drawing, DrawnSpan, SpanKind, Track};
@@ -12,11 +12,11 @@ use svg::elements::{push_box, push_label_start, push_line};
 use svg::escapes::{push_escaped_label, push_title};
 use svg::point::Point;
 
-/// Draws who has which bytes in each table. Each byte at which a lock begins, or that stands behind the last one of a lock, has a
-/// place; all places are equally far apart.
+/// Draws for each table which owner has which bytes. Each byte at which a lock begins, or that is the first behind a
+/// lock, has a place; all places are equally far apart.
 ///
 /// # Errors
-/// `AllocError`.
+/// `AllocError` where a request for memory was refused.
 pub(crate) fn push_tracks(
     out: &mut String,
     alloc: Global,
@@ -44,7 +44,7 @@ fn push_heading(out: &mut String, top: u128, right: u128, words: &str) -> Result
     out.push_str("\n")
 }
 
-// Draws what an owner has, or what the call asks for.
+// Draws the bytes that an owner has, or that the call asks for.
 fn push_spans(
     out: &mut String,
     alloc: Global,
@@ -62,7 +62,7 @@ fn push_spans(
     Ok(())
 }
 
-// Draws bytes.
+// Draws one run of bytes.
 fn push_span(out: &mut String, alloc: Global, top: u128, span: &DrawnSpan) -> Result<(), AllocError>
     requires { top < 2 ^ 73 }
 {
@@ -89,7 +89,7 @@ fn push_span(out: &mut String, alloc: Global, top: u128, span: &DrawnSpan) -> Re
     out.push_str("</g>\n")
 }
 
-// The class of bytes.
+// The class of the bytes.
 fn class_of(kind: SpanKind) -> &'static str {
     match kind {
         SpanKind::Asked => "asked",
@@ -99,7 +99,7 @@ fn class_of(kind: SpanKind) -> &'static str {
     }
 }
 
-// Draws the bytes, below what begins and ends at them.
+// Draws the numbers of the bytes, below the locks that begin and end at them.
 fn push_scale(out: &mut String, top: u128, scale: &Scale) -> Result<(), AllocError>
     requires { top < 2 ^ 73 }
 {

@@ -1,4 +1,5 @@
-//! Words for calls in pictures.
+//! The words for calls in pictures. A function here that gives a `Result` answers `AllocError` where a request for
+//! memory was refused.
 use client_history::act::Act;
 use client_history::client_call::ClientCall;
 use client_history::told_lock::ToldLock;
@@ -8,10 +9,7 @@ use std::alloc::{AllocError, Global};
 use std::fmt::Write;
 use texts::words::Named;
 
-/// What the call in this line of a history asks for: its operation, the mode and the bytes, as `set write 0-99`.
-///
-/// # Errors
-/// `AllocError`.
+/// The request of the call in this line of a history: its operation, the mode and the bytes, as `set write 0-99`.
 pub(crate) fn asked(alloc: Global, line: &str, call: &ClientCall) -> Result<String, AllocError> {
     let mut out = String::new(alloc);
     out.push_str(operation(line))?;
@@ -30,7 +28,7 @@ pub(crate) fn asked(alloc: Global, line: &str, call: &ClientCall) -> Result<Stri
     Ok(out)
 }
 
-/// The bytes that a call names, if it does.
+/// The bytes that a call names, if it names some.
 pub(crate) fn span_of(act: &Act) -> Option<Span> {
     match act {
         Act::Locks { span, .. }
@@ -46,10 +44,7 @@ fn operation(line: &str) -> &str {
     line.split(' ').nth(4).unwrap_or("")
 }
 
-/// Adds what the call in this line of a history was answered, as `blocked write 0-99 A`, or that it has no reply.
-///
-/// # Errors
-/// `AllocError`.
+/// Adds the answer of the call in this line of a history, as `blocked write 0-99 A`, or that it has no reply.
 pub(crate) fn push_answer(
     out: &mut String,
     line: &str,
@@ -69,7 +64,7 @@ pub(crate) fn push_answer(
     }
 }
 
-// Adds the reply, with the lock that it tells, if it does.
+// Adds the reply, with the lock that it names, if it names one.
 fn push_denial(out: &mut String, reply: &str, told: &ToldLock) -> Result<(), AllocError> {
     match (
         told.mode,
@@ -87,16 +82,13 @@ fn push_denial(out: &mut String, reply: &str, told: &ToldLock) -> Result<(), All
 }
 
 /// Adds a mode and the bytes that are held in it, as `write 0-99`.
-///
-/// # Errors
-/// `AllocError`.
 pub(crate) fn push_region(out: &mut String, mode: Mode, span: Span) -> Result<(), AllocError> {
     out.push_str(mode.word())?;
     out.push_str(" ")?;
     push_bytes(out, span)
 }
 
-// Adds the first byte and the last one, of which the greatest is `end`.
+// Adds the first byte and the last one, as `0-99`; the greatest one as `end`.
 fn push_bytes(out: &mut String, span: Span) -> Result<(), AllocError> {
     let (lo, hi) = (span.lo, span.hi);
     if hi == GREATEST {

@@ -1,4 +1,4 @@
-//! Times by clocks that are off.
+//! The times of calls by clocks that may be off.
 use client_history::client_call::ClientCall;
 use history_text::file_calls::FileCalls;
 use history_text::history::History;
@@ -7,11 +7,11 @@ use model::owner::Owner;
 use std::alloc::{AllocError, Global};
 use texts::text::split_at_first;
 
-/// The calls of a file of the history, each in all the time in which it may have been made: its own, widened at both ends by as
-/// much as the clock of its owner's machine may be off.
+/// The calls of a file of the history, each in all the time in which it may have been made: its own time, widened at
+/// both ends by as much as the clock of its owner's machine may be off.
 ///
 /// # Errors
-/// `AllocError`.
+/// `AllocError` where a request for memory was refused.
 pub(crate) fn widened(
     alloc: Global,
     history: &History,
@@ -30,7 +30,7 @@ pub(crate) fn widened(
     })
 }
 
-// The call in the time that is wider by so much at both ends.
+// The call with its time widened by that much at both ends.
 fn wider(call: &ClientCall, skew: u64) -> ClientCall {
     let end = match call.end {
         Some(end) => Some(end.saturating_add(skew)),
@@ -43,7 +43,7 @@ fn wider(call: &ClientCall, skew: u64) -> ClientCall {
     }
 }
 
-// By how much the clocks of the machines may be off, by their names.
+// How far the clock of each machine may be off, by the machine's name.
 fn skews_of<'a>(alloc: Global, history: &'a History) -> Result<IndexMap<&'a str, u64>, AllocError> {
     let mut skews = IndexMap::new(alloc);
     for machine in &history.machines {
@@ -52,7 +52,7 @@ fn skews_of<'a>(alloc: Global, history: &'a History) -> Result<IndexMap<&'a str,
     Ok(skews)
 }
 
-// By how much the clock of the owner's machine may be off.
+// How far the clock of the owner's machine may be off.
 fn skew_of(history: &History, skews: &IndexMap<&str, u64>, owner: &Owner) -> u64 {
     let Some(name) = history.name_of(owner) else {
         return 0;

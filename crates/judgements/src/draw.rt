@@ -1,4 +1,5 @@
-//! Pictures of calls that fit nowhere.
+//! The picture of a call that fits nowhere. A function here that gives a `Result` answers `AllocError` where a
+//! request for memory was refused.
 use crate::bars::add_owner;
 use crate::call_words::{asked, span_of};
 use crate::clocks::widened;
@@ -13,11 +14,9 @@ use crate::tracks::{Request, add_table};
 use history_text::history::History;
 use std::alloc::{AllocError, Global};
 
-/// A picture, as SVG, of the first call of those found in the file with this index that fits nowhere, if one does, in a history that
-/// the text writes: that call with ten before and ten behind it, and who has which bytes in each table that there may be before it.
-///
-/// # Errors
-/// `AllocError`.
+/// A picture, as SVG, of the first call in the file with this index that was found to fit nowhere, if there is one.
+/// The text writes the history. The picture shows that call with ten calls before it and ten behind it, and in each
+/// table that there may be before it which owner has which bytes.
 pub(crate) fn drawn(
     alloc: Global,
     history: &History,
@@ -37,7 +36,8 @@ pub(crate) fn drawn(
     }
 }
 
-// What the picture of a call that fits nowhere shows. Where clocks may be off, calls have the times in which they may have been made.
+// The drawing of a call that fits nowhere. Where clocks may be off, calls have the times in which they may have been
+// made.
 fn drawing_of(
     alloc: Global,
     history: &History,
@@ -77,7 +77,7 @@ fn add_bars(
     Ok(())
 }
 
-// Adds the tables before the call that fits nowhere, which is one of these.
+// Adds the tables before the call that fits nowhere, which is one of these calls.
 fn add_tables(
     alloc: Global,
     drawing: &mut Drawing,

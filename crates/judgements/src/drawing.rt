@@ -1,9 +1,9 @@
-//! What a picture of a call that fits nowhere shows.
+//! The drawing of a call that fits nowhere: what its picture shows.
 use crate::scale::Scale;
 use std::alloc::{AllocError, Global};
 
-/// A picture of a call that fits nowhere: a heading; the times at which the calls around it begin and end; rows of their owners,
-/// with bars; and below, of each table that there may be before the call, who has which bytes.
+/// A drawing of a call that fits nowhere: a heading; the times at which the calls around it begin and end; rows of
+/// their owners, with bars; and below, for each table that there may be before the call, which owner has which bytes.
 #[derive(Drop)]
 pub(crate) struct Drawing {
     pub(crate) heading: String,
@@ -20,8 +20,8 @@ pub(crate) struct Row {
     pub(crate) behind: usize,
 }
 
-/// A call: its row by its index, from which place of the times on it goes up to which, with both; how it looks; and its words. Where it has no end it
-/// goes to the right border.
+/// The bar of a call: the index of its row, the first and the last place of the times that it covers, its look, and
+/// its words. A bar without an end goes past the right border.
 #[derive(Drop)]
 pub(crate) struct Bar {
     pub(crate) row: usize,
@@ -39,16 +39,16 @@ pub(crate) struct Words {
     pub(crate) second: String,
 }
 
-/// How a call looks.
+/// The look of a call.
 #[derive(Clone, Copy)]
 pub(crate) enum Look {
-    /// It fits nowhere.
+    /// The call fits nowhere.
     Misfit,
-    /// It has no reply.
+    /// The call has no reply.
     Open,
-    /// A lock was in its way.
+    /// A lock blocked the call.
     Denied,
-    /// It is done, or free.
+    /// The call is done, or found its bytes free.
     Done,
 }
 
@@ -57,13 +57,13 @@ pub(crate) enum Look {
 pub(crate) enum Track {
     /// The heading of a table.
     Table { words: String },
-    /// The bytes at which what stands in the lines below begins and ends.
+    /// The bytes at which the locks in the lines below begin and end.
     Bytes { scale: Scale },
-    /// What an owner has, or what the call asks for.
+    /// The bytes that an owner has, or that the call asks for.
     Spans { name: String, spans: Vec<DrawnSpan> },
 }
 
-/// Bytes of a table: from which place of its bytes on they go, up to before which; what they are; and their words.
+/// A run of bytes of a table: the place of its first byte, the place behind its last one, what it is, and its words.
 #[derive(Drop)]
 pub(crate) struct DrawnSpan {
     pub(crate) from: usize,
@@ -73,21 +73,21 @@ pub(crate) struct DrawnSpan {
     pub(crate) words: String,
 }
 
-/// What bytes of a table are.
+/// What a run of bytes of a table is.
 #[derive(Clone, Copy)]
 pub(crate) enum SpanKind {
-    /// Those that the call asks for.
+    /// The bytes that the call asks for.
     Asked,
-    /// A lock that is in the way.
+    /// A lock that blocks the call.
     InWay,
-    /// A read lock that is not.
+    /// A read lock that does not block the call.
     Read,
-    /// A write lock that is not.
+    /// A write lock that does not block the call.
     Write,
 }
 
 impl Drawing {
-    /// The heading, over nothing else.
+    /// The drawing with its heading and its times alone.
     pub(crate) fn new(alloc: Global, heading: String, times: Scale) -> Drawing {
         Drawing {
             heading,

@@ -1,17 +1,17 @@
-//! Why a text is not judged.
+//! The reasons why a text is not judged.
 ghost use Rattle.std.specs.Prelude.{◌≡◌};
 ghost use Rattle.judgements.specs.declared.error.JudgeError.TheVariants.{NoMemory};
 
 use std::alloc::AllocError;
 use thiserror::Error;
 
-/// Why a text is not judged.
+/// The reason why a text is not judged.
 #[derive(Debug, Drop, Error)]
 pub enum JudgeError {
     /// A request for memory was refused.
     #[error("no memory")]
     NoMemory,
-    /// It is no history, or the orders are none of the history: a line tells where that goes wrong.
+    /// The text is no history, or the other text writes no orders of it. The words say in which line, and why.
     #[error("{0}")]
     Bad(String),
 }

@@ -1,4 +1,5 @@
-//! The files of a history, judged one by one.
+//! The judgement of a history's files, one by one. A function here that gives a `Result` answers `AllocError` where a
+//! request for memory was refused.
 ghost use Rattle.std.specs.Prelude.{◌≡◌, IfOk};
 ghost use Rattle.judgements.specs.Judgements.{HasOneClock, IsJudged, IsOutcome};
 
@@ -13,10 +14,8 @@ use history_text::file_calls::FileCalls;
 use history_text::history::History;
 use std::alloc::{AllocError, Global};
 
-/// Judges each file of the history, which the text writes: what is said of all, and what is told of them.
-///
-/// # Errors
-/// `AllocError`.
+/// Judges each file of the history, which the text writes. Gives the outcome of all together, and adds what is to be
+/// printed of them.
 pub(crate) fn files_judged(
     alloc: Global,
     history: &History,
@@ -35,7 +34,7 @@ pub(crate) fn files_judged(
     Ok(outcome)
 }
 
-// What is found of the calls of a file, in all the time in which they may have been made.
+// Judges the calls of a file, each in all the time in which it may have been made.
 fn file_judged(
     alloc: Global,
     history: &History,
@@ -51,7 +50,7 @@ fn file_judged(
     judge_file(alloc, &wider, judging.steps, judging.go_on)
 }
 
-// Adds what was found of a file.
+// Adds what is to be printed of a file.
 fn push_found(
     alloc: Global,
     told: &mut Told,

@@ -1,15 +1,15 @@
-//! Labels that fit.
+//! Labels that are cut where they are too wide.
 use std::alloc::{AllocError, Global};
 use svg::escapes::push_escaped_label;
 use svg::point::Point;
 
-// How wide a character is, about.
+// The width of a character, about.
 const CHARACTER: u128 = 5;
 
-/// Writes a label of this class, of any text. Where it is wider than this, it is cut, with `…` at its end.
+/// Writes a label of this class, with any text. A text that is wider than this is cut, with `…` at its end.
 ///
 /// # Errors
-/// `AllocError`.
+/// `AllocError` where a request for memory was refused.
 pub(crate) fn push_fitting(
     out: &mut String,
     alloc: Global,

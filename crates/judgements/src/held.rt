@@ -1,4 +1,5 @@
-//! Locks that owners got.
+//! The locks that owners got, and the times in which they may be held. A function here that gives a `Result` answers
+//! `AllocError` where a request for memory was refused.
 use client_history::act::Act;
 use client_history::client_call::ClientCall;
 use indexmap::IndexMap;
@@ -7,9 +8,9 @@ use model::mode::Mode;
 use model::owner::Owner;
 use std::alloc::{AllocError, Global};
 
-/// A lock that an owner got by a set or a wait that is done, and the time in which it may be held: from the begin of that call to the
-/// end of the one that gives it up, or for ever. That is, of the calls of its owner that set, unlock or drop a byte of it, the
-/// next one by their begins.
+/// A lock that an owner got by a set or a wait that is done, and the time in which it may be held: from the begin of
+/// that call to the end of the call that gives it up, or for ever. The call that gives it up is the next one, by
+/// their begins, in which its owner sets, unlocks or drops a byte of it.
 #[derive(Clone, Copy)]
 pub(crate) struct Held {
     pub(crate) owner: Owner,
@@ -19,10 +20,7 @@ pub(crate) struct Held {
     pub(crate) until: u64,
 }
 
-/// The locks that owners got by these calls, in the order of the begins of these.
-///
-/// # Errors
-/// `AllocError`.
+/// The locks that owners got by these calls, by the begins of the calls.
 pub(crate) fn held_in(alloc: Global, calls: &[ClientCall]) -> Result<Vec<Held>, AllocError> {
     let mut held = Vec::new(alloc);
     let mut kept: IndexMap<Owner, Vec<usize>> = IndexMap::new(alloc);
@@ -41,10 +39,7 @@ pub(crate) fn held_in(alloc: Global, calls: &[ClientCall]) -> Result<Vec<Held>, 
     Ok(held)
 }
 
-/// The calls in the order of their begins; those that begin at one time as they stand.
-///
-/// # Errors
-/// `AllocError`.
+/// The calls by their begins; those that begin at one time keep their order.
 pub(crate) fn calls_by_begin(
     alloc: Global,
     calls: &[ClientCall],
@@ -57,12 +52,12 @@ pub(crate) fn calls_by_begin(
     Ok(sorted)
 }
 
-/// Whether the two have a byte in common.
+/// Whether the spans have a byte in common.
 pub(crate) fn meet(one: Span, other: Span) -> bool {
     one.lo <= other.hi && other.lo <= one.hi
 }
 
-// The bytes of which the call changes the locks of its owner, if it changes any.
+// The bytes on which the call changes the locks of its owner, if it changes any.
 fn changed_bytes(call: &ClientCall) -> Option<Span> {
     match call.act {
         Act::Locks { span, .. } | Act::Frees { span } => Some(span),
@@ -88,7 +83,7 @@ fn lock_of(call: &ClientCall) -> Option<Held> {
     }
 }
 
-// Those of these locks, by their indexes, that have none of the bytes. The others are given up by a call with that end.
+// The indexes of those locks that have none of the bytes. The others are given up by a call with that end.
 fn give_up(
     alloc: Global,
     held: &mut Vec<Held>,

@@ -1,4 +1,5 @@
-//! What is told of a history, as JSON.
+//! The judgement of a history as JSON. A function here that gives a `Result` answers `AllocError` where a request for
+//! memory was refused.
 use crate::before::Before;
 use crate::json_parts::{push_numbers, push_string};
 use crate::judged::{Judged, Misfit};
@@ -18,11 +19,8 @@ use std::alloc::{AllocError, Global};
 use std::fmt::Write;
 use texts::words::Named;
 
-/// Adds what was found of the calls of the file with this index, of a history that the text writes, with their order, if that
-/// is asked for.
-///
-/// # Errors
-/// `AllocError`.
+/// Adds what was found of the calls of the file with this index, of a history that the text writes, with their order,
+/// if that is asked for.
 pub(crate) fn push_found(
     alloc: Global,
     out: &mut String,
@@ -53,7 +51,7 @@ pub(crate) fn push_found(
     out.push_str("}")
 }
 
-// Adds up to which line an order was found, if that is known.
+// Adds the line up to which an order was found, if that is known.
 fn push_unknown(out: &mut String, line: Option<u64>) -> Result<(), AllocError> {
     match line {
         Some(line) => write!(out, ",\"explained_up_to\":{line}"),
@@ -83,7 +81,7 @@ fn push_order(
     out.push_str("]")
 }
 
-// Adds what names a call: a number where its line does, and else a string.
+// Adds the name of a call: a number where its line alone names it, else a string.
 fn push_mention(out: &mut String, mention: &Mention) -> Result<(), AllocError> {
     if mention.part.is_none() {
         return mention.push(out);
@@ -110,7 +108,7 @@ fn push_misfits(
     out.push_str("]")
 }
 
-// Adds a call that fits nowhere, and what there may be before it.
+// Adds a call that fits nowhere, and the tables that there may be before it.
 fn push_misfit(
     out: &mut String,
     history: &History,
@@ -130,7 +128,7 @@ fn push_misfit(
     out.push_str("]}")
 }
 
-// Adds the locks of a table, which of them is in the way, and the calls that are open there.
+// Adds the locks of a table, the one of them that blocks the call, and the calls that are open there.
 fn push_table(out: &mut String, history: &History, table: &Before) -> Result<(), AllocError> {
     out.push_str("{\"locks\":[")?;
     let mut comma = "";
@@ -161,19 +159,13 @@ fn push_lock(out: &mut String, history: &History, lock: &LockInfo) -> Result<(),
     out.push_str("}")
 }
 
-/// Adds the beginning of what is told of the history of a path.
-///
-/// # Errors
-/// `AllocError`.
+/// Adds the beginning of the judgement of the history at a path.
 pub(crate) fn push_head(out: &mut String, path: &str) -> Result<(), AllocError> {
     out.push_str("{\"history\":")?;
     push_string(out, path)
 }
 
-/// Adds what is said of a history, and what was found of its files.
-///
-/// # Errors
-/// `AllocError`.
+/// Adds the outcome of a history, and what was found of its files.
 pub(crate) fn push_outcome(
     out: &mut String,
     outcome: Outcome,
@@ -184,9 +176,6 @@ pub(crate) fn push_outcome(
 }
 
 /// Adds whether orders explain a history, or the first file whose order doesn't.
-///
-/// # Errors
-/// `AllocError`.
 pub(crate) fn push_ordered(
     out: &mut String,
     history: &History,
@@ -202,9 +191,6 @@ pub(crate) fn push_ordered(
 }
 
 /// Adds the rules that are allowed, if one is.
-///
-/// # Errors
-/// `AllocError`.
 pub(crate) fn push_allowed(out: &mut String, allowed: Allowed) -> Result<(), AllocError> {
     let mut front = ",\"allowed\":[";
     let mut end = "";
@@ -220,9 +206,6 @@ pub(crate) fn push_allowed(out: &mut String, allowed: Allowed) -> Result<(), All
 }
 
 /// Adds the counts.
-///
-/// # Errors
-/// `AllocError`.
 pub(crate) fn push_stats(out: &mut String, stats: &Stats<'_>) -> Result<(), AllocError> {
     let Counts {
         calls,
@@ -243,7 +226,7 @@ pub(crate) fn push_stats(out: &mut String, stats: &Stats<'_>) -> Result<(), Allo
     out.push_str("]}")
 }
 
-// Adds how many locks of a file were got, and of how many another owner saw something.
+// Adds the number of locks of a file that were got, and the number of them that another owner observed.
 fn push_observed(out: &mut String, file: &FileStats<'_>) -> Result<(), AllocError> {
     let Observed { locks, observed } = file.observed;
     out.push_str("{\"file\":")?;

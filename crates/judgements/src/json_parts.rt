@@ -1,11 +1,9 @@
-//! Parts of JSON.
+//! The strings and arrays of JSON. A function here that gives a `Result` answers `AllocError` where a request for
+//! memory was refused.
 use std::alloc::AllocError;
 use std::fmt::Write;
 
-/// Adds the text as a string.
-///
-/// # Errors
-/// `AllocError`.
+/// Adds the text as a string of JSON.
 pub(crate) fn push_string(out: &mut String, text: &str) -> Result<(), AllocError> {
     out.push_str("\"")?;
     for character in text.chars() {
@@ -25,10 +23,7 @@ fn push_character(out: &mut String, character: char) -> Result<(), AllocError> {
     }
 }
 
-/// Adds the numbers as an array.
-///
-/// # Errors
-/// `AllocError`.
+/// Adds the numbers as an array of JSON.
 pub(crate) fn push_numbers(out: &mut String, numbers: &[u64]) -> Result<(), AllocError> {
     out.push_str("[")?;
     let mut comma = "";

@@ -1,4 +1,4 @@
-//! What is found of the calls of a file.
+//! The judgement of one file's calls.
 ghost use Rattle.std.specs.Prelude.{◌≡◌, IfOk};
 ghost use Rattle.judgements.specs.Judgements.{IsContradicted, IsJudged, outcome_of};
 
@@ -13,17 +13,18 @@ use std::alloc::{AllocError, Global};
 /// What is found of the calls of a file.
 #[derive(Drop)]
 pub enum Judged {
-    /// They are explained by this order, each by its index.
+    /// The calls are explained by this order, each named by its index.
     Explained {
         order: Vec<usize>,
     },
-    /// No order explains them. These fit nowhere, one after the other, each of which is left out where the next ones are
-    /// looked for. The last search was out of steps at the end of the call in this line, if there is one.
+    /// No order explains the calls. These fit nowhere: each is left out when the next one is looked for. If a line is
+    /// named, the last search was out of steps at the end of the call in that line.
     Contradicted {
         misfits: Vec<Misfit>,
         unknown: Option<u64>,
     },
-    /// Whether one explains them is not known: the search was out of steps at the end of the call with this index.
+    /// It is not known whether an order explains the calls, as in `Verdict::Unknown` of `client_history`: mostly
+    /// because the search was out of steps at the end of the call with this index.
     Unknown {
         call: usize,
     },
@@ -37,7 +38,7 @@ pub struct Misfit {
 }
 
 impl Judged {
-    /// That in a word.
+    /// The finding in a word.
     pub fn outcome(&self) -> Outcome
         ensures { result ≡ outcome_of self.now }
     {
@@ -49,11 +50,11 @@ impl Judged {
     }
 }
 
-/// What is found of the calls of a file, where the search may look at so many tables. If that is asked for, each call that
-/// fits nowhere is left out, and the others are judged again.
+/// Judges the calls of a file, where a search may look at `steps` tables. With `go_on` each call that fits nowhere is
+/// left out, and the others are judged again.
 ///
 /// # Errors
-/// `AllocError`.
+/// `AllocError` where a request for memory was refused.
 pub fn judge_file(
     alloc: Global,
     file: &FileCalls,
@@ -71,7 +72,7 @@ pub fn judge_file(
     }
 }
 
-// What is found of the calls of a file that no order explains, of which this one is the first that fits nowhere, behind these ways.
+// The finding on calls that no order explains, of which this one is the first that fits nowhere, behind these ways.
 fn contradicted(
     alloc: Global,
     file: &FileCalls,
@@ -94,8 +95,8 @@ fn contradicted(
     Ok(Judged::Contradicted { misfits, unknown })
 }
 
-// Adds the calls that fit nowhere, and leaves each out where the next one is looked for. The line of the call at whose end the
-// last search was out of steps, if it was.
+// Adds further calls that fit nowhere, each of which is left out when the next one is looked for. Gives the line of
+// the call at whose end the last search was out of steps, if it was.
 fn further(
     alloc: Global,
     left: &mut FileCalls,
@@ -115,7 +116,7 @@ fn further(
     Ok(None)
 }
 
-// The call, with the tables to which these ways lead.
+// The call that fits nowhere, with the tables that these ways lead to.
 fn misfit_of(
     alloc: Global,
     file: &FileCalls,
@@ -128,7 +129,7 @@ fn misfit_of(
     })
 }
 
-// The calls of a file but those of the line of this one.
+// The calls of a file without those of this one's line.
 fn without(alloc: Global, file: &FileCalls, call: usize) -> Result<FileCalls, AllocError> {
     let without = file.lines.get(call).copied().unwrap_or(0);
     let mut places = Vec::new(alloc);
@@ -150,7 +151,7 @@ fn without(alloc: Global, file: &FileCalls, call: usize) -> Result<FileCalls, Al
     Ok(FileCalls { calls, lines, told })
 }
 
-// The call, where those before it have these places, as far as they are left.
+// The call, with the new index of the call that it follows, if that one is left. `places` has the new indexes.
 fn moved(call: &ClientCall, places: &[Option<usize>]) -> ClientCall {
     let follows = match call.follows {
         Some(first) => places.get(first).copied().unwrap_or(None),

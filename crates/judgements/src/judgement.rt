@@ -1,4 +1,4 @@
-//! What is said of a history.
+//! The judgement of a history, as it is printed.
 ghost use Rattle.std.specs.Prelude.{IfOk};
 ghost use Rattle.history_text.specs.Histories.{IsHistoryOf};
 ghost use Rattle.judgements.specs.Judgements.{IsJudgement, IsOrdered};
@@ -19,18 +19,19 @@ use history_text::reading::read;
 use history_text::rule::Allowed;
 use std::alloc::{AllocError, Global};
 
-/// What is said of a history: a word, and what is told of it, in lines or as a picture.
+/// The judgement of a history: its outcome, and what is printed of it, in lines or as a picture.
 #[derive(Drop)]
 pub struct Judgement {
     pub outcome: Outcome,
     pub text: String,
 }
 
-/// What is said of the history that a text writes, which the file of this path has: whether orders of the calls of each file
-/// explain them. Where the clocks of machines may be off, the time of each call is widened by as much at both ends.
+/// Judges the history that the text writes, which is the content of the file at this path: whether orders of the
+/// calls of each file explain them. Where the clocks of machines may be off, the time of each call is widened by as
+/// much at both ends.
 ///
 /// # Errors
-/// `Bad` where it is no history, with the first bad line; `NoMemory`.
+/// `Bad` where the text is no history, with the first bad line; `NoMemory` where a request for memory was refused.
 pub fn judge_history(
     alloc: Global,
     path: &str,
@@ -49,11 +50,12 @@ pub fn judge_history(
     Ok(Judgement { outcome, text })
 }
 
-/// Whether orders explain the calls of each file of the history that a text writes. They are what another text writes, as
-/// `judge_history` tells them. The texts are those of the files of these paths.
+/// Judges whether given orders explain the calls of each file of the history that the text writes. Another text
+/// writes the orders, as `judge_history` prints them. The texts are the contents of the files at these paths.
 ///
 /// # Errors
-/// `Bad` where the one is no history or the other writes no orders of it, with the first bad line; `NoMemory`.
+/// `Bad` where the text is no history, or the other writes no orders of it, with the first bad line; `NoMemory` where
+/// a request for memory was refused.
 pub fn judge_orders(
     alloc: Global,
     path: &str,
@@ -75,7 +77,7 @@ pub fn judge_orders(
     Ok(Judgement { outcome, text })
 }
 
-// The history that the text writes, which the file of this path has.
+// The history that the text writes, which is the content of the file at this path.
 fn history_of(
     alloc: Global,
     path: &str,
@@ -97,7 +99,7 @@ fn history_of(
     }
 }
 
-// The orders that the text writes, which the file of this path has.
+// The orders that the text writes, which is the content of the file at this path.
 fn orders_in(
     alloc: Global,
     history: &History,
@@ -113,7 +115,7 @@ fn orders_in(
     }
 }
 
-// What is told of a history, with what is told of its files.
+// What is printed of a history, with what is printed of its files.
 fn outcome_text(
     alloc: Global,
     path: &str,
@@ -133,7 +135,8 @@ fn outcome_text(
     Ok(out)
 }
 
-// What is told of a history whose files orders explain, or all but this one and those behind it.
+// What is printed of a history whose files are all explained by the orders, or of which this is the first that is
+// not.
 fn ordered_text(
     alloc: Global,
     path: &str,

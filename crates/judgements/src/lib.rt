@@ -1,5 +1,6 @@
-//! What is said of histories of clients: whether one table of record locks explains what they saw, what is in the way of a call that fits
-//! nowhere, and whether orders of their calls explain them.
+//! Judgements of client histories, as they are printed: whether one table of record locks explains what clients saw,
+//! which lock blocks a call that fits nowhere, and whether given orders explain the calls. It knows nothing of how an
+//! order is searched, of where a text comes from or goes to, or of threads.
 #![tactic(auto)]
 
 mod around;

@@ -1,6 +1,6 @@
-//! Lines of a text.
+//! The lines of a text, by their numbers.
 
-/// The line of this number, from 1; nothing where there is none.
+/// The line of this number, from 1; an empty one where there is none.
 pub(crate) fn line_of(text: &str, number: u64) -> &str {
     let mut count = 0u64;
     for line in text.lines() {

@@ -1,26 +1,26 @@
-//! Locks that other owners saw.
+//! The count of locks that other owners observed.
 use crate::held::{Held, calls_by_begin, held_in, meet};
 use client_history::act::Act;
 use client_history::client_call::ClientCall;
 use history_text::file_calls::FileCalls;
 use std::alloc::{AllocError, Global};
 
-/// How many locks of a file were got, and how many of them were observed.
+/// The number of locks of a file that were got, and the number of them that were observed.
 #[derive(Clone, Copy)]
 pub(crate) struct Observed {
     pub(crate) locks: u64,
     pub(crate) observed: u64,
 }
 
-/// How many locks of a file were got, by sets and waits that are done, and how many of them were observed. A lock is observed where
-/// a call of another owner is denied in a mode that it excludes, for bytes of which one at least is its own, and the time from the
-/// begin to the end of that call meets the time in which the lock may be held (`held_in`). A denial that tells an owner observes
-/// locks of that one alone.
+/// The number of locks of a file that were got, by sets and waits that are done, and the number of them that were
+/// observed. A lock is observed where a call of another owner is denied in a mode that it excludes, for bytes of
+/// which at least one is the lock's, and the time from the begin to the end of that call meets the time in which the
+/// lock may be held (`held_in`). A denial that names an owner observes locks of that owner alone.
 ///
-/// It looks at each denial once at each lock that is not observed yet and may be held then.
+/// It looks at each denial once for each lock that is not observed yet and may be held then.
 ///
 /// # Errors
-/// `AllocError`.
+/// `AllocError` where a request for memory was refused.
 pub(crate) fn observed_in(alloc: Global, file: &FileCalls) -> Result<Observed, AllocError> {
     let calls = file.calls.as_slice();
     let held = held_in(alloc, calls)?;
@@ -43,7 +43,7 @@ pub(crate) fn observed_in(alloc: Global, file: &FileCalls) -> Result<Observed, A
     })
 }
 
-// Adds the locks from this index on that begin by that time: the index of the next one.
+// Adds the locks from this index on that begin at that time or earlier. Gives the index of the next one.
 fn take_begun(
     held: &[Held],
     from: usize,
@@ -69,7 +69,7 @@ fn is_denied(call: &ClientCall) -> bool {
     }
 }
 
-// Whether the call, which is denied, is so by this lock, as far as it tells that.
+// Whether the denied call may be denied by this lock, as far as the denial says.
 fn sees(call: &ClientCall, lock: &Held) -> bool {
     match call.act {
         Act::IsDenied { mode, span, told } => {

@@ -1,4 +1,5 @@
-//! Whether orders explain the files of a history.
+//! The test whether given orders explain the files of a history. A function here that gives a `Result` answers
+//! `AllocError` where a request for memory was refused.
 ghost use Rattle.std.specs.Prelude.{◌≡◌, None, true, All, IfOk};
 ghost use Rattle.judgements.specs.Judgements.{HasOneClock, IsExplained};
 
@@ -10,10 +11,7 @@ use history_text::file_calls::FileCalls;
 use history_text::history::History;
 use std::alloc::{AllocError, Global};
 
-/// The first file, by its index, whose calls its order does not explain.
-///
-/// # Errors
-/// `AllocError`.
+/// The index of the first file whose order does not explain its calls, if there is one.
 pub(crate) fn first_unexplained(
     alloc: Global,
     history: &History,
@@ -33,7 +31,7 @@ pub(crate) fn first_unexplained(
     Ok(None)
 }
 
-// Whether the order explains the calls of a file, in all the time in which they may have been made.
+// Whether the order explains the calls of a file, each in all the time in which it may have been made.
 fn is_explained(
     alloc: Global,
     history: &History,

@@ -1,4 +1,4 @@
-//! Orders of calls, as `judge --order` tells them.
+//! Orders of calls, as `judge --order` prints them.
 use crate::places::{Mention, Places};
 use history_text::file_calls::FileCalls;
 use history_text::history::History;
@@ -6,7 +6,7 @@ use indexmap::IndexMap;
 use std::alloc::{AllocError, Global};
 use texts::text::{after, split_field};
 
-/// Why a text is none of orders.
+/// The reason why a text writes no orders.
 #[derive(Clone, Copy)]
 pub(crate) enum OrdersError {
     /// A request for memory was refused.
@@ -21,11 +21,13 @@ impl From<AllocError> for OrdersError {
     }
 }
 
-/// The orders that the text writes, of each file of the history one, by how its calls are named; an empty one where none stands
-/// there. Each stands in a line `order F LINE ..`. Empty lines are passed, and those that begin with `#`, `history ` and `stats `.
+/// The orders that the text writes, one for each file of the history, as names of calls; an empty one for a file
+/// without a line. A line writes an order as `order F LINE ..`. Empty lines are passed, and those that begin with
+/// `#`, `history ` and `stats `.
 ///
 /// # Errors
-/// `NoMemory`, and `BadLine` with the first other line, or one of a file that the history hasn't or that has an order before.
+/// `NoMemory` where a request for memory was refused, and `BadLine` with the first line of another kind, or of a file
+/// that the history doesn't have or that had an order before.
 pub(crate) fn orders_of(
     alloc: Global,
     history: &History,
@@ -43,7 +45,7 @@ pub(crate) fn orders_of(
     Ok(orders)
 }
 
-// The files of the history by their names.
+// The indexes of the history's files, by their names.
 fn files_by_name<'a>(
     alloc: Global,
     history: &'a History,
@@ -57,7 +59,7 @@ fn files_by_name<'a>(
     Ok(files)
 }
 
-// An empty order of each file.
+// An empty order for each file.
 fn no_orders(alloc: Global, history: &History) -> Result<Vec<Vec<Mention>>, AllocError> {
     let mut orders = Vec::new(alloc);
     for _ in &history.files {
@@ -96,7 +98,7 @@ fn take_order(
     push_mentions(order, words)
 }
 
-// Adds the calls that the words name, if they all do.
+// Adds the calls that the words name, if each names one.
 fn push_mentions(order: &mut Vec<Mention>, words: &str) -> Result<bool, AllocError> {
     if words.is_empty() {
         return Ok(true);
@@ -110,11 +112,10 @@ fn push_mentions(order: &mut Vec<Mention>, words: &str) -> Result<bool, AllocErr
     Ok(true)
 }
 
-/// The order of the calls of a file by their indexes, which this is by how they are named; none where a name is that of no
-/// call of it.
+/// The indexes of the file's calls that the order names; `None` where a name is that of no call of the file.
 ///
 /// # Errors
-/// `AllocError`.
+/// `AllocError` where a request for memory was refused.
 pub(crate) fn indexes_of(
     alloc: Global,
     file: &FileCalls,
@@ -131,10 +132,10 @@ pub(crate) fn indexes_of(
     Ok(Some(indexes))
 }
 
-/// How the calls of a file are named in this order, which has their indexes.
+/// The names of the file's calls with these indexes, in this order.
 ///
 /// # Errors
-/// `AllocError`.
+/// `AllocError` where a request for memory was refused.
 pub(crate) fn mentions_of(
     alloc: Global,
     file: &FileCalls,

@@ -1,20 +1,20 @@
-//! What is said of histories in a word.
+//! The outcome of a judgement, in a word.
 ghost use Rattle.std.specs.Prelude.{◌≡◌, ◌⊎◌};
 ghost use Rattle.judgements.specs.declared.outcome.Outcome.TheVariants.{Yes, No};
 
-/// What is said of a history, or of the calls of a file.
+/// The outcome for a history, or for the calls of a file.
 #[derive(Clone, Copy, Debug, PartialEq, Eq)]
 pub enum Outcome {
     /// An order of the calls explains them.
     Yes,
-    /// Whether one does is not known.
+    /// It is not known whether an order explains them.
     Unknown,
-    /// No order does.
+    /// No order explains them.
     No,
 }
 
 impl Outcome {
-    /// Its word.
+    /// The word for the outcome.
     pub fn word(self) -> &'static str {
         match self {
             Outcome::Yes => "yes",
@@ -23,7 +23,7 @@ impl Outcome {
         }
     }
 
-    /// What is said of both together: no where one has no order, else unknown where one is unknown.
+    /// The outcome of both together: `No` where one is `No`, else `Unknown` where one is `Unknown`.
     pub fn with(self, other: Outcome) -> Outcome
         ensures yes { result ≡ Yes → (self ≡ Yes) × (other ≡ Yes) }
         ensures no { result ≡ No → (self ≡ No) ⊎ (other ≡ No) }

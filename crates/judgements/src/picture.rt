@@ -1,4 +1,4 @@
-//! Drawings, as SVG.
+//! The drawing of a picture, as SVG.
 use crate::below::push_tracks;
 use crate::drawing::{Bar, Drawing, Look};
 use crate::fitting::push_fitting;
@@ -10,14 +10,15 @@ use svg::elements::{push_box, push_label_start, push_line, push_size};
 use svg::escapes::{push_escaped_label, push_title};
 use svg::point::Point;
 
-/// The drawing, as SVG.
+/// The picture, as SVG.
 ///
-/// Time goes from left to right. Each time at which a call begins or ends has a column, above which it stands; all columns are
-/// equally wide. There is a row for each owner, or several where its calls overlap, and in it a bar for each call, over the columns
-/// from its begin to its end, with both. A bar without an end goes past the right border.
+/// Time goes from left to right. Each time at which a call begins or ends has a column, and stands above it; all
+/// columns are equally wide. There is a row for each owner, or several where its calls overlap, and in it a bar for
+/// each call, over the columns from its begin to its end, both included. A bar without an end goes past the right
+/// border.
 ///
 /// # Errors
-/// `AllocError`.
+/// `AllocError` where a request for memory was refused.
 pub(crate) fn picture_of(alloc: Global, drawing: &Drawing) -> Result<String, AllocError> {
     let mut out = String::new(alloc);
     push_size(&mut out, width(drawing), height(drawing))?;
@@ -53,7 +54,7 @@ fn push_times(out: &mut String, drawing: &Drawing) -> Result<(), AllocError> {
     Ok(())
 }
 
-// Draws the rows: the name of each and a line.
+// Draws the rows: the name of each, and a line.
 fn push_rows(out: &mut String, alloc: Global, drawing: &Drawing) -> Result<(), AllocError> {
     let right = width(drawing);
     for (index, row) in drawing.rows.iter().enumerate() {
@@ -72,7 +73,7 @@ fn push_rows(out: &mut String, alloc: Global, drawing: &Drawing) -> Result<(), A
     Ok(())
 }
 
-// Draws a call.
+// Draws the bar of a call.
 fn push_bar(
     out: &mut String,
     alloc: Global,
@@ -110,7 +111,7 @@ fn push_bar(
     out.push_str("</g>\n")
 }
 
-// How wide the bar of a call is.
+// The width of a call's bar.
 fn bar_width(drawing: &Drawing, bar: &Bar) -> u128 {
     let left = x_of(bar.from);
     match bar.to {
@@ -119,7 +120,7 @@ fn bar_width(drawing: &Drawing, bar: &Bar) -> u128 {
     }
 }
 
-// The class of a call.
+// The class of a call's look.
 fn class_of(look: Look) -> &'static str {
     match look {
         Look::Misfit => "misfit",

@@ -1,12 +1,13 @@
-//! Calls of a file by the lines that tell them.
+//! The calls of a file, by the lines that they are in. A function here that gives a `Result` answers `AllocError`
+//! where a request for memory was refused.
 use history_text::file_calls::FileCalls;
 use std::alloc::{AllocError, Global};
 use std::fmt::Write;
 use texts::number::number_of;
 use texts::text::split_at_first;
 
-/// How an order names a call: by its line, and where that has several calls by which of them it is, from 1; without that
-/// it is the one behind the call of the line that the order names before, or the first one.
+/// The name of a call in an order: its line, and, where the line has several calls, which of them it is, from 1.
+/// Without that it is the one behind the call of the line that the order named last, or the first one.
 #[derive(Clone, Copy)]
 pub(crate) struct Mention {
     pub(crate) line: u64,
@@ -14,7 +15,7 @@ pub(crate) struct Mention {
 }
 
 impl Mention {
-    /// The one that the word writes, as `7` or `7.2`, if it writes one.
+    /// The name that the word writes, as `7` or `7.2`, if it writes one.
     pub(crate) fn of_word(word: &str) -> Option<Mention> {
         match split_at_first(word, b'.') {
             Some((line, part)) => Some(Mention {
@@ -28,10 +29,7 @@ impl Mention {
         }
     }
 
-    /// Adds its word.
-    ///
-    /// # Errors
-    /// `AllocError`.
+    /// Adds the word for the name.
     pub(crate) fn push(&self, out: &mut String) -> Result<(), AllocError> {
         let line = self.line;
         match self.part {
@@ -41,7 +39,7 @@ impl Mention {
     }
 }
 
-/// The calls of one line: where the first one stands, and which of them was named last, from 1; 0 where none was.
+/// The calls of one line: the index of the first one, and which of them was named last, from 1; 0 where none was.
 #[derive(Clone, Copy)]
 struct Place {
     line: u64,
@@ -49,7 +47,7 @@ struct Place {
     named: u64,
 }
 
-/// The lines of the calls of a file, in the order of their numbers, as an order names one call after the other.
+/// The lines of a file's calls, by their numbers, while an order names one call after the other.
 #[derive(Drop)]
 pub(crate) struct Places<'a> {
     lines: &'a [u64],
@@ -57,10 +55,7 @@ pub(crate) struct Places<'a> {
 }
 
 impl<'a> Places<'a> {
-    /// Where none was named. The calls of a line stand one behind the other.
-    ///
-    /// # Errors
-    /// `AllocError`.
+    /// The lines before any call was named. The calls of one line stand one behind the other.
     pub(crate) fn new(alloc: Global, file: &'a FileCalls) -> Result<Places<'a>, AllocError> {
         let mut places = Vec::new(alloc);
         let mut before = 0;
@@ -81,7 +76,7 @@ impl<'a> Places<'a> {
         })
     }
 
-    /// The index of the call that is named next so, if there is one.
+    /// The index of the call that the order names next with this name, if there is one.
     pub(crate) fn next_index(&mut self, mention: Mention) -> Option<usize> {
         let place = self.place_of(mention.line)?;
         let part = mention.part.unwrap_or(place.named.saturating_add(1));
@@ -96,7 +91,7 @@ impl<'a> Places<'a> {
         }
     }
 
-    /// How the call of this index is named next.
+    /// The name that the order gives the call of this index next.
     pub(crate) fn next_mention(&mut self, index: usize) -> Mention {
         let line = self.lines.get(index).copied().unwrap_or(0);
         let Some(place) = self.place_of(line) else {
@@ -111,7 +106,7 @@ impl<'a> Places<'a> {
         }
     }
 
-    // The calls of the line.
+    // The calls of the line, if it has any.
     fn place_of(&mut self, line: u64) -> Option<&mut Place> {
         match self.places.binary_search_by(|place| place.line.cmp(&line)) {
             Ok(found) => self.places.get_mut(found),

@@ -1,4 +1,5 @@
-//! What is told of a history, in lines.
+//! The judgement of a history in lines. A function here that gives a `Result` answers `AllocError` where a request
+//! for memory was refused.
 use crate::before::Before;
 use crate::judged::{Judged, Misfit};
 use crate::judging::Judging;
@@ -17,13 +18,10 @@ use std::alloc::{AllocError, Global};
 use std::fmt::Write;
 use texts::words::Named;
 
-/// How many locks of a table are told at most, and how many open calls.
+/// The greatest number of a table's locks that are listed, and of open calls.
 pub(crate) const MOST_TOLD: usize = 20;
 
 /// Adds what was found of the calls of the file with this index, of a history that the text writes.
-///
-/// # Errors
-/// `AllocError`.
 pub(crate) fn push_found(
     alloc: Global,
     told: &mut Told,
@@ -54,12 +52,12 @@ pub(crate) fn push_found(
     }
 }
 
-/// The line of the call with this index in the file with that one.
+/// The line of the call with this index in the file with that index.
 pub(crate) fn line_at(history: &History, file: usize, call: usize) -> Option<u64> {
     history.files.get(file)?.lines.get(call).copied()
 }
 
-// Adds which file it is, where the history has several.
+// Adds the name of the file, where the history has several.
 fn push_heading(out: &mut String, history: &History, file: usize) -> Result<(), AllocError> {
     if history.files.len() < 2 {
         return Ok(());
@@ -68,7 +66,7 @@ fn push_heading(out: &mut String, history: &History, file: usize) -> Result<(), 
     writeln!(out, "file {name}")
 }
 
-// Adds up to which line an order was found, if that is known.
+// Adds the line up to which an order was found, if that is known.
 fn push_unknown(out: &mut String, line: Option<u64>) -> Result<(), AllocError> {
     match line {
         Some(line) => writeln!(out, "explained up to line {line}"),
@@ -96,7 +94,7 @@ fn push_order(
     out.push_str("\n")
 }
 
-// Adds the call that fits nowhere, and what there may be before it.
+// Adds the call that fits nowhere, and the tables that there may be before it.
 fn push_misfit(
     out: &mut String,
     history: &History,
@@ -117,7 +115,7 @@ fn push_misfit(
     Ok(())
 }
 
-// Adds the locks of a table, which of them is in the way, and the calls that are open there.
+// Adds the locks of a table, the one of them that blocks the call, and the calls that are open there.
 fn push_table(out: &mut String, history: &History, table: &Before) -> Result<(), AllocError> {
     for lock in table.locks.iter().take(MOST_TOLD) {
         out.push_str("  ")?;
@@ -139,7 +137,7 @@ fn push_table(out: &mut String, history: &History, table: &Before) -> Result<(),
     push_more(out, "open calls", table.open.len())
 }
 
-// Adds how many there are that are not told.
+// Adds the number of those that are not listed, if there are any.
 fn push_more(out: &mut String, what: &str, count: usize) -> Result<(), AllocError> {
     if count <= MOST_TOLD {
         return Ok(());
@@ -149,9 +147,6 @@ fn push_more(out: &mut String, what: &str, count: usize) -> Result<(), AllocErro
 }
 
 /// Adds the lock, as histories write it.
-///
-/// # Errors
-/// `AllocError`.
 pub(crate) fn push_lock(
     out: &mut String,
     history: &History,
@@ -162,11 +157,8 @@ pub(crate) fn push_lock(
     write!(out, "{mode} {start} {len} {owner}")
 }
 
-/// Adds what is said of a history, behind it what was found of its files, or orders where they explain their calls and are
-/// asked for.
-///
-/// # Errors
-/// `AllocError`.
+/// Adds the outcome of a history, and behind it what was found of its files, or, where orders explain their calls and
+/// are asked for, those.
 pub(crate) fn push_outcome(
     out: &mut String,
     outcome: Outcome,
@@ -199,10 +191,7 @@ fn push_allowed(out: &mut String, allowed: Allowed) -> Result<(), AllocError> {
     Ok(())
 }
 
-/// Adds whether orders explain a history where these rules are allowed, or the first file whose order doesn't.
-///
-/// # Errors
-/// `AllocError`.
+/// Adds whether orders explain a history, where these rules are allowed, or the first file whose order doesn't.
 pub(crate) fn push_ordered(
     out: &mut String,
     history: &History,
@@ -222,11 +211,8 @@ pub(crate) fn push_ordered(
     }
 }
 
-/// Adds the counts: in the first line how many calls there are, and whose, and then of each file how many locks were got, and of
-/// how many another owner saw something.
-///
-/// # Errors
-/// `AllocError`.
+/// Adds the counts: in the first line the numbers of calls, owners and machines, and then for each file the number of
+/// locks that were got, and of those that another owner observed.
 pub(crate) fn push_stats(out: &mut String, stats: &Stats<'_>) -> Result<(), AllocError> {
     let Counts {
         calls,

@@ -1,9 +1,10 @@
-//! Where things stand in a picture.
+//! The measures of a picture: where its parts stand.
 ghost use Rattle.std.specs.Prelude.{◌<◌, ◌^◌};
 
 use crate::drawing::{Drawing, Track};
 
-// The sides of a picture's columns of times and of bytes, of its rows and of the lines below, and the margins.
+// The widths and heights, in pixels: of the left margin, the columns of times and of bytes, the top, the rows, the
+// lines below, and the margins.
 const LEFT: u128 = 140;
 
 const COLUMN: u128 = 66;
@@ -18,35 +19,35 @@ const TRACK: u128 = 18;
 
 const MARGIN: u128 = 16;
 
-/// How far from the left edge the column of the time at this place begins.
+/// The distance from the left edge to the column of the time at this place.
 pub(crate) fn x_of(place: usize) -> u128
     ensures { result < 2 ^ 72 }
 {
     LEFT + COLUMN * place as u128
 }
 
-/// How far from the left edge the byte at this place stands.
+/// The distance from the left edge to the byte at this place.
 pub(crate) fn x_of_byte(place: usize) -> u128
     ensures { result < 2 ^ 72 }
 {
     LEFT + BYTES * place as u128
 }
 
-/// How far from the top the row with this index begins, or behind the last one what stands below.
+/// The distance from the top to the row with this index, or, behind the last one, to what stands below.
 pub(crate) fn row_top(row: usize) -> u128
     ensures { result < 2 ^ 72 }
 {
     TOP + ROW * row as u128
 }
 
-/// How far from the top the line with this index begins of those below so many rows.
+/// The distance from the top to the line with this index, of those below that many rows.
 pub(crate) fn track_top(rows: usize, track: usize) -> u128
     ensures { result < 2 ^ 73 }
 {
     row_top(rows) + MARGIN + TRACK * track as u128
 }
 
-/// How wide a picture is.
+/// The width of a picture.
 pub(crate) fn width(drawing: &Drawing) -> u128
     ensures { result < 2 ^ 73 }
 {
@@ -59,7 +60,7 @@ pub(crate) fn width(drawing: &Drawing) -> u128
     x_of(drawing.times.marks.len()).max(x_of_byte(bytes)) + MARGIN
 }
 
-/// How high a picture is.
+/// The height of a picture.
 pub(crate) fn height(drawing: &Drawing) -> u128
     ensures { result < 2 ^ 74 }
 {

@@ -1,11 +1,11 @@
-//! Counts of a history.
+//! The counts of a history.
 use crate::locks::file_name;
 use crate::observed::{Observed, observed_in};
 use history_text::counts::Counts;
 use history_text::history::History;
 use std::alloc::{AllocError, Global};
 
-/// What is counted of a history: its calls, how many owners and machines it names, and the locks of its files.
+/// The counts of a history: its calls, the owners and machines that it names, and the locks of its files.
 #[derive(Drop)]
 pub(crate) struct Stats<'a> {
     pub(crate) counts: Counts,
@@ -14,7 +14,7 @@ pub(crate) struct Stats<'a> {
     pub(crate) files: Vec<FileStats<'a>>,
 }
 
-/// What is counted of a file, with its name.
+/// The counts of a file, with its name.
 #[derive(Clone, Copy)]
 pub(crate) struct FileStats<'a> {
     pub(crate) name: &'a str,
@@ -22,10 +22,10 @@ pub(crate) struct FileStats<'a> {
 }
 
 impl<'a> Stats<'a> {
-    /// Those of the history.
+    /// The counts of the history.
     ///
     /// # Errors
-    /// `AllocError`.
+    /// `AllocError` where a request for memory was refused.
     pub(crate) fn of(alloc: Global, history: &'a History) -> Result<Stats<'a>, AllocError> {
         let mut files = Vec::new(alloc);
         for (file, of_file) in history.files.iter().enumerate() {

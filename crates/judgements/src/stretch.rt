@@ -1,4 +1,5 @@
-//! The part of a history that is drawn.
+//! The part of a history that is drawn. A function here that gives a `Result` answers `AllocError` where a request
+//! for memory was refused.
 use crate::around::around;
 use crate::line_call::LineCall;
 use crate::scale::Scale;
@@ -8,11 +9,8 @@ use model::owner::Owner;
 use std::alloc::{AllocError, Global};
 use std::collections::BTreeSet;
 
-/// The calls of a file that are drawn around the one in this line, by their begins. Where an owner has several calls in one line, the last
-/// one stands for them.
-///
-/// # Errors
-/// `AllocError`.
+/// The calls of a file that are drawn around the one in this line, by their begins. Where an owner has several calls
+/// in one line, the last one stands for them.
 pub(crate) fn calls_around(
     alloc: Global,
     file: &FileCalls,
@@ -25,7 +23,7 @@ pub(crate) fn calls_around(
     }
 }
 
-// The calls of a file with their lines, of those that an owner has in one line the last one.
+// The calls of a file with their lines; of several that an owner has in one line, the last one.
 fn drawn_calls(alloc: Global, file: &FileCalls) -> Result<Vec<LineCall>, AllocError> {
     let mut calls: Vec<LineCall> = Vec::new(alloc);
     for (call, line) in file.calls.iter().zip(file.lines.iter()) {
@@ -49,9 +47,6 @@ fn is_of_last(calls: &[LineCall], call: &ClientCall, line: u64) -> bool {
 }
 
 /// The times at which these calls begin and end.
-///
-/// # Errors
-/// `AllocError`.
 pub(crate) fn times_of(alloc: Global, calls: &[LineCall]) -> Result<Scale, AllocError> {
     let mut times = BTreeSet::new(alloc);
     for near in calls {
@@ -64,9 +59,6 @@ pub(crate) fn times_of(alloc: Global, calls: &[LineCall]) -> Result<Scale, Alloc
 }
 
 /// The owners of these calls, in the order of their first ones.
-///
-/// # Errors
-/// `AllocError`.
 pub(crate) fn owners_of(alloc: Global, calls: &[LineCall]) -> Result<Vec<Owner>, AllocError> {
     let mut owners = Vec::new(alloc);
     for near in calls {

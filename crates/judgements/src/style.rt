@@ -1,6 +1,6 @@
-//! How elements look, and what that means.
+//! The style of a picture's elements, and its legend.
 
-/// How they look, in the light and in the dark.
+/// The style of the elements, in light and in dark.
 pub(crate) const STYLE: &str = "\
 <style>
 svg { background: #ffffff; font-family: Helvetica, Arial, sans-serif; font-size: 9px; }
@@ -32,7 +32,7 @@ text { fill: #e6e8ee; }
 </style>
 ";
 
-/// What the colours mean.
+/// The legend: what the colours mean.
 pub(crate) const LEGEND: &str = "\
 <rect class='misfit' x='12' y='8' width='10' height='10' rx='2'/><text x='26' y='17'>fits nowhere, in the way</text>
 <rect class='done' x='140' y='8' width='10' height='10' rx='2'/><text x='154' y='17'>done, free</text>

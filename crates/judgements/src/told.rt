@@ -1,8 +1,8 @@
-//! What is told of the files of a history.
+//! What is printed of the files of a history.
 use std::alloc::Global;
 
-/// What is told of the files of a history so far: what was found of them, orders of their calls, and a picture of the first call that
-/// fits nowhere, if there is one and it is asked for.
+/// What is printed of the files of a history so far: what was found of them, orders of their calls, and a picture of
+/// the first call that fits nowhere, if there is one and it is asked for.
 #[derive(Drop)]
 pub(crate) struct Told {
     pub(crate) found: String,
@@ -11,7 +11,7 @@ pub(crate) struct Told {
 }
 
 impl Told {
-    /// Nothing.
+    /// Nothing was found yet.
     pub(crate) fn new(alloc: Global) -> Told {
         Told {
             found: String::new(alloc),

@@ -1,4 +1,4 @@
-//! Who has which bytes before a call that fits nowhere.
+//! The lines of a picture below the calls: which owner has which bytes before a call that fits nowhere.
 use crate::before::Before;
 use crate::call_words::push_region;
 use crate::drawing::{DrawnSpan, SpanKind, Track};
@@ -21,11 +21,11 @@ pub(crate) struct Request<'a> {
     pub(crate) words: &'a str,
 }
 
-/// Adds the lines of the table of this number: its heading, the bytes that the call asks for, the locks of each owner, and the bytes
-/// at which these begin and end.
+/// Adds the lines of the table of this number: its heading, the bytes that the call asks for, the locks of each
+/// owner, and the bytes at which these begin and end.
 ///
 /// # Errors
-/// `AllocError`.
+/// `AllocError` where a request for memory was refused.
 pub(crate) fn add_table(
     alloc: Global,
     tracks: &mut Vec<Track>,
@@ -49,7 +49,8 @@ pub(crate) fn add_table(
     Ok(())
 }
 
-// The heading of a table: what is in the way only where nothing is, the calls that are open, and how many locks are not drawn.
+// The heading of a table: that no lock blocks the call, if none does, the calls that are open, and the number of
+// locks that are not drawn.
 fn heading(alloc: Global, number: u64, table: &Before) -> Result<String, AllocError> {
     let mut out = format!(in alloc; "table {number}")?;
     if table.in_way.is_none() {
@@ -63,7 +64,7 @@ fn heading(alloc: Global, number: u64, table: &Before) -> Result<String, AllocEr
     Ok(out)
 }
 
-// Adds how many there are that are not drawn.
+// Adds the number of those that are not drawn, if there are any.
 fn push_more(out: &mut String, what: &str, count: usize) -> Result<(), AllocError> {
     if count <= MOST_TOLD {
         return Ok(());
@@ -72,7 +73,7 @@ fn push_more(out: &mut String, what: &str, count: usize) -> Result<(), AllocErro
     write!(out, ", more {what}: {more}")
 }
 
-// The locks that are drawn: the first ones of the table, and the one in the way.
+// The locks that are drawn: the first ones of the table, and the one that blocks the call.
 fn drawn_locks(alloc: Global, table: &Before) -> Result<Vec<LockInfo>, AllocError> {
     let mut locks = Vec::new(alloc);
     for lock in table.locks.iter().take(MOST_TOLD) {
@@ -86,7 +87,7 @@ fn drawn_locks(alloc: Global, table: &Before) -> Result<Vec<LockInfo>, AllocErro
     Ok(locks)
 }
 
-// The bytes at which these locks, and those that the call asks for, begin, and those behind them.
+// The bytes at which these locks, and the bytes that the call asks for, begin, and the bytes behind their ends.
 fn bytes_of(alloc: Global, locks: &[LockInfo], request: &Request<'_>) -> Result<Scale, AllocError> {
     let mut bytes = BTreeSet::new(alloc);
     if let Some(span) = &request.span {
@@ -98,7 +99,7 @@ fn bytes_of(alloc: Global, locks: &[LockInfo], request: &Request<'_>) -> Result<
     Scale::of(alloc, bytes)
 }
 
-// Adds the first byte, and the one behind the last.
+// Adds the first byte of the span, and the byte behind its last one.
 fn insert_ends(bytes: &mut BTreeSet<u64>, span: Span) -> Result<(), AllocError> {
     bytes.insert(span.lo)?;
     bytes.insert(span.hi.saturating_add(1))?;
@@ -135,7 +136,7 @@ fn owners_of(alloc: Global, locks: &[LockInfo]) -> Result<Vec<Owner>, AllocError
     Ok(owners)
 }
 
-// Those of the locks that the owner has.
+// The runs of bytes of those locks that the owner has.
 fn spans_of(
     alloc: Global,
     history: &History,
@@ -153,7 +154,7 @@ fn spans_of(
     Ok(spans)
 }
 
-// A lock of the table.
+// The run of bytes of a lock of the table.
 fn lock_at(
     alloc: Global,
     history: &History,
@@ -169,7 +170,7 @@ fn lock_at(
     Ok(span_at(scale, lock.span, kind, title, words))
 }
 
-// What the bytes of a lock of the table are.
+// The kind of a lock of the table.
 fn kind_of(lock: &LockInfo, table: &Before) -> SpanKind {
     if table.in_way == Some(*lock) {
         return SpanKind::InWay;
@@ -180,7 +181,7 @@ fn kind_of(lock: &LockInfo, table: &Before) -> SpanKind {
     }
 }
 
-// The bytes at their places.
+// The run of bytes at its places.
 fn span_at(scale: &Scale, span: Span, kind: SpanKind, title: String, words: String) -> DrawnSpan {
     DrawnSpan {
         from: scale.place(span.lo),

@@ -16,7 +16,7 @@ use Rattle.known_nodes.specs.declared.given.Given.{Given}
 use Rattle.known_nodes.specs.Edits.{seen, seen_row, row_kept, given_to_known_node, with_given_row, rows_overlaid, deaths_with, deaths_overlaid}
 use Rattle.known_nodes.proofs.KnownNodeLaws.{known_node_at-read, known_node_at-place, changed_at}
 
--- what is known of a node
+-- the row of a node that is in the list is the row kept with it
 pub rows_of-there : (known_nodes : List KnownNode) (node : ℕ) (known_node : KnownNode) → known_node_at known_nodes node ≡ Some known_node → rows_of known_nodes node ≡ row_seen known_node.row
 unfolding rows_of
 rows_of-there known_nodes node known_node there = ap row_of there
@@ -33,13 +33,13 @@ pub deaths_of-none : (known_nodes : List KnownNode) (node : ℕ) → known_node_
 unfolding deaths_of
 deaths_of-none known_nodes node none = ap dead_of none
 
--- the edit is of the node that changes so, which was known so before
+-- the edit makes the change of the node as it was known before
 pub record Changes (known_node : KnownNode) (c : Changed) (e : RowEdit) : Type 0 where
   pub place_is : e.given.place ≡ c.node - 1
   pub row_is : row_kept e.given.row known_node.row ≡ row_after c.change (row_seen known_node.row)
   pub dead_is : e.dead ≡ dead_after c.change known_node.dead
 
--- the row of the node that is edited, and of one that is not
+-- the row after an edit, of the node that it is of and of any other
 pub overlaid-here : (known_nodes : List KnownNode) (e : RowEdit) (node : ℕ) (o : Option KnownNode) → e.given.place + 1 ≡ node → known_node_at known_nodes node ≡ o → rows_overlaid known_nodes (Some e) node ≡ given_to_known_node e.given o
 overlaid-here known_nodes e node o at there = elim (eqb_tells node (e.given.place + 1)) [
   | inl here ↦ ap (λ (b : Bool). cond b (given_to_known_node e.given (known_node_at known_nodes node)) (rows_of known_nodes node)) here.0 ∙ ap (given_to_known_node e.given) there
@@ -52,7 +52,7 @@ overlaid-elsewhere known_nodes e node apart = elim (eqb_tells node (e.given.plac
   | inr other ↦ ap (λ (b : Bool). cond b (given_to_known_node e.given (known_node_at known_nodes node)) (rows_of known_nodes node)) other.0
 ]
 
--- that incarnation of the node is known to be dead, if it is there
+-- the dead incarnation of a node that is in the list changes
 pub deaths_with-there : (known_nodes : List KnownNode) (place dead : ℕ) → place < length known_nodes → (λ (n : ℕ). if n == place + 1 then dead else deaths_of known_nodes n) ≡ deaths_with place dead known_nodes
 deaths_with-there known_nodes place dead within = λ i n. sym (ap (λ (b : Bool). cond (n == place + 1 && b) dead (deaths_of known_nodes n)) (lt-ltb place (length known_nodes) within) ∙ ap (λ (b : Bool). cond b dead (deaths_of known_nodes n)) (and_true (n == place + 1))) i
   where
@@ -70,7 +70,7 @@ deaths_with-past known_nodes place dead past = λ i n. sym (ap (λ (b : Bool). c
     ge-ltb : (k n : ℕ) → n ≤ k → nat_lt k n ≡ false
     ge-ltb k n past = grind (arith, nat_tests)
 
--- what is known after the edit of a node that changes so
+-- what is known after the edit that makes a change
 module _ (known_nodes : List KnownNode) (c : Changed) (known_node : KnownNode) (e : RowEdit) (within : IsNumber (length known_nodes) c.node) (there : known_node_at known_nodes c.node ≡ Some known_node) (x : Changes known_node c e) where
   at_place : e.given.place + 1 ≡ c.node
   at_place = omega (arith, within.0, x.place_is)
@@ -112,7 +112,7 @@ module _ (known_nodes : List KnownNode) (c : Changed) (known_node : KnownNode) (
                 ∙ sym (ap (λ (b : Bool). cond b (dead_after c.change (deaths_of known_nodes n)) (deaths_of known_nodes n)) apart.0)
           ]
 
--- where a node stays as it is, what is known of all does
+-- where a change leaves its node as it is, it leaves all as they are
 pub stays-at : {A : Type 0} (node : ℕ) (g : A → A) (known : ℕ → A) → g (known node) ≡ known node → known ≡ (λ n. if n == node then g (known n) else known n)
 stays-at {A} node g known same = λ i n. at n i
   where
@@ -122,7 +122,7 @@ stays-at {A} node g known same = λ i n. at n i
       | inr apart ↦ sym (ap (λ (b : Bool). cond b (g (known n)) (known n)) apart.0)
     ]
 
--- a node that is not there has no row after an edit either
+-- a node that is not in the list has no row after an edit
 pub overlaid-none : (known_nodes : List KnownNode) (o : Option RowEdit) (node : ℕ) → known_node_at known_nodes node ≡ None → rows_overlaid known_nodes o node ≡ None
 overlaid-none known_nodes None node none = rows_of-none known_nodes node none
 overlaid-none known_nodes (Some e) node none = elim (eqb_tells node (e.given.place + 1)) [
@@ -130,12 +130,12 @@ overlaid-none known_nodes (Some e) node none = elim (eqb_tells node (e.given.pla
   | inr apart ↦ overlaid-elsewhere known_nodes e node (λ h. apart.1 (sym h)) ∙ rows_of-none known_nodes node none
 ]
 
--- what is read of a row
+-- a view of a row shows that row
 pub seen-matches : (o : Option RowView) (row : Option Row) → row ≡ seen_row o → MatchOption o (row ≡ None) (λ r. row ≡ Some (seen r))
 seen-matches None row is = is
 seen-matches (Some r) row is = is
 
--- the rows once one is given something, in the list
+-- making a new row is a write to the list
 pub given-set : (known_nodes : List KnownNode) (place : ℕ) (known_node new : KnownNode) (g : Given) → place < length known_nodes → g.place ≡ place → known_node ≡ slice_index_or known_nodes place known_node → row_seen new.row ≡ row_kept g.row known_node.row → rows_of (slice_set known_nodes place new) ≡ with_given_row g known_nodes
 unfolding rows_of
 given-set known_nodes place known_node new g within at read made = λ i n. each n i
@@ -160,7 +160,7 @@ given-set known_nodes place known_node new g within at read made = λ i n. each 
     each : (n : ℕ) → row_of (known_node_at (slice_set known_nodes place new) n) ≡ with_given_row g known_nodes n
     each n = changed_at row_of (λ row. row_kept g.row known_node.row) known_nodes (place + 1) place known_node new (omega arith, omega arith) (omega arith) there made n ∙ same n ∙ ap (λ (k : ℕ). if n == k + 1 then given_to_known_node g (known_node_at known_nodes n) else row_of (known_node_at known_nodes n)) (sym at)
 
--- nobody stands there
+-- a new row at an index behind the list changes nothing
 pub given-past : (known_nodes : List KnownNode) (g : Given) → length known_nodes ≤ g.place → rows_of known_nodes ≡ with_given_row g known_nodes
 unfolding rows_of
 given-past known_nodes g past = λ i n. each n i

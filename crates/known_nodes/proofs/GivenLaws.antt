@@ -1,4 +1,4 @@
--- What nodes are given, one after the other.
+-- The new rows of nodes, one after the other.
 use Rattle.std.specs.Prelude.{◌≡◌, ℕ, ◌+◌, Bool, true, false, cond, ◌||◌, ◌==◌, List, [], ◌∷◌, ◌++◌, Option}
 use Rattle.std.specs.List.{list_any}
 use Rattle.std.proofs.Common.{refl, sym, ap, ◌∙◌, inl, inr, arith}
@@ -10,7 +10,7 @@ use Rattle.known_nodes.specs.declared.given.Given.{Given}
 use Rattle.known_nodes.specs.Parts.{known_node_at, rows_of}
 use Rattle.known_nodes.specs.Edits.{given_to_known_node, with_given_row, given_rows}
 
--- the last is given, unless one of the others is of its node
+-- the last new row is made, unless one of the others is of its node
 pub given_rows-last : (known_nodes after : List KnownNode) (gs : List Given) (g : Given) → (n : ℕ) → rows_of after n ≡ with_given_row g known_nodes n → ((m : ℕ) → (m ≡ g.place + 1 → ⊥) → known_node_at after m ≡ known_node_at known_nodes m) → list_any (λ x. x.place == g.place) gs ≡ false → given_rows gs after n ≡ given_rows (gs ++ g ∷ []) known_nodes n
 given_rows-last known_nodes after [] g n is others none = is
 given_rows-last known_nodes after (x ∷ gs) g n is others none =

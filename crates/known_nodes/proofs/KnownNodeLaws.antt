@@ -8,13 +8,13 @@ use Rattle.model.specs.Limits.{IsNumber}
 use Rattle.known_nodes.specs.declared.known_node.KnownNode.{KnownNode}
 use Rattle.known_nodes.specs.Parts.{row_of, dead_of, known_node_at, rows_of, deaths_of, SameKnown, SameKnownNodes}
 
--- a write is read where it was made
+-- a read of the place that was written gives what was written
 slice_get-set_same : {X : Type 0} (xs : List X) (i : ℕ) (x : X) → i < length xs → slice_get (slice_set xs i x) i ≡ Some x
 slice_get-set_same [] i x within = absurd (omega arith)
 slice_get-set_same (y ∷ ys) zero x within = refl
 slice_get-set_same (y ∷ ys) (suc i) x within = slice_get-set_same ys i x (omega arith)
 
--- and nowhere else
+-- a read of another place gives what was there before
 pub slice_get-set_other : {X : Type 0} (xs : List X) (i k : ℕ) (x : X) → k ≢ i → slice_get (slice_set xs i x) k ≡ slice_get xs k
 slice_get-set_other [] i k x apart = refl
 slice_get-set_other (y ∷ ys) zero zero x apart = absurd (apart refl)
@@ -22,26 +22,26 @@ slice_get-set_other (y ∷ ys) zero (suc k) x apart = refl
 slice_get-set_other (y ∷ ys) (suc i) zero x apart = refl
 slice_get-set_other (y ∷ ys) (suc i) (suc k) x apart = slice_get-set_other ys i k x (λ e. apart (ap suc e))
 
--- a known node is at its place
+-- a node is found one place before its number
 pub known_node_at-place : (known_nodes : List KnownNode) (node place : ℕ) → place + 1 ≡ node → known_node_at known_nodes node ≡ slice_get known_nodes place
 known_node_at-place known_nodes zero place e = absurd (omega arith)
 known_node_at-place known_nodes (suc k) place e =
     let same : k ≡ place = omega arith in
     ap (λ i. slice_get known_nodes i) same
 
--- what is read at a place
+-- a read of the list gives the node
 pub known_node_at-read : (known_nodes : List KnownNode) (node place : ℕ) (known_node : KnownNode) → IsNumber (length known_nodes) node → place ≡ node - 1 → known_node ≡ slice_index_or known_nodes place known_node → known_node_at known_nodes node ≡ Some known_node
 known_node_at-read known_nodes node place known_node within e read =
     let next : place + 1 ≡ node = omega arith in
     known_node_at-place known_nodes node place next ∙ slice_get_read known_nodes (length known_nodes) place known_node refl (omega arith) read
 
--- a write changes what is known of that node
+-- a write changes what is known of the node at the place
 pub known_node_at-set_same : (known_nodes : List KnownNode) (node place : ℕ) (new : KnownNode) → IsNumber (length known_nodes) node → place ≡ node - 1 → known_node_at (slice_set known_nodes place new) node ≡ Some new
 known_node_at-set_same known_nodes node place new within e =
     let next : place + 1 ≡ node = omega arith in
     known_node_at-place (slice_set known_nodes place new) node place next ∙ slice_get-set_same known_nodes place new (omega arith)
 
--- and no other's
+-- a write leaves what is known of any other node
 pub known_node_at-set_other : (known_nodes : List KnownNode) (node place n : ℕ) (new : KnownNode) → IsNumber (length known_nodes) node → place ≡ node - 1 → n ≢ node → known_node_at (slice_set known_nodes place new) n ≡ known_node_at known_nodes n
 known_node_at-set_other known_nodes node place zero new within e apart = refl
 known_node_at-set_other known_nodes node place (suc k) new within e apart =
@@ -74,7 +74,7 @@ pub same_either : {A : Type 0} (b : Bool) (x : A) → cond b x x ≡ x
 same_either true x = refl
 same_either false x = refl
 
--- none changes
+-- a write that leaves the node's dead incarnation leaves all
 pub deaths_of-set_same : (known_nodes : List KnownNode) (node place : ℕ) (known_node new : KnownNode) → IsNumber (length known_nodes) node → place ≡ node - 1 → known_node ≡ slice_index_or known_nodes place known_node → new.dead ≡ known_node.dead → deaths_of (slice_set known_nodes place new) ≡ deaths_of known_nodes
 deaths_of-set_same known_nodes node place known_node new within e read made =
     deaths_of-set known_nodes node place known_node new (λ dead. dead) within e read made ∙ (λ i n. same_either (n == node) (deaths_of known_nodes n) i)
@@ -108,7 +108,7 @@ deaths_of-new known_nodes all = λ i n. at_node n i
     at_node zero = refl
     at_node (suc k) = known_at dead_of known_nodes all refl k
 
--- known nodes of which the same is known have the same rows
+-- known nodes of which the same is known have the same rows and dead incarnations
 same_at : (known_nodes others : List KnownNode) → length known_nodes ≡ length others → SameKnownNodes known_nodes others → (n : ℕ) → SameKnown (known_node_at known_nodes n) (known_node_at others n)
 same_at known_nodes others long same zero = (refl, refl)
 same_at known_nodes others long same (suc k) = elim (cases_lt k (length known_nodes)) [
@@ -125,7 +125,7 @@ pub same_rows : (known_nodes others : List KnownNode) → length known_nodes ≡
 unfolding rows_of deaths_of
 same_rows known_nodes others long same = (λ i n. (same_at known_nodes others long same n).0 i, λ i n. (same_at known_nodes others long same n).1 i)
 
--- and the other way
+-- known nodes that have the same rows and dead incarnations are known to be the same
 pub same_known : (known_nodes others : List KnownNode) → (rows_of known_nodes ≡ rows_of others) × (deaths_of known_nodes ≡ deaths_of others) → SameKnownNodes known_nodes others
 unfolding rows_of deaths_of
 same_known known_nodes others same k within = (ap (λ f. f (suc k)) same.0, ap (λ f. f (suc k)) same.1)
@@ -137,7 +137,7 @@ same_known_nodes b known_nodes others these those e f long tells =
     let back : SameKnownNodes known_nodes others → SameKnownNodes these those = λ same. rw (e, f) same in
     (λ t. same_rows known_nodes others long (here (tells.0 t)), λ same. tells.1 (back (same_known known_nodes others same)))
 
--- no other node has a row
+-- node 0 has no row
 pub rows_of-zero : (known_nodes : List KnownNode) (node : ℕ) → node ≡ 0 → rows_of known_nodes node ≡ None
 unfolding rows_of
 rows_of-zero known_nodes zero e = refl
@@ -148,7 +148,7 @@ unfolding rows_of
 rows_of-past known_nodes zero past = refl
 rows_of-past known_nodes (suc k) past = ap row_of (slice_get_past known_nodes k (omega arith))
 
--- of no other node an incarnation is known as dead
+-- node 0 has no dead incarnation
 pub deaths_of-zero : (known_nodes : List KnownNode) (node : ℕ) → node ≡ 0 → deaths_of known_nodes node ≡ 0
 unfolding deaths_of
 deaths_of-zero known_nodes zero e = refl

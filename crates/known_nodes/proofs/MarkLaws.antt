@@ -17,12 +17,12 @@ use Rattle.known_nodes.specs.Edits.{row_kept, given_to_known_node, rows_overlaid
 use Rattle.known_nodes.proofs.KnownNodeLaws.{known_node_at-read, known_node_at-set_same}
 use Rattle.model.specs.declared.mode.Mode.{Mode}
 
--- a row conflicts at no byte of a span with which it does not conflict
+-- a row that does not conflict with a span conflicts at none of its bytes
 pub row_free : (row : Option Row) (span : Range) (mode : Mode) → row_conflicts row span mode ≡ false → NoneIn (λ b. row_conflicts_at row b mode ≡ true) span
 row_free None span mode free b above below here = both_ways _ free here
 row_free (Some row) span mode free b above below here = none-conflicts row.token span mode free b above below here
 
--- what holds of the new one and of each before holds after a write
+-- what holds of each old element and of the written one holds of each after the write
 set-either : (P : Option KnownNode → Type 0) (xs : List KnownNode) (i k : ℕ) (x : KnownNode) → P (Some x) → P (slice_get xs k) → P (slice_get (slice_set xs i x) k)
 set-either P [] i k x new old = old
 set-either P (y ∷ ys) zero zero x new old = new
@@ -30,7 +30,7 @@ set-either P (y ∷ ys) zero (suc k) x new old = old
 set-either P (y ∷ ys) (suc i) zero x new old = old
 set-either P (y ∷ ys) (suc i) (suc k) x new old = set-either P ys i k x new old
 
--- one row is another, which has no exclusive byte either
+-- where no row has an exclusive byte, none has after a write of one that has none
 pub exclusive-set : (known_nodes : List KnownNode) (place : ℕ) (new : KnownNode) → NoneExclusive (rows_of known_nodes) → row_conflicts (row_seen new.row) whole Read ≡ false → NoneExclusive (rows_of (slice_set known_nodes place new))
 unfolding rows_of
 exclusive-set known_nodes place new before own zero b within = refl
@@ -47,7 +47,7 @@ readable (Some row) s within free = conflicts-none row.token s Read (λ b above 
 pub exclusive-readable : (rows : ℕ → Option Row) (s : Range) → NoneExclusive rows → s.hi ≤ greatest → (node : ℕ) → row_conflicts (rows node) s Read ≡ false
 exclusive-readable rows s none within node = readable (rows node) s within (none node)
 
--- nor has one after an edit that gives none an exclusive byte
+-- where no row has an exclusive byte, none has after an edit that gives none
 pub exclusive-edited : (known_nodes : List KnownNode) (e : RowEdit) → ((row : Option TokenHolder) → row_conflicts (row_seen row) whole Read ≡ false → row_conflicts (row_kept e.given.row row) whole Read ≡ false) → NoneExclusive (rows_of known_nodes) → NoneExclusive (rows_overlaid known_nodes (Some e))
 unfolding rows_of
 exclusive-edited known_nodes e gives none node b within = elim (eqb_tells node (e.given.place + 1)) [
@@ -62,7 +62,7 @@ exclusive-edited known_nodes e gives none node b within = elim (eqb_tells node (
         (gives known_node.row (readable (row_seen known_node.row) whole (omega arith) (λ k below. ap (λ (o : Option KnownNode). row_conflicts_at (row_of o) k Read) (sym is) ∙ none node k below)))
         b (omega arith) within)
 
--- the mark, once a row is another: it is set where it was, and where the row has an exclusive byte
+-- after a write the mark says: it was set before, or the new row has an exclusive byte
 pub exclusive-noted : (known_nodes : List KnownNode) (place : ℕ) (new read : KnownNode) (noted mark : Bool) → place < length known_nodes → (noted ≡ false → NoneExclusive (rows_of known_nodes)) → read ≡ slice_index_or (slice_set known_nodes place new) place read → mark ≡ (noted || row_conflicts (row_seen read.row) whole Read) → mark ≡ false → NoneExclusive (rows_of (slice_set known_nodes place new))
 exclusive-noted known_nodes place new read noted mark within before at made unmarked =
     let there : known_node_at (slice_set known_nodes place new) (place + 1) ≡ Some read = known_node_at-read (slice_set known_nodes place new) (place + 1) place read (omega arith, omega (arith, length-set known_nodes place new)) (omega arith) at in
@@ -71,6 +71,6 @@ exclusive-noted known_nodes place new read noted mark within before at made unma
     let unset = or_parts noted _ (sym made ∙ unmarked) in
     exclusive-set known_nodes place new (before unset.0) (ap (λ (known_node : KnownNode). row_conflicts (row_seen known_node.row) whole Read) (sym same) ∙ unset.1)
 
--- without a row none has an exclusive byte
+-- where no node has a row, no row has an exclusive byte
 pub exclusive-new : (known_nodes : List KnownNode) → rows_of known_nodes ≡ (λ node. None) → NoneExclusive (rows_of known_nodes)
 exclusive-new known_nodes none node b within = ap (λ (rows : ℕ → Option Row). row_conflicts_at (rows node) b Read) none

@@ -14,7 +14,7 @@ use Rattle.known_nodes.proofs.KnownNodeLaws.{known_node_at-place}
 counting_more : (a n j : ℕ) → a + n ≡ j → range_with_len a (n + 1) ≡ range_with_len a n ++ j ∷ []
 counting_more a n j e = sym (map-id (range_with_len a (n + 1))) ∙ map-range_with_len_more (λ k. k) a n j e ∙ ap (λ l. l ++ j ∷ []) (map-id (range_with_len a n))
 
--- with one more node, its command comes last
+-- the outstanding commands of one more node: its command comes last
 outstanding_to-more : (rows : ℕ → Option Row) (n node : ℕ) → 1 + n ≡ node → outstanding_to rows (n + 1) ≡ outstanding_to rows n ++ cons_option (outstanding_of (rows node)) []
 outstanding_to-more rows n node e =
     ap (filter_map (λ k. outstanding_of (rows k))) (counting_more 1 n node e)

@@ -26,7 +26,7 @@ past-cluster nodes k past = ap (λ (b : Bool). nat_le 1 (suc k) && b) (lt-leb (s
     none false = refl
 
 module _ (shape : ShapeFields) (file epoch : ℕ) (members : MembersParts) (known_nodes : List KnownNode) (many : length known_nodes ≡ shape.nodes) (of_shape : (members_state members.nodes).nodes ≡ shape.nodes) (each : AreRebuilt file (before_epoch epoch) members shape.nodes known_nodes) where
-  -- the rows of the nodes that are alive
+  -- the rows of a rebuilt server are those of the nodes that are alive, with a Hello
   pub rebuilt-rows : rows_of known_nodes ≡ rebuilt_rows shape.nodes file (before_epoch epoch) members
   unfolding rows_of
   rebuilt-rows = λ i node. at node i
@@ -44,7 +44,7 @@ module _ (shape : ShapeFields) (file epoch : ℕ) (members : MembersParts) (know
           next : k + 1 ≡ suc k
           next = omega arith
 
-  -- and the incarnations that were declared failed
+  -- the dead incarnations of a rebuilt server are those that were declared failed
   pub rebuilt-deaths : deaths_of known_nodes ≡ rebuilt_dead members
   unfolding deaths_of
   rebuilt-deaths = λ i node. at node i
@@ -62,7 +62,7 @@ module _ (shape : ShapeFields) (file epoch : ℕ) (members : MembersParts) (know
           next : k + 1 ≡ suc k
           next = omega arith
 
-  -- no row has an exclusive byte
+  -- no row of a rebuilt server has an exclusive byte
   pub rebuilt-free : NoneExclusive (rows_of known_nodes)
   rebuilt-free node b within = ap (λ (rows : ℕ → Option Row). row_conflicts_at (rows node) b Read) rebuilt-rows ∙ free (is_within shape.nodes node) ((members_state members.nodes).alive node)
     where
@@ -71,7 +71,7 @@ module _ (shape : ShapeFields) (file epoch : ℕ) (members : MembersParts) (know
       free true false = refl
       free false u = refl
 
--- and no number of an earlier epoch
+-- no row of a rebuilt server has a number of an earlier epoch
 pub rebuilt-counted : (shape : ShapeFields) (file epoch : ℕ) (members : MembersParts) (known_nodes : List KnownNode) → rows_of known_nodes ≡ rebuilt_rows shape.nodes file (before_epoch epoch) members → (n : ℕ) → IfSome (rows_of known_nodes n) (λ row. before_epoch epoch ≤ row.number)
 rebuilt-counted shape file epoch members known_nodes rows n =
     subst (λ (f : ℕ → Option Row). IfSome (f n) (λ row. before_epoch epoch ≤ row.number)) (sym rows) (by (is_within shape.nodes n) ((members_state members.nodes).alive n))
@@ -81,7 +81,7 @@ rebuilt-counted shape file epoch members known_nodes rows n =
     by true false = tt
     by false t = tt
 
--- one more node that was rebuilt
+-- one more node of a rebuilt server
 pub rebuilt-push : (file number : ℕ) (members : MembersParts) (n : ℕ) (known_nodes : List KnownNode) (known_node : KnownNode) → length known_nodes ≡ n → row_of (Some known_node) ≡ rebuilt_row file number members (n + 1) → dead_of (Some known_node) ≡ rebuilt_dead members (n + 1) → AreRebuilt file number members n known_nodes → AreRebuilt file number members (n + 1) (known_nodes ++ known_node ∷ [])
 rebuilt-push file number members n known_nodes known_node len row dead all = λ k below. elim (cases_lt k n) [
   | inl before ↦

@@ -16,7 +16,7 @@ use Rattle.known_nodes.specs.Rebuilds.{mode_of}
 abbrev pub HasByte : TokenRun → Type 0
 HasByte r = r.span.lo ≤ r.span.hi
 
--- no run that stands behind another one has a byte up to its end
+-- a run behind another one has no byte up to its end
 reported-behind : (r : TokenRun) (rest : List TokenRun) → are_longest (r ∷ rest) ≡ true → All HasByte rest → (b : ℕ) → b ≤ r.span.hi → reported rest b ≡ None
 reported-behind r [] longest ordered b within = refl
 reported-behind r (q ∷ rest) longest ordered b within =
@@ -30,7 +30,7 @@ reported-behind r (q ∷ rest) longest ordered b within =
     out : r.span.hi < q.span.lo → is_in q.span b ≡ false
     out past = false_from_ne_true (is_in q.span b) (λ here. let lo : q.span.lo ≤ b = leb-true q.span.lo b (and_parts (nat_le q.span.lo b) (nat_le b q.span.hi) here).0 in omega arith)
 
--- so one more run is granted
+-- the token of a report with one more run: that run is granted as well
 pub reported-more : (r : TokenRun) (rest : List TokenRun) → are_longest (r ∷ rest) ≡ true → All HasByte rest → raised (reported rest) r.span (mode_of r.level) ≡ reported (r ∷ rest)
 reported-more r rest longest ordered = λ i b. at b (is_in r.span b) refl i
   where
@@ -44,7 +44,7 @@ reported-more r rest longest ordered = λ i b. at b (is_in r.span b) refl i
         let hi : b ≤ r.span.hi = leb-true b r.span.hi (and_parts (nat_le r.span.lo b) (nat_le b r.span.hi) is).1 in
         level r.level (reported rest b) (reported-behind r rest longest ordered b hi)
 
--- those that stand at a place and behind
+-- the runs from a place on are longest runs as well
 pub longest-drop : (k : ℕ) (rs : List TokenRun) → are_longest rs ≡ true → are_longest (drop k rs) ≡ true
 longest-drop k [] longest = drop-nil k
   where

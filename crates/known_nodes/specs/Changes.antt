@@ -14,24 +14,24 @@ use Rattle.token_set.specs.Sets.{token_of}
 use Rattle.messages.specs.declared.token_run.TokenRun.{TokenRun}
 use Rattle.messages.specs.Reports.{reported}
 
--- the row once its command is answered
+-- the row after its command is answered
 abbrev pub answered : Row → Row
 answered row = record row { outstanding = None }
 
--- and with that token from then on, if there is one
+-- the row after its command is answered, with that token if there is one
 abbrev pub answering : Option (TreeMap Level) → Row → Row
 answering None row = answered row
 answering (Some token) row = record row { token = token_of token; outstanding = None }
 
--- the row once its node has given up the span
+-- the row after its command is answered by giving up the span
 abbrev pub relieved : Range → Mode → Row → Row
 relieved span mode row = record row { token = lowered row.token span mode; outstanding = None }
 
--- the row once its node has told its token, which has those runs
+-- the row after its Hello is answered: the node reported its token, as those runs
 abbrev pub reporting : List TokenRun → Row → Row
 reporting runs row = record row { token = reported runs; outstanding = None }
 
--- rows, but f changes that of the node
+-- the rows, where f changes the row of the node
 abbrev pub with_change : ℕ → (Option Row → Option Row) → (ℕ → Option Row) → ℕ → Option Row
 with_change node f rows n = if n == node then f (rows n) else rows n
 
@@ -47,7 +47,7 @@ row_after Answered row = option_map answered row
 row_after (Relieved span mode) row = option_map (relieved span mode) row
 row_after (Reported runs) row = option_map (reporting runs) row
 
--- its greatest incarnation known to be dead
+-- the greatest dead incarnation of a node after the change
 abbrev pub dead_after : NodeChange → ℕ → ℕ
 dead_after (Forgotten incarnation) dead = max dead incarnation
 dead_after (Asked host begin) dead = max dead (host.incarnation - 1)
@@ -55,7 +55,7 @@ dead_after Answered dead = dead
 dead_after (Relieved span mode) dead = dead
 dead_after (Reported runs) dead = dead
 
--- the incarnation up to which its requests are dropped, if any are
+-- the incarnation up to which the change drops the node's requests, if it drops any
 abbrev pub dropped_to : NodeChange → Option ℕ
 dropped_to (Forgotten incarnation) = Some incarnation
 dropped_to (Asked host begin) = Some (host.incarnation - 1)
@@ -71,7 +71,7 @@ abbrev pub deaths_after : Option Changed → (ℕ → ℕ) → ℕ → ℕ
 deaths_after None deaths = deaths
 deaths_after (Some c) deaths = λ n. if n == c.node then dead_after c.change (deaths n) else deaths n
 
--- the row may come to stand in the way of a request for which it did not
+-- the change may make the node's row block a request that it did not block before
 abbrev pub may_bar : NodeChange → Bool
 may_bar (Reported runs) = true
 may_bar _ = false

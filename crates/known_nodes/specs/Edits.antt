@@ -14,7 +14,7 @@ use Rattle.known_nodes.specs.Rows.{Commands, Row}
 use Rattle.known_nodes.specs.Sent.{promised}
 use Rattle.known_nodes.specs.Parts.{row_in, row_state, rows_of, deaths_of, known_node_at}
 
--- a row that is read
+-- the row in the rules that is read
 abbrev pub seen : RowView → Row
 seen r = row_in r.commands.now (viewed r.token)
 
@@ -22,7 +22,7 @@ abbrev pub seen_row : Option RowView → Option Row
 seen_row None = None
 seen_row (Some r) = Some (seen r)
 
--- the row after the change
+-- the row as it will stand, where the node had this one before
 abbrev pub row_with : RowAfter → Option TokenHolder → Option Row
 row_with (New row) before = Some (row_state row)
 row_with (Kept commands token) None = None
@@ -32,7 +32,7 @@ abbrev pub row_kept : Option RowAfter → Option TokenHolder → Option Row
 row_kept None row = None
 row_kept (Some after) row = row_with after row
 
--- the row with those commands, and with what the command promises
+-- the row after the command is sent: these commands stand in it, and its token is as the command promises
 abbrev pub row_promised : Commands → Message → Option Row → Option Row
 row_promised commands command None = None
 row_promised commands command (Some row) = Some (row_in commands (promised command row.token))
@@ -41,16 +41,16 @@ abbrev pub given_to_known_node : Given → Option KnownNode → Option Row
 given_to_known_node g None = None
 given_to_known_node g (Some known_node) = row_kept g.row known_node.row
 
--- the row of each node once one is given that
+-- the row of each node after one new row is made
 abbrev pub with_given_row : Given → List KnownNode → ℕ → Option Row
 with_given_row g known_nodes n = if n == g.place + 1 then given_to_known_node g (known_node_at known_nodes n) else rows_of known_nodes n
 
--- once these are given, of which the first counts for a node
+-- the row of each node after these new rows are made; of several for one node the first counts
 abbrev pub given_rows : List Given → List KnownNode → ℕ → Option Row
 given_rows [] known_nodes n = rows_of known_nodes n
 given_rows (g ∷ gs) known_nodes n = if n == g.place + 1 then given_to_known_node g (known_node_at known_nodes n) else given_rows gs known_nodes n
 
--- what an edit gives, if there is one
+-- the new row that an edit makes, if there is an edit
 abbrev pub given_of : Option RowEdit → List Given
 given_of None = []
 given_of (Some e) = e.given ∷ []
@@ -59,7 +59,7 @@ given_of (Some e) = e.given ∷ []
 abbrev pub rows_overlaid : List KnownNode → Option RowEdit → ℕ → Option Row
 rows_overlaid known_nodes edit = given_rows (given_of edit) known_nodes
 
--- the greatest incarnation of each node known to be dead, once it is that of the node at the place, if one stands there
+-- the greatest dead incarnation of each node, with this one for the node at the index, if one stands there
 abbrev pub deaths_with : ℕ → ℕ → List KnownNode → ℕ → ℕ
 deaths_with place dead known_nodes n = if n == place + 1 && nat_lt place (length known_nodes) then dead else deaths_of known_nodes n
 

@@ -1,4 +1,4 @@
--- What a server notes of the rows of its nodes.
+-- What a server notes of the rows of all nodes together.
 use Rattle.std.specs.Prelude.{◌≡◌, ℕ, ◌≤◌, false, Option}
 use Rattle.intervals.specs.Bytes.{greatest}
 use Rattle.model.specs.declared.mode.Mode.TheVariants.{Read}

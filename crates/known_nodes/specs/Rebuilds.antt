@@ -1,4 +1,4 @@
--- What a token server knows that was rebuilt, of each node.
+-- What a token server that was rebuilt knows of each node.
 use Rattle.std.specs.Prelude.{◌≡◌, ℕ, ◌+◌, ◌-◌, ◌<◌, if◌then◌else◌, List, slice_get, Option, Some, None}
 use Rattle.model.specs.declared.level.Level.{Level}
 use Rattle.model.specs.declared.level.Level.TheVariants.{Shared, Exclusive}
@@ -15,21 +15,21 @@ abbrev pub mode_of : Level → Mode
 mode_of Shared = Read
 mode_of Exclusive = Write
 
--- the row of a node: it is asked for its token, if it is alive
+-- the row of a node at a server that was rebuilt: if the node is alive, a Hello is outstanding
 abbrev pub rebuilt_row : ℕ → ℕ → MembersParts → ℕ → Option Row
 rebuilt_row file number members node =
     let nodes = members_state members.nodes in
     if nodes.alive node then Some (awaited_row file number node (nodes.incarnation node)) else None
 
--- the rows of the nodes of a cluster of so many
+-- the rows of nodes 1 to n at a server that was rebuilt
 abbrev pub rebuilt_rows : ℕ → ℕ → ℕ → MembersParts → ℕ → Option Row
 rebuilt_rows n file number members node = if is_within n node then rebuilt_row file number members node else None
 
--- its greatest incarnation known to be dead
+-- the greatest incarnation of a node that a server that was rebuilt knows to be dead
 abbrev pub rebuilt_dead : MembersParts → ℕ → ℕ
 rebuilt_dead members node = (members_state members.nodes).incarnation node - 1
 
--- the first n known nodes are those of nodes 1 to n
+-- the first n known nodes are nodes 1 to n as a server that was rebuilt knows them
 abbrev pub AreRebuilt : ℕ → ℕ → MembersParts → ℕ → List KnownNode → Type 0
 AreRebuilt file number members n known_nodes =
     (k : ℕ) → k < n → (row_of (slice_get known_nodes k) ≡ rebuilt_row file number members (k + 1)) × (dead_of (slice_get known_nodes k) ≡ rebuilt_dead members (k + 1))

@@ -1,4 +1,4 @@
--- What a token server knows of a node, and of the command to it that has no answer.
+-- What a token server knows of a node, and of the outstanding command to it.
 use Rattle.std.specs.Prelude.{ℕ, Bool, false, true, ◌==◌, nat_le, if◌then◌else◌, List, Option, Some, None}
 use Rattle.token_set.specs.Tokens.{Token, no_token, conflicts, level_conflicts}
 use Rattle.messages.specs.declared.message.Message.{Message}
@@ -7,13 +7,13 @@ use Rattle.intervals.specs.Bytes.{Range}
 use Rattle.model.specs.declared.mode.Mode.{Mode}
 use Rattle.std.specs.List.{filter_map, range_with_len}
 
--- the commands to a node in one incarnation: the number of the last (at first the one after which those of the epoch begin), and that command while no answer has come
+-- The commands to a node in one incarnation: the number of the last one sent (before the first, the epoch's base), and that command while no answer has come.
 pub record Commands : Type 0 where
   pub incarnation : ℕ
   pub number : ℕ
   pub outstanding : Option Message
 
--- what the server knows of a node: its incarnation, its token, the number of its last command (at first the one after which those of the epoch begin), and that command while no answer has come
+-- The row of a node: incarnation, token, number of the last command sent to it (before the first, the epoch's base), and that command while no answer has come.
 pub record Row : Type 0 where
   pub incarnation : ℕ
   pub token : Token
@@ -23,21 +23,21 @@ pub record Row : Type 0 where
 abbrev pub empty_row : ℕ → ℕ → Row
 empty_row number incarnation = record { incarnation = incarnation; token = no_token; number = number; outstanding = None }
 
--- the row of a node that is asked for its token, and has not told it
+-- the row of a node that was asked for its token and has not reported it
 abbrev pub awaited_row : ℕ → ℕ → ℕ → ℕ → Row
 awaited_row file number node incarnation =
     record { incarnation = incarnation; token = no_token; number = number; outstanding = Some (Hello file number (record { node = node; incarnation = incarnation })) }
 
--- the command to a node that has no answer yet
+-- the outstanding command to a node, if there is one
 abbrev pub outstanding_of : Option Row → Option Message
 outstanding_of None = None
 outstanding_of (Some row) = row.outstanding
 
--- those to nodes 1 to n, by rising node
+-- the outstanding commands to nodes 1 to n, by rising node
 abbrev pub outstanding_to : (ℕ → Option Row) → ℕ → List Message
 outstanding_to rows n = filter_map (λ node. outstanding_of (rows node)) (range_with_len 1 n)
 
--- the node of the row is asked for its token
+-- the outstanding command is a Hello: the node was asked for its token
 abbrev pub is_hello : Option Message → Bool
 is_hello None = false
 is_hello (Some (Hello file number holder)) = true
@@ -47,17 +47,17 @@ abbrev pub is_awaited : Option Row → Bool
 is_awaited None = false
 is_awaited (Some row) = is_hello row.outstanding
 
--- the command is the Grant with that number
+-- the outstanding command is the Grant with that number
 abbrev pub is_grant : ℕ → Option Message → Bool
 is_grant number (Some (Grant file k call mode span)) = k == number
 is_grant number _ = false
 
--- the mode that the command with that number revokes, if it revokes one
+-- the mode that the outstanding command revokes, if it is the Revoke with that number
 abbrev pub revoked_mode : ℕ → Option Message → Option Mode
 revoked_mode number (Some (Revoke file k holder call mode wanted)) = if k == number then Some mode else None
 revoked_mode number _ = None
 
--- the node is asked for its token with that number
+-- the outstanding command is the Hello with that number
 abbrev pub asks_token : ℕ → Option Message → Bool
 asks_token number (Some (Hello file k holder)) = k == number
 asks_token number _ = false
@@ -66,7 +66,7 @@ abbrev pub row_above : ℕ → Option Row → Option Row
 row_above incarnation None = None
 row_above incarnation (Some row) = if nat_le row.incarnation incarnation then None else Some row
 
--- the row is of that incarnation
+-- the row, if it is of that incarnation
 abbrev pub row_of_incarnation : ℕ → Option Row → Option Row
 row_of_incarnation incarnation None = None
 row_of_incarnation incarnation (Some row) = if row.incarnation == incarnation then Some row else None

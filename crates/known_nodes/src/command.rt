@@ -1,4 +1,5 @@
-//! Commands of a token server, as they are kept while they have no answer.
+//! The commands of a token server: grants, revokes and hellos, as the server keeps them while they have no answer. A
+//! function here that gives a `Result` answers `AllocError` where a request for memory was refused.
 ghost use Rattle.std.specs.Prelude.{◌≡◌, ◌≤◌, IfOk, IfSome, Some};
 ghost use Rattle.token_set.specs.Sets.{token_of};
 ghost use Rattle.token_set.specs.Edits.{edited as edited_token};
@@ -20,17 +21,17 @@ use std::marker::Model;
 use token_set::edit::TokenEdit;
 use token_set::set::TokenSet;
 
-/// What a command tells a node.
+/// The order of a command: what the node is to do.
 #[derive(Clone, Copy)]
 pub enum Order {
-    /// The token is raised on the span for the mode.
+    /// Raise the node's token on the span to the level of the mode: grants the call's request.
     Grant {
         number: CommandNumber,
         call: CallId,
         mode: Mode,
         span: Span,
     },
-    /// The node is to give up what the call needs.
+    /// Give up the bytes that the call needs.
     Revoke {
         number: CommandNumber,
         holder: Host,
@@ -38,15 +39,15 @@ pub enum Order {
         mode: Mode,
         wanted: Wanted,
     },
-    /// The node is to tell its token to a server that was rebuilt.
+    /// Report the token that the node has to a server that was rebuilt.
     Hello {
         number: EpochNumber,
         holder: Host,
     },
 }
 
-/// A command of the server of a file, which contracts see as the message that it is. Unlike any message it is
-/// copied without memory.
+/// A command of the server of a file. Contracts see it as the message that is sent. Copying it takes no memory,
+/// unlike copying a message.
 #[derive(Clone, Copy)]
 pub struct Command {
     file: FileNumber,
@@ -70,28 +71,28 @@ impl Model for Command {
 }
 
 impl Command {
-    /// The command of the server of the file that tells a node that.
+    /// The command of the file's server that gives the order.
     pub fn of(file: FileNumber, order: Order) -> Command
         ensures { result ≡ message_of file order }
     {
         Command { file, order }
     }
 
-    /// The message that it is. Takes no memory.
+    /// The command as a message. Takes no memory.
     pub fn message(self) -> Message
         ensures { result ≡ self }
     {
         message_of(self.file, self.order)
     }
 
-    /// Whether it is the Grant with that number.
+    /// Whether the command is the Grant with that number.
     pub fn is_grant(&self, number: u64) -> bool
         ensures { result ≡ is_grant number (Some self.now) }
     {
         matches!(&self.order, Order::Grant { number: own, .. } if own.get() == number)
     }
 
-    /// The mode that it revokes, if it is the Revoke with that number.
+    /// The mode that the command revokes, if it is the Revoke with that number.
     pub fn revoked_mode(&self, number: u64) -> Option<Mode>
         ensures { result ≡ revoked_mode number (Some self.now) }
     {
@@ -105,21 +106,21 @@ impl Command {
         }
     }
 
-    /// Whether it asks a node for its token, with that number.
+    /// Whether the command is the Hello with that number, which asks a node for its token.
     pub fn asks_token(&self, number: u64) -> bool
         ensures { result ≡ asks_token number (Some self.now) }
     {
         matches!(&self.order, Order::Hello { number: own, .. } if own.get() == number)
     }
 
-    /// Whether it asks a node for its token.
+    /// Whether the command is a Hello, which asks a node for its token.
     pub fn is_hello(&self) -> bool
         ensures { result ≡ is_hello (Some self.now) }
     {
         matches!(&self.order, Order::Hello { .. })
     }
 
-    /// What it grants, if that conflicts with the mode.
+    /// The span that the command grants, if it is a Grant and its mode conflicts with this one.
     pub fn granted(&self, mode: Mode) -> Option<Span>
         ensures value { result ≡ bars self.now mode }
         ensures ordered { IfSome result (λ s. s.lo ≤ s.hi) }
@@ -137,10 +138,8 @@ impl Command {
         }
     }
 
-    /// How it changes the token that its node has.
-    ///
-    /// # Errors
-    /// `AllocError` where a request for memory was refused.
+    /// The change that sending the command makes of the token that the server notes for the node: a Grant raises it,
+    /// any other leaves it.
     pub fn promised(&self, token: &TokenSet) -> Result<TokenEdit, AllocError>
         ensures { IfOk result (λ edit. edited_token edit token.now ≡ promised self.now (token_of token.now)) }
     {
@@ -150,10 +149,7 @@ impl Command {
         }
     }
 
-    /// How it changes the token that its node has once that edit is made: both changes in one.
-    ///
-    /// # Errors
-    /// `AllocError` where a request for memory was refused.
+    /// The change of `edit` and then that of sending the command, as one change of the token.
     pub(crate) fn promised_after(
         &self,
         token: &TokenSet,
@@ -168,7 +164,7 @@ impl Command {
     }
 }
 
-// The message of the command of the server of the file that tells a node that.
+// The message of the command of the file's server that gives the order.
 fn message_of(file: FileNumber, order: Order) -> Message
     ensures { result ≡ message_of file order }
 {

@@ -1,4 +1,4 @@
-//! What nodes are given as a token server serves.
+//! The new row of a node, as a server plans it in a step.
 ghost use Rattle.std.specs.Prelude.{◌≡◌, false, Option};
 ghost use Rattle.intervals.specs.Bytes.{whole};
 ghost use Rattle.model.specs.declared.mode.Mode.TheVariants.{Read};
@@ -11,7 +11,7 @@ use crate::known_node::KnownNode;
 use crate::row_edit::RowAfter;
 use crate::token_holder::RowView;
 
-/// What a node at a place (from 0) is given: its row from then on, if it has one then.
+/// The new row of the node at an index, 0 for node 1; `None` where the node has no row any more.
 #[derive(Drop)]
 pub struct Given {
     pub place: usize,
@@ -19,14 +19,14 @@ pub struct Given {
 }
 
 impl Given {
-    /// The row of the node, which was known so before.
+    /// The new row of the node, over the row that the node had.
     pub(crate) fn row_over<'a>(&'a self, known_node: &'a KnownNode) -> Option<RowView<'a>>
         ensures { seen_row result ≡ row_kept self.now.row known_node.now.row }
     {
         self.row.as_ref()?.over(&known_node.row)
     }
 
-    /// Whether its node may have an exclusive byte from then on where it had none.
+    /// Whether the new row may have an exclusive byte where the old row had none.
     pub(crate) fn may_exclude(&self) -> bool
         ensures { result ≡ false → (row : Option TokenHolder) → row_conflicts (row_seen row) whole Read ≡ false → row_conflicts (row_kept self.now.row row) whole Read ≡ false }
     {

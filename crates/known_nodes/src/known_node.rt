@@ -1,4 +1,5 @@
-//! Nodes, as a token server knows them.
+//! A node, as the token server of a file knows it. A function here that gives a `Result` answers `AllocError` where a
+//! request for memory was refused.
 ghost use Rattle.std.specs.Prelude.{◌≡◌, ◌-◌, ◌≤◌, ◌↔◌, ◌||◌, true, IsTrue, IfOk, Some, None};
 ghost use Rattle.std.specs.Option.{option_map};
 ghost use Rattle.intervals.specs.Bytes.{whole};
@@ -27,8 +28,8 @@ use std::alloc::{AllocError, Global};
 use token_set::edit::TokenEdit;
 use token_set::set::TokenSet;
 
-/// A node, as the server of a file knows it: the greatest incarnation known to be dead (0 at first),
-/// and the row of a later one, if that asked.
+/// A node, as the server of a file knows it: the greatest incarnation known to be dead (0 where none is), and the row
+/// of a later incarnation, if that one asked for a token.
 #[derive(Drop)]
 pub struct KnownNode {
     pub dead: u16,
@@ -36,8 +37,7 @@ pub struct KnownNode {
 }
 
 impl KnownNode {
-    /// A node of the cluster, as a server of the file knows it that was rebuilt: if it is alive, it is asked for its
-    /// token.
+    /// A node, as a server that was rebuilt knows it. If the node is alive, its row has an outstanding Hello.
     pub fn rebuilt(
         alloc: Global,
         file: FileNumber,
@@ -62,14 +62,14 @@ impl KnownNode {
         }
     }
 
-    /// Its row, if it has one.
+    /// The row of the node, if it has one.
     pub fn row_view(&self) -> Option<RowView<'_>>
         ensures { seen_row result ≡ row_seen self.now.row }
     {
         Some(self.row.as_ref()?.view())
     }
 
-    /// Whether it is known at once that a change leaves it as it is.
+    /// Whether a quick look says that the change leaves the node as it is. `false` says nothing.
     pub fn stays(&self, change: &NodeChange) -> bool
         ensures row { result ≡ true → row_after change.now (row_seen self.now.row) ≡ row_seen self.now.row }
         ensures dead { result ≡ true → dead_after change.now self.now.dead ≡ self.now.dead }
@@ -82,10 +82,7 @@ impl KnownNode {
         }
     }
 
-    /// Its row once it changes so.
-    ///
-    /// # Errors
-    /// `AllocError` where a request for memory was refused.
+    /// The row of the node after the change, or `None` where it has none then.
     pub fn row_after(
         &self,
         alloc: Global,
@@ -106,7 +103,7 @@ impl KnownNode {
         }
     }
 
-    // Its row, if that is of a later incarnation.
+    // The row, if it is of a later incarnation than this one.
     fn row_above(&self, incarnation: u16) -> Option<RowAfter>
         ensures { row_kept result self.now.row ≡ row_above incarnation (row_seen self.now.row) }
     {
@@ -119,8 +116,8 @@ impl KnownNode {
         }
     }
 
-    // Its row of that incarnation or a later one, or else an empty one of that, of which the commands begin
-    // after the number.
+    // The row, if it is of that incarnation (from 1) or a later one. Else an empty row of that incarnation, whose
+    // commands begin after `begin`.
     fn asking_row(&self, alloc: Global, incarnation: u16, begin: u64) -> RowAfter
         requires { 1 ≤ incarnation }
         ensures { row_kept (Some result) self.now.row ≡ row_or_empty begin incarnation (row_above (incarnation - 1) (row_seen self.now.row)) }
@@ -137,7 +134,7 @@ impl KnownNode {
         }
     }
 
-    // Its row once the command to it is answered, with that token, if there is one.
+    // The row after its command is answered, with that token if there is one.
     fn answered_row(&self, token: Option<TokenSet>) -> Option<RowAfter>
         ensures { row_kept result self.now.row ≡ option_map (answering token) (row_seen self.now.row) }
     {
@@ -149,7 +146,7 @@ impl KnownNode {
         Some(RowAfter::Kept { commands, token })
     }
 
-    // Its row once the command to it is answered and it gave up the span for the mode.
+    // The row after its command is answered by giving up the span for the mode.
     fn relieved_row(&self, span: Span, mode: Mode) -> Result<Option<RowAfter>, AllocError>
         ensures { IfOk result (λ after. row_kept after self.now.row ≡ option_map (relieved span mode) (row_seen self.now.row)) }
     {
@@ -162,10 +159,7 @@ impl KnownNode {
         }))
     }
 
-    /// Its row once it is sent a command, where nothing else changes.
-    ///
-    /// # Errors
-    /// `AllocError` where a request for memory was refused.
+    /// The row after the command is sent: `commands` stand in it, and its token is as the command promises.
     pub(crate) fn promised(
         &self,
         commands: Commands,
@@ -180,10 +174,8 @@ impl KnownNode {
         Ok(Some(RowAfter::Kept { commands, token }))
     }
 
-    /// Its row once it is that, and is sent a command.
-    ///
-    /// # Errors
-    /// `AllocError` where a request for memory was refused.
+    /// The row `after`, and then with the command sent: `commands` stand in it, and its token is as the command
+    /// promises.
     pub(crate) fn promised_after(
         &self,
         after: &Option<RowAfter>,
@@ -198,7 +190,7 @@ impl KnownNode {
         Ok(Some(after.promised(&self.row, commands, command)?))
     }
 
-    /// Its row is that from now on. Takes no memory.
+    /// Makes `after` the row of the node. Takes no memory.
     pub(crate) fn put(&mut self, after: Option<RowAfter>)
         ensures row { row_seen self.new.row ≡ row_kept after self.old.row }
         ensures dead { self.new.dead ≡ self.old.dead }
@@ -209,7 +201,7 @@ impl KnownNode {
         }
     }
 
-    // Its row is that from now on.
+    // Makes `after` the row of the node.
     fn replace(&mut self, after: RowAfter)
         ensures row { row_seen self.new.row ≡ row_with after self.old.row }
         ensures dead { self.new.dead ≡ self.old.dead }
@@ -220,7 +212,7 @@ impl KnownNode {
         }
     }
 
-    // The row, if there is one, has had these commands, and its token changes so.
+    // Puts the commands into the row and changes its token, if there is a row.
     fn change(&mut self, commands: Commands, token: TokenEdit)
         ensures row { row_seen self.new.row ≡ row_with (RowAfter.Kept commands token) self.old.row }
         ensures dead { self.new.dead ≡ self.old.dead }
@@ -231,24 +223,21 @@ impl KnownNode {
         }
     }
 
-    /// The command to it that has no answer yet.
+    /// The outstanding command to the node, if there is one.
     pub fn outstanding(&self) -> Option<Message>
         ensures { result ≡ outstanding_of (row_seen self.now.row) }
     {
         Some(self.row.as_ref()?.commands.outstanding?.message())
     }
 
-    /// Whether a byte of its row's token is exclusive, or that is noted of another.
+    /// Whether `noted`, or a byte of the row's token is exclusive.
     pub fn notes_exclusive(&self, noted: bool) -> bool
         ensures { result ≡ (noted || row_conflicts (row_seen self.now.row) whole Mode.Read) }
     {
         noted || self.row.as_ref().is_some_and(|row| excludes(&row.token))
     }
 
-    /// An equal known node.
-    ///
-    /// # Errors
-    /// `AllocError` where a request for memory was refused.
+    /// A copy, equal to this node.
     pub fn copy(&self) -> Result<KnownNode, AllocError>
         ensures { IfOk result (λ copy. copy ≡ self.now) }
     {
@@ -262,7 +251,7 @@ impl KnownNode {
         })
     }
 
-    /// Whether the same is known of both.
+    /// Whether the server knows the same of both: equal rows and equal dead incarnations.
     pub fn same(&self, other: &KnownNode) -> bool
         ensures { IsTrue result ↔ SameKnown (Some self.now) (Some other.now) }
     {

@@ -1,4 +1,5 @@
-//! The nodes of a cluster, as a token server knows them.
+//! The nodes of a cluster, as the token server of a file knows them. A function here that gives a `Result` answers
+//! `AllocError` where a request for memory was refused.
 ghost use Rattle.std.specs.Prelude.{◌≡◌, ◌≢◌, ℕ, ◌+◌, ◌<◌, ◌≤◌, ◌↔◌, true, length, IsTrue, IfOk, IfSome, OnSome, MatchOption, [], ◌∷◌, ◌++◌, ◌==◌, Some, None};
 ghost use Rattle.std.specs.List.{list_any};
 ghost use Rattle.std.specs.Option.{option_copied};
@@ -30,11 +31,11 @@ use model::host::Host;
 use std::alloc::{AllocError, Global};
 use std::marker::Model;
 
-/// Each node of a cluster, from node 1 on, as the server of a file knows it.
+/// The nodes of a cluster, from node 1 on, as the server of a file knows them.
 #[derive(Drop)]
 pub struct KnownNodes {
     nodes: Vec<KnownNode>,
-    // Whether a row may have an exclusive byte: where none has, no row stands in a reader's way.
+    // Whether a row may have an exclusive byte. Where none has, no row blocks a reader.
     may_exclude: bool,
 }
 
@@ -53,7 +54,7 @@ impl Model for KnownNodes {
     ghost invariant = { λ c. c.may_exclude ≡ false → NoneExclusive (rows_of c.nodes.items) };
 }
 
-// Each of so many nodes, as a server of the file knows them that was rebuilt.
+// Nodes 1 to `nodes`, as a server of the file that was rebuilt knows them.
 fn rebuilt(
     alloc: Global,
     nodes: u8,
@@ -73,7 +74,7 @@ fn rebuilt(
     Ok(known_nodes)
 }
 
-// Whether the same is known of each two.
+// Whether the same is known of each two nodes at equal indexes.
 fn same_each(one: &[KnownNode], other: &[KnownNode]) -> bool
     requires { length one.now ≡ length other.now }
     ensures { IsTrue result ↔ SameKnownNodes one.now other.now }
@@ -87,10 +88,7 @@ fn same_each(one: &[KnownNode], other: &[KnownNode]) -> bool
 }
 
 impl KnownNodes {
-    /// So many nodes of which nothing is known yet.
-    ///
-    /// # Errors
-    /// `AllocError` where a request for memory was refused.
+    /// That many nodes, none of which has a row or a dead incarnation.
     pub fn new(alloc: Global, nodes: u8) -> Result<KnownNodes, AllocError>
         ensures rows { IfOk result (λ known_nodes. rows_of known_nodes ≡ (λ node. None)) }
         ensures deaths { IfOk result (λ known_nodes. deaths_of known_nodes ≡ (λ node. 0)) }
@@ -106,11 +104,8 @@ impl KnownNodes {
         })
     }
 
-    /// The nodes of a cluster, as a server of the file knows them that was rebuilt with that epoch: each that is
-    /// alive is asked for its token.
-    ///
-    /// # Errors
-    /// `AllocError` where a request for memory was refused.
+    /// The nodes of a cluster, as a server of the file that was rebuilt in that epoch knows them. The row of each
+    /// node that is alive has an outstanding Hello.
     pub fn rebuilt(
         alloc: Global,
         shape: Shape,
@@ -131,7 +126,7 @@ impl KnownNodes {
         })
     }
 
-    // A node, if it is one of the cluster.
+    // The node with that number, if the cluster has one.
     fn get(&self, node: u8) -> Option<&KnownNode>
         ensures value { option_copied result ≡ known_node_at self.now node }
         ensures within { OnSome result (IsNumber (length self.now) node) }
@@ -139,7 +134,7 @@ impl KnownNodes {
         self.nodes.get(usize::from(node).checked_sub(1)?)
     }
 
-    // A node of the cluster.
+    // The node with that number, which the cluster has.
     fn at(&self, node: u8) -> &KnownNode
         requires { IsNumber (length self.now) node }
         ensures { known_node_at self.now node ≡ Some result.now }
@@ -147,7 +142,8 @@ impl KnownNodes {
         &self.nodes[usize::from(node) - 1]
     }
 
-    /// The greatest incarnation of a node known to be dead, 0 where none is.
+    /// The greatest incarnation of the node that is known to be dead; 0 where none is, or the cluster has no such
+    /// node.
     pub fn dead(&self, node: u8) -> u16
         ensures { result ≡ deaths_of self.now node }
     {
@@ -157,14 +153,14 @@ impl KnownNodes {
         }
     }
 
-    /// The row of a node.
+    /// The row of the node, if it has one.
     pub fn row(&self, node: u8) -> Option<&TokenHolder>
         ensures { row_seen (option_copied result) ≡ rows_of self.now node }
     {
         self.get(node)?.row.as_ref()
     }
 
-    /// The row of a node, if it is of that incarnation.
+    /// The row of the node, if it is of the host's incarnation.
     pub fn row_of(&self, host: Host) -> Option<&TokenHolder>
         ensures row { row_seen (option_copied result) ≡ row_of_incarnation host.incarnation (rows_of self.now host.node) }
         ensures same { IfSome result (λ row. rows_of self.now host.node ≡ Some (row_state row.now)) }
@@ -175,10 +171,7 @@ impl KnownNodes {
         }
     }
 
-    /// The edit by which the node changes so, if one does. There is none where it stays as it is.
-    ///
-    /// # Errors
-    /// `AllocError` where a request for memory was refused.
+    /// The edit by which the change is made. There is none where nothing changes.
     pub fn edit(
         &self,
         alloc: Global,
@@ -205,7 +198,7 @@ impl KnownNodes {
         }))
     }
 
-    /// The row of a node once the edit is made, if there is one.
+    /// The row of the node after the edit, if it has one then.
     pub fn row_after<'a>(&'a self, edit: &'a Option<RowEdit>, node: u8) -> Option<RowView<'a>>
         ensures row { MatchOption result (rows_overlaid self.now edit.now node ≡ None) (λ row. rows_overlaid self.now edit.now node ≡ Some (seen row)) }
         ensures within { OnSome result (IsNumber (length self.now) node) }
@@ -219,7 +212,7 @@ impl KnownNodes {
         }
     }
 
-    /// Whether it is known at once that no row has an exclusive byte once the edit is made.
+    /// Whether a quick look says that no row has an exclusive byte after the edit. `false` says nothing.
     pub fn excludes_none(&self, edit: &Option<RowEdit>) -> bool
         ensures { result ≡ true → NoneExclusive (rows_overlaid self.now edit.now) }
     {
@@ -232,7 +225,7 @@ impl KnownNodes {
         }
     }
 
-    /// Whether the node is asked for its token, once the edit is made.
+    /// Whether the node was asked for its token and has not answered, after the edit.
     pub fn is_awaited<'a>(&'a self, edit: &'a Option<RowEdit>, node: u8) -> bool
         ensures { result ≡ is_awaited (rows_overlaid self.now edit.now node) }
     {
@@ -242,7 +235,7 @@ impl KnownNodes {
         }
     }
 
-    /// Whether one of the first so many nodes is asked for its token, once the edit is made.
+    /// Whether one of nodes 1 to `nodes` was asked for its token and has not answered, after the edit.
     pub fn awaits(&self, edit: &Option<RowEdit>, nodes: u8) -> bool
         ensures { result ≡ some_passes (λ node. is_awaited (rows_overlaid self.now edit.now node)) 1 nodes }
     {
@@ -254,11 +247,8 @@ impl KnownNodes {
         false
     }
 
-    /// What a node is given by a command that it is sent, once the edit is made: these commands to it, and what the
-    /// command promises, if it has a row then.
-    ///
-    /// # Errors
-    /// `AllocError` where a request for memory was refused.
+    /// The new row of the node (from 1) after the edit and then the command: these commands stand in it, and its
+    /// token is as the command promises. There is none where the node has no row after the edit.
     pub fn given(
         &self,
         edit: &Option<RowEdit>,
@@ -283,8 +273,8 @@ impl KnownNodes {
         Ok(Given { place, row })
     }
 
-    /// The edit is made, if there is one, and if a node stands at its place; a node that is given something has that as
-    /// its row, and of a node the first counts. Takes no memory.
+    /// Makes the new rows, and the edit, if there is one. Where several give a node a row, the first of `given`
+    /// counts, and the edit's last. One at an index without a node changes nothing. Takes no memory.
     pub fn apply(&mut self, edit: Option<RowEdit>, given: Vec<Given>)
         ensures rows { (n : ℕ) → rows_of self.new n ≡ given_rows (given.items ++ given_of edit) self.old n }
         ensures deaths { deaths_of self.new ≡ deaths_overlaid self.old edit }
@@ -300,7 +290,7 @@ impl KnownNodes {
         self.bury(place, dead);
     }
 
-    // The node at the place, if one stands there, is known to be dead up to that incarnation.
+    // Notes for the node at the index, if there is one, that its incarnations up to this one are dead.
     fn bury(&mut self, place: usize, dead: u16)
         ensures rows { rows_of self.new ≡ rows_of self.old }
         ensures deaths { deaths_of self.new ≡ deaths_with place dead self.old }
@@ -311,10 +301,7 @@ impl KnownNodes {
         }
     }
 
-    /// The commands that have no answer yet, by rising node.
-    ///
-    /// # Errors
-    /// `AllocError` where a request for memory was refused.
+    /// The outstanding commands, by rising number of the node.
     pub fn outstanding(&self, alloc: Global) -> Result<Items<Message>, AllocError>
         ensures { IfOk result (λ commands. commands ≡ outstanding_to (rows_of self.now) (length self.now)) }
     {
@@ -327,7 +314,7 @@ impl KnownNodes {
         Ok(commands)
     }
 
-    // What a node is given, from now on.
+    // Makes the new row, if there is a node at its index.
     fn give(&mut self, given: Given)
         ensures rows { rows_of self.new ≡ with_given_row given self.old }
         ensures others { (m : ℕ) → m ≢ given.place + 1 → known_node_at self.new m ≡ known_node_at self.old m }
@@ -341,7 +328,7 @@ impl KnownNodes {
         }
     }
 
-    // What a node is given last, from now on, unless it is given something by the others.
+    // Makes the new row `last`, unless one of `others` is for the same node.
     fn give_last(&mut self, last: Given, others: &[Given])
         ensures rows { (n : ℕ) → given_rows others.now self.new n ≡ given_rows (others.now ++ last ∷ []) self.old n }
         ensures deaths { deaths_of self.new ≡ deaths_of self.old }
@@ -352,7 +339,7 @@ impl KnownNodes {
         }
     }
 
-    // What nodes are given, from now on; of a node the first counts.
+    // Makes the new rows. Of several for one node the first counts.
     fn give_each(&mut self, given: Vec<Given>)
         ensures rows { (n : ℕ) → rows_of self.new n ≡ given_rows given.items self.old n }
         ensures deaths { deaths_of self.new ≡ deaths_of self.old }
@@ -364,10 +351,7 @@ impl KnownNodes {
         }
     }
 
-    /// Equal known nodes.
-    ///
-    /// # Errors
-    /// `AllocError` where a request for memory was refused.
+    /// A copy: the same is known of each node.
     pub fn copy(&self) -> Result<KnownNodes, AllocError>
         ensures { IfOk result (λ copy. copy ≡ self.now) }
     {
@@ -381,7 +365,7 @@ impl KnownNodes {
         })
     }
 
-    /// Whether the same is known of each node, of as many.
+    /// Whether the same is known of each node. Both are of clusters of equal size.
     pub fn same(&self, other: &KnownNodes) -> bool
         requires { length self.now ≡ length other.now }
         ensures { IsTrue result ↔ ((rows_of self.now ≡ rows_of other.now) × (deaths_of self.now ≡ deaths_of other.now)) }
@@ -390,7 +374,7 @@ impl KnownNodes {
     }
 }
 
-// Whether one of them is of the node at that place.
+// Whether one of the new rows is for the node at that index.
 fn has_place(given: &[Given], place: usize) -> bool
     ensures { result ≡ list_any (λ g. g.place == place) given.now }
 {

@@ -1,4 +1,6 @@
-//! The nodes of a cluster, as the token server of a file knows them.
+//! What the token server of a file knows of each node: the row with its incarnation, its token and its outstanding
+//! command. It knows nothing of the queue of requests, of when a command is sent, of files of the operating system or
+//! of printed text.
 #![tactic(auto)]
 
 pub mod command;

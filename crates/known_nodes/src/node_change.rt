@@ -1,4 +1,4 @@
-//! How an event changes what a token server knows of a node.
+//! The change that an event makes of what a token server knows of one node.
 ghost use Rattle.std.specs.Prelude.{◌≡◌};
 ghost use Rattle.known_nodes.specs.Changes.{dropped_to, dead_after, may_bar};
 
@@ -7,23 +7,23 @@ use messages::token_run::TokenRuns;
 use model::host::Host;
 use model::mode::Mode;
 
-/// How an event changes what the server knows of a node.
+/// The change that an event makes of what a server knows of one node.
 #[derive(Drop)]
 pub enum NodeChange {
-    /// Its incarnations up to this one are known to be dead.
+    /// An incarnation is known to be dead, and so are those before it.
     Forgotten { incarnation: u16 },
-    /// It asks in this incarnation: those before it are known to be dead, and it has a row, in a new one of
-    /// which its commands begin after that number.
+    /// The node asks in the host's incarnation. Incarnations before it are known to be dead. A new row begins its
+    /// commands after `begin`.
     Asked { host: Host, begin: u64 },
-    /// The command to it is answered.
+    /// The node answered its command; its token stays.
     Answered,
-    /// The command to it is answered: it gave up the span for the mode.
+    /// The node answered its command by giving up the span for the mode.
     Relieved { span: Span, mode: Mode },
-    /// The command to it is answered: it told its token, which has these runs.
+    /// The node answered its Hello: it reported its token, as these runs.
     Reported { runs: TokenRuns },
 }
 
-/// A node of which the server knows something else, and how.
+/// The change of one node, by its number.
 #[derive(Drop)]
 pub struct Changed {
     pub node: u8,
@@ -31,7 +31,7 @@ pub struct Changed {
 }
 
 impl NodeChange {
-    /// The incarnation up to which requests of the node are dropped, if any are.
+    /// The incarnation up to which the change drops the node's requests, if it drops any.
     pub fn dropped_to(&self) -> Option<u16>
         ensures { result ≡ dropped_to self.now }
     {
@@ -43,7 +43,7 @@ impl NodeChange {
         }
     }
 
-    /// The greatest incarnation of the node known to be dead, where it was this one before.
+    /// The greatest dead incarnation of the node after the change, where it was `dead` before.
     pub fn dead_after(&self, dead: u16) -> u16
         ensures { result ≡ dead_after self.now dead }
     {
@@ -53,7 +53,7 @@ impl NodeChange {
         }
     }
 
-    /// Whether its row may come to stand in the way of a request for which it did not.
+    /// Whether the change may make the node's row block a request that it did not block before.
     pub fn may_bar(&self) -> bool
         ensures { result ≡ may_bar self.now }
     {

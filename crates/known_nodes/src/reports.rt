@@ -1,4 +1,4 @@
-//! Tokens that nodes tell a token server that was rebuilt.
+//! Tokens that nodes report to a token server that was rebuilt.
 ghost use Rattle.std.specs.Prelude.{◌≡◌, IfOk};
 ghost use Rattle.token_set.specs.Sets.{token_of};
 ghost use Rattle.messages.specs.Reports.{reported};
@@ -10,7 +10,7 @@ use model::mode::Mode;
 use std::alloc::{AllocError, Global};
 use token_set::set::TokenSet;
 
-// The mode that a byte at the level is granted for.
+// The mode that a byte at the level is granted for: `Read` at shared, `Write` at exclusive.
 fn mode_of(level: Level) -> Mode
     ensures { result ≡ mode_of level }
 {
@@ -20,7 +20,7 @@ fn mode_of(level: Level) -> Mode
     }
 }
 
-/// The token with these runs.
+/// The token that consists of these runs.
 ///
 /// # Errors
 /// `AllocError` where a request for memory was refused.

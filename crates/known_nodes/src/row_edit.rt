@@ -1,4 +1,4 @@
-//! Nodes as a token server will know them once a planned step is made.
+//! Rows as they will stand after a planned step of a token server.
 ghost use Rattle.std.specs.Prelude.{◌≡◌, false, Option, IfOk};
 ghost use Rattle.intervals.specs.Bytes.{whole};
 ghost use Rattle.model.specs.declared.mode.Mode.TheVariants.{Read};
@@ -14,19 +14,19 @@ use crate::token_holder::{RowView, TokenHolder, excludes};
 use std::alloc::AllocError;
 use token_set::edit::TokenEdit;
 
-/// A row from now on.
+/// A row as it will stand after a planned step.
 #[derive(Drop)]
 pub enum RowAfter {
-    /// The row that the node has, if it has one: the commands to it from now on, and how its token changes.
+    /// The row that the node has, if it has one, with these commands and with its token changed so.
     Kept {
         commands: Commands,
         token: TokenEdit,
     },
-    /// This row stands in its place.
+    /// This row, in place of the one that the node has.
     New(TokenHolder),
 }
 
-/// What a node is from now on: its row, if it has one, and up to which incarnation it is known to be dead.
+/// The edit of one node: its new row, and its greatest dead incarnation.
 #[derive(Drop)]
 pub struct RowEdit {
     pub given: Given,
@@ -34,7 +34,7 @@ pub struct RowEdit {
 }
 
 impl RowAfter {
-    /// The row, where the node had that one before.
+    /// The row as it will stand, where the node has `row` now.
     pub(crate) fn over<'a>(&'a self, row: &'a Option<TokenHolder>) -> Option<RowView<'a>>
         ensures { seen_row result ≡ row_with self.now row.now }
     {
@@ -50,7 +50,7 @@ impl RowAfter {
         }
     }
 
-    /// Whether the node may have an exclusive byte from now on where it had none.
+    /// Whether the row may have an exclusive byte where the node's row had none.
     pub(crate) fn may_exclude(&self) -> bool
         ensures { result ≡ false → (row : Option TokenHolder) → row_conflicts (row_seen row) whole Read ≡ false → row_conflicts (row_with self.now row) whole Read ≡ false }
     {
@@ -60,7 +60,8 @@ impl RowAfter {
         }
     }
 
-    /// The row once the node is also sent a command, where it had that one before.
+    /// The row as it will stand after the command is sent too, where the node has `row` now: `commands` stand in it,
+    /// and its token is as the command promises.
     ///
     /// # Errors
     /// `AllocError` where a request for memory was refused.

@@ -1,4 +1,4 @@
-//! Rows of a token server.
+//! The row of a node at a token server.
 ghost use Rattle.std.specs.Prelude.{◌≡◌, ◌↔◌, IsTrue, IfOk};
 ghost use Rattle.intervals.specs.Bytes.{whole};
 ghost use Rattle.token_set.specs.Tokens.{conflicts};
@@ -13,14 +13,14 @@ use std::alloc::AllocError;
 use token_set::set::TokenSet;
 use token_set::view::TokenView;
 
-/// What a server keeps of a node that asked: the commands to it, and its token.
+/// The row of a node that asked for a token: the commands to the node, and the token that the server notes for it.
 #[derive(Drop)]
 pub struct TokenHolder {
     pub commands: Commands,
     pub token: TokenSet,
 }
 
-/// A row that is read, as it is or as it will be once a planned step is made.
+/// A row to be read, as it stands or as it will stand after a planned step.
 #[derive(Clone, Copy)]
 pub struct RowView<'a> {
     pub commands: &'a Commands,
@@ -39,7 +39,7 @@ pub fn excludes(token: &TokenSet) -> bool
 }
 
 impl TokenHolder {
-    /// The row as it is.
+    /// The row as it stands.
     pub(crate) fn view(&self) -> RowView<'_>
         ensures { seen result ≡ row_state self.now }
     {
@@ -49,7 +49,7 @@ impl TokenHolder {
         }
     }
 
-    /// An equal row.
+    /// A copy, equal to this row.
     ///
     /// # Errors
     /// `AllocError` where a request for memory was refused.
@@ -62,7 +62,7 @@ impl TokenHolder {
         })
     }
 
-    /// Whether both are the same row.
+    /// Whether both rows are equal: commands, and level of each byte.
     pub fn same(&self, other: &TokenHolder) -> bool
         ensures { IsTrue result ↔ SameRow self.now other.now }
     {

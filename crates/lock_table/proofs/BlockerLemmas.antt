@@ -1,4 +1,4 @@
--- Locks that block, and locks that are put together from those of rows.
+-- Locks that block, and what is lowest in the way in the locks of several rows together.
 use Rattle.std.proofs.Common.{◌≡◌, ◌≢◌, ℕ, ◌+◌, ◌-◌, ◌<◌, ◌≤◌, ◌⊎◌, true, false, ◌&&◌, eqb, eq-eqb, max, length, get_or, take, List, [], ◌∷◌, ◌++◌, Option, Some, None, IfSome, IsSomeAnd, MatchOption, refl, ap, sym, ◌∙◌, subst, inl, inr, arith}
 use Rattle.std.specs.List.{All}
 use Rattle.std.specs.declared.cmp.Ordering.TheVariants.{Less, Greater}
@@ -22,7 +22,7 @@ use Rattle.lock_table.proofs.Orders.{owners_total, owner_equal, owner_not_greate
 use Rattle.lock_table.proofs.RowLemmas.{is_of, is_of_less}
 use Rattle.lock_table.proofs.FileRows.{rows-take}
 
--- a row's own locks
+-- the locks of a row, for its own owner
 pub locks_own : (r : OwnerLocks) → locks_of r r.owner ≡ value_at r.spans
 locks_own r = let itself : ((eqb r.file r.file) && same_owner r.owner r.owner) ≡ true = and_from (eqb r.file r.file) (same_owner r.owner r.owner) (eq-eqb r.file r.file refl) (owner_refl r.owner) in rw itself refl
 
@@ -35,7 +35,7 @@ nothing_region s m run = let e = run.all s.lo (omega arith) run.ordered in absur
 differ_from : (a b : Owner) → a ≢ b → same_owner a b ≡ false
 differ_from a b differ = elim (cases_Bool (same_owner a b)) [ inl same ↦ absurd (differ (owner_exact a b same)) | inr other ↦ other ]
 
--- a region of a row is of its owner, and a region of its bytes
+-- a region of a row's locks is of the row's owner, and a run of its bytes
 pub region_own : (r : OwnerLocks) (x : LockInfo) → IsRegion (locks_of r) x → (x.owner ≡ r.owner) × IsRun (value_at r.spans) x.span x.mode
 region_own r x region = elim (cases_Bool (same_owner r.owner x.owner)) [
   | inl same ↦
@@ -50,7 +50,7 @@ own_region r x e run =
     let here : IsRun (locks_of r r.owner) x.span x.mode = subst (λ (f : ℕ → Option Mode). IsRun f x.span x.mode) (sym (locks_own r)) run in
     subst (λ (o : Owner). IsRun (locks_of r o) x.span x.mode) (sym e) here
 
--- a byte is barred where its mode excludes
+-- a byte is barred if its mode excludes the mode that is asked for
 pub barred_from : (f : ℕ → Option Mode) (b : ℕ) (mode m : Mode) → f b ≡ Some m → excludes m mode ≡ true → IsBarred f (bar_of mode) b
 barred_from f b Read Read e h = absurd (false≢true h)
 barred_from f b Read Write e h = e
@@ -77,7 +77,7 @@ same_region h a b p q owners los =
     let same = runs_are_one (h b.owner) a.span b.span a.mode b.mode a.span.lo r q (omega arith, r.ordered) (omega (arith, los), omega (arith, los, q.ordered)) in
     lock_one a b owners same.1 same.0
 
--- each of two locks that come before or are the other is the other
+-- two locks that are both the lowest that blocks are equal
 pub lowest_one : (h : FileLocks) (owner : Owner) (s : Range) (mode : Mode) (a b : LockInfo) → IsLowestBlocker h owner s mode a → IsLowestBlocker h owner s mode b → a ≡ b
 lowest_one h owner s mode a b p q = elim (p.lowest b q.blocks) [
   | inl less ↦ elim (q.lowest a p.blocks) [ inl more ↦ absurd (omega arith) | inr same ↦ absurd (omega (arith, same.0)) ]
@@ -90,14 +90,14 @@ lowest_one h owner s mode a b p q = elim (p.lowest b q.blocks) [
   ]
 ]
 
--- to come before or be the other is an order
+-- `IsNotAfter` is transitive
 pub not_after_trans : (a b c : LockInfo) → IsNotAfter a b → IsNotAfter b c → IsNotAfter a c
 not_after_trans a b c (inl p) (inl q) = inl (omega arith)
 not_after_trans a b c (inl p) (inr q) = inl (omega (arith, q.0))
 not_after_trans a b c (inr p) (inl q) = inl (omega (arith, p.0))
 not_after_trans a b c (inr p) (inr q) = inr (p.0 ∙ q.0, not_greater_trans owner_cmp owners_total a.owner b.owner c.owner p.1 q.1)
 
--- each owner has in k what it has in g, or what it has in h, and nothing in the other
+-- in k each owner has what it has in g, or what it has in h, and it has nothing in the other one
 abbrev pub IsJoin : FileLocks → FileLocks → FileLocks → Type 0
 IsJoin g h k = (o : Owner) → ((k o ≡ g o) × (h o ≡ nothing)) ⊎ ((k o ≡ h o) × (g o ≡ nothing))
 
@@ -123,7 +123,7 @@ module _ (g h k : FileLocks) (join : IsJoin g h k) where
     | inr e ↦ inr (moved (k x.owner) (h x.owner) x.span x.mode e.0 region)
   ]
 
-  -- no owner has regions in both
+  -- no owner has regions in both g and h
   pub owners_apart : (x y : LockInfo) → IsRegion g x → IsRegion h y → same_owner x.owner y.owner ≡ false
   owners_apart x y p q = differ_from x.owner y.owner (λ same. elim (join x.owner) [
     | inl e ↦ nothing_region y.span y.mode (moved (h y.owner) nothing y.span y.mode (ap h (sym same) ∙ e.1) q)
@@ -145,7 +145,7 @@ module _ (g h k : FileLocks) (join : IsJoin g h k) (out : Option Owner) (s : Ran
   after e None z y order p first asked region way = absurd (clear_way e out s mode y order p.answer asked region way)
   after e (Some x) z y order p first asked region way = not_after_trans z x y first (p.answer.lowest y (record { asked = asked; region = region }) way)
 
-  -- the lower of two that are the lowest in the way is so where both are joined
+  -- the lower one of the lowest in the way in g and in h is the lowest in both joined
   pub lowest_join : (a b c : Option LockInfo) → IsLowestBut g out s mode a → IsLowestBut h out s mode b → ((c ≡ a) ⊎ (c ≡ b)) → IfSome a (λ x. IsSomeAnd c (λ z. IsNotAfter z x)) → IfSome b (λ x. IsSomeAnd c (λ z. IsNotAfter z x)) → IsLowestBut k out s mode c
   lowest_join None None None p q either first second = record {
     answer = λ other byte asked lo hi. elim (join other) [
@@ -176,11 +176,11 @@ module _ (g h k : FileLocks) (join : IsJoin g h k) (out : Option Owner) (s : Ran
         ordered = λ some. order;
       }
 
--- with no locks none is in the way
+-- without locks none is in the way
 pub lowest_none : (out : Option Owner) (s : Range) (mode : Mode) → IsLowestBut (λ o. nothing) out s mode None
 lowest_none out s mode = record { answer = λ other byte asked lo hi. refl; ordered = λ some. absurd cc }
 
--- who is not left out is asked, and only they
+-- the owners that count are the ones that aren't left out
 pub asked_from : (out : Option Owner) (o : Owner) → (out ≡ Some o → ⊥) → IsAsked out o
 asked_from None o differ = tt
 asked_from (Some w) o differ = λ same. differ (ap Some (sym same))
@@ -189,7 +189,7 @@ not_asked : (out : Option Owner) (o : Owner) → out ≡ Some o → IsAsked out 
 not_asked None o is asked = absurd cc
 not_asked (Some w) o is asked = asked (let same : o ≡ w = cc in same)
 
--- a row has at each byte what it holds there, and nothing for other owners
+-- a span is clear in a row's locks if the row holds no byte of it that bars the mode
 row_clear : (r : OwnerLocks) (out : Option Owner) (s : Range) (mode : Mode) → ((b : ℕ) → IsAsked out r.owner → s.lo ≤ b → b ≤ s.hi → bars mode (value_at r.spans b) ≡ false) → IsClearBut (locks_of r) out s mode
 row_clear r out s mode clear other byte asked lo hi = elim (cases_Bool (same_owner r.owner other)) [
   | inl same ↦
@@ -198,7 +198,7 @@ row_clear r out s mode clear other byte asked lo hi = elim (cases_Bool (same_own
   | inr apart ↦ rw (ap (λ (f : ℕ → Option Mode). f byte) (locks_other r other apart)) refl
 ]
 
--- the row of the owner that is left out
+-- a row of the owner that is left out has no lock in the way
 pub lowest_out : (r : OwnerLocks) (out : Option Owner) (s : Range) (mode : Mode) → out ≡ Some r.owner → IsLowestBut (locks_of r) out s mode None
 lowest_out r out s mode is = record { answer = row_clear r out s mode (λ b asked lo hi. absurd (not_asked out r.owner is asked)); ordered = λ some. absurd cc }
 
@@ -213,7 +213,7 @@ module _ (r : OwnerLocks) (out : Option Owner) (s : Range) (mode : Mode) (asked 
   row_free : NoneIn (IsBarred (value_at r.spans) (bar_of mode)) s → IsClearBut (locks_of r) out s mode
   row_free none = row_passed r out s mode (λ b m lo hi is barred. none b lo hi barred)
 
-  -- no region in the way begins before the one that has the first barred byte
+  -- no region in the way begins before the one with the first barred byte
   none_lower : (x y : LockInfo) → IsFirstRegion r s (bar_of mode) x → IsRegion (locks_of r) y → IsInWay s mode y → x.span.lo ≤ y.span.lo
   none_lower x y is_first region way =
       let f = value_at r.spans in
@@ -268,7 +268,7 @@ module _ (r : OwnerLocks) (out : Option Owner) (s : Range) (mode : Mode) (asked 
         | inr ge ↦ inr (omega arith, rw same (owner_not_greater y.owner))
       ]
 
-  -- what is in the way in one row
+  -- the region with the first barred byte is the lowest in the way in its row
   pub row_lowest_but : (found : Option LockInfo) → MatchOption found (NoneIn (IsBarred (value_at r.spans) (bar_of mode)) s) (IsFirstRegion r s (bar_of mode)) → IsLowestBut (locks_of r) out s mode found
   row_lowest_but None none = record { answer = row_free none; ordered = λ some. absurd cc }
   row_lowest_but (Some x) is_first =
@@ -276,7 +276,7 @@ module _ (r : OwnerLocks) (out : Option Owner) (s : Range) (mode : Mode) (asked 
       let below = is_first.first.below in
       record { answer = row_lowest x is_first; ordered = λ some. omega arith }
 
--- a last row of another owner than asked
+-- a last row of another place doesn't change what the rows hold
 other_held : (l : List OwnerLocks) (r : OwnerLocks) (f : ℕ) (o : Owner) → is_of r f o ≡ false → rows_held (l ++ r ∷ []) f o ≡ rows_held l f o
 unfolding rows_held
 other_held [] r f o differ = rw differ refl
@@ -286,7 +286,7 @@ all_after_last : (f : ℕ) (o : Owner) (l : List OwnerLocks) (r : OwnerLocks) �
 all_after_last f o [] r h = h.0
 all_after_last f o (s ∷ l) r h = all_after_last f o l r h.1
 
--- the last row has the locks of its place, and those before it none
+-- the last row has the locks of its place, and the rows before it have none there
 last_held : (l : List OwnerLocks) (r : OwnerLocks) → AreRows (l ++ r ∷ []) → (rows_held (l ++ r ∷ []) r.file r.owner ≡ value_at r.spans) × (rows_held l r.file r.owner ≡ nothing)
 unfolding rows_held
 last_held [] r rows = let itself : is_of r r.file r.owner ≡ true = and_from (eqb r.file r.file) (same_owner r.owner r.owner) (eq-eqb r.file r.file refl) (owner_refl r.owner) in (rw itself refl, refl)
@@ -305,7 +305,7 @@ rows_join l r f rows file o = elim (cases_Bool (same_owner r.owner o)) [
   | inr differ ↦ inl (other_held l r f o (and_right (eqb r.file f) (same_owner r.owner o) differ), locks_other r o differ)
 ]
 
--- one row more of a file's rows
+-- the rows of a file, with one more row, hold both together
 pub rows_step : (l : List OwnerLocks) (i : ℕ) (r : OwnerLocks) (f : ℕ) → AreRows l → All (λ (s : OwnerLocks). s.file ≡ f) l → i < length l → r ≡ get_or l i r → IsJoin (rows_held (take i l) f) (locks_of r) (rows_held (take (i + 1) l) f)
 rows_step l i r f rows files lt is =
     let next : take (i + 1) l ≡ take i l ++ r ∷ [] = take_more l i r lt ∙ rw (← is) refl in
@@ -317,11 +317,11 @@ not_after-itself : (a : Option LockInfo) → IfSome a (λ x. IsSomeAnd a (λ z. 
 not_after-itself None = tt
 not_after-itself (Some x) = inr (refl, owner_not_greater x.owner)
 
--- the lowest in the way is so with a row more that has none
+-- a row without a lock in the way doesn't change which is the lowest
 pub lowest_past : (g h k : FileLocks) → IsJoin g h k → (out : Option Owner) (s : Range) (mode : Mode) (a : Option LockInfo) → IsLowestBut g out s mode a → IsClearBut h out s mode → IsLowestBut k out s mode a
 lowest_past g h k join out s mode a p clear = lowest_join g h k join out s mode a None a p (record { answer = clear; ordered = λ some. absurd cc }) (inl refl) (not_after-itself a) tt
 
--- what is the lowest in the way of all but an owner's blocks that owner
+-- the lowest in the way when an owner is left out is the lowest that blocks this owner
 pub blocker_from : (h : FileLocks) (owner : Owner) (s : Range) (mode : Mode) (a : Option LockInfo) → IsLowestBut h (Some owner) s mode a → MatchOption a (IsFree h owner s mode) (IsLowestBlocker h owner s mode)
 blocker_from h owner s mode None low = low.answer
 blocker_from h owner s mode (Some x) low =
@@ -331,7 +331,7 @@ blocker_from h owner s mode (Some x) low =
       lowest = λ y blocks. its.lowest y (record { asked = blocks.is_other; region = blocks.region }) (record { conflicts = blocks.conflicts; starts = blocks.starts; ends = blocks.ends });
     }
 
--- with no owner left out it is the lowest of all
+-- the lowest in the way when no owner is left out is the lowest of all
 pub in_way_from : (h : FileLocks) (s : Range) (mode : Mode) (a : Option LockInfo) → IsLowestBut h None s mode a → MatchOption a (IsClear h s mode) (IsLowestInWay (IsRegion h) s mode)
 in_way_from h s mode None low = λ o b lo hi. low.answer o b tt lo hi
 in_way_from h s mode (Some x) low =

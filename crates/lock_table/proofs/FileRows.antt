@@ -10,7 +10,7 @@ use Rattle.model.specs.Owners.{same_owner}
 use Rattle.lock_table.specs.declared.owner_locks.OwnerLocks.{OwnerLocks}
 use Rattle.lock_table.specs.Rows.{rows_held, row_cmp, AllAfter, AreRows}
 
--- a row after a place is not of a lower file
+-- a row behind a place is of the same file or of a later one
 after_file : (r : OwnerLocks) (f : ℕ) (o : Owner) → row_cmp r f o ≡ Greater → f ≤ r.file
 after_file r f o h = elim (cases_lt r.file f) [
   | inl lt ↦ let less : row_cmp r f o ≡ Less = rw (lt-ltb r.file f lt) refl in absurd cc
@@ -34,7 +34,7 @@ files_rise (r ∷ rest) rows zero (suc j) d le lt = file_after rest j rows.1 (om
 files_rise (r ∷ rest) rows (suc i) zero d le lt = absurd (omega arith)
 files_rise (r ∷ rest) rows (suc i) (suc j) d le lt = files_rise rest rows.2 i j d (omega arith) (omega arith)
 
--- rows at the front or the end alone
+-- the first or the last ones of rows that stand behind a place stand behind it
 all_after-take : (l : List OwnerLocks) (n : ℕ) (f : ℕ) (o : Owner) → AllAfter f o l → AllAfter f o (take n l)
 all_after-take [] zero f o h = tt
 all_after-take [] (suc n) f o h = tt
@@ -74,7 +74,7 @@ held-take (r ∷ rest) zero f o above =
     held-take rest zero f o (λ k d low lt. above (suc k) d (omega arith) (omega arith)) ∙ sym (held_other r rest f o (λ e. absurd (omega arith)))
 held-take (r ∷ rest) (suc n) f o above = rw (held-take rest n f o (λ k d low lt. above (suc k) d (omega arith) (omega arith))) refl
 
--- the rows between the first that is not of a lower file and the first of a higher one
+-- the rows of file f: the ones from the first that isn't of a lower file to the first of a higher one
 module _ (l : List OwnerLocks) (f start end : ℕ) (rows : AreRows l) (within : end ≤ length l) (below : AllWithin (λ (r : OwnerLocks). ltb r.file f ≡ true) l 0 start) (from : AllWithin (λ (r : OwnerLocks). ltb r.file f ≡ false) l start (length l)) (to : AllWithin (λ (r : OwnerLocks). leb r.file f ≡ true) l 0 end) (above : AllWithin (λ (r : OwnerLocks). leb r.file f ≡ false) l end (length l)) where
   pub part_order : start ≤ length l → start ≤ end
   part_order le = elim (cases_lt end start) [

@@ -1,4 +1,4 @@
--- What sets of flags keep.
+-- What additions to sets of flags keep.
 use Rattle.std.proofs.Common.{◌≡◌, ℕ, zero, suc, ◌+◌, ◌*◌, ◌/◌, ◌%◌, ◌^◌, ◌<◌, length, get_or, set, List, [], ◌∷◌, refl, ◌∙◌, inl, inr, arith}
 use Rattle.std.specs.Prelude.{bit_or}
 use Rattle.std.specs.Int.{bit_at, w64}
@@ -22,7 +22,7 @@ four_zeros (suc (suc zero)) = refl
 four_zeros (suc (suc (suc zero))) = refl
 four_zeros (suc (suc (suc (suc q)))) = refl
 
--- a set with each bit has each flag
+-- a set of all bits has each flag
 pub has_all : (k : ℕ) → k < 256 → HasFlag (record { words = 18446744073709551615 ∷ 18446744073709551615 ∷ 18446744073709551615 ∷ 18446744073709551615 ∷ [] }) k
 has_all k lt = record { set = rw (four_words 18446744073709551615 (k / 64) (omega arith)) (bit_at_ones 64 (k % 64) (omega arith)) }
 
@@ -33,7 +33,7 @@ has_none s k none h =
     let set = h.set in
     omega (arith, zero_word, set)
 
--- a set with no bit has no flag
+-- a set of no bits has no flag
 pub has_nothing : (k : ℕ) → HasFlag (record { words = 0 ∷ 0 ∷ 0 ∷ 0 ∷ [] }) k → ⊥
 has_nothing k h = has_none (record { words = 0 ∷ 0 ∷ 0 ∷ 0 ∷ [] }) k (four_zeros (k / 64)) h
 
@@ -43,7 +43,7 @@ or_left a v k h = let below = bit_at-lt v k in bit_at_or a v k ∙ omega (arith,
 or_right : (a v k : ℕ) → bit_at v k ≡ 1 → bit_at (bit_or a v) k ≡ 1
 or_right a v k h = let below = bit_at-lt a k in bit_at_or a v k ∙ omega (arith, h, below)
 
--- flags that are put in leave the others
+-- flags that are added leave the other ones
 word_kept : (w : List ℕ) (i q k v : ℕ) → bit_at (get_or w q 0) k ≡ 1 → bit_at (get_or (set w i (bit_or (get_or w i 0) v)) q 0) k ≡ 1
 word_kept [] zero q k v h = h
 word_kept [] (suc i) q k v h = h
@@ -55,17 +55,17 @@ word_kept (x ∷ w) (suc i) (suc q) k v h = word_kept w i q k v h
 pub has-kept : (w : List ℕ) (i v k : ℕ) → HasFlag (record { words = w }) k → HasFlag (record { words = set w i (bit_or (get_or w i 0) v) }) k
 has-kept w i v k h = record { set = word_kept w i (k / 64) (k % 64) v h.set }
 
--- the flags of the word that is put in
+-- a word that is joined adds its flags
 has-joined : (w u : List ℕ) (i k : ℕ) → i < length w → k / 64 ≡ i → HasFlag (record { words = u }) k → HasFlag (record { words = set w i (bit_or (get_or w i 0) (get_or u i 0)) }) k
 has-joined w u i k lt here h =
     let flag : bit_at (get_or u i 0) (k % 64) ≡ 1 = rw (← here) h.set in
     record { set = rw (here, get_or-set_same w i (bit_or (get_or w i 0) (get_or u i 0)) 0 lt) (or_right (get_or w i 0) (get_or u i 0) (k % 64) flag) }
 
--- the flag that is put in
+-- a flag that is added is in the set
 pub has-added : (w : List ℕ) (k : ℕ) → k / 64 < length w → HasFlag (record { words = set w (k / 64) (bit_or (get_or w (k / 64) 0) (1 * 2 ^ (k % 64) % 2 ^ 64)) }) k
 has-added w k lt = record { set = rw (get_or-set_same w (k / 64) (bit_or (get_or w (k / 64) 0) (1 * 2 ^ (k % 64) % 2 ^ 64)) 0 lt) (bit_at_set_same w64 (get_or w (k / 64) 0) (k % 64) (omega arith)) }
 
--- a word more
+-- the flags of one more word are joined
 pub has-more : (w u : List ℕ) (i : ℕ) → i < length w → ((k : ℕ) → k / 64 < i → HasFlag (record { words = u }) k → HasFlag (record { words = w }) k) → (k : ℕ) → k / 64 < i + 1 → HasFlag (record { words = u }) k → HasFlag (record { words = set w i (bit_or (get_or w i 0) (get_or u i 0)) }) k
 has-more w u i lt before k more h = elim (cases_order (k / 64) i) [
   | inl same ↦ has-joined w u i k lt same h

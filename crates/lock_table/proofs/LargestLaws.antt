@@ -1,10 +1,10 @@
--- The largest span that has no byte of a kind.
+-- The largest span without a byte of some kind.
 use Rattle.std.specs.Prelude.{◌≡◌, ℕ, ◌≤◌, ◌⊎◌}
 use Rattle.std.proofs.Common.{inl, inr, arith}
 use Rattle.std.proofs.lemmas.Bool.{cases_lt}
 use Rattle.intervals.specs.Bytes.{Range, NoneIn, IsLargest}
 
--- the bytes of one kind are of the other
+-- two kinds of the same bytes have the same largest span
 pub IsLargest-iff : (P Q : ℕ → Type 0) (required within s : Range) → ((b : ℕ) → P b → Q b) → ((b : ℕ) → Q b → P b) → IsLargest P required within s → IsLargest Q required within s
 IsLargest-iff P Q required within s to from l = record {
   has_first = l.has_first;
@@ -16,7 +16,7 @@ IsLargest-iff P Q required within s to from l = record {
   full_above = λ lt. to _ (l.full_above lt);
 }
 
--- the largest span for two kinds: that for one of them, within the largest for the other
+-- the largest span for two kinds is the one for the second kind within the one for the first
 pub IsLargest-or : (P Q : ℕ → Type 0) (required within s t : Range) → required.lo ≤ required.hi → IsLargest P required within s → IsLargest Q required s t → IsLargest (λ b. P b ⊎ Q b) required within t
 IsLargest-or P Q required within s t order l m = record {
   has_first = m.has_first;
@@ -37,7 +37,7 @@ IsLargest-or P Q required within s t order l m = record {
   ];
 }
 
--- without a byte of the kind it is as large as it may be
+-- the largest span is the whole one if no byte of it is of the kind
 pub IsLargest-whole : (P : ℕ → Type 0) (required within : Range) → within.lo ≤ required.lo → required.hi ≤ within.hi → NoneIn P within → IsLargest P required within within
 IsLargest-whole P required within starts ends free = record {
   has_first = starts;

@@ -1,4 +1,4 @@
--- Lists of regions.
+-- Lists of the regions of a file.
 use Rattle.std.proofs.Common.{◌≡◌, ◌≢◌, ℕ, zero, suc, ◌+◌, ◌-◌, ◌<◌, ◌≤◌, true, false, eqb, eq-eqb, ne_eqb, length, get_or, List, [], ◌∷◌, ◌++◌, Some, None, refl, ap, sym, ◌∙◌, subst, inl, inr, arith, append_assoc}
 use Rattle.std.specs.List.{All, AllByRecursion, Contains, IsDistinct}
 use Rattle.std.specs.List.Sorted.{IsPermutation, IsSortedBy}
@@ -27,7 +27,7 @@ use Rattle.model.proofs.OwnerLaws.{owner_exact, owner_refl}
 use Rattle.lock_table.proofs.Orders.{owners_total, owner_equal, nat_cmp_less, nat_cmp_equal, then_less, then_equal, back_less}
 use Rattle.lock_table.proofs.BlockerLemmas.{IsJoin, region_left, region_right, region_cases, owners_apart, region_own, own_region, lock_one}
 
--- the order of locks
+-- the order of locks is total
 pub locks_total : IsTotalOrder lock_cmp
 locks_total = then_total (on_total (λ (x : LockInfo). x.span.lo) nat_cmp_total) (on_total (λ (x : LockInfo). x.owner) owners_total)
 
@@ -58,7 +58,7 @@ same_start_comm a b = elim (cases_Bool (same_start a b)) [
   ]
 ]
 
--- each is distinct from each later one
+-- two different places of a list of distinct regions have different ones
 distinct_at : (l : List LockInfo) (i j : ℕ) (d : LockInfo) → IsDistinct same_start l → i < j → j < length l → same_start (get_or l i d) (get_or l j d) ≡ false
 unfolding IsDistinct
 distinct_at [] i j d h lt within = absurd (omega arith)
@@ -80,7 +80,7 @@ distinct-nil : IsDistinct same_start []
 unfolding IsDistinct
 distinct-nil = tt
 
--- no region is listed where there is none
+-- the empty list lists the regions of no locks
 pub lists_none : ListsRegions (λ o. nothing) []
 lists_none = record {
   regions = All-nil (IsRegion (λ o. nothing));
@@ -88,7 +88,7 @@ lists_none = record {
   once = distinct-nil;
 }
 
--- the regions of one and of the other are those of both
+-- two lists of the regions of g and of h together list the regions of both joined
 pub lists_join : (g h k : FileLocks) (xs ys : List LockInfo) → IsJoin g h k → ListsRegions g xs → ListsRegions h ys → ListsRegions k (xs ++ ys)
 lists_join g h k xs ys join p q = record {
   regions = All-append (IsRegion k) xs ys (All-weaker (IsRegion g) (IsRegion k) (region_left g h k join) xs p.regions) (All-weaker (IsRegion h) (IsRegion k) (region_right g h k join) ys q.regions);
@@ -102,7 +102,7 @@ lists_join g h k xs ys join p q = record {
     apart : (x : LockInfo) → IsRegion g x → All (λ y. same_start x y ≡ false) ys
     apart x region = All-weaker (IsRegion h) (λ y. same_start x y ≡ false) (λ y other. and_right (eqb x.span.lo y.span.lo) (same_owner x.owner y.owner) (owners_apart g h k join x y region other)) ys q.regions
 
--- in order they are the listing
+-- a list of all regions that is sorted is the listing
 pub listing_from : (h : FileLocks) (xs ys : List LockInfo) → ListsRegions h xs → IsPermutation xs ys → IsSortedBy (λ (a b : LockInfo). is_lt (lock_cmp a b)) ys → IsListing h ys
 listing_from h xs ys lists moved sorted = record {
   regions = All-permutation (IsRegion h) xs ys moved lists.regions;
@@ -121,7 +121,7 @@ listing_from h xs ys lists moved sorted = record {
         go Equal e = absurd (both_ways (same_start a b) differ (start_back b a (start_from b a e)))
         go Greater e = before_from a b (back_less lock_cmp locks_total b a e)
 
--- so far `new` has what old has, and then the row's regions that begin before byte `from`, at which none goes on
+-- `new` has what `old` has and then the row's regions that begin below byte `from`, and no region goes on across `from`
 pub record Listed (r : OwnerLocks) (from : ℕ) (old new : List LockInfo) : Type 0 where
   pub more : List LockInfo
   pub is : new ≡ old ++ more
@@ -154,7 +154,7 @@ module _ (r : OwnerLocks) (from : ℕ) (old new : List LockInfo) (l : Listed r f
         | inr le ↦ le
       ]
 
-  -- a region that begins from there on, and not past this one, is this one
+  -- a region that begins at `from` or above, and no later than x, is x
   only_one : (y : LockInfo) → y.owner ≡ r.owner → IsRun (value_at r.spans) y.span y.mode → from ≤ y.span.lo → y.span.lo < x.span.hi + 1 → y ≡ x
   only_one y owner run late within =
       let f = value_at r.spans in
@@ -190,7 +190,7 @@ module _ (r : OwnerLocks) (from : ℕ) (old new : List LockInfo) (l : Listed r f
     once = distinct-append l.more (x ∷ []) l.once (distinct-one x) (recursion_from_All (λ y. All (λ z. same_start y z ≡ false) (x ∷ [])) l.more (All-weaker (λ (y : LockInfo). (y.owner ≡ r.owner) × IsRun (value_at r.spans) y.span y.mode × (y.span.lo < from)) (λ y. All (λ z. same_start y z ≡ false) (x ∷ [])) apart_from l.more l.each));
   }
 
--- with nothing left, they are the row's regions
+-- if nothing is held from `from` on, all regions of the row are listed
 pub listed-end : (r : OwnerLocks) (from : ℕ) (old new : List LockInfo) → Listed r from old new → NothingFrom (value_at r.spans) from → (more : List LockInfo) × (new ≡ old ++ more) × ListsRegions (locks_of r) more
 listed-end r from old new l none = (
   l.more,

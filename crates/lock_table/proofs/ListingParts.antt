@@ -1,4 +1,4 @@
--- Listings that are put together.
+-- Listings that are put together from parts.
 use Rattle.std.proofs.Common.{◌≡◌, suc, false, eqb, ne_eqb, get_or, List, [], ◌∷◌, subst, inl, inr, arith}
 use Rattle.std.specs.List.{AllPairs, IsDistinct}
 use Rattle.std.specs.declared.cmp.Ordering.TheVariants.{Less, Equal}
@@ -22,7 +22,7 @@ owners_differ a b less = elim (cases_Bool (same_owner a b)) [
   | inr differ ↦ differ
 ]
 
--- a region that comes before another is not it
+-- a region that comes before another one begins elsewhere or is of another owner
 before_differ : (a b : LockInfo) → IsBefore a b → same_start a b ≡ false
 before_differ a b (inl lt) = and_left (eqb a.span.lo b.span.lo) (same_owner a.owner b.owner) (ne_eqb a.span.lo b.span.lo (λ e. absurd (omega arith)))
 before_differ a b (inr h) = and_right (eqb a.span.lo b.span.lo) (same_owner a.owner b.owner) (owners_differ a.owner b.owner h.1)
@@ -35,6 +35,6 @@ distinct_from (x ∷ xs) rises = (
   distinct_from xs (λ i j d lt within. rises (suc i) (suc j) d (omega arith) (omega arith)),
 )
 
--- a listing has each region once
+-- a listing lists each region once
 pub lists_listing : (h : FileLocks) (xs : List LockInfo) → IsListing h xs → ListsRegions h xs
 lists_listing h xs l = record { regions = l.regions; complete = l.complete; once = distinct_from xs l.rises }

@@ -1,4 +1,4 @@
--- The order of owners, and of owners in files.
+-- The order of owners, and the order of owners in files.
 use Rattle.std.proofs.Common.{◌≡◌, ◌≢◌, ◌⊎◌, ℕ, ◌<◌, refl, ap, sym, ◌∙◌, subst, inl, inr}
 use Rattle.std.proofs.lemmas.Cmp.{ranked, then_total, on_total, nat_cmp_total, tied_itself}
 use Rattle.std.specs.Cmp.{IsTotalOrder}
@@ -27,7 +27,7 @@ kind_total = subst IsTotalOrder (λ i a b. is a b i) (on_total kind_rank nat_cmp
 pub owners_total : IsTotalOrder owner_cmp
 owners_total = then_total (on_total (λ (o : Owner). o.node) nat_cmp_total) (then_total (on_total (λ (o : Owner). o.incarnation) nat_cmp_total) (then_total (on_total (λ (o : Owner). o.kind) kind_total) (on_total (λ (o : Owner). o.number) nat_cmp_total)))
 
--- what the parts of an order by one thing and then by another say
+-- what an order by one thing and then by another says of the two
 pub then_equal : (p q : Ordering) → ordering_then p q ≡ Equal → (p ≡ Equal) × (q ≡ Equal)
 then_equal Less q h = absurd cc
 then_equal Equal q h = (refl, h)
@@ -50,7 +50,7 @@ kind_equal OfProcess OfDescription h = absurd cc
 kind_equal OfDescription OfProcess h = absurd cc
 kind_equal OfDescription OfDescription h = refl
 
--- owners of which neither comes first are one
+-- two owners that compare as equal are equal
 pub owner_equal : (a b : Owner) → owner_cmp a b ≡ Equal → a ≡ b
 owner_equal a b h =
     let first = then_equal _ _ h in
@@ -93,11 +93,11 @@ module _ {K : Type 0} (R : K → K → Ordering) (total : IsTotalOrder R) where
   pub greater_trans : (a b c : K) → R a b ≡ Greater → R b c ≡ Greater → R a c ≡ Greater
   greater_trans a b c p q = back_greater c a (total.trans c b a (back_less b c q) (back_less a b p))
 
--- an owner in a file
+-- an owner in a file, as a place among the rows
 abbrev pub Place : Type 0
 Place = ℕ × Owner
 
--- by file, then by owner
+-- the order of places: by file, then by owner
 abbrev pub place_cmp : Place → Place → Ordering
 place_cmp a b = ordering_then (nat_cmp a.0 b.0) (owner_cmp a.1 b.1)
 

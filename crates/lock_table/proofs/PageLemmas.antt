@@ -1,4 +1,4 @@
--- What indexes of pages keep.
+-- What indexes of pages keep through changes.
 use Rattle.std.proofs.Common.{◌≡◌, ℕ, ◌+◌, ◌/◌, ◌<◌, ◌≤◌, ◌⊎◌, nat_le, eqb, ◌&&◌, length, get_or, drop, List, ◌∷◌, Option, Some, None, ap, sym, ◌∙◌, inl, inr, arith}
 use Rattle.std.specs.List.{All}
 use Rattle.std.proofs.lemmas.Bool.{cases_Bool, and_parts, eqb-true}
@@ -20,7 +20,7 @@ use Rattle.lock_table.proofs.SameRows.{drop_read}
 use Rattle.lock_table.specs.declared.owner_set.OwnerSet.{OwnerSet}
 use Rattle.lock_table.specs.Pages.{Has, MayHold, Covers, slot_of}
 
--- a byte of the rows that are left is one of the first of them, or of the others
+-- a byte that the remaining rows hold is held by the first of them or by the other ones
 pub row-step : (rows : List OwnerLocks) (i : ℕ) (r : OwnerLocks) (f : ℕ) (o : Owner) (b : ℕ) (m : Mode) → i < length rows → r ≡ get_or rows i r → rows_held (drop i rows) f o b ≡ Some m → ((r.file ≡ f) × (r.owner ≡ o) × (value_at r.spans b ≡ Some m)) ⊎ (rows_held (drop (i + 1) rows) f o b ≡ Some m)
 unfolding rows_held
 row-step rows i r f o b m lt is at =
@@ -34,14 +34,14 @@ pub rows-end : (rows : List OwnerLocks) (i f : ℕ) (o : Owner) (b : ℕ) (m : M
 unfolding rows_held
 rows-end rows i f o b m le at = let none : None ≡ Some m = rw (drop_all i rows le) at at in absurd cc
 
--- a byte that is held once a span is written was held before, or is one of the span
+-- a byte that is held after a write was held before, or is in the span
 pub put-noted : (x : PageIndex) (file : ℕ) (owner : Owner) (s : Range) (v : Option Mode) (before : ℕ → Option Mode) (b : ℕ) (m : Mode) → ((c : ℕ) → s.lo ≤ c → c ≤ s.hi → MayHold x file owner c) → put before s v b ≡ Some m → (before b ≡ Some m) ⊎ MayHold x file owner b
 put-noted x file owner s v before b m noted at = elim (cases_Bool (is_in s b)) [
   | inl within ↦ let parts = and_parts (nat_le s.lo b) (nat_le b s.hi) within in inr (noted b (grind (arith, nat_tests, parts.0)) (grind (arith, nat_tests, parts.1)))
   | inr out ↦ inl (rw out at at)
 ]
 
--- what is covered still where an owner holds less
+-- an index that covers locks covers them where an owner holds less
 pub covers-without : (x : PageIndex) (h g : Locks) (file : ℕ) (owner : Owner) → ((f : ℕ) (o : Owner) → g f o ≡ replace h file owner nothing f o) → Covers x h → Covers x g
 covers-without x h g file owner is covers f o b m at =
     let held_still : replace h file owner nothing f o b ≡ Some m = sym (ap (λ (k : ℕ → Option Mode). k b) (is f o)) ∙ at in
@@ -58,7 +58,7 @@ covers-without_anywhere x h g owner is covers f o b m at =
       | inr differ ↦ covers f o b m (rw differ at held_still)
     ]
 
--- what is covered where an owner holds other bytes, once those are noted
+-- an index that notes what an owner gets covers the new locks
 pub covers-changed : (x y : PageIndex) (h g : Locks) (file : ℕ) (owner : Owner) (old new : ℕ → Option Mode) → ((f : ℕ) (o : Owner) → g f o ≡ replace h file owner new f o) → Covers x h → ((f : ℕ) (o : Owner) (b : ℕ) → MayHold x f o b → MayHold y f o b) → ((b : ℕ) (m : Mode) → old b ≡ Some m → h file owner b ≡ Some m) → ((b : ℕ) (m : Mode) → new b ≡ Some m → (old b ≡ Some m) ⊎ MayHold y file owner b) → Covers y g
 covers-changed x y h g file owner old new is covers keeps before noted f o b m at =
     let held_now : replace h file owner new f o b ≡ Some m = sym (ap (λ (k : ℕ → Option Mode). k b) (is f o)) ∙ at in
@@ -76,7 +76,7 @@ covers-changed x y h g file owner old new is covers keeps before noted f o b m a
 pub row_held : (l : List OwnerLocks) (i : ℕ) (r : OwnerLocks) → AreRows l → i < length l → r ≡ get_or l i r → rows_held l r.file r.owner ≡ value_at r.spans
 row_held l i r rows lt is = held-at l i r.file r.owner r (row_at_from l i r.file r.owner rows lt (λ d. rw (get_or_default l i d r lt, ← is) (place_itself r.file r.owner))) is
 
--- an owner that is not near holds no byte of the span
+-- an owner that isn't near holds no byte of the span
 pub none_near : (x : PageIndex) (near : OwnerSet) (rows part : List OwnerLocks) (file i : ℕ) (r : OwnerLocks) (s : Range) → Covers x (rows_held rows) → ((o : Owner) (b : ℕ) → s.lo ≤ b → b ≤ s.hi → MayHold x file o b → Has near o) → rows_held part file ≡ rows_held rows file → AreRows part → All (λ (t : OwnerLocks). t.file ≡ file) part → i < length part → r ≡ get_or part i r → (Has near r.owner → ⊥) → (b : ℕ) (m : Mode) → s.lo ≤ b → b ≤ s.hi → value_at r.spans b ≡ Some m → ⊥
 none_near x near rows part file i r s covers nearby same order files lt is away b m low high at =
     let of_file : r.file ≡ file = rw (← is) at (files i r lt) in
@@ -84,7 +84,7 @@ none_near x near rows part file i r s covers nearby same order files lt is away 
     let here : rows_held rows file r.owner b ≡ Some m = sym (ap (λ (h : FileLocks). h r.owner b) same) ∙ ap (λ (h : ℕ → Option Mode). h b) own ∙ at in
     away (nearby r.owner b low high (covers file r.owner b m here))
 
--- more owners of long runs
+-- more owners of long runs leave the others noted
 pub may-long : (x : PageIndex) (long : OwnerSet) → ((o : Owner) → Has x.long o → Has long o) → (f : ℕ) (o : Owner) (b : ℕ) → MayHold x f o b → MayHold (record x { long = long }) f o b
 may-long x long keeps f o b may = record {
   noted = λ kept. elim (may.noted (kept.0, kept.1)) [

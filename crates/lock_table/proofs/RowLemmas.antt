@@ -1,4 +1,4 @@
--- What edits of the rows do to the locks.
+-- What changes of the rows do to the locks.
 use Rattle.std.proofs.Common.{◌≡◌, ℕ, zero, suc, ◌<◌, ◌≤◌, Bool, true, false, ◌&&◌, not, eqb, eq-eqb, length, get_or, set, List, [], ◌∷◌, Result, Ok, Err, MatchResult, refl, sym, ◌∙◌, inl, inr, arith, add-one}
 use Rattle.std.specs.List.{insert, remove, filter, AllWithin}
 use Rattle.std.specs.List.Sorted.{IsSortedBy, IsNonDecreasingBy, IsBinarySearchResult, IsSearchInRange}
@@ -16,11 +16,11 @@ use Rattle.lock_table.specs.Rows.{rows_held, row_cmp, HoldsSome, AllAfter, AreRo
 use Rattle.model.proofs.OwnerLaws.{owner_exact, owner_refl}
 use Rattle.lock_table.proofs.Orders.{place_cmp, places_total, place_equal, place_itself, back_less, back_greater, greater_trans}
 
--- the row is of this owner in this file
+-- whether the row is of this owner in this file
 abbrev pub is_of : OwnerLocks → ℕ → Owner → Bool
 is_of r file owner = (eqb r.file file) && same_owner r.owner owner
 
--- a row's file and owner
+-- a row that is of an owner in a file has that file and owner
 pub row_place : (r : OwnerLocks) (file : ℕ) (owner : Owner) → is_of r file owner ≡ true → (r.file ≡ file) × (r.owner ≡ owner)
 row_place r file owner h = let parts = and_parts _ _ h in (eqb-true _ _ parts.0, owner_exact _ _ parts.1)
 
@@ -38,7 +38,7 @@ is_of_less r file owner h = elim (cases_Bool (is_of r file owner)) [ inl is ↦ 
 is_of_greater : (r : OwnerLocks) (file : ℕ) (owner : Owner) → row_cmp r file owner ≡ Greater → is_of r file owner ≡ false
 is_of_greater r file owner h = elim (cases_Bool (is_of r file owner)) [ inl is ↦ let e = equal_is_of r file owner is in absurd cc | inr differ ↦ differ ]
 
--- a row that is not of one owner, and is of another, tells them apart
+-- a row that isn't of one place and is of another shows that the places differ
 apart : (r : OwnerLocks) (file f : ℕ) (owner o : Owner) → is_of r file owner ≡ false → is_of r f o ≡ true → ((eqb file f) && same_owner owner o) ≡ false
 apart r file f owner o not_this is = elim (cases_Bool ((eqb file f) && same_owner owner o)) [
   | inl same ↦
@@ -49,7 +49,7 @@ apart r file f owner o not_this is = elim (cases_Bool ((eqb file f) && same_owne
   | inr no_match ↦ no_match
 ]
 
--- rows after a later place are after an earlier one
+-- rows that stand behind a later place stand behind an earlier one
 pub all_after_trans : (file f : ℕ) (owner o : Owner) (l : List OwnerLocks) → place_cmp (file, owner) (f, o) ≡ Greater → AllAfter file owner l → AllAfter f o l
 all_after_trans file f owner o [] later h = tt
 all_after_trans file f owner o (s ∷ rest) later h = (greater_trans place_cmp places_total (s.file, s.owner) (file, owner) (f, o) h.0 later, all_after_trans file f owner o rest later h.1)
@@ -63,7 +63,7 @@ all_after_from : (file : ℕ) (owner : Owner) (l : List OwnerLocks) → ((k : �
 all_after_from file owner [] h = tt
 all_after_from file owner (s ∷ rest) h = (h 0 s (omega arith), all_after_from file owner rest (λ k d lt. h (suc k) d (omega arith)))
 
--- what a binary search needs
+-- the rows are sorted as a binary search needs
 rows_sorted : (l : List OwnerLocks) → AreRows l → IsSortedBy (λ (a b : OwnerLocks). is_lt (place_cmp (a.file, a.owner) (b.file, b.owner))) l
 rows_sorted [] rows k d low lt = absurd (omega arith)
 rows_sorted (r ∷ rest) rows zero d low lt = let h : row_cmp (get_or rest 0 d) r.file r.owner ≡ Greater = all_after_at r.file r.owner rest 0 d rows.1 (omega arith) in rw h refl
@@ -72,7 +72,7 @@ rows_sorted (r ∷ rest) rows (suc k) d low lt = rw add-one (rw add-one at (rows
 pub rows_rise : (l : List OwnerLocks) (file : ℕ) (owner : Owner) → AreRows l → IsNonDecreasingBy (λ (r : OwnerLocks). ordering_index (row_cmp r file owner)) l
 rows_rise l file owner rows = searchable_from_sorted places_total (λ (r : OwnerLocks). (r.file, r.owner)) l (file, owner) (rows_sorted l rows)
 
--- what a binary search answers
+-- what a binary search finds is a row at its place, or a gap
 pub row_at_from : (l : List OwnerLocks) (i : ℕ) (file : ℕ) (owner : Owner) → AreRows l → i < length l → ((d : OwnerLocks) → row_cmp (get_or l i d) file owner ≡ Equal) → IsRowAt l i file owner
 row_at_from [] i file owner rows lt h = absurd (omega arith)
 row_at_from (r ∷ rest) zero file owner rows lt h = h r
@@ -94,7 +94,7 @@ searched l file owner (Err i) rows bound split =
     let point = split (rows_rise l file owner rows) in
     gap_from l i file owner bound point.0 point.1
 
--- with no row there is no lock
+-- an owner whose place all rows stand behind holds nothing
 pub held-none : (l : List OwnerLocks) (file : ℕ) (owner : Owner) → AllAfter file owner l → rows_held l file owner ≡ nothing
 unfolding rows_held
 held-none [] file owner h = refl
@@ -107,7 +107,7 @@ held-gap [] (suc i) file owner h = absurd h
 held-gap (r ∷ rest) zero file owner h = held-none (r ∷ rest) file owner h
 held-gap (r ∷ rest) (suc i) file owner h = rw (is_of_less r file owner h.0) (held-gap rest i file owner h.1)
 
--- the row at its place has the locks
+-- the row at its place has the owner's locks
 pub held-at : (l : List OwnerLocks) (i : ℕ) (file : ℕ) (owner : Owner) (r : OwnerLocks) → IsRowAt l i file owner → r ≡ get_or l i r → rows_held l file owner ≡ value_at r.spans
 unfolding rows_held
 held-at [] i file owner r h is = absurd h
@@ -125,13 +125,13 @@ gap_within [] (suc i) file owner h = absurd h
 gap_within (r ∷ rest) zero file owner h = omega arith
 gap_within (r ∷ rest) (suc i) file owner h = omega (arith, gap_within rest i file owner h.1)
 
--- the file and owner of the row at the place
+-- the row at a place has the place's file and owner
 pub place_of : (l : List OwnerLocks) (i : ℕ) (file : ℕ) (owner : Owner) (r : OwnerLocks) → IsRowAt l i file owner → r ≡ get_or l i r → (r.file ≡ file) × (r.owner ≡ owner)
 place_of [] i file owner r h is = absurd h
 place_of (s ∷ rest) zero file owner r h is = rw is (place_equal (s.file, s.owner) (file, owner) h)
 place_of (s ∷ rest) (suc i) file owner r h is = place_of rest i file owner r h.1 is
 
--- other spans at the row's place
+-- the locks after the row at a place gets other spans
 pub held-set : (l : List OwnerLocks) (i : ℕ) (file : ℕ) (owner : Owner) (r : OwnerLocks) → IsRowAt l i file owner → r.file ≡ file → r.owner ≡ owner → (f : ℕ) (o : Owner) → rows_held (set l i r) f o ≡ replace (rows_held l) file owner (value_at r.spans) f o
 unfolding rows_held
 held-set [] i file owner r h files owners f o = absurd h
@@ -145,7 +145,7 @@ held-set (s ∷ rest) (suc i) file owner r h files owners f o =
       | inr other ↦ rw other more
     ]
 
--- a row more
+-- the locks after a row is inserted in its gap
 pub held-insert : (l : List OwnerLocks) (i : ℕ) (r : OwnerLocks) → IsGap l i r.file r.owner → (f : ℕ) (o : Owner) → rows_held (insert l i r) f o ≡ replace (rows_held l) r.file r.owner (value_at r.spans) f o
 unfolding rows_held
 held-insert [] zero r h f o = refl
@@ -158,7 +158,7 @@ held-insert (s ∷ rest) (suc i) r h f o =
       | inr other ↦ rw other more
     ]
 
--- a row less
+-- the locks after a row is removed
 pub held-remove : (l : List OwnerLocks) (i : ℕ) (file : ℕ) (owner : Owner) → AreRows l → IsRowAt l i file owner → (f : ℕ) (o : Owner) → rows_held (remove l i) f o ≡ replace (rows_held l) file owner nothing f o
 unfolding rows_held
 held-remove [] i file owner rows h f o = absurd h
@@ -180,7 +180,7 @@ held-remove (s ∷ rest) (suc i) file owner rows h f o =
       | inr other ↦ rw other more
     ]
 
--- with no row there is nothing to drop
+-- an owner without a row in the file holds nothing there
 pub held-same : (l : List OwnerLocks) (i : ℕ) (file : ℕ) (owner : Owner) → IsGap l i file owner → (f : ℕ) (o : Owner) → rows_held l f o ≡ replace (rows_held l) file owner nothing f o
 held-same l i file owner gap f o = elim (cases_Bool ((eqb file f) && same_owner owner o)) [
   | inl same ↦
@@ -192,11 +192,11 @@ held-same l i file owner gap f o = elim (cases_Bool ((eqb file f) && same_owner 
   | inr differ ↦ rw differ refl
 ]
 
--- the row is of another owner
+-- whether the row is of another owner
 abbrev pub is_of_other : Owner → OwnerLocks → Bool
 is_of_other owner r = not (same_owner r.owner owner)
 
--- no row of an owner
+-- the locks after all rows of an owner are removed
 pub held-filter : (l : List OwnerLocks) (owner : Owner) (f : ℕ) (o : Owner) → rows_held (filter (is_of_other owner) l) f o ≡ without_owner_anywhere (rows_held l) owner f o
 unfolding rows_held
 held-filter [] owner f o = elim (cases_Bool (same_owner owner o)) [ inl same ↦ rw same refl | inr differ ↦ rw differ refl ]
@@ -221,7 +221,7 @@ held-filter (s ∷ rest) owner f o =
       ]
     ]
 
--- edits keep that rows are after a place
+-- changes of rows keep them behind a place
 all_after-set : (l : List OwnerLocks) (i : ℕ) (file f : ℕ) (owner o : Owner) (r : OwnerLocks) → IsRowAt l i file owner → r.file ≡ file → r.owner ≡ owner → AllAfter f o l → AllAfter f o (set l i r)
 all_after-set [] i file f owner o r h files owners after = absurd h
 all_after-set (s ∷ rest) zero file f owner o r h files owners after =
@@ -241,7 +241,7 @@ all_after-insert [] (suc i) f o r after h = (h, tt)
 all_after-insert (s ∷ rest) zero f o r after h = (h, after)
 all_after-insert (s ∷ rest) (suc i) f o r after h = (after.0, all_after-insert rest i f o r after.1 h)
 
--- and that rows are in order
+-- changes of rows keep them in order
 pub rows-set : (l : List OwnerLocks) (i : ℕ) (file : ℕ) (owner : Owner) (r : OwnerLocks) → IsRowAt l i file owner → r.file ≡ file → r.owner ≡ owner → HoldsSome (value_at r.spans) → AreRows l → AreRows (set l i r)
 rows-set [] i file owner r h files owners some rows = absurd h
 rows-set (s ∷ rest) zero file owner r h files owners some rows =
@@ -289,7 +289,7 @@ row_or_gap (r ∷ rest) zero (suc j) file owner at gap = cc (at, gap.0)
 row_or_gap (r ∷ rest) (suc i) zero file owner at gap = cc (at.0, gap.0)
 row_or_gap (r ∷ rest) (suc i) (suc j) file owner at gap = row_or_gap rest i j file owner at.1 gap.1
 
--- and one row alone
+-- an owner has one row in a file
 pub row_alone : (l : List OwnerLocks) (i j file : ℕ) (owner : Owner) (r q : OwnerLocks) → IsRowAt l i file owner → r ≡ get_or l i r → IsRowAt l j file owner → q ≡ get_or l j q → r ≡ q
 row_alone [] i j file owner r q at is also same = absurd at
 row_alone (s ∷ rest) zero zero file owner r q at is also same = is ∙ sym same

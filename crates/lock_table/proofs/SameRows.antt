@@ -1,4 +1,4 @@
--- Rows that hold the same locks.
+-- Lists of rows that hold the same locks are equal row by row.
 use Rattle.std.proofs.Common.{◌≡◌, ℕ, ◌+◌, ◌<◌, ◌≤◌, ◌⊎◌, true, false, eqb, eq-eqb, List, [], ◌∷◌, drop, length, get_or, refl, sym, ap, ◌∙◌, inl, inr, arith}
 use Rattle.std.specs.List.{AllZip}
 use Rattle.std.specs.declared.cmp.Ordering.{Ordering}
@@ -15,7 +15,7 @@ use Rattle.model.proofs.OwnerLaws.{owner_refl}
 use Rattle.lock_table.proofs.Orders.{place_cmp, places_total, place_equal, back_greater}
 use Rattle.lock_table.proofs.RowLemmas.{is_of, row_place, all_after_trans, held-none}
 
--- what is read at i is the first of the rest
+-- the element at i is the first of the list from i on
 pub drop_read : {A : Type 0} (l : List A) (i : ℕ) (x : A) → i < length l → x ≡ get_or l i x → drop i l ≡ x ∷ drop (i + 1) l
 drop_read l i x lt is = drop_more l i x lt ∙ rw (← is) refl
 
@@ -24,7 +24,7 @@ pub held_first : (r : OwnerLocks) (rest : List OwnerLocks) → rows_held (r ∷ 
 unfolding rows_held
 held_first r rest = let itself : is_of r r.file r.owner ≡ true = and_from (eqb r.file r.file) (same_owner r.owner r.owner) (eq-eqb r.file r.file refl) (owner_refl r.owner) in rw itself refl
 
--- rows that are the same one by one hold the same locks
+-- rows that are equal one by one hold the same locks
 pub same_held : (a b : List OwnerLocks) → AllZip IsSameRow a b → (f : ℕ) (o : Owner) → rows_held a f o ≡ rows_held b f o
 unfolding rows_held
 same_held [] [] h f o = refl
@@ -37,12 +37,12 @@ cases_ordering Less = inl refl
 cases_ordering Equal = inr (inl refl)
 cases_ordering Greater = inr (inr refl)
 
--- past the first row, at another place
+-- another place than the first row's has the locks of the other rows
 held_past : (r : OwnerLocks) (rest : List OwnerLocks) (f : ℕ) (o : Owner) → is_of r f o ≡ false → rows_held (r ∷ rest) f o ≡ rows_held rest f o
 unfolding rows_held
 held_past r rest f o differ = rw differ refl
 
--- and rows that hold the same locks are the same one by one
+-- rows that hold the same locks are equal one by one
 pub held_same : (a b : List OwnerLocks) → AreRows a → AreRows b → ((f : ℕ) (o : Owner) → rows_held a f o ≡ rows_held b f o) → AllZip IsSameRow a b
 unfolding rows_held
 held_same [] [] p q e = tt
@@ -74,7 +74,7 @@ held_same (r ∷ a) (s ∷ b) p q e = elim (cases_ordering (row_cmp r s.file s.o
           sym (held_past r a f o differ) ∙ e f o ∙ held_past s b f o other
     ]
 
--- whether rows are the same one by one is whether those that are left are
+-- two lists of rows are equal one by one exactly where their remaining rows are
 pub record Left (a b : List OwnerLocks) (i : ℕ) : Type 0 where
   pub to : AllZip IsSameRow (drop i a) (drop i b) → AllZip IsSameRow a b
   pub from : AllZip IsSameRow a b → AllZip IsSameRow (drop i a) (drop i b)
@@ -101,7 +101,7 @@ same_length [] (s ∷ b) h = absurd h
 same_length (r ∷ a) [] h = absurd h
 same_length (r ∷ a) (s ∷ b) h = let e = same_length a b h.1 in omega arith
 
--- the rows of a table that is seen as its parts
+-- the rows of a table, when it is given by its parts
 pub rows_are : (rows : List OwnerLocks) (limit : ℕ) (t : TableParts) → record { rows = rows; limit = limit } ≡ t → rows ≡ t.rows
 rows_are rows limit t is = ap (λ (u : TableParts). u.rows) is
 

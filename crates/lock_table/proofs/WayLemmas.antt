@@ -1,4 +1,4 @@
--- The largest span without a lock in the way, row by row.
+-- The largest span without a lock in the way, found row by row.
 use Rattle.std.proofs.Common.{◌≡◌, ℕ, ◌+◌, ◌<◌, ◌≤◌, ◌⊎◌, false, length, get_or, List, Option, Some, None, refl, ap, sym, ◌∙◌, inl, inr, arith}
 use Rattle.std.specs.List.{All}
 use Rattle.std.proofs.lemmas.Bool.{cases_lt, both_ways}
@@ -20,14 +20,14 @@ use Rattle.lock_table.proofs.PageLemmas.{row_held}
 bounded-below : (g : ℕ → Option Mode) (b : ℕ) (m : Mode) → IsBounded g → g b ≡ Some m → b ≤ greatest
 bounded-below g b m bounded at = elim (cases_lt greatest b) [ inl past ↦ let none = bounded b past in absurd cc | inr le ↦ le ]
 
--- a run ends no lower than the bytes that go on from its first
+-- a run ends no lower than the bytes of its value that go on from its first byte
 ends_from : (f : ℕ → Option Mode) (m : Mode) (b lo : ℕ) (s : Range) → s.lo ≡ lo → IsRun f s m → ((c : ℕ) → lo ≤ c → c ≤ b → f c ≡ Some m) → b ≤ s.hi
 ends_from f m b lo s is run all = elim (cases_lt s.hi b) [
   | inl lt ↦ let ordered = run.ordered in absurd (run.ends (all (s.hi + 1) (omega arith) (omega arith)))
   | inr le ↦ le
 ]
 
--- a held byte is one of a run
+-- a held byte is in a run
 byte_run : (f : ℕ → Option Mode) (b : ℕ) (m : Mode) → IsBounded f → f b ≡ Some m → (s : Range) × IsRun f s m × (s.lo ≤ b) × (b ≤ s.hi)
 byte_run f b m bounded here =
     let start = some_start f m b here in
@@ -38,7 +38,7 @@ byte_run f b m bounded here =
     (run_from same_mode f start.0 m, run, least, ends_from f m b start.0 (run_from same_mode f start.0 m) refl run all)
 
 module _ (r : OwnerLocks) (mode : Mode) (b : ℕ) where
-  -- a byte of the row that bars the mode is one of a region in the way, and the other way round
+  -- a byte of the row bars the mode exactly if a region in the way holds it
   way_from : (x : Option Mode) → IsBounded (value_at r.spans) → value_at r.spans b ≡ x → IsBarred (value_at r.spans) (bar_of mode) b → HasInWay (IsRegion (locks_of r)) mode b
   way_from None bounded is barred = absurd (not_barred-none (value_at r.spans) (bar_of mode) b is barred)
   way_from (Some m) bounded is barred =
@@ -50,12 +50,12 @@ module _ (r : OwnerLocks) (mode : Mode) (b : ℕ) where
       let run = (region_own r has.0 has.1).1 in
       barred_from (value_at r.spans) b mode has.0.mode (run.all b has.2.starts has.2.ends) has.2.conflicts
 
-  -- a byte that doesn't bar the mode
+  -- a byte that doesn't bar the mode is not barred
   free_at : (x : Option Mode) → value_at r.spans b ≡ x → bars mode (value_at r.spans b) ≡ false → IsBarred (value_at r.spans) (bar_of mode) b → ⊥
   free_at None is free barred = not_barred-none (value_at r.spans) (bar_of mode) b is barred
   free_at (Some m) is free barred = both_ways (excludes m mode) (rw is at free) (excluded_from (value_at r.spans) b mode m is barred)
 
--- before any row the span is as large as it may be
+-- before any row is read the largest span is the whole one
 pub around-start : (mode : Mode) (required within : Range) → within.lo ≤ required.lo → required.hi ≤ within.hi → IsLargest (HasInWay (IsRegion (λ o. nothing)) mode) required within within
 around-start mode required within starts ends = IsLargest-whole (HasInWay (IsRegion (λ o. nothing)) mode) required within starts ends (λ b above below has. nothing_region has.0.span has.0.mode has.1)
 
@@ -66,7 +66,7 @@ module _ (g k : FileLocks) (r : OwnerLocks) (join : IsJoin g (locks_of r) k) (mo
   way_right : (b : ℕ) → HasInWay (IsRegion (locks_of r)) mode b → HasInWay (IsRegion k) mode b
   way_right b has = (has.0, region_right g (locks_of r) k join has.0 has.1, has.2)
 
-  -- one more row
+  -- the largest span after one more row
   pub around-more : (next : Range) → required.lo ≤ required.hi → IsBounded (value_at r.spans) → IsLargest (IsBarred (value_at r.spans) (bar_of mode)) required span next → IsLargest (HasInWay (IsRegion k) mode) required within next
   around-more next order bounded its = IsLargest-iff (λ b. HasInWay (IsRegion g) mode b ⊎ IsBarred (value_at r.spans) (bar_of mode) b) (HasInWay (IsRegion k) mode) required within next
       (λ b either. elim either [
@@ -79,7 +79,7 @@ module _ (g k : FileLocks) (r : OwnerLocks) (join : IsJoin g (locks_of r) k) (mo
       ])
       (IsLargest-or (HasInWay (IsRegion g) mode) (IsBarred (value_at r.spans) (bar_of mode)) required within span next order is its)
 
-  -- one more that holds no byte near
+  -- the largest span stays after a row that holds no byte near
   pub around-skip : ((b : ℕ) (m : Mode) → within.lo ≤ b → b ≤ within.hi → value_at r.spans b ≡ Some m → ⊥) → IsLargest (HasInWay (IsRegion k) mode) required within span
   around-skip away = record {
     has_first = is.has_first;
@@ -96,7 +96,7 @@ module _ (g k : FileLocks) (r : OwnerLocks) (join : IsJoin g (locks_of r) k) (mo
     full_above = λ lt. way_left (span.hi + 1) (is.full_above lt);
   }
 
--- where no lock is in the way on the span, no byte of a row bars the mode there
+-- if no lock is in the way on the span, no row has a byte there that bars the mode
 pub none_barred : (h : FileLocks) (part : List OwnerLocks) (file i : ℕ) (r : OwnerLocks) (s : Range) (mode : Mode) → IsClear h s mode → rows_held part file ≡ h → AreRows part → All (λ (t : OwnerLocks). t.file ≡ file) part → i < length part → r ≡ get_or part i r → NoneIn (IsBarred (value_at r.spans) (bar_of mode)) s
 none_barred h part file i r s mode clear same order files lt is b lo hi barred =
     let of_file : r.file ≡ file = rw (← is) at (files i r lt) in

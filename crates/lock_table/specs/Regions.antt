@@ -1,4 +1,4 @@
--- Regions of one row.
+-- The regions of one row.
 use Rattle.std.specs.Prelude.{◌≡◌, ℕ, ◌≤◌, Option}
 use Rattle.intervals.specs.Bytes.{Range, greatest, IsBarred, IsFirstIn, IsRun}
 use Rattle.intervals.specs.Runs.{value_at}
@@ -6,7 +6,7 @@ use Rattle.model.specs.declared.mode.Mode.{Mode}
 use Rattle.model.specs.declared.lock_info.LockInfo.{LockInfo}
 use Rattle.lock_table.specs.declared.owner_locks.OwnerLocks.{OwnerLocks}
 
--- the bytes from the first on
+-- the span from byte `first` to the greatest offset
 abbrev pub rest_from : ℕ → Range
 rest_from first = record { lo = first; hi = greatest }
 

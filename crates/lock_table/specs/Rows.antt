@@ -11,12 +11,12 @@ use Rattle.model.specs.declared.mode.Mode.{Mode}
 use Rattle.model.specs.declared.owner.Owner.{Owner}
 use Rattle.lock_table.specs.declared.owner_locks.OwnerLocks.{OwnerLocks}
 
--- the locks that the rows hold: of an owner in a file those of its first row
+-- the locks that the rows hold: the first row of an owner in a file has its bytes
 unfoldable pub rows_held : List OwnerLocks → Locks
 rows_held [] = no_locks
 rows_held (r ∷ rest) = replace (rows_held rest) r.file r.owner (value_at r.spans)
 
--- a lock table: its rows, and how many regions an owner may have in a file
+-- a lock table: its rows, and the greatest number of regions of an owner in a file
 pub record TableParts : Type 0 where
   pub rows : List OwnerLocks
   pub limit : ℕ
@@ -25,12 +25,12 @@ pub record TableParts : Type 0 where
 abbrev pub held : TableParts → Locks
 held t = rows_held t.rows
 
--- both tables hold the same locks, and have one limit
+-- both tables hold the same locks, and have the same limit
 pub record IsSameTable (a b : TableParts) : Type 0 where
   pub locks : held a ≡ held b
   pub limit : a.limit ≡ b.limit
 
--- where a row stands to the place of an owner in a file: by file, then by owner
+-- how a row stands to the place of an owner in a file: by file, then by owner
 abbrev pub row_cmp : OwnerLocks → ℕ → Owner → Ordering
 row_cmp r file owner = ordering_then (nat_cmp r.file file) (owner_cmp r.owner owner)
 
@@ -38,7 +38,7 @@ row_cmp r file owner = ordering_then (nat_cmp r.file file) (owner_cmp r.owner ow
 abbrev pub IsBounded : (ℕ → Option Mode) → Type 0
 IsBounded f = (b : ℕ) → greatest < b → f b ≡ None
 
--- no byte from the first on is held
+-- no byte from `first` on is held
 abbrev pub NothingFrom : (ℕ → Option Mode) → ℕ → Type 0
 NothingFrom f first = (b : ℕ) → first ≤ b → f b ≡ None
 
@@ -47,47 +47,47 @@ pub record HoldsSome (f : ℕ → Option Mode) : Type 0 where
   pub some : f ≢ nothing
   pub bounded : IsBounded f
 
--- each row stands after the place of the owner in the file
+-- each of the rows stands behind the place of the owner in the file
 abbrev pub AllAfter : ℕ → Owner → List OwnerLocks → Type 0
 AllAfter file owner [] = Unit {0}
 AllAfter file owner (r ∷ rest) = (row_cmp r file owner ≡ Greater) × AllAfter file owner rest
 
--- rows stand by file and then by owner, each owner has one at most in a file, and each row holds some byte
+-- the rows stand by file and then by owner, with at most one for an owner in a file, and each row holds some byte
 abbrev pub AreRows : List OwnerLocks → Type 0
 AreRows [] = Unit {0}
 AreRows (r ∷ rest) = HoldsSome (value_at r.spans) × AllAfter r.file r.owner rest × AreRows rest
 
--- the row at place i is that of the owner in the file
+-- the row at place i is the one of the owner in the file
 abbrev pub IsRowAt : List OwnerLocks → ℕ → ℕ → Owner → Type 0
 IsRowAt [] i file owner = ⊥
 IsRowAt (r ∷ rest) zero file owner = row_cmp r file owner ≡ Equal
 IsRowAt (r ∷ rest) (suc i) file owner = (row_cmp r file owner ≡ Less) × IsRowAt rest i file owner
 
--- no row is of the owner in the file, and one would stand at place i
+-- no row is of the owner in the file, and such a row belongs at place i
 abbrev pub IsGap : List OwnerLocks → ℕ → ℕ → Owner → Type 0
 IsGap rows zero file owner = AllAfter file owner rows
 IsGap [] (suc i) file owner = ⊥
 IsGap (r ∷ rest) (suc i) file owner = (row_cmp r file owner ≡ Less) × IsGap rest i file owner
 
--- where the owner has no row in the file, there is room for all rows and one more
+-- if the owner has no row in the file, the capacity is enough for one more row
 abbrev pub HasRoom : List OwnerLocks → ℕ → Owner → ℕ → Type 0
 HasRoom rows file owner capacity = (i : ℕ) → IsGap rows i file owner → length rows < capacity
 
--- the owner's row in the file, if it has one, has no more runs than so many
+-- the owner's row in the file, if there is one, has at most `most` runs
 abbrev pub HasRuns : List OwnerLocks → ℕ → Owner → ℕ → Type 0
 HasRuns rows file owner most = (i : ℕ) (row : OwnerLocks) → IsRowAt rows i file owner → row ≡ get_or rows i row → length row.spans ≤ most
 
--- the locks of one row, in its file
+-- the locks of one row, in the row's file
 abbrev pub locks_of : OwnerLocks → FileLocks
 locks_of r = replace no_locks r.file r.owner (value_at r.spans) r.file
 
--- both rows are of one owner in one file, and hold the same
+-- both rows are of one owner in one file, and hold the same bytes in the same modes
 pub record IsSameRow (a b : OwnerLocks) : Type 0 where
   pub file : a.file ≡ b.file
   pub owner : a.owner ≡ b.owner
   pub bytes : value_at a.spans ≡ value_at b.spans
 
--- the owner holds in each file what it held, or nothing, and others hold what they held
+-- after the change the owner holds in each file what it held or nothing, and other owners hold what they held
 pub record HoldsLess (owner : Owner) (before after : Locks) : Type 0 where
   pub own : (f : ℕ) → (after f owner ≡ nothing) ⊎ (after f owner ≡ before f owner)
   pub others : (f : ℕ) (o : Owner) → same_owner owner o ≡ false → after f o ≡ before f o

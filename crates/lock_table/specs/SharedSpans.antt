@@ -1,8 +1,8 @@
--- Bytes that are held in no exclusive mode.
+-- Bytes none of which is held exclusively.
 use Rattle.std.specs.Prelude.{◌≢◌, ℕ, Option, Some}
 use Rattle.model.specs.declared.mode.Mode.{Mode}
 use Rattle.model.specs.declared.mode.Mode.TheVariants.{Write}
 
--- no byte is held exclusively
+-- no byte is held in exclusive mode
 abbrev pub IsShared : (ℕ → Option Mode) → Type 0
 IsShared f = (b : ℕ) → f b ≢ Some Write

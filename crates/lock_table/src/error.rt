@@ -1,8 +1,8 @@
-//! Why locks stay as they are.
+//! The reasons for which a change of locks is refused.
 use std::alloc::AllocError;
 use thiserror::Error;
 
-/// Why a call left the locks as they were.
+/// A reason for which a call left the locks as they were.
 #[derive(Clone, Copy, Debug, PartialEq, Eq, Error)]
 pub enum LockError {
     /// A request for memory was refused.

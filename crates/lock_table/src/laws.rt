@@ -1,7 +1,8 @@
-//! Laws of locks.
+//! A law of locks that block.
 ghost use Rattle.lock_table.specs.Blockers.{LowestBlockerIsOne};
 
-/// At most one lock is the lowest that blocks: what `LockTable::blocker` answers is determined.
+/// At most one lock is the lowest that blocks an owner, so the answer of `LockTable::blocker` is
+/// determined.
 pub fn lowest_blocker_is_one()
     ensures { LowestBlockerIsOne }
 {}

@@ -1,4 +1,5 @@
-//! The record locks of one node.
+//! The record locks of one node: what each owner holds at each byte of each file, and the searches
+//! for locks in the way. This crate knows nothing of processes, descriptors, tokens or messages.
 #![tactic(auto)]
 
 pub mod error;

@@ -1,4 +1,4 @@
-//! The record locks of one node.
+//! The table of the record locks of one node.
 ghost use Rattle.std.specs.Prelude.{◌≡◌, ℕ, ◌≤◌, ◌<◌, ◌+◌, ◌-◌, ◌/◌, All, IfOk, IfSome, length, insert, [], IsTrue, ◌↔◌, OnOk, OnErr, Err, Some, None, MatchOption, MatchResult};
 ghost use Rattle.std.specs.List.{AllZip};
 ghost use Rattle.intervals.specs.Bytes.{nothing, put, IsLargest};
@@ -25,12 +25,13 @@ use model::owner::Owner;
 use std::alloc::{AllocError, Global};
 use std::marker::Model;
 
-// A table of fewer rows keeps no index.
+// A table of fewer rows than this keeps no index.
 const LEAST_ROWS: usize = 64;
 
-/// The record locks of one node: what each owner holds at each byte of each file, by mode. `set`, `unlock`
-/// and what `plan` answers leave an owner no more regions in a file than the table's limit, a region being
-/// a longest run of bytes in one mode. A call that answers an error leaves the locks as they were.
+/// The record locks of one node: what each owner holds at each byte of each file, by mode. `set`,
+/// `unlock` and a change from `plan` leave an owner at most as many regions in a file as the
+/// table's limit; a region is a longest run of bytes in one mode. A call that errs leaves the locks
+/// as they were.
 #[derive(Drop)]
 pub struct LockTable {
     rows: Vec<OwnerLocks>,
@@ -49,7 +50,7 @@ impl Model for LockTable {
     ghost invariant = { λ t. AreRows t.rows.items × Covers t.index (rows_held t.rows.items) };
 }
 
-// The place of the row of an owner in a file, or where one belongs.
+// The place of the owner's row in the file, or the place at which it belongs.
 fn position(rows: &[OwnerLocks], file: u16, owner: Owner) -> Result<usize, usize>
     requires { AreRows rows.now }
     ensures { MatchResult result (λ i. IsRowAt rows.now i file owner) (λ i. IsGap rows.now i file owner) }
@@ -69,7 +70,7 @@ fn rows_of(rows: &[OwnerLocks], file: u16) -> &[OwnerLocks]
     &rows[start..end]
 }
 
-// Whether the rows are the same one by one.
+// Whether both lists have equal rows in the same order.
 fn same_rows(rows: &[OwnerLocks], others: &[OwnerLocks]) -> bool
     ensures { IsTrue result ↔ AllZip IsSameRow rows.now others.now }
 {
@@ -84,9 +85,9 @@ fn same_rows(rows: &[OwnerLocks], others: &[OwnerLocks]) -> bool
     true
 }
 
-/// What will be written of what an owner holds in a file, in a planned change. It brings the memory that
-/// it takes: where the owner has no row yet, `room` is an empty list with room for all rows and that one;
-/// where the table is to keep an index and has none, `index` has the memory for it.
+/// A planned change of what an owner holds in a file, with the memory that it takes: if the owner
+/// has no row in the file, `room` is an empty list with room for all rows and this one; if the
+/// table is to keep an index and has none, `index` has memory for one.
 #[derive(Drop)]
 pub struct LockEdit {
     pub file: u16,
@@ -96,7 +97,7 @@ pub struct LockEdit {
     pub index: PageIndex,
 }
 
-// Moves the rows to the list that has room for them.
+// Moves the rows to the empty list `room`, which has room for them.
 fn move_rows(rows: &mut Vec<OwnerLocks>, room: Vec<OwnerLocks>)
     requires empty { room.items ≡ [] }
     requires room { length rows.old.items ≤ vec_capacity room }
@@ -109,7 +110,7 @@ fn move_rows(rows: &mut Vec<OwnerLocks>, room: Vec<OwnerLocks>)
     };
 }
 
-// One more row, for which there is room.
+// Inserts a row, for which there is room.
 fn insert_row(rows: &mut Vec<OwnerLocks>, place: usize, row: OwnerLocks)
     requires place { place ≤ length rows.old.items }
     requires room { length rows.old.items < vec_capacity rows.old }
@@ -121,7 +122,7 @@ fn insert_row(rows: &mut Vec<OwnerLocks>, place: usize, row: OwnerLocks)
 }
 
 impl LockTable {
-    /// The table with no locks, in which an owner may have so many regions in a file.
+    /// The table without locks, in which an owner may have `limit` regions in a file.
     pub fn new(alloc: Global, limit: usize) -> Self
         ensures locks { held result ≡ no_locks }
         ensures limit { result.limit ≡ limit }
@@ -136,7 +137,7 @@ impl LockTable {
     /// An equal table.
     ///
     /// # Errors
-    /// `AllocError`.
+    /// `AllocError` where a request for memory was refused.
     pub fn copy(&self) -> Result<Self, AllocError>
         ensures { IfOk result (λ copy. copy ≡ self.now) }
     {
@@ -152,20 +153,21 @@ impl LockTable {
         })
     }
 
-    /// Whether both have the same locks and the same limit.
+    /// Whether both tables have the same locks and the same limit.
     pub fn same(&self, other: &Self) -> bool
         ensures { IsTrue result ↔ IsSameTable self.now other.now }
     {
         self.limit == other.limit && same_rows(&self.rows, &other.rows)
     }
 
-    /// Gives each byte of the span the mode for this owner (POSIX.1-2017 `fcntl()`, F_SETLK with
-    /// F_RDLCK or F_WRLCK), whatever other owners hold: a caller that wants no two locks to conflict
-    /// asks `blocker` first.
+    /// Sets each byte of the span to the mode for this owner (POSIX.1-2017 `fcntl()`, F_SETLK with
+    /// F_RDLCK or F_WRLCK), whatever other owners hold. To prevent conflicting locks, ask `blocker`
+    /// first.
     ///
     /// # Errors
-    /// `NoLocks` where the owner would then have more regions in the file than the limit (ENOLCK), which is
-    /// tested before memory is asked for; `NoMemory`.
+    /// `NoLocks` where the owner would then have more regions in the file than the limit (ENOLCK),
+    /// which is tested before memory is requested; `NoMemory` where a request for memory was
+    /// refused.
     pub fn set(&mut self, owner: Owner, file: u16, span: Span, mode: Mode) -> Result<(), LockError>
         ensures ok { OnOk result (held self.new ≡ with_lock (held self.old) file owner span (Some mode)) }
         ensures few { OnOk result (regions (put (held self.old file owner) span (Some mode)) ≤ self.old.limit) }
@@ -179,11 +181,12 @@ impl LockTable {
         Ok(())
     }
 
-    /// Takes each byte of the span from this owner (POSIX.1-2017 `fcntl()`, F_SETLK with F_UNLCK).
+    /// Frees each byte of the span for this owner (POSIX.1-2017 `fcntl()`, F_SETLK with F_UNLCK).
     ///
     /// # Errors
-    /// `NoLocks` where the owner would then have more regions in the file than the limit (ENOLCK), since
-    /// a region can be cut in two; that is tested before memory is asked for; `NoMemory`.
+    /// `NoLocks` where the owner would then have more regions in the file than the limit (ENOLCK),
+    /// since a region can be cut in two; that is tested before memory is requested; `NoMemory`
+    /// where a request for memory was refused.
     pub fn unlock(&mut self, owner: Owner, file: u16, span: Span) -> Result<(), LockError>
         ensures ok { OnOk result (held self.new ≡ with_lock (held self.old) file owner span None) }
         ensures few { OnOk result (regions (put (held self.old file owner) span None) ≤ self.old.limit) }
@@ -197,8 +200,8 @@ impl LockTable {
         Ok(())
     }
 
-    // How many regions the owner would have in the file with the bytes in the mode, or freed. Takes no
-    // memory.
+    // The number of regions that the owner would have in the file with the span set to the mode, or
+    // freed. Takes no memory.
     fn regions_with(&self, file: u16, owner: Owner, span: Span, mode: Option<Mode>) -> usize
         ensures { result ≡ regions (put (held self.now file owner) span mode) }
     {
@@ -211,7 +214,7 @@ impl LockTable {
         }
     }
 
-    // An empty list with room for all rows and one more, where the owner has no row in the file.
+    // An empty list with room for all rows and one more, if the owner has no row in the file.
     fn room_for(&self, file: u16, owner: Owner) -> Result<Vec<OwnerLocks>, AllocError>
         ensures empty { IfOk result (λ room. room.items ≡ []) }
         ensures room { IfOk result (λ room. HasRoom self.now.rows file owner (vec_capacity room)) }
@@ -223,7 +226,7 @@ impl LockTable {
         }
     }
 
-    // Memory for an index, where the table is to keep one and has none.
+    // Memory for an index, if the table is to keep one and has none.
     fn index_for(&self) -> Result<PageIndex, AllocError>
         ensures { IfOk result (λ index. IsKept index → 64 ≤ length self.now.rows) }
     {
@@ -234,7 +237,7 @@ impl LockTable {
         PageIndex::with_memory(alloc)
     }
 
-    // The write of what an owner holds in a file.
+    // The planned write of what the owner holds in the file.
     fn plan_write(
         &self,
         file: u16,
@@ -255,10 +258,10 @@ impl LockTable {
         }
     }
 
-    /// What `set` (with a mode) or `unlock` (with none) would change. It copies nothing.
+    /// The change that `set` (with a mode) or `unlock` (with `None`) would make. It copies nothing.
     ///
     /// # Errors
-    /// Those of `set` and `unlock`.
+    /// The errors of `set` or `unlock`, in the same cases.
     pub fn plan(
         &self,
         owner: Owner,
@@ -290,8 +293,8 @@ impl LockTable {
         })
     }
 
-    // Begins an index in the memory, where there is none yet, and makes one anew that is due. Takes no
-    // memory.
+    // Begins an index in the given memory if the table has none yet, and renews an index that is
+    // due for it. Takes no memory.
     fn refresh(&mut self, index: PageIndex)
         ensures { self.new ≡ self.old }
     {
@@ -303,7 +306,7 @@ impl LockTable {
         }
     }
 
-    // Makes the write in the owner's row, and takes the row out where it holds nothing then. Takes no
+    // Makes the write in the owner's row, and removes the row if it then holds nothing. Takes no
     // memory.
     fn write_row(&mut self, place: usize, file: u16, owner: Owner, write: SpanEdit<Mode>)
         requires row { IsRowAt self.old.rows place file owner }
@@ -320,8 +323,8 @@ impl LockTable {
         self.rows.remove(place);
     }
 
-    // The first write of an owner in a file: it has a row from then on, if it holds some byte. Takes no
-    // memory.
+    // Makes the first write of an owner in a file: adds a row, if the owner then holds some byte.
+    // Takes no memory.
     fn add_row(
         &mut self,
         place: usize,
@@ -346,7 +349,7 @@ impl LockTable {
         insert_row(&mut self.rows, place, OwnerLocks { file, owner, spans });
     }
 
-    // Makes the write of what an owner holds in a file. Takes no memory.
+    // Makes the write of what the owner holds in the file. Takes no memory.
     fn write(&mut self, file: u16, owner: Owner, write: SpanEdit<Mode>, room: Vec<OwnerLocks>)
         requires runs { HasRuns self.old.rows file owner write.runs }
         requires empty { room.items ≡ [] }
@@ -360,8 +363,8 @@ impl LockTable {
         }
     }
 
-    /// Makes a planned change: of what the owner holds in the file, only the regions from the span on are
-    /// written. Takes no memory.
+    /// Makes a planned change: only the regions of the owner from the span on are rewritten. Takes
+    /// no memory.
     pub fn apply(&mut self, edit: LockEdit)
         requires runs { HasRuns self.old.rows edit.file edit.owner edit.write.runs }
         requires empty { edit.room.items ≡ [] }
@@ -380,7 +383,7 @@ impl LockTable {
         self.write(file, owner, write, room);
     }
 
-    /// Takes each byte of a file from an owner. Takes no memory.
+    /// Frees each byte of a file for an owner. Takes no memory.
     pub fn drop_owner(&mut self, owner: Owner, file: u16)
         ensures locks { held self.new ≡ without_owner (held self.old) file owner }
         ensures limit { self.new.limit ≡ self.old.limit }
@@ -390,15 +393,15 @@ impl LockTable {
         }
     }
 
-    // The files in which the owner may hold bytes, the first one by flag 0; `None` where the table doesn't
-    // know.
+    // The files in which the owner may hold bytes, where flag 0 is file 1; `None` where the table
+    // doesn't know.
     fn files_of(&self, owner: Owner) -> Option<FlagSet>
         ensures { IfSome result (λ files. (f b : ℕ) (m : SomeMode) → held self.now f owner b ≡ Some m → (1 ≤ f) × (f ≤ 256) × HasFlag files (f - 1)) }
     {
         self.index.files_of(owner)
     }
 
-    // Takes each byte of the files with those of 64 flags from an owner.
+    // Frees each byte of some files for an owner: the files whose flags are in the word, 0 to 3.
     fn drop_in_word(&mut self, owner: Owner, files: &FlagSet, word: u16)
         requires { word < 4 }
         ensures limit { self.new.limit ≡ self.old.limit }
@@ -413,7 +416,7 @@ impl LockTable {
         }
     }
 
-    // Takes each byte of the files with these flags from an owner.
+    // Frees each byte of some files for an owner: the files with these flags.
     fn drop_in_files(&mut self, owner: Owner, files: &FlagSet)
         ensures limit { self.new.limit ≡ self.old.limit }
         ensures less { HoldsLess owner (held self.old) (held self.new) }
@@ -426,7 +429,7 @@ impl LockTable {
         }
     }
 
-    // Takes the rows of an owner out.
+    // Removes all rows of an owner.
     fn drop_rows(&mut self, owner: Owner)
         ensures locks { held self.new ≡ without_owner_anywhere (held self.old) owner }
         ensures limit { self.new.limit ≡ self.old.limit }
@@ -434,7 +437,7 @@ impl LockTable {
         self.rows.retain(|row| row.owner != owner);
     }
 
-    /// Takes each byte of every file from an owner. Takes no memory.
+    /// Frees each byte of every file for an owner. Takes no memory.
     pub fn drop_owner_anywhere(&mut self, owner: Owner)
         ensures locks { held self.new ≡ without_owner_anywhere (held self.old) owner }
         ensures limit { self.new.limit ≡ self.old.limit }
@@ -445,8 +448,8 @@ impl LockTable {
         }
     }
 
-    // Of the regions that are in the way of the mode in the span, the one with the lowest first byte, and of
-    // those with one first byte the one of the lowest owner. One owner may be left out.
+    // The lowest region in the way of the mode in the span, by first byte and then by owner.
+    // Regions of the owner `out` don't count.
     fn lowest_but(&self, out: &Option<Owner>, file: u16, span: Span, mode: Mode) -> Option<LockInfo>
         ensures { IsLowestBut (held self.now file) out.now span mode result }
     {
@@ -462,8 +465,8 @@ impl LockTable {
     }
 
     /// The region of another owner that blocks the mode in the span (POSIX.1-2017 `fcntl()`,
-    /// F_GETLK): of those that block the one with the lowest first byte, and of those with one first
-    /// byte the one of the lowest owner. `None` where no byte of the span is held in a mode that
+    /// F_GETLK): the one with the lowest first byte, and among those with one first byte the one of
+    /// the lowest owner. `None` where no other owner holds a byte of the span in a mode that
     /// excludes this one. Takes no memory.
     pub fn blocker(&self, owner: Owner, file: u16, span: Span, mode: Mode) -> Option<LockInfo>
         ensures { MatchOption result (IsFree (held self.now file) owner span mode) (λ lock. IsLowestBlocker (held self.now file) owner span mode lock) }
@@ -471,17 +474,17 @@ impl LockTable {
         self.lowest_but(&Some(owner), file, span, mode)
     }
 
-    /// The region of any owner that is in the way of the mode in the span, held in a mode that excludes
-    /// it: of those the one with the lowest first byte, and of those with one first byte the one of the
-    /// lowest owner. `None` where no byte of the span is held in such a mode. Takes no memory.
+    /// The region of any owner in the way of the mode in the span: the one with the lowest first
+    /// byte, and among those with one first byte the one of the lowest owner. `None` where no byte
+    /// of the span is held in a mode that excludes this one. Takes no memory.
     pub fn lowest_in_way(&self, file: u16, span: Span, mode: Mode) -> Option<LockInfo>
         ensures { MatchOption result (IsClear (held self.now file) span mode) (IsLowestInWay (IsRegion (held self.now file)) span mode) }
     {
         self.lowest_but(&None, file, span, mode)
     }
 
-    /// The largest span that contains `required`, lies in `within`, and has no byte that an owner holds in a
-    /// mode that excludes this one. Takes no memory.
+    /// The largest span that contains `required`, lies in `within`, and has no byte that an owner
+    /// holds in a mode that excludes this one. Takes no memory.
     pub fn free_around(&self, file: u16, required: Span, within: Span, mode: Mode) -> Span
         requires starts_within { within.lo ≤ required.lo }
         requires ends_within { required.hi ≤ within.hi }
@@ -513,7 +516,7 @@ impl LockTable {
     /// The regions of a file, by first byte and then by owner.
     ///
     /// # Errors
-    /// `AllocError`.
+    /// `AllocError` where a request for memory was refused.
     pub fn locks(&self, file: u16) -> Result<Vec<LockInfo>, AllocError>
         ensures { IfOk result (λ locks. IsListing (held self.now file) locks.items) }
     {

@@ -6,14 +6,14 @@ ghost use Rattle.lock_table.specs.Listing.{lock_cmp};
 use model::lock_info::LockInfo;
 use std::cmp::Ordering;
 
-/// Where a region stands to the other: by first byte, then by owner.
+/// How region a stands to region b: by first byte, then by owner.
 pub fn cmp_regions(a: &LockInfo, b: &LockInfo) -> Ordering
     ensures { result ≡ lock_cmp a.now b.now }
 {
     a.span.lo.cmp(&b.span.lo).then(a.owner.cmp(&b.owner))
 }
 
-// The one of the two that comes first.
+// The one of two regions that comes first.
 fn lower(a: LockInfo, b: LockInfo) -> LockInfo
     ensures either { (result ≡ a) ⊎ (result ≡ b) }
     ensures first { IsNotAfter result a }
@@ -22,7 +22,7 @@ fn lower(a: LockInfo, b: LockInfo) -> LockInfo
     if cmp_regions(&b, &a).is_lt() { b } else { a }
 }
 
-/// The one of those there are that comes first.
+/// The one of at most two regions that comes first.
 pub fn lowest_of(a: Option<LockInfo>, b: Option<LockInfo>) -> Option<LockInfo>
     ensures either { (result ≡ a) ⊎ (result ≡ b) }
     ensures first { IfSome a (λ lock. IsSomeAnd result (λ least. IsNotAfter least lock)) }

@@ -1,4 +1,4 @@
-//! Rows of a lock table.
+//! The rows of a lock table: what one owner holds in one file.
 ghost use Rattle.std.specs.Prelude.{◌≡◌, ℕ, ◌++◌, List, None, Some, false, IsTrue, ◌↔◌, IfOk, OnOk, MatchOption};
 ghost use Rattle.intervals.specs.Bytes.{IsBarred, IsRun, NoneIn};
 ghost use Rattle.intervals.specs.Runs.{value_at};
@@ -17,7 +17,7 @@ use model::owner::Owner;
 use std::alloc::AllocError;
 use std::cmp::Ordering;
 
-/// What one owner holds in one file.
+/// The bytes that one owner holds in one file. A row of a lock table holds at least one.
 #[derive(Drop)]
 pub struct OwnerLocks {
     pub(crate) file: u16,
@@ -25,14 +25,14 @@ pub struct OwnerLocks {
     pub(crate) spans: OwnerSpans,
 }
 
-// Whether the run that was found is that one.
+// Whether the run that was found is this one.
 fn is_found(found: Option<(Span, Mode)>, span: Span, mode: Mode) -> bool
     ensures { IsTrue result ↔ (found ≡ Some (span, mode)) }
 {
     found == Some((span, mode))
 }
 
-// Whether the owner is the one that is left out.
+// Whether the owner is `out`, whose regions don't count.
 fn is_left_out(out: &Option<Owner>, owner: Owner) -> bool
     ensures { IsTrue result ↔ (out.now ≡ Some owner) }
 {
@@ -40,7 +40,7 @@ fn is_left_out(out: &Option<Owner>, owner: Owner) -> bool
 }
 
 impl OwnerLocks {
-    /// Where the row stands to the place of an owner in a file: by file, then by owner.
+    /// How the row stands to the place of an owner in a file: by file, then by owner.
     pub(crate) fn cmp_place(&self, file: u16, owner: Owner) -> Ordering
         ensures { result ≡ row_cmp self.now file owner }
     {
@@ -50,7 +50,7 @@ impl OwnerLocks {
     /// An equal row.
     ///
     /// # Errors
-    /// `AllocError`.
+    /// `AllocError` where a request for memory was refused.
     pub(crate) fn copy(&self) -> Result<Self, AllocError>
         ensures { IfOk result (λ copy. copy ≡ self.now) }
     {
@@ -61,7 +61,7 @@ impl OwnerLocks {
         })
     }
 
-    /// Whether both are of one owner and one file, and hold the same bytes in the same modes.
+    /// Whether both rows are of one owner in one file, and hold the same bytes in the same modes.
     pub(crate) fn same(&self, other: &Self) -> bool
         ensures { IsTrue result ↔ IsSameRow self.now other.now }
     {
@@ -75,8 +75,8 @@ impl OwnerLocks {
         is_found(self.spans.run_at(span.lo), span, mode)
     }
 
-    // The region with the lowest byte of the span that has the mode `bar`, or any mode where that is
-    // `None`.
+    // The region with the lowest byte of the span that has the mode `bar`; with `bar` `None`, that
+    // has any mode.
     fn first_region(&self, within: Span, bar: Option<Mode>) -> Option<LockInfo>
         ensures { MatchOption result (NoneIn (IsBarred (value_at self.now.spans) bar) within) (IsFirstRegion self.now within bar) }
     {
@@ -104,16 +104,16 @@ impl OwnerLocks {
         self.first_region(rest, None)
     }
 
-    /// Whether the row may have a byte with the mode `bar`, or with any mode where that is `None`, where just
-    /// these owners may have one: as far as is known without a look at its bytes.
+    /// Whether the row may have a byte with the mode `bar` (with `None`: any mode), if only the
+    /// owners in the set may have one. It says so without reading the row's bytes.
     pub(crate) fn may_bar(&self, owners: &OwnerSet, bar: Option<Mode>) -> bool
         ensures { result ≡ false → Has owners.now self.now.owner → (b : ℕ) → IsBarred (value_at self.now.spans) bar b → ⊥ }
     {
         !self.spans.is_free_of(bar) && owners.has(self.owner)
     }
 
-    /// The lowest region of the row that is in the way of the mode in the span; none is where the row's owner
-    /// is left out.
+    /// The lowest region of the row in the way of the mode in the span; none if the row's owner is
+    /// `out`.
     pub(crate) fn lowest_but(&self, out: &Option<Owner>, span: Span, mode: Mode) -> Option<LockInfo>
         ensures { IsLowestBut (locks_of self.now) out.now span mode result }
     {
@@ -123,10 +123,10 @@ impl OwnerLocks {
         self.first_region(span, mode.bar())
     }
 
-    /// Adds each region, from the lowest on.
+    /// Adds each region of the row, in ascending order.
     ///
     /// # Errors
-    /// `AllocError`, and then some regions may have been added.
+    /// `AllocError` where a request for memory was refused; some regions may have been added then.
     pub(crate) fn push_regions(&self, locks: &mut Vec<LockInfo>) -> Result<(), AllocError>
         requires { IsBounded (value_at self.now.spans) }
         ensures { OnOk result ((more : List LockInfo) × (locks.new.items ≡ locks.old.items ++ more) × ListsRegions (locks_of self.now) more) }

@@ -1,4 +1,4 @@
-//! Sets of owners that may have more than was put in.
+//! Sets of owners that can have more owners than were added.
 ghost use Rattle.std.specs.Prelude.{◌≡◌, ◌<◌, IsTrue, ◌↔◌};
 ghost use Rattle.model.specs.declared.owner.Owner.{Owner as SomeOwner};
 ghost use Rattle.lock_table.specs.Pages.{flag_of, Has};
@@ -6,14 +6,14 @@ ghost use Rattle.lock_table.specs.Pages.{flag_of, Has};
 use crate::flag_set::FlagSet;
 use model::owner::Owner;
 
-/// Some owners: each has one of 256 flags, which it shares with others. So a set can have more owners
-/// than were put in.
+/// A set of owners. Each owner has one of 256 flags, which it shares with others, so the set can
+/// have more owners than were added.
 #[derive(Clone, Copy)]
 pub struct OwnerSet {
     flags: FlagSet,
 }
 
-/// The flag of an owner.
+/// The flag of an owner, 0 to 255.
 pub(crate) fn flag_of(owner: Owner) -> usize
     ensures result { result ≡ flag_of owner }
     ensures within { result < 256 }
@@ -22,7 +22,7 @@ pub(crate) fn flag_of(owner: Owner) -> usize
 }
 
 impl OwnerSet {
-    /// No owner.
+    /// The set without owners.
     pub(crate) fn none() -> Self
         ensures { (o : SomeOwner) → Has result o → ⊥ }
     {
@@ -31,7 +31,7 @@ impl OwnerSet {
         }
     }
 
-    /// Each owner.
+    /// The set of all owners.
     pub(crate) fn all() -> Self
         ensures { (o : SomeOwner) → Has result o }
     {
@@ -47,7 +47,7 @@ impl OwnerSet {
         self.flags.has(flag_of(owner))
     }
 
-    /// Puts an owner in.
+    /// Adds an owner.
     pub(crate) fn add(&mut self, owner: Owner)
         ensures kept { (o : SomeOwner) → Has self.old o → Has self.new o }
         ensures added { Has self.new owner }
@@ -55,7 +55,7 @@ impl OwnerSet {
         self.flags.add(flag_of(owner));
     }
 
-    /// Puts the owners of another set in.
+    /// Adds the owners of another set.
     pub(crate) fn join(&mut self, other: &OwnerSet)
         ensures kept { (o : SomeOwner) → Has self.old o → Has self.new o }
         ensures joined { (o : SomeOwner) → Has other.now o → Has self.new o }

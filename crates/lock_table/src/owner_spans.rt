@@ -1,4 +1,6 @@
 //! The bytes that one owner holds in one file.
+//!
+//! Each function here that can fail errs with `AllocError`, where a request for memory was refused.
 ghost use Rattle.std.specs.Prelude.{◌≡◌, ◌≤◌, ◌<◌, ◌↔◌, ℕ, length, None, [], IfOk, IsTrue, MatchOption};
 ghost use Rattle.intervals.specs.Bytes.{greatest, nothing, put, IsBarred, IsFirstIn, IsLargest, IsRun, NoneIn};
 ghost use Rattle.intervals.specs.Runs.{value_at};
@@ -15,12 +17,12 @@ use model::mode::Mode;
 use std::alloc::{AllocError, Global};
 use std::marker::Model;
 
-/// The bytes that one owner holds in one file, each with its mode. What is only asked for exclusive bytes reads
-/// none of an owner who never set a write lock there.
+/// The bytes that one owner holds in one file, each with its mode. If the owner never set a write
+/// lock there, a search for exclusive bytes reads nothing.
 #[derive(Drop)]
 pub(crate) struct OwnerSpans {
     spans: TreeMap<Mode>,
-    // No byte is exclusive. It is not found out anew where the last of them goes.
+    // No byte is exclusive. When the last exclusive byte is freed, this stays false.
     is_shared: bool,
 }
 
@@ -51,9 +53,6 @@ impl OwnerSpans {
     }
 
     /// An equal value.
-    ///
-    /// # Errors
-    /// `AllocError`.
     pub(crate) fn copy(&self) -> Result<Self, AllocError>
         ensures { IfOk result (λ copy. copy ≡ self.now) }
     {
@@ -70,7 +69,7 @@ impl OwnerSpans {
         self.spans.same(&other.spans)
     }
 
-    /// Whether there are none.
+    /// Whether no byte is held.
     pub(crate) fn is_empty(&self) -> bool
         ensures empty { IsTrue result ↔ (value_at self.now ≡ nothing) }
         ensures bounded { (b : ℕ) → greatest < b → value_at self.now b ≡ None }
@@ -78,35 +77,37 @@ impl OwnerSpans {
         self.spans.is_empty()
     }
 
-    /// The longest run of bytes in one mode that has the byte.
+    /// The longest run of bytes in one mode that contains the byte; `None` where the byte isn't
+    /// held.
     pub(crate) fn run_at(&self, byte: u64) -> Option<(Span, Mode)>
         ensures { MatchOption result (value_at self.now byte ≡ None) (λ run. IsRun (value_at self.now) run.0 run.1 × (run.0.lo ≤ byte) × (byte ≤ run.0.hi)) }
     {
         self.spans.run_at(byte)
     }
 
-    /// The first run that ends at the byte or above.
+    /// The first run that ends at the byte or above it.
     pub(crate) fn next(&self, byte: u64) -> Option<Run<Mode>>
         ensures { MatchOption result (NoneFrom (value_at self.now) byte) (IsNext (value_at self.now) byte) }
     {
         self.spans.next(byte)
     }
 
-    /// How many regions there would be with the bytes of the span in the mode, or freed.
+    /// The number of regions with the span set to the mode, or freed.
     pub(crate) fn starts_with(&self, span: Span, mode: Option<Mode>) -> usize
         ensures { result ≡ regions (put (value_at self.now) span mode) }
     {
         self.spans.starts_with(span, mode)
     }
 
-    /// Whether it is known, without a look, that no byte has the mode `bar`, or any mode where that is `None`.
+    /// Whether no byte has the mode `bar` (with `None`: any mode), as far as is known without
+    /// reading the bytes.
     pub(crate) fn is_free_of(&self, bar: Option<Mode>) -> bool
         ensures { IsTrue result → (b : ℕ) → IsBarred (value_at self.now) bar b → ⊥ }
     {
         self.is_shared && bar == Some(Mode::Write)
     }
 
-    /// The first byte of the span that has the mode `bar`, or any mode where that is `None`.
+    /// The first byte of the span that has the mode `bar`; with `bar` `None`, that has any mode.
     pub(crate) fn first_where(&self, span: Span, bar: Option<Mode>) -> Option<u64>
         ensures { MatchOption result (NoneIn (IsBarred (value_at self.now) bar) span) (λ b. IsFirstIn (IsBarred (value_at self.now) bar) span b) }
     {
@@ -116,8 +117,8 @@ impl OwnerSpans {
         self.spans.first_where(span, bar)
     }
 
-    /// The largest span that contains `required`, lies in `within`, and has no byte in the mode `bar`, or in any
-    /// mode where that is `None`.
+    /// The largest span that contains `required`, lies in `within`, and has no byte in the mode
+    /// `bar`; with `bar` `None`, no byte in any mode.
     pub(crate) fn largest_around(&self, required: Span, within: Span, bar: Option<Mode>) -> Span
         requires starts_within { within.lo ≤ required.lo }
         requires ends_within { required.hi ≤ within.hi }
@@ -130,11 +131,8 @@ impl OwnerSpans {
         self.spans.largest_around(required, within, bar)
     }
 
-    /// A write that is planned: the mode at each byte of the span, or none there. It is sure to be made as long
+    /// Plans a write: the mode, or none, that each byte of the span gets. `apply` makes it as long
     /// as there are no more runs than now.
-    ///
-    /// # Errors
-    /// `AllocError`.
     pub(crate) fn plan(&self, span: Span, mode: Option<Mode>) -> Result<SpanEdit<Mode>, AllocError>
         ensures span { IfOk result (λ edit. edit.span ≡ span) }
         ensures value { IfOk result (λ edit. edit.value ≡ mode) }
@@ -143,8 +141,8 @@ impl OwnerSpans {
         self.spans.plan(span, mode)
     }
 
-    /// Makes a planned write, and takes no memory. Where there are more runs than the edit has room for, nothing
-    /// changes.
+    /// Makes a planned write, and takes no memory. If there are more runs than the edit holds
+    /// memory for, nothing changes.
     pub(crate) fn apply(&mut self, edit: SpanEdit<Mode>)
         ensures { value_at self.new ≡ written edit self.old }
     {

@@ -1,4 +1,6 @@
-//! Which owners may hold bytes of which pages, and in which files.
+//! An index of a lock table: which owners may hold bytes of which pages, and in which files.
+//!
+//! Each function here that can fail errs with `AllocError`, where a request for memory was refused.
 ghost use Rattle.std.specs.Prelude.{◌≡◌, ℕ, ◌-◌, ◌<◌, ◌≤◌, ◌^◌, ◌⊎◌, Option, Some, IfOk, IfSome, IsTrue, ◌↔◌};
 ghost use Rattle.intervals.specs.Bytes.{put};
 ghost use Rattle.intervals.specs.Runs.{value_at};
@@ -16,27 +18,31 @@ use model::mode::Mode;
 use model::owner::Owner;
 use std::alloc::{AllocError, Global};
 
-// How many bytes a page has.
+// The number of bytes in a page.
 const PAGE: u64 = 2048;
 
-// How many sets of owners an index has for pages, where it is kept, and how many of files.
+// The numbers of an index's sets of owners, for pages, and of its sets of files, for the flags of
+// owners.
 const SETS: usize = 32768;
 
 const FILE_SETS: usize = 256;
 
-// A file with a greater number has no flag.
+// The greatest number of a file that has a flag.
 const MOST_FILES: u16 = 256;
 
-// A run of more pages is noted as a long one, and a span of more is not looked up.
+// A run of more pages than this is noted as a long one, and in a span of more pages all owners
+// count as near.
 const MOST_PAGES: u64 = 128;
 
-// After so many notes an index is due to be made anew, since it doesn't lose what rows give up.
+// The number of notes after which an index is due to be renewed, since it doesn't forget what rows
+// give up.
 const MOST_NOTES: u32 = 4096;
 
-/// Which owners may hold bytes of which pages, and in which files. Each page of each file has a set of
-/// owners, which it shares with others; the owners of long runs have a set of their own. Each flag of
-/// owners has a set of files; the owners in files past the 256th have a set of their own. An index without
-/// memory is not kept, and says that each owner may hold each byte. A wrong hint costs time alone.
+/// Which owners may hold bytes of which pages, and in which files. Each page of each file has a set
+/// of owners, which it shares with other pages; the owners of long runs have a set of their own.
+/// Each flag of owners has a set of files; the owners in files past the 256th have a set of their
+/// own. An index without memory isn't kept, and says that each owner may hold each byte. A wrong
+/// hint only costs time.
 #[derive(Drop)]
 pub struct PageIndex {
     sets: Vec<OwnerSet>,
@@ -46,7 +52,7 @@ pub struct PageIndex {
     notes: u32,
 }
 
-// The place of a page's set.
+// The place of a page's set of owners.
 fn slot_of(file: u16, page: u64) -> usize
     requires { page < 2 ^ 60 }
     ensures result { result ≡ slot_of file page }
@@ -56,7 +62,7 @@ fn slot_of(file: u16, page: u64) -> usize
 }
 
 impl PageIndex {
-    /// An index that is not kept.
+    /// An index without memory, which isn't kept.
     pub(crate) fn none(alloc: Global) -> Self
         ensures not_kept { IsKept result → ⊥ }
         ensures may { (f : ℕ) (o : SomeOwner) (b : ℕ) → MayHold result f o b }
@@ -70,10 +76,7 @@ impl PageIndex {
         }
     }
 
-    /// An index that is kept, with no owner in its sets.
-    ///
-    /// # Errors
-    /// `AllocError`.
+    /// An index with memory, whose sets have no owner.
     pub(crate) fn with_memory(alloc: Global) -> Result<Self, AllocError>
         ensures { IfOk result IsKept }
     {
@@ -97,7 +100,7 @@ impl PageIndex {
         self.sets.len() == SETS && self.files.len() == FILE_SETS
     }
 
-    /// Whether it is due to be made anew.
+    /// Whether the index is due to be renewed.
     pub(crate) fn is_stale(&self) -> bool
         ensures { IsTrue result ↔ 4096 ≤ self.now.notes }
     {
@@ -120,8 +123,8 @@ impl PageIndex {
         near
     }
 
-    /// The files in which the owner may hold bytes, the first one by flag 0; `None` where the index doesn't
-    /// know.
+    /// The files in which the owner may hold bytes, where flag 0 is file 1; `None` where the index
+    /// doesn't know.
     pub(crate) fn files_of(&self, owner: Owner) -> Option<FlagSet>
         ensures { IfSome result (λ files. (f b : ℕ) → MayHold self.now f owner b → (1 ≤ f) × (f ≤ 256) × HasFlag files (f - 1)) }
     {
@@ -165,7 +168,7 @@ impl PageIndex {
         self.sets[slot] = set;
     }
 
-    // Notes that the owner may hold the bytes from the first to the last.
+    // Notes that the owner may hold the bytes from `lo` to `hi`.
     fn note_bytes(&mut self, file: u16, owner: Owner, lo: u64, hi: u64)
         requires kept { IsKept self.old }
         ensures kept { IsKept self.new }
@@ -184,7 +187,7 @@ impl PageIndex {
         }
     }
 
-    /// Notes what an owner holds anew in a file once the write is made.
+    /// Notes the bytes that the owner gets in a file by a write.
     pub(crate) fn note_write(&mut self, file: u16, owner: Owner, write: &SpanEdit<Mode>)
         ensures keeps { (f : ℕ) (o : SomeOwner) (b : ℕ) → MayHold self.old f o b → MayHold self.new f o b }
         ensures noted { (before : ℕ → Option SomeMode) (b : ℕ) (m : SomeMode) → put before write.now.span write.now.value b ≡ Some m → (before b ≡ Some m) ⊎ MayHold self.new file owner b }
@@ -199,7 +202,7 @@ impl PageIndex {
         self.note_bytes(file, owner, write.span.lo, write.span.hi);
     }
 
-    // Notes what a row holds.
+    // Notes the bytes that a row holds.
     fn note_row(&mut self, row: &OwnerLocks)
         requires kept { IsKept self.old }
         ensures kept { IsKept self.new }
@@ -213,7 +216,7 @@ impl PageIndex {
         }
     }
 
-    /// Forgets all, and notes what the rows hold.
+    /// Forgets all notes, and notes what the rows hold.
     pub(crate) fn renew(&mut self, rows: &[OwnerLocks])
         requires { AreRows rows.now }
         ensures { Covers self.new (rows_held rows.now) }

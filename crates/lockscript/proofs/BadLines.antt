@@ -1,4 +1,4 @@
--- The first bad line of a text of which some lines were read.
+-- The first bad line of a text some of whose lines were read.
 use Rattle.std.proofs.Common.{◌≡◌, ◌≢◌, ℕ, ◌+◌, false, List, [], ◌∷◌, ◌++◌, length, map, inl, inr, refl, sym, ap, subst, ◌∙◌, arith, append_assoc}
 use Rattle.std.specs.Prelude.{◌⊎◌}
 use Rattle.std.specs.List.{All}
@@ -18,11 +18,11 @@ use Rattle.lockscript.proofs.FirstBadLines.{begins-whole, passes-of}
 use Rattle.lockscript.proofs.Passes.{kept_lines-append}
 use Rattle.lockscript.proofs.SameLines.{first-same, rest-same}
 
--- lines that may be kept at the beginning of a script
+-- lines that may stand at the beginning of a script, skipped ones left out
 abbrev pub BeginsScript : List (ℕ × List ℕ) → Type 0
 BeginsScript kept = (kept ≡ []) ⊎ ((s : ScriptFields) × Writes kept s)
 
--- what stands among the lines of a script is one of them
+-- the line is one of a script's, and satisfies P
 pub record IsAmong (P : LineFields → Type 0) (x : ℕ × List ℕ) : Type 0 where
   pub line : LineFields
   pub fits : P line
@@ -34,11 +34,11 @@ among P [] after x (l ∷ ls) fits e = record { line = l; fits = All-head P l ls
 among P (k ∷ before) after x [] fits e = absurd (cc)
 among P (k ∷ before) after x (l ∷ ls) fits e = among P before after x ls (All-tail P l ls fits) (rest-same k (line_text l) (before ++ x ∷ after) (map line_text ls) e)
 
--- behind a line that is kept
+-- what stands behind a line that isn't skipped is one of the lines of the script
 pub among-lines : (P : LineFields → Type 0) (k : ℕ × List ℕ) (kept after : List (ℕ × List ℕ)) (x : ℕ × List ℕ) (s : ScriptFields) → All P s.lines → Writes ((k ∷ kept) ++ x ∷ after) s → IsAmong P x
 among-lines P k kept after x s fits w = among P kept after x s.lines fits (rest-same k (w.cluster_line, shape_text s.shape) (kept ++ x ∷ after) (map line_text s.lines) w.texts)
 
--- a line that may not stand somewhere does not
+-- a line that may not stand behind others stands in no script
 not-misplaced : (kept : List (ℕ × List ℕ)) (number : ℕ) (line : List ℕ) (after : List (ℕ × List ℕ)) (s : ScriptFields) → IsMisplaced kept number line → Writes (kept ++ (number, line) ∷ after) s → ⊥
 not-misplaced [] number line after s misplaced w =
     let first = first-same (number, line) (w.cluster_line, shape_text s.shape) after (map line_text s.lines) w.texts in
@@ -47,7 +47,7 @@ not-misplaced (k ∷ kept) number line after s misplaced w =
     let found = among-lines IsLine k kept after (number, line) s w.lines_in w in
     misplaced found.line found.fits found.written
 
--- what is kept of lines that go on with one that is not skipped
+-- the lines that aren't skipped, of lines that go on with one that isn't
 pub kept-behind : (text : List ℕ) (kept : List (ℕ × List ℕ)) (rest : List ℕ) (passed : ℕ) (before : PassesLines text 0 kept rest passed) (line : List ℕ) (more : List (List ℕ)) → is_skipped line ≡ false
     → kept_lines 1 ((before.lines ++ line ∷ []) ++ more) ≡ kept ++ (passed + 1, line) ∷ kept_lines (passed + 1 + 1) more
 kept-behind text kept rest passed before line more says =
@@ -59,7 +59,7 @@ kept-behind text kept rest passed before line more says =
     ∙ ap (λ (ks : List (ℕ × List ℕ)). ks ++ kept_lines (passed + 1) (line ∷ more)) before.said
     ∙ ap (λ (ks : List (ℕ × List ℕ)). kept ++ ks) here
 
--- some script begins with no line
+-- some script begins with no line at all
 abbrev pub smallest : ShapeFields
 smallest = record { version = Second; nodes = 1; files = 1; policy = Wide }
 
@@ -75,7 +75,7 @@ pub begins-script : (text : List ℕ) (kept : List (ℕ × List ℕ)) (rest : Li
 begins-script text kept rest passed before (inl none) = (shape_text smallest ∷ [], (script_of smallest [], smallest-behind before.lines (before.said ∙ none)))
 begins-script text kept rest passed before (inr script) = begins-whole AreScript before.lines (script.0, subst (λ (ks : List (ℕ × List ℕ)). Writes ks script.0) (sym before.said) script.1)
 
--- lines of scripts, or of some of them
+-- the kind of lines is that of scripts, or of some scripts
 module _ (Are : List (List ℕ) → Type 0) (are_some : (lines : List (List ℕ)) → Are lines → AreScript lines) where
   pub bad-next : (text : List ℕ) (kept : List (ℕ × List ℕ)) (rest : List ℕ) (passed : ℕ) (before : PassesLines text 0 kept rest passed) → IsBad kept (passed + 1) rest → IsBadNext Are before.lines rest
   bad-next text kept rest passed before (has_no_cluster none end) = has_no_line (ap line_feeds end) (λ gone are. none-written (are_some before.lines are))
@@ -91,7 +91,7 @@ module _ (Are : List (List ℕ) → Type 0) (are_some : (lines : List (List ℕ)
       not-misplaced kept (passed + 1) line (kept_lines (passed + 1 + 1) b.0) script.0 misplaced
       (subst (λ (ks : List (ℕ × List ℕ)). Writes ks script.0) (kept-behind text kept rest passed before line b.0 says) script.1))
 
-  -- lines were read with which some begin, and the next line is bad
+  -- the next line is bad, behind lines with which a text of the kind begins
   abbrev pub first-bad : (text : List ℕ) (kept : List (ℕ × List ℕ)) (rest : List ℕ) (passed : ℕ) (before : PassesLines text 0 kept rest passed) → Begins Are before.lines → IsBad kept (passed + 1) rest → IsFirstBadOf Are text (passed + 1)
   first-bad text kept rest passed before good bad = record {
     lines = before.lines;
@@ -106,13 +106,13 @@ module _ (Are : List (List ℕ) → Type 0) (are_some : (lines : List (List ℕ)
     pub good-begun : (rest : List ℕ) (passed : ℕ) (before : PassesLines text 0 begun.kept rest passed) → Begins Are before.lines
     good-begun rest passed before = begins-whole Are before.lines (are before.lines (subst (λ (ks : List (ℕ × List ℕ)). Writes ks s) (sym before.said) begun.writes))
 
-    -- the line after those that are whole has no line feed
+    -- the line behind the whole lines has no line feed
     pub unfinished-of : (rest : List ℕ) (passed : ℕ) → PassesLines middle between [] rest passed → rest ≢ [] → line_feeds rest ≡ 0 → IsFirstBadOf Are text (passed + 1)
     unfinished-of rest passed after some no_feed =
         let before = passes-more text 0 begun.kept middle between rest passed begun.passes after in
         first-bad text begun.kept rest passed before (good-begun rest passed before) (has_no_end some no_feed)
 
-    -- the line may not stand behind the others
+    -- the line may not stand behind the other ones
     pub line-of : (number : ℕ) (line rest : List ℕ) → FindsLine middle between number line rest → IsNoLine number line → IsFirstBadOf Are text number
     line-of number line rest found no_line =
         let before = passes-more text 0 begun.kept middle between found.from found.passed begun.passes found.skips in
@@ -121,7 +121,7 @@ module _ (Are : List (List ℕ) → Type 0) (are_some : (lines : List (List ℕ)
         subst (IsFirstBadOf Are text) (sym found.counted)
         (first-bad text begun.kept found.from found.passed before (good-begun found.from found.passed before) (stands_wrong line rest found.begins found.says misplaced))
 
--- of scripts
+-- the first bad line of a script
 abbrev pub first-bad_script : (text : List ℕ) (kept : List (ℕ × List ℕ)) (rest : List ℕ) (passed : ℕ) → PassesLines text 0 kept rest passed → BeginsScript kept → IsBad kept (passed + 1) rest → IsFirstBadOf AreScript text (passed + 1)
 first-bad_script text kept rest passed before good bad = first-bad AreScript (λ lines are. are) text kept rest passed before (begins-script text kept rest passed before good) bad
 
@@ -133,22 +133,22 @@ pub bad-line : (text : List ℕ) (s : ScriptFields) (middle : List ℕ) (between
     → Begun text s middle between → FindsLine middle between number line rest → IsNoLine number line → IsFirstBadOf AreScript text number
 bad-line text s middle between number line rest begun = line-of AreScript (λ lines are. are) text s middle between begun (λ lines w. (s, w)) number line rest
 
--- nothing is kept, and the text goes on with this line
+-- only skipped lines stand before this line
 pub bad-none : (text rest : List ℕ) (passed : ℕ) → PassesLines text 0 [] rest passed → IsBad [] (passed + 1) rest → IsBadFirst text (BadLine (passed + 1))
 bad-none text rest passed before bad = (first-bad_script text [] rest passed before (inl refl) bad, before.said)
 
--- the first line that is not skipped names no cluster
+-- the first line that isn't skipped names no shape
 pub bad-first : (text : List ℕ) (number : ℕ) (line rest : List ℕ) → FindsLine text 0 number line rest → IsNoShape line → IsBadFirst text (BadLine number)
 bad-first text number line rest found no_shape =
     subst (λ (n : ℕ). IsBadFirst text (BadLine n)) (sym found.counted)
     (bad-none text found.from found.passed found.skips (stands_wrong line rest found.begins found.says (subst (λ (n : ℕ). IsMisplaced [] n line) found.counted no_shape)))
 
--- the first bad line is told
+-- an error about the first line that isn't skipped is one about the first bad line
 pub bad-told : (text : List ℕ) (error : ParseError) → IsBadFirst text error → IsBadLine text error
 bad-told text NoMemory bad = absurd bad
 bad-told text (BadLine number) bad = bad.0
 
--- a bad line refuses the text
+-- an error about a bad line is a reason for which the text is refused
 pub bad-refused : (text : List ℕ) (error : ParseError) → IsBadLine text error → IsRefused text error
 bad-refused text NoMemory bad = absurd bad
 bad-refused text (BadLine number) bad = bad

@@ -1,4 +1,4 @@
--- The `cluster` line.
+-- The cluster line.
 use Rattle.std.proofs.Common.{◌≡◌, ℕ, List, Some, Result, Ok, Err, refl, sym, ◌∙◌, ap, arith, codes, decimal, append_assoc}
 use Rattle.std.specs.Prelude.{⊤, IfOk, IsOk, ◌↔◌}
 use Rattle.std.specs.Result.{result_ok}
@@ -19,7 +19,7 @@ use Rattle.lockscript.proofs.FieldTexts.{behind, node, policy as policies}
 abbrev pub IsCounts : ℕ × (ℕ × Policy) → Type 0
 IsCounts = Both (IsNumber most_nodes) (Both (IsNumber most_files) (λ _. ⊤))
 
--- the counts as one text
+-- the operands of the cluster line as one text
 abbrev pub parts_text : ℕ × (ℕ × Policy) → List ℕ
 parts_text = pair_text decimal (after_text (codes "files ") (pair_text decimal (after_text (codes "policy ") policy_text)))
 
@@ -38,7 +38,7 @@ counts-parts s = simp append_assoc refl
 pub counts-fit : (s : ShapeFields) → IsShape s → IsCounts (counts_of s)
 counts-fit s fits = ((fits.nodes_in.0, omega (arith, fits.nodes_in.1)), (fits.files_in, tt))
 
--- clusters of one version are told by their counts
+-- two clusters of one version with equal operands are equal
 abbrev pub clusters : (version : Version) → Views (ℕ × (ℕ × Policy)) ShapeFields parts_text IsCounts counts_text (IsShapeOf version)
 clusters version = record { parts = counts_of; fit = λ s fits. counts-fit s fits.is_shape; same = counts-parts }
 
@@ -46,11 +46,11 @@ cluster-same : (version : Version) (s t : ShapeFields) → IsShapeOf version s �
 cluster-same version s t s_in t_in same =
     ap (λ (v : Version). shape_with v (counts_of s)) s_in.is_version ∙ ap (shape_with version) same ∙ sym (ap (λ (v : Version). shape_with v (counts_of t)) t_in.is_version)
 
--- the `cluster` line of a script
+-- the cluster line of a script has one meaning and no line feed
 pub shape : AreTexts shape_text IsScriptShape
 shape = behind (codes "cluster nodes ") refl (viewed (clusters Second) (cluster-same Second) shape_counts)
 
--- the shape that is made of the counts, if it is served
+-- the shape that is made of the operands, if a cluster may have it
 pub counts-made : {E : Type 0} (version : Version) (text : List ℕ) (nodes files : ℕ) (policy : Policy) (made : Result ShapeFields E) → Reads parts_text IsCounts text (Some (nodes, (files, policy)))
     → IfOk made (λ shape. shape ≡ shape_with version (nodes, (files, policy))) → IsOk made ↔ IsServed nodes files → Reads counts_text (IsShapeOf version) text (result_ok made)
 counts-made version text nodes files policy (Ok shape) counts same served =

@@ -1,4 +1,4 @@
--- The kinds of lines.
+-- The kinds of commands, by the words with which their lines begin.
 use Rattle.std.proofs.Common.{ℕ, List, [], ◌∷◌, inl, inr, refl, arith, codes, decimal}
 use Rattle.model.specs.Limits.{IsNumber}
 use Rattle.cluster_core.specs.World.{most_incarnations}
@@ -58,7 +58,7 @@ starts = variant (codes "start-server ") refl file.texts (λ f. StartServer f) (
 abbrev settles : CommandKind
 settles = variant (codes "settle") refl nothing (λ _. Settle) (λ f fit. tt) (λ f. refl) (elim [ Settle ↦ λ fits. inl (tt, tt, refl) | _ ↦ λ _. inr refl ])
 
--- the words of lines with fields, and of the other
+-- the words of commands with operands, and the one without
 abbrev pub words : List (List ℕ)
 words = codes "call" ∷ codes "interrupt" ∷ codes "retry" ∷ codes "deliver" ∷ codes "lose" ∷ codes "resend" ∷ codes "declare" ∷ codes "restart" ∷ codes "fail-server" ∷ codes "start-server" ∷ codes "learn" ∷ []
 

@@ -20,12 +20,12 @@ use Rattle.lockscript.specs.Texts.{segment_text}
 pub node : AreFields decimal (IsNumber most_nodes)
 node = up_to most_nodes (omega arith)
 
--- a front, and what stands behind it
+-- the texts of values behind a fixed text
 pub behind : {A : Type 0} {f : A → List ℕ} {P : A → Type 0} (front : List ℕ) → has_no_feed front ≡ true → AreTexts f P → AreTexts (after_text front f) P
 behind {f = f} {P = P} front no_feed texts =
     record { apart = apart-after front f P texts.apart; feedless = λ x fits. lacks-append line_feed front (f x) (lacks-tested line_feed front no_feed) (texts.feedless x fits) }
 
--- no fields
+-- the text of no fields
 pub nothing : AreTexts {A = ⊤} (λ _. []) (λ _. ⊤)
 nothing = record { apart = λ x y _ _ _. refl; feedless = λ x fits. lacks-tested line_feed [] refl }
 

@@ -1,4 +1,4 @@
--- A text is one script, or has one first bad line.
+-- Each text is one script, or has one first bad line.
 use Rattle.std.proofs.Common.{◌≡◌, ℕ, List, ◌∷◌, map, sym, ap, subst, ◌∙◌}
 use Rattle.messages.specs.Shapes.{ShapeFields}
 use Rattle.texts.specs.LineFeeds.{kept_lines}
@@ -8,7 +8,7 @@ use Rattle.lockscript.proofs.Clusters.{shape as shape_texts}
 use Rattle.lockscript.proofs.FirstBadLines.{not_both, one_bad_line, passes-of, same-whole}
 use Rattle.lockscript.proofs.SameLines.{first-same, lines-same, rest-same}
 
--- the same lines write one script
+-- equal lines are the lines of one script
 pub written-same : (kept kept' : List (ℕ × List ℕ)) (s t : ScriptFields) → Writes kept s → Writes kept' t → kept ≡ kept' → s ≡ t
 written-same kept kept' s t a b e =
     let both : (a.cluster_line, shape_text s.shape) ∷ map line_text s.lines ≡ (b.cluster_line, shape_text t.shape) ∷ map line_text t.lines = sym a.texts ∙ e ∙ b.texts in
@@ -18,7 +18,7 @@ written-same kept kept' s t a b e =
     let lines = lines-same s.lines t.lines a.lines_in b.lines_in others in
     ap (λ (shape : ShapeFields). script_of shape s.lines) shapes ∙ ap (λ (ls : List LineFields). script_of t.shape ls) lines
 
--- whole lines that write a script
+-- the whole lines of a script's text are lines of a script
 pub are-script : (text : List ℕ) (s : ScriptFields) (a : IsScript text s) → AreScript a.whole.lines
 are-script text s a = (s, subst (λ (ks : List (ℕ × List ℕ)). Writes ks s) (sym a.whole.said) a.writes)
 

@@ -1,4 +1,4 @@
--- The kinds of operations.
+-- The kinds of operations, by the words with which their texts begin.
 use Rattle.std.proofs.Common.{ℕ, List, [], ◌∷◌, inl, inr, refl, codes}
 use Rattle.model.specs.declared.op.Op.TheVariants.{Spawn, Fork, Open, Dup, Close, Exit, Set, Wait, Unlock, Query}
 use Rattle.texts.proofs.FirstWords.{BeginsWithWord}
@@ -46,7 +46,7 @@ spawns = variant (codes "spawn") refl nothing (λ _. Spawn) (λ f fit. tt) (λ f
 abbrev exits : OpKind
 exits = variant (codes "exit") refl nothing (λ _. Exit) (λ f fit. tt) (λ f. refl) (elim [ Exit ↦ λ fits. inl (tt, tt, refl) | _ ↦ λ _. inr refl ])
 
--- the words of operations with fields, and of the others
+-- the words of operations with operands, and the ones without
 abbrev pub words : List (List ℕ)
 words = codes "fork" ∷ codes "open" ∷ codes "dup" ∷ codes "close" ∷ codes "set" ∷ codes "wait" ∷ codes "unlock" ∷ codes "query" ∷ []
 

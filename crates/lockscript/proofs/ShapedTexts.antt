@@ -1,4 +1,4 @@
--- Texts of scripts for a cluster of a shape that is given, of which some lines were read.
+-- Texts of scripts for a cluster of a given shape, some of whose lines were read.
 use Rattle.std.proofs.Common.{◌≡◌, ◌≢◌, ℕ, ◌+◌, List, [], ◌∷◌, ◌++◌, length, map, inl, inr, sym, ap, subst, ◌∙◌}
 use Rattle.std.specs.Prelude.{◌⊎◌}
 use Rattle.std.proofs.lemmas.List.{append-nil}
@@ -16,11 +16,11 @@ use Rattle.lockscript.proofs.FirstBadLines.{Further, begins-whole, further, kept
 use Rattle.lockscript.proofs.Passes.{kept_lines-append}
 use Rattle.lockscript.proofs.SameLines.{first-same}
 
--- the `cluster` line begins a script
+-- the cluster line begins a script
 pub begun-cluster : (text : List ℕ) (number : ℕ) (shape : ShapeFields) (rest : List ℕ) → IsClusterLine text number shape rest → Begun text (script_of shape []) rest number
 begun-cluster text number shape rest c = begun-first text number c.line rest shape c.finds c.shape_in c.names
 
--- lines that begin as those of a script do are of its cluster
+-- a script that goes on with more lines has the same cluster
 shape-same : (kept more : List (ℕ × List ℕ)) (s t : ScriptFields) → Writes kept s → Writes (kept ++ more) t → s.shape ≡ t.shape
 shape-same kept more s t a b =
     let lines = map line_text s.lines ++ more in
@@ -28,7 +28,7 @@ shape-same kept more s t a b =
     let first = first-same (a.cluster_line, shape_text s.shape) (b.cluster_line, shape_text t.shape) lines (map line_text t.lines) both in
     shape_texts.apart s.shape t.shape a.shape_in b.shape_in (ap (λ (x : ℕ × List ℕ). x.1) first)
 
--- a text is of one cluster
+-- one text has one cluster line
 one-shape : (text : List ℕ) (kept : List (ℕ × List ℕ)) (rest : List ℕ) (passed : ℕ) (kept' : List (ℕ × List ℕ)) (rest' : List ℕ) (passed' : ℕ) (s t : ScriptFields)
     → PassesLines text 0 kept rest passed → PassesLines text 0 kept' rest' passed' → Writes kept s → Writes kept' t → s.shape ≡ t.shape
 one-shape text kept rest passed kept' rest' passed' s t a b writes writes' = by (further a.lines b.lines rest rest' a.single b.single (sym a.parts ∙ b.parts))
@@ -37,25 +37,25 @@ one-shape text kept rest passed kept' rest' passed' s t a b writes writes' = by 
     by (inl f) = shape-same kept (kept_lines (1 + length a.lines) f.between) s t writes (subst (λ (ks : List (ℕ × List ℕ)). Writes ks t) (kept-on a b f) writes')
     by (inr f) = sym (shape-same kept' (kept_lines (1 + length b.lines) f.between) t s writes' (subst (λ (ks : List (ℕ × List ℕ)). Writes ks s) (kept-on b a f) writes))
 
--- the script that the text writes is of the cluster that its first line names
+-- the script of a text has the shape that the cluster line names
 pub one-for-shape : (text : List ℕ) (number : ℕ) (shape : ShapeFields) (rest : List ℕ) (s : ScriptFields) → IsClusterLine text number shape rest → IsScript text s → IsForShape shape text s
 one-for-shape text number shape rest s c is =
     let mine = begun-cluster text number shape rest c in
     (is, one-shape text is.kept [] is.passed mine.kept rest number s (script_of shape []) is.whole mine.passes is.writes mine.writes)
 
--- and that line names no other
+-- the cluster line names one shape
 one-cluster : (text : List ℕ) (number : ℕ) (shape : ShapeFields) (rest : List ℕ) (other : ℕ) → IsClusterLine text number shape rest → NamesAnother shape text other → ⊥
 one-cluster text number shape rest other c another =
     let mine = begun-cluster text number shape rest c in
     let theirs = begun-cluster text other another.other another.rest another.names in
     another.differs (one-shape text theirs.kept another.rest other mine.kept rest number (script_of another.other []) (script_of shape []) theirs.passes mine.passes theirs.writes mine.writes)
 
--- why a text is refused whose first line names the cluster
+-- the reason for which a text is refused whose cluster line names the given shape
 pub refused-for-shape : (text : List ℕ) (number : ℕ) (shape : ShapeFields) (rest : List ℕ) (error : ParseError) → IsClusterLine text number shape rest → IsRefused text error → IsRefusedForShape shape text error
 refused-for-shape text number shape rest NoMemory c is = (is.0, one-for-shape text number shape rest is.0 c is.1)
 refused-for-shape text number shape rest (BadLine bad) c is = stands_wrong is (λ other another. one-cluster text number shape rest other c another)
 
--- the first line names another cluster
+-- a text whose cluster line names another shape is refused for that line
 pub bad-another : (shape : ShapeFields) (text : List ℕ) (number : ℕ) → NamesAnother shape text number → (BadLine number ≢ NoMemory) × IsRefusedForShape shape text (BadLine number)
 bad-another shape text number another = (λ e. absurd (cc), names_another another)
 
@@ -75,7 +75,7 @@ not-begun text number s rest passed bad none begun (inr f) =
     let more = kept_lines (1 + length begun.passes.lines) f.between in
     no-lines begun.kept more s begun.writes (sym none ∙ ap (kept_lines 1) f.lines ∙ kept_lines-append 1 begun.passes.lines f.between ∙ ap (λ (ks : List (ℕ × List ℕ)). ks ++ more) begun.passes.said)
 
--- a line in which the `cluster` line is looked for
+-- a text with a bad line where the cluster line belongs is refused for it
 pub bad-before : (shape : ShapeFields) (text : List ℕ) (error : ParseError) → IsBadFirst text error → (error ≢ NoMemory) × IsRefusedForShape shape text error
 bad-before shape text NoMemory bad = absurd bad
 bad-before shape text (BadLine at) bad = (

@@ -1,4 +1,4 @@
--- Texts of scripts whose lines threads take, of which some lines were read.
+-- Texts of scripts for threads, some of whose lines were read.
 use Rattle.std.proofs.Common.{◌≡◌, ◌≢◌, ℕ, ◌+◌, Bool, false, true, not, cond, List, [], ◌∷◌, ◌++◌, map, Some, None, refl, sym, ap, subst, ◌∙◌, arith}
 use Rattle.std.specs.Option.{option_map}
 use Rattle.std.specs.List.{All, find}
@@ -23,7 +23,7 @@ number l = l.number
 abbrev is_refused : LineFields → Bool
 is_refused l = not (is_for_threads l.command)
 
--- they take every line where none is bad
+-- threads take each line where none is bad for them
 abbrev Takes : LineFields → Type 0
 Takes l = is_for_threads l.command ≡ true
 
@@ -39,22 +39,22 @@ takes-none : (ls : List LineFields) → All Takes ls → bad_line ls ≡ None
 takes-none [] all = refl
 takes-none (l ∷ ls) all = ap (λ (b : Bool). option_map number (cond (not b) (Some l) (find is_refused ls))) (All-head Takes l ls all) ∙ takes-none ls (All-tail Takes l ls all)
 
--- one more that they take
+-- one more line that threads take leaves no bad one
 bad_line-taken : (ls : List LineFields) (l : LineFields) → bad_line ls ≡ None → true ≡ is_for_threads l.command → bad_line (ls ++ l ∷ []) ≡ None
 bad_line-taken ls l none takes = takes-none (ls ++ l ∷ []) (All-push Takes ls l (takes-all ls none) (sym takes))
 
--- what was begun by lines that threads take
+-- a script is begun, and threads take each of its lines
 abbrev pub BegunForThreads : List ℕ → ScriptFields → List ℕ → ℕ → Type 0
 BegunForThreads text s rest passed = Begun text s rest passed × (bad_line s.lines ≡ None)
 
--- one line more
+-- a script for threads is begun with one more line
 pub more-for-threads : (text : List ℕ) (s : ScriptFields) (middle : List ℕ) (between at : ℕ) (line rest : List ℕ) (l : LineFields)
     → BegunForThreads text s middle between → FindsLine middle between at line rest → IsLine l → (at, line) ≡ line_text l → true ≡ is_for_threads l.command
     → BegunForThreads text (script_of s.shape (s.lines ++ l ∷ [])) rest at
 more-for-threads text s middle between at line rest l begun found fits e takes =
     (begun-line text s.shape s.lines middle between at line rest l begun.0 found fits e, bad_line-taken s.lines l begun.1 takes)
 
--- what is for threads is a script
+-- the lines of a script for threads are the lines of a script
 some-script : (lines : List (List ℕ)) → AreForThreads lines → AreScript lines
 some-script lines are = (are.0, are.1)
 
@@ -62,7 +62,7 @@ module _ (text : List ℕ) (s : ScriptFields) (middle : List ℕ) (between : ℕ
   for-threads : (lines : List (List ℕ)) → Writes (kept_lines 1 lines) s → AreForThreads lines
   for-threads lines writes = (s, writes, begun.1)
 
-  -- no script for threads goes on with a line that they don't take
+  -- no script for threads goes on with a line that threads don't take
   not-on : (line : List ℕ) (l : LineFields) (from : List ℕ) (passed : ℕ) (before : PassesLines text 0 begun.0.kept from passed) → is_skipped line ≡ false → IsLine l → line ≡ command_text l.command → false ≡ is_for_threads l.command
       → Begins AreForThreads (before.lines ++ line ∷ []) → ⊥
   not-on line l from passed before says fits e refuses b =
@@ -79,7 +79,7 @@ module _ (text : List ℕ) (s : ScriptFields) (middle : List ℕ) (between : ℕ
       let both : false ≡ true = refuses ∙ ap is_for_threads asked ∙ found.fits.1 in
       absurd (cc)
 
-  -- a line that threads don't take
+  -- a line that threads don't take is the first bad one
   pub bad-not_taken : (at : ℕ) (line rest : List ℕ) (l : LineFields) → FindsLine middle between at line rest → IsLine l → (at, line) ≡ line_text l → false ≡ is_for_threads l.command → IsBadOnThreads text at
   bad-not_taken at line rest l found fits e refuses =
       let before = passes-more text 0 begun.0.kept middle between found.from found.passed begun.0.passes found.skips in
@@ -92,15 +92,15 @@ module _ (text : List ℕ) (s : ScriptFields) (middle : List ℕ) (between : ℕ
         bad = stands_wrong line rest found.begins (not-on line l found.from found.passed before found.says fits (ap (λ (y : ℕ × List ℕ). y.1) e) refuses);
       }
 
-  -- a line that may not stand behind the others
+  -- a line that may not stand behind the other ones is the first bad one
   pub bad-behind : (at : ℕ) (line rest : List ℕ) → FindsLine middle between at line rest → IsNoLine at line → IsBadOnThreads text at
   bad-behind = line-of AreForThreads some-script text s middle between begun.0 for-threads
 
-  -- a line with no line feed
+  -- a line without a line feed is the first bad one
   pub bad-end : (rest : List ℕ) (passed : ℕ) → PassesLines middle between [] rest passed → rest ≢ [] → line_feeds rest ≡ 0 → IsBadOnThreads text (passed + 1)
   bad-end = unfinished-of AreForThreads some-script text s middle between begun.0 for-threads
 
--- a line in which the `cluster` line is looked for
+-- a text with a bad line where the cluster line belongs is refused for it
 pub bad-at-first : (text : List ℕ) (error : ParseError) → IsBadFirst text error → (error ≢ NoMemory) × IsRefusedOnThreads text error
 bad-at-first text NoMemory bad = absurd bad
 bad-at-first text (BadLine at) bad =
@@ -116,11 +116,11 @@ bad-at-first text (BadLine at) bad =
       },
     )
 
--- a text writes one script
+-- a text is that of one script
 pub one-for-threads : (text : List ℕ) (s t : ScriptFields) → IsForThreads text s → IsScript text t → IsForThreads text t
 one-for-threads text s t mine is = (is, subst (λ (x : ScriptFields). bad_line x.lines ≡ None) ((one_reading text).one_script s t mine.0 is) mine.1)
 
--- and then has no bad line
+-- a text of a script for threads is refused for no bad line
 pub refused-for-threads : (text : List ℕ) (s : ScriptFields) (error : ParseError) → IsForThreads text s → IsRefused text error → IsRefusedOnThreads text error
 refused-for-threads text s NoMemory mine is = (s, mine)
 refused-for-threads text s (BadLine at) mine is = absurd ((one_reading text).not_both s at mine.0 is)

@@ -1,4 +1,4 @@
--- The listing of a run.
+-- The listing of what a run gave.
 use Rattle.std.specs.Prelude.{ℕ, ◌+◌, List, [], ◌∷◌, ◌++◌, codes, decimal, flat_map, Option, Some, None}
 use Rattle.intervals.specs.Bytes.{Range}
 use Rattle.model.specs.declared.call.CallId.{CallId}
@@ -14,25 +14,25 @@ use Rattle.message_text.specs.Names.{call_text, host_text, owner_text}
 use Rattle.lockscript.specs.Texts.{op_text, reply_text}
 use Rattle.texts.specs.Words.{level_text, mode_text}
 
--- a refused line of the script, with the number of its refusal
+-- the line of a refused line of the script, with the number of its refusal
 abbrev pub refused_line : RefusedLine → List ℕ
 refused_line r = codes "line " ++ decimal r.line ++ codes " code " ++ decimal r.code ++ codes "\n"
 
--- the columns that begin a line of an entry: its position and a name
+-- the first two columns of a line about an entry: the entry's position and a name
 abbrev pub placed : ℕ → List ℕ → List ℕ
 placed position name = right_in 7 (decimal position) ++ codes " " ++ left_in 16 name ++ codes " "
 
--- the line of an entry at this position, if it answers a call
+-- the line of an entry at this position, if the entry answers a call
 abbrev pub replied : ℕ → Option (CallId × Reply) → List ℕ
 replied position None = []
 replied position (Some answer) = placed position (call_text answer.0) ++ reply_text answer.1 ++ codes "\n"
 
--- the lines of the entries that answer calls, the first entry being at this position
+-- the lines of the entries that answer calls, where the first entry is at this position
 abbrev pub reply_lines : ℕ → List Entry → List ℕ
 reply_lines position [] = []
 reply_lines position (e ∷ es) = replied position e.reply ++ reply_lines (position + 1) es
 
--- a file and the bytes of a span in it
+-- the columns of a file and of the bytes of a span in it
 abbrev pub span_columns : ℕ → Range → List ℕ
 span_columns file s = right_in 3 (decimal file) ++ codes " " ++ right_in 19 (decimal s.lo) ++ codes " " ++ right_in 19 (decimal s.hi) ++ codes " "
 
@@ -54,11 +54,11 @@ listing_start refused entries tokens locks =
     ++ codes "tokens\n" ++ flat_map token_line tokens
     ++ codes "locks\n" ++ flat_map lock_line locks
 
--- the last section under its heading
+-- the last section, under its heading
 abbrev pub history_text : List Item → List ℕ
 history_text history = codes "history\n" ++ flat_map history_line history
 
--- the five sections, each under its heading
+-- all five sections, each under its heading
 abbrev pub listing_text : List RefusedLine → List Entry → List TokenRun → List HeldLock → List Item → List ℕ
 listing_text refused entries tokens locks history =
     codes "refused\n" ++ flat_map refused_line refused

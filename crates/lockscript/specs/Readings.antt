@@ -1,8 +1,8 @@
--- A text is one script, or has one first bad line.
+-- Each text is one script, or has one first bad line.
 use Rattle.std.specs.Prelude.{◌≡◌, ℕ, List}
 use Rattle.lockscript.specs.Scripts.{IsFirstBad, IsScript, ScriptFields}
 
--- at most one of them, once
+-- the text is that of at most one script, has at most one first bad line, and not both
 pub record HasOneReading (text : List ℕ) : Type 0 where
   pub one_script : (s t : ScriptFields) → IsScript text s → IsScript text t → s ≡ t
   pub one_bad_line : (m n : ℕ) → IsFirstBad text m → IsFirstBad text n → m ≡ n

@@ -1,4 +1,4 @@
--- What scripts may ask for.
+-- The limits of the operations of scripts.
 use Rattle.std.specs.Prelude.{ℕ, FitsSigned, ⊤}
 use Rattle.std.specs.Int.{w64}
 use Rattle.model.specs.declared.op.Op.{Op}
@@ -11,7 +11,7 @@ use Rattle.texts.specs.Reads.{IsWithin}
 abbrev pub IsDescriptor : ℕ → Type 0
 IsDescriptor = IsWithin 0 255
 
--- an operation that a script may ask for: its numbers are within their limits and types
+-- the numbers of the operation are within their limits and types
 abbrev pub IsServedOp : Op → Type 0
 IsServedOp Spawn = ⊤
 IsServedOp (Fork child) = IsNumber most_processes child

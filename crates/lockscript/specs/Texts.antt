@@ -1,4 +1,4 @@
--- Texts of what scripts and listings name.
+-- The texts of replies and operations, in scripts and listings.
 use Rattle.std.specs.Prelude.{ℕ, ℤ, List, ◌++◌, codes, decimal}
 use Rattle.std.specs.Fmt.{signed_decimal}
 use Rattle.model.specs.declared.mode.Mode.{Mode}
@@ -26,11 +26,11 @@ reply_text NoLocks = codes "no-locks"
 reply_text Invalid = codes "invalid"
 reply_text Overflow = codes "overflow"
 
--- the start and the length of a segment
+-- a segment: its start and its length
 abbrev pub segment_text : ℤ × ℤ → List ℕ
 segment_text = pair_text signed_decimal signed_decimal
 
--- `FD KIND MODE START LEN`, the lock that a call asks for or about
+-- the operands of a call for a lock or about one: `FD KIND MODE START LEN`
 abbrev pub asked_lock_text : ℕ × (Kind × (Mode × (ℤ × ℤ))) → List ℕ
 asked_lock_text = pair_text decimal (pair_text kind_text (pair_text mode_text segment_text))
 

@@ -1,4 +1,4 @@
-//! The line that names a cluster.
+//! The cluster line of a script, which names the shape of a cluster.
 ghost use Rattle.std.specs.Prelude.{codes};
 ghost use Rattle.texts.specs.Reads.{Reads};
 ghost use Rattle.lockscript.specs.Scripts.{IsScriptShape, IsShapeOf, counts_text, shape_text};
@@ -30,14 +30,14 @@ impl Front for PolicyWord {
     }
 }
 
-/// `N files F policy P`.
+/// The operands of the cluster line: `N files F policy P`.
 type Counts = (
     NodeField,
     After<FilesWord, (FileField, After<PolicyWord, Policy>)>,
 );
 
-/// The shape, of version 2, that `cluster nodes N files F policy P` names, if the line is that and such
-/// a cluster is served.
+/// The shape, of version 2, that the line `cluster nodes N files F policy P` names; `None` if the
+/// line isn't one of these, or no cluster may have that shape.
 pub fn shape_of(line: &str) -> Option<Shape>
     ensures { Reads shape_text IsScriptShape line.now result }
 {
@@ -45,8 +45,8 @@ pub fn shape_of(line: &str) -> Option<Shape>
     shape_operands(Version::Second, operands)
 }
 
-/// The shape of this version that `N files F policy P` names, if the text is that and such a cluster
-/// is served.
+/// The shape, of this version, that the text `N files F policy P` names; `None` if the text isn't
+/// one of these, or no cluster may have that shape.
 pub fn shape_operands(version: Version, text: &str) -> Option<Shape>
     ensures { Reads counts_text (IsShapeOf version) text.now result }
 {

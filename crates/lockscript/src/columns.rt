@@ -1,4 +1,4 @@
-//! Columns of listings.
+//! The columns of listings: texts that are filled up with spaces to a width.
 ghost use Rattle.std.specs.Prelude.{◌≡◌, ◌≤◌, ◌-◌, ◌++◌, codes, decimal, replicate, string_bytes, string_len, OnOk};
 ghost use Rattle.lockscript.specs.Layout.{left_in, right_in};
 ghost use Rattle.texts.specs.Layout.{space};
@@ -28,10 +28,10 @@ const FILE_WIDTH: usize = 3;
 /// The width of a column of bytes of files, the widest of all.
 const BYTE_WIDTH: usize = 19;
 
-/// As many spaces as the widest column has.
+/// A text of as many spaces as the widest column has.
 const SPACES: &str = "                   ";
 
-// Writes this many spaces.
+// Adds `count` spaces.
 fn push_spaces(out: &mut String, count: usize) -> Result<(), AllocError>
     requires { count ≤ 19 }
     ensures { OnOk result (string_bytes out.new ≡ string_bytes out.old ++ replicate count space) }
@@ -39,7 +39,7 @@ fn push_spaces(out: &mut String, count: usize) -> Result<(), AllocError>
     out.push_str(&SPACES[..count])
 }
 
-// Fills up the column of this width that begins at byte `start` of the text.
+// Fills up with spaces the column of this width that begins at byte `start` of the text.
 fn fill_column(out: &mut String, start: usize, width: usize) -> Result<(), AllocError>
     requires begun { start ≤ string_len out.old }
     requires width { width ≤ 19 }
@@ -49,7 +49,7 @@ fn fill_column(out: &mut String, start: usize, width: usize) -> Result<(), Alloc
     push_spaces(out, width.saturating_sub(written))
 }
 
-// Writes a number at the right end of a column of this width.
+// Adds a number at the right end of a column of this width.
 #[tactic(auto, unfolding(crate::specs::Layout::right_in))]
 fn push_right(out: &mut String, number: u64, width: usize) -> Result<(), AllocError>
     requires { width ≤ 19 }
@@ -61,7 +61,7 @@ fn push_right(out: &mut String, number: u64, width: usize) -> Result<(), AllocEr
     out.push_str(digits)
 }
 
-/// Writes the name of a call or of an owner at the left end of its column.
+/// Adds the name of a call or of an owner, at the left end of its column.
 #[tactic(auto, unfolding(crate::specs::Layout::left_in))]
 pub(crate) fn push_name_column<F: Text>(out: &mut String, name: &F::Value) -> Result<(), AllocError>
     ensures { OnOk result (string_bytes out.new ≡ string_bytes out.old ++ left_in 16 (F.text_of name.now)) }
@@ -71,7 +71,7 @@ pub(crate) fn push_name_column<F: Text>(out: &mut String, name: &F::Value) -> Re
     fill_column(out, start, NAME_WIDTH)
 }
 
-/// Writes a node with its incarnation at the left end of its column.
+/// Adds a node with its incarnation, at the left end of its column.
 #[tactic(auto, unfolding(crate::specs::Layout::left_in))]
 pub(crate) fn push_host_column(
     out: &mut String,
@@ -85,7 +85,7 @@ pub(crate) fn push_host_column(
     fill_column(out, start, HOST_WIDTH)
 }
 
-/// Writes a position at the right end of its column, with a space behind it.
+/// Adds a position at the right end of its column, and a space.
 pub(crate) fn push_position(out: &mut String, position: u64) -> Result<(), AllocError>
     ensures { OnOk result (string_bytes out.new ≡ string_bytes out.old ++ right_in 7 (decimal position) ++ codes " ") }
 {
@@ -93,7 +93,7 @@ pub(crate) fn push_position(out: &mut String, position: u64) -> Result<(), Alloc
     out.push_str(" ")
 }
 
-/// Writes a position and a call at their places in their columns, with a space behind each.
+/// Adds a position and the name of a call, each in its column with a space behind it.
 pub(crate) fn push_placed(out: &mut String, position: u64, call: &CallId) -> Result<(), AllocError>
     ensures { OnOk result (string_bytes out.new ≡ string_bytes out.old ++ placed position (call_text call.now)) }
 {
@@ -102,8 +102,8 @@ pub(crate) fn push_placed(out: &mut String, position: u64, call: &CallId) -> Res
     out.push_str(" ")
 }
 
-/// Writes the columns of a file and of the first and the last byte of a span in it, and the word at
-/// the end of their line.
+/// Adds the columns of a file and of the first and the last byte of a span in it, and then a word
+/// and the end of the line.
 pub(crate) fn push_span_line(
     out: &mut String,
     file: u16,

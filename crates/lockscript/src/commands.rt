@@ -1,4 +1,4 @@
-//! What the lines of scripts ask for.
+//! Reads the commands of the lines of scripts.
 ghost use Rattle.texts.specs.Reads.{Reads};
 ghost use Rattle.lockscript.specs.Scripts.{IsCommand, command_text};
 
@@ -11,16 +11,16 @@ use crate::script_line::Command::{
 use message_text::numbers::{Counted, FileField, IncarnationField, NodeField, PidField};
 use texts::text::{Text, split_field};
 
-/// `N PID OP`.
+/// The operands of `call`: `N PID OP`.
 type CallFields = (NodeField, (PidField, Operation));
 
-/// `N PID`.
+/// The operands of `interrupt` and `retry`: `N PID`.
 type ProcessFields = (NodeField, PidField);
 
-/// `F N I`.
+/// The operands of `learn`: `F N I`.
 type LearnFields = (FileField, (NodeField, IncarnationField));
 
-/// What the line asks for, if it is one that is served: so far `call N PID OP`, `interrupt N PID`,
+/// The command of the line; `None` if the line isn't one of `call N PID OP`, `interrupt N PID`,
 /// `retry N PID`, `settle`, `deliver K`, `lose K`, `resend F`, `declare N`, `restart N`,
 /// `fail-server F`, `start-server F` and `learn F N I`.
 pub fn command_of(line: &str) -> Option<Command>

@@ -1,8 +1,8 @@
-//! What holds of every text.
+//! A law of every text that may be a script.
 ghost use Rattle.lockscript.specs.Readings.{EveryTextHasOneReading};
 
-/// No text writes two scripts, has two first bad lines, or writes a script and has a bad line: what
-/// `Script::parse` promises leaves it no choice, but for a refusal of memory.
+/// No text is that of two scripts, has two first bad lines, or is a script and has a bad line: so
+/// the contract of `Script::parse` leaves it no choice, but for a refused request for memory.
 pub fn every_text_has_one_reading()
     ensures { EveryTextHasOneReading }
 {}

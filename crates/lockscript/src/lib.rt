@@ -1,4 +1,6 @@
-//! Scripts of lock calls, and the listing of what a run of them gave.
+//! Scripts of lock calls as texts, and the listing of what a run of a script gave. This crate runs
+//! no script, and knows nothing of the rules of nodes and token servers, of files on a disk, or of
+//! threads but which lines they take.
 #![tactic(auto)]
 
 pub mod cluster_line;

@@ -6,14 +6,14 @@ ghost use Rattle.texts.specs.LineFeeds.{line_feeds, is_skipped, BeginsWithLine, 
 use crate::error::ParseError;
 use texts::text::split_at_first;
 
-/// A line without its line feed, by its number, from 1.
+/// A line without its line feed, and its number, from 1.
 #[derive(Clone, Copy)]
 pub(crate) struct NumberedLine<'a> {
     pub(crate) number: u64,
     pub(crate) text: &'a str,
 }
 
-/// What is left of a text, and how many of its lines were taken before.
+/// The rest of a text, and the number of its lines that were taken so far.
 #[derive(Drop)]
 pub(crate) struct Lines<'a> {
     rest: &'a str,
@@ -32,7 +32,7 @@ impl<'a> Lines<'a> {
         }
     }
 
-    /// The number of the line after those that were taken.
+    /// The number of the next line, from 1.
     pub(crate) fn next_number(&self) -> u64
         ensures { result ≡ self.now.taken + 1 }
     {
@@ -42,7 +42,7 @@ impl<'a> Lines<'a> {
     /// The next line, or `None` at the end of the text.
     ///
     /// # Errors
-    /// `BadLine` with its number where what is left has no line feed.
+    /// `BadLine` with the number of the next line, if the rest of the text has no line feed.
     pub(crate) fn next_line(&mut self) -> Result<Option<NumberedLine<'a>>, ParseError>
         ensures line { IfOk result (λ found. MatchOption found
             ((self.old.rest.now ≡ []) × (self.new.rest.now ≡ self.old.rest.now) × (self.new.taken ≡ self.old.taken))
@@ -64,7 +64,7 @@ impl<'a> Lines<'a> {
     /// The next line that isn't skipped: one that isn't empty and doesn't begin with `#`.
     ///
     /// # Errors
-    /// `BadLine` with its number where a line has no line feed.
+    /// `BadLine` with the number of the last line, if that has no line feed.
     pub(crate) fn next_command(&mut self) -> Result<Option<NumberedLine<'a>>, ParseError>
         ensures line { IfOk result (λ found. MatchOption found
             ((self.new.rest.now ≡ []) × PassesLines self.old.rest.now self.old.taken [] [] self.new.taken)
@@ -83,14 +83,15 @@ impl<'a> Lines<'a> {
     }
 }
 
-/// Whether the line says nothing: it is empty, or a comment.
+/// Whether the line is skipped: it is empty, or a comment.
 pub fn is_skipped(line: &str) -> bool
     ensures { result ≡ is_skipped line.now }
 {
     line.is_empty() || line.starts_with('#')
 }
 
-/// The first line of a text, and what stands after its line feed.
+/// The first line of a text, and the text behind its line feed; `None` if the text has no line
+/// feed.
 pub fn split_line(text: &str) -> Option<(&str, &str)>
     ensures { MatchOption result (line_feeds text.now ≡ 0) (λ parts. BeginsWithLine text.now parts.0.now parts.1.now) }
 {

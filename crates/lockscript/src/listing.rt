@@ -1,4 +1,6 @@
 //! The listing of what a run gave.
+//!
+//! Each function here that can fail errs with `AllocError`, where a request for memory was refused.
 ghost use Rattle.std.specs.Prelude.{◌≡◌, ◌++◌, codes, flat_map, string_bytes, IfOk, OnOk};
 ghost use Rattle.lockscript.specs.Listing.{listing_text, listing_start, history_text, lock_line, refused_line, replied, reply_lines, token_line, history_line};
 
@@ -23,12 +25,9 @@ use texts::number::push_number;
 use texts::text::Text;
 use texts::words::Named;
 
-/// The listing of a run, in five sections with their headings: the refused lines of its script, each
-/// with the number of its refusal, the replies of the entries, tokens, locks and the history, each in
-/// the order in which it is given. Positions of entries count from 1.
-///
-/// # Errors
-/// `AllocError` where a request for memory was refused.
+/// The listing of a run, in five sections with headings: the refused lines of its script, each with
+/// the number of its refusal; the replies, each with the position of its entry, from 1; the tokens;
+/// the locks; and the history. Each section has the order in which it is given.
 pub fn listing(
     alloc: Global,
     refused: &[RefusedLine],
@@ -44,10 +43,7 @@ pub fn listing(
     Ok(out)
 }
 
-/// The listing of a run up to its history: the first four of its sections.
-///
-/// # Errors
-/// `AllocError` where a request for memory was refused.
+/// The listing of a run without its history: the first four sections.
 pub fn listing_start(
     alloc: Global,
     refused: &[RefusedLine],
@@ -87,7 +83,7 @@ fn push_replies(out: &mut String, entries: &[Entry]) -> Result<(), AllocError>
     Ok(())
 }
 
-// The line of an entry at this position that answers a call, or nothing where it answers none.
+// Adds the line of an entry at this position, if the entry answers a call.
 fn push_replied(
     out: &mut String,
     position: u64,
@@ -137,7 +133,7 @@ fn push_lock(out: &mut String, held: &HeldLock) -> Result<(), AllocError>
     push_span_line(out, held.file, held.lock.span, Mode::word(held.lock.mode))
 }
 
-// The last section, the history, with its heading.
+// Adds the last section, the history, with its heading.
 fn push_history(out: &mut String, history: &[Item]) -> Result<(), AllocError>
     ensures { OnOk result (string_bytes out.new ≡ string_bytes out.old ++ history_text history.now) }
 {
@@ -148,10 +144,7 @@ fn push_history(out: &mut String, history: &[Item]) -> Result<(), AllocError>
     Ok(())
 }
 
-/// Writes the line of an item of a history.
-///
-/// # Errors
-/// `AllocError` where a request for memory was refused.
+/// Adds the line of an item of a history.
 #[tactic(auto, unfolding(crate::specs::Layout::left_in))]
 pub fn push_item(out: &mut String, item: &Item) -> Result<(), AllocError>
     ensures { OnOk result (string_bytes out.new ≡ string_bytes out.old ++ history_line item.now) }

@@ -1,4 +1,4 @@
-//! Operations in scripts.
+//! The operations of calls in scripts.
 ghost use Rattle.std.specs.Prelude.{◌∷◌, ◌++◌};
 ghost use Rattle.texts.specs.Layout.{space};
 ghost use Rattle.texts.specs.Reads.{Lacks, Reads};
@@ -14,19 +14,19 @@ use model::owner::Kind;
 use std::alloc::AllocError;
 use texts::text::{Text, split_field};
 
-/// `FILE ACCESS`.
+/// The operands of `open`: `FILE ACCESS`.
 type Opened = (FileField, Access);
 
-/// `START LEN`.
+/// A segment: `START LEN`.
 type Segment = (i64, i64);
 
-/// `FD KIND MODE START LEN`.
+/// The operands of `set`, `wait` and `query`: `FD KIND MODE START LEN`.
 type AskedLock = (DescriptorField, (Kind, (Mode, Segment)));
 
-/// `FD KIND START LEN`.
+/// The operands of `unlock`: `FD KIND START LEN`.
 type Unlocked = (DescriptorField, (Kind, Segment));
 
-/// An operation.
+/// An operation, with its operands.
 pub struct Operation;
 
 impl Text for Operation {
@@ -86,7 +86,7 @@ impl Text for Operation {
     }
 }
 
-// The operation of this word, with these operands.
+// The operation that this word names, with these operands.
 fn op_with(word: &str, operands: &str) -> Option<Op>
     requires { Lacks space word.now }
     ensures { Reads op_text IsServedOp (word.now ++ space ∷ operands.now) result }

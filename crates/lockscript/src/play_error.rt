@@ -1,11 +1,11 @@
-//! Why a script is not run to its end.
+//! The reasons for which a script isn't run to its end.
 ghost use Rattle.std.specs.Prelude.{◌≡◌};
 ghost use Rattle.lockscript.specs.declared.play_error.PlayError.TheVariants.{NoMemory};
 
 use std::alloc::AllocError;
 use thiserror::Error;
 
-/// Why a script was not run to its end.
+/// A reason for which a script isn't run to its end.
 #[derive(Clone, Copy, Debug, PartialEq, Eq, Error)]
 pub enum PlayError {
     /// A request for memory was refused.

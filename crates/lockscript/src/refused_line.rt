@@ -1,4 +1,4 @@
-//! Lines of a script that were refused.
+//! The lines of a script whose events were refused.
 
 /// A line of a script whose event was refused.
 #[derive(Clone, Copy, Debug, PartialEq, Eq)]

@@ -1,4 +1,6 @@
-//! Texts of replies.
+//! The texts of replies, as listings and journals have them.
+//!
+//! Each function here that can fail errs with `AllocError`, where a request for memory was refused.
 ghost use Rattle.std.specs.Prelude.{◌≡◌, ◌++◌, string_bytes, OnOk};
 ghost use Rattle.lockscript.specs.Texts.{reply_text};
 
@@ -7,10 +9,7 @@ use model::reply::Reply;
 use std::alloc::AllocError;
 use std::fmt::Write;
 
-/// Writes a reply.
-///
-/// # Errors
-/// `AllocError` where a request for memory was refused.
+/// Adds the text of a reply.
 pub fn push_reply(out: &mut String, reply: &Reply) -> Result<(), AllocError>
     ensures { OnOk result (string_bytes out.new ≡ string_bytes out.old ++ reply_text reply.now) }
 {

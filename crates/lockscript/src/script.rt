@@ -1,4 +1,4 @@
-//! Scripts.
+//! Scripts, and how they are read from texts.
 ghost use Rattle.std.specs.Prelude.{◌≡◌, ◌≢◌, ◌≤◌, ℕ, List, [], IfErr, IfOk, OnOk};
 ghost use Rattle.lockscript.specs.declared.error.ParseError.TheVariants.{BadLine, NoMemory};
 ghost use Rattle.lockscript.specs.Scripts.{Begun, HasScript, IsBadFirst, IsBadLine, IsLine, IsNoLine, IsRefused, IsScript, ScriptFields, line_text, script_of};
@@ -14,7 +14,7 @@ use messages::shape::Shape;
 use std::alloc::Global;
 use std::marker::Model;
 
-/// A script: the shape of a cluster, and the lines to be run on it, in order.
+/// A script: the shape of a cluster, and the lines to run on it, in order.
 #[derive(Drop)]
 pub struct Script {
     shape: Shape,
@@ -30,22 +30,22 @@ impl Model for Script {
 }
 
 impl Script {
-    /// The script that the text writes. Each line ends with a line feed, the last one too; empty lines
-    /// and lines that begin with `#` are skipped. The first other line is
-    /// `cluster nodes N files F policy P`, and none of the others is; they are `call N PID OP`,
+    /// The script whose text this is. Each line ends with a line feed, the last one too; empty
+    /// lines and lines that begin with `#` are skipped. The first other line is
+    /// `cluster nodes N files F policy P`, which stands once; the other lines are `call N PID OP`,
     /// `interrupt N PID`, `retry N PID`, `settle`, `deliver K`, `lose K`, `resend F`, `declare N`,
-    /// `restart N`, `fail-server F`, `start-server F` and `learn F N I`, in lines up to number 4294967295.
-    /// OP is `spawn`, `fork PID`, `open F ACCESS`, `dup FD`, `close FD`, `exit`,
+    /// `restart N`, `fail-server F`, `start-server F` and `learn F N I`, in lines up to number
+    /// 4294967295. OP is `spawn`, `fork PID`, `open F ACCESS`, `dup FD`, `close FD`, `exit`,
     /// `set FD KIND MODE START LEN`, `wait FD KIND MODE START LEN`, `unlock FD KIND START LEN` or
-    /// `query FD KIND MODE START LEN`, with ACCESS `r`, `w` or `rw`, KIND `proc` or `desc`, and MODE
-    /// `read` or `write`.
-    /// Fields are separated by one space, and numbers are decimal, without leading zeros or a leading
-    /// `+`.
+    /// `query FD KIND MODE START LEN`, with ACCESS `r`, `w` or `rw`, KIND `proc` or `desc`, and
+    /// MODE `read` or `write`.
+    /// Fields are separated by one space, and numbers are decimal, without leading zeros or a
+    /// leading `+`.
     ///
     /// # Errors
-    /// `BadLine` with the number of the first line that may not stand there, counted from 1, or with
-    /// the number after the last where there is no `cluster` line; `NoMemory` where no line is bad
-    /// and a request for memory was refused.
+    /// `BadLine` with the number, from 1, of the first line that may not stand where it does, or
+    /// with the number after the last line if no line is bad but there is no cluster line;
+    /// `NoMemory` if no line is bad and a request for memory was refused.
     pub fn parse(alloc: Global, text: &str) -> Result<Script, ParseError>
         ensures script { IfOk result (IsScript text.now) }
         ensures refused { IfErr result (IsRefused text.now) }
@@ -63,12 +63,12 @@ impl Script {
         Ok(Script { shape, lines })
     }
 
-    /// The script that the text writes, as at `parse`, all of whose lines threads take.
+    /// The script whose text this is, as for `parse`, if all its lines are ones that threads take.
     ///
     /// # Errors
-    /// `BadLine` with the number of the first line that may not stand there or that threads don't take,
-    /// counted from 1, or with the number after the last where there is no `cluster` line; `NoMemory`
-    /// where no line is bad and a request for memory was refused.
+    /// `BadLine` with the number, from 1, of the first line that may not stand where it does or
+    /// that threads don't take, or with the number after the last line if no line is bad but there
+    /// is no cluster line; `NoMemory` if no line is bad and a request for memory was refused.
     pub fn parse_for_threads(alloc: Global, text: &str) -> Result<Script, ParseError>
         ensures script { IfOk result (IsForThreads text.now) }
         ensures refused { IfErr result (IsRefusedOnThreads text.now) }
@@ -77,11 +77,11 @@ impl Script {
         Script::parse(alloc, text)
     }
 
-    /// The script that the text writes, as at `parse`, which is of a cluster of this shape.
+    /// The script whose text this is, as for `parse`, if its cluster has this shape.
     ///
     /// # Errors
-    /// `BadLine` with the number of the `cluster` line where it names another cluster, and else as at
-    /// `parse`; `NoMemory` where no line is bad and a request for memory was refused.
+    /// `BadLine` with the number of the cluster line if that names another shape, and else as for
+    /// `parse`; `NoMemory` if no line is bad and a request for memory was refused.
     pub fn parse_for_shape(alloc: Global, shape: &Shape, text: &str) -> Result<Script, ParseError>
         ensures script { IfOk result (IsForShape shape.now text.now) }
         ensures refused { IfErr result (IsRefusedForShape shape.now text.now) }
@@ -90,21 +90,22 @@ impl Script {
         Script::parse(alloc, text)
     }
 
-    /// The cluster that it runs on.
+    /// The shape of the cluster that the script runs on.
     pub fn shape(&self) -> Shape
         ensures { result ≡ self.now.shape }
     {
         self.shape
     }
 
-    /// Its lines but for the `cluster` line, in order.
+    /// The lines of the script but for the cluster line, in order.
     pub fn lines(&self) -> &[ScriptLine]
         ensures { result.now ≡ self.now.lines }
     {
         self.lines.as_slice()
     }
 
-    /// The same, where the script itself is needed no longer.
+    /// The lines of the script but for the cluster line, in order, where the script itself is not
+    /// needed any more.
     pub fn into_lines(self) -> Vec<ScriptLine>
         ensures { result.items ≡ self.lines }
     {
@@ -123,7 +124,7 @@ impl Script {
     }
 }
 
-// Takes the first line of a text, which gives the shape.
+// Takes the cluster line, the first line of a text that isn't skipped, and gives its shape.
 fn shape_in(source: &mut Lines<'_>) -> Result<Shape, ParseError>
     requires { source.old.taken ≡ 0 }
     ensures begun { IfOk result (λ shape. Begun source.old.rest.now (script_of shape []) source.new.rest.now source.new.taken) }
@@ -133,7 +134,8 @@ fn shape_in(source: &mut Lines<'_>) -> Result<Shape, ParseError>
     Ok(shape)
 }
 
-// Takes the first line of a text: its number, and the shape that it names.
+// Takes the cluster line, the first line of a text that isn't skipped, and gives its number and its
+// shape.
 fn cluster_in(source: &mut Lines<'_>) -> Result<(u64, Shape), ParseError>
     requires { source.old.taken ≡ 0 }
     ensures cluster { IfOk result (λ found. IsClusterLine source.old.rest.now found.0 found.1 source.new.rest.now) }
@@ -149,7 +151,7 @@ fn cluster_in(source: &mut Lines<'_>) -> Result<(u64, Shape), ParseError>
     }
 }
 
-// Whether the text begins a script of a cluster of this shape.
+// Checks that the cluster line of the text names this shape.
 fn check_shape(shape: &Shape, text: &str) -> Result<(), ParseError>
     ensures same { OnOk result ((number : ℕ) × ((rest : List ℕ) × IsClusterLine text.now number shape.now rest)) }
     ensures bad { IfErr result (λ error. (error ≢ NoMemory) × IsRefusedForShape shape.now text.now error) }
@@ -162,7 +164,8 @@ fn check_shape(shape: &Shape, text: &str) -> Result<(), ParseError>
     Ok(())
 }
 
-// Why a text is refused for which there is no memory: by its first bad line, if it has one.
+// The reason for which a text is refused when there is no memory: its first bad line, if it has
+// one, else `NoMemory`.
 fn refusal_without_memory(text: &str) -> ParseError
     ensures { IsRefused text.now result }
 {
@@ -172,7 +175,7 @@ fn refusal_without_memory(text: &str) -> ParseError
     }
 }
 
-// Whether the text writes a script.
+// Checks that the text is a script.
 fn check(text: &str) -> Result<(), ParseError>
     ensures script { OnOk result (HasScript text.now) }
     ensures bad { IfErr result (IsBadLine text.now) }
@@ -185,7 +188,7 @@ fn check(text: &str) -> Result<(), ParseError>
     Ok(())
 }
 
-// Whether the text writes a script all of whose lines threads take.
+// Checks that the text is a script all of whose lines threads take.
 fn check_for_threads(text: &str) -> Result<(), ParseError>
     ensures script { OnOk result ((script : ScriptFields) × IsForThreads text.now script) }
     ensures bad { IfErr result (λ error. (error ≢ NoMemory) × IsRefusedOnThreads text.now error) }
@@ -201,7 +204,8 @@ fn check_for_threads(text: &str) -> Result<(), ParseError>
     Ok(())
 }
 
-// The line as one of a script. Line numbers that are listed have 32 bits, so a line past them is bad.
+// The line of a script that this line of a text is. Listings have 32 bits for the number of a line,
+// so a line with a greater number is bad.
 fn script_line(line: NumberedLine<'_>) -> Result<ScriptLine, ParseError>
     requires { 1 ≤ line.number }
     ensures made { IfOk result (λ made. IsLine made × ((line.entry.number, line.entry.text.now) ≡ line_text made)) }

@@ -1,8 +1,8 @@
-//! Lines of scripts.
+//! The lines of scripts, and the commands that they give.
 use model::op::Op;
 use std::marker::Model;
 
-/// What a line of a script asks for.
+/// The command of a line of a script.
 #[derive(Clone, Copy, Debug, PartialEq, Eq)]
 pub enum Command {
     /// A process of a node makes a call.
@@ -21,17 +21,20 @@ pub enum Command {
         node: u8,
         pid: u16,
     },
-    /// Messages are delivered until none is left that no line has delivered, lost or passed over.
+    /// Messages are delivered in order of sending, also ones that are sent meanwhile, until each
+    /// was delivered, lost or passed over by some line. A message whose delivery is refused is
+    /// passed over.
     Settle,
-    /// A message is delivered, by its number in the order of sending, from 1.
+    /// The message with this number, from 1 in the order of sending, is delivered.
     Deliver {
         message: u32,
     },
-    /// A message is lost, by its number in the order of sending, from 1: lines that settle pass over it.
+    /// The message with this number, from 1 in the order of sending, is lost: `settle` doesn't
+    /// deliver it.
     Lose {
         message: u32,
     },
-    /// The server of a file sends again what has no answer.
+    /// The server of a file sends again each message that has no answer yet.
     Resend {
         file: u16,
     },
@@ -39,7 +42,7 @@ pub enum Command {
     Declare {
         node: u8,
     },
-    /// A node that was declared failed begins its next incarnation.
+    /// A node that was declared failed begins again, in its next incarnation.
     Restart {
         node: u8,
     },
@@ -63,9 +66,9 @@ impl Command {
     ghost use Rattle.std.specs.Prelude.{◌≡◌};
     ghost use Rattle.lockscript.specs.ThreadLines.{is_for_threads};
 
-    /// Whether a script that runs on threads may have a line that asks for this: a call, `settle`, `declare`,
-    /// `restart`, `fail-server` or `start-server`. On threads it is no line that says which message is
-    /// delivered or lost, and when.
+    /// Whether a script for threads may have a line with this command: a call, `settle`, `declare`,
+    /// `restart`, `fail-server` or `start-server`. On threads no line says which message is
+    /// delivered or lost, or when.
     pub fn is_for_threads(&self) -> bool
         ensures { result ≡ is_for_threads self.now }
     {
@@ -81,9 +84,9 @@ impl Command {
     }
 }
 
-/// A line of a script that asks for something, by its number in the text, from 1. The numbers in it
-/// are within the limits of lock calls: nodes 1 to 64, processes 1 to 256, files 1 to 256, messages 1
-/// to 4294967295, incarnations 1 to 65535.
+/// A line of a script with a command: its number in the text, from 1, and the command. The numbers
+/// in the command are within their limits: nodes 1 to 64, processes 1 to 256, files 1 to 256,
+/// messages 1 to 4294967295, incarnations 1 to 65535.
 #[derive(Clone, Copy, Debug, PartialEq, Eq)]
 pub struct ScriptLine {
     number: u32,
@@ -107,7 +110,7 @@ impl ScriptLine {
     ghost use Rattle.model.specs.Limits.{IsNumber};
     ghost use Rattle.lockscript.specs.Scripts.{IsCommand, greatest_line};
 
-    /// A line.
+    /// The line with this number and this command.
     pub(crate) fn new(number: u32, command: Command) -> ScriptLine
         requires counted { 1 ≤ number }
         requires within { IsCommand command }
@@ -116,7 +119,7 @@ impl ScriptLine {
         ScriptLine { number, command }
     }
 
-    /// Its number in the text, from 1.
+    /// The number of the line in the text, from 1.
     pub fn number(&self) -> u32
         ensures value { result ≡ self.now.number }
         ensures counted { IsNumber greatest_line result }
@@ -124,7 +127,7 @@ impl ScriptLine {
         self.number
     }
 
-    /// What it asks for.
+    /// The command of the line.
     pub fn command(&self) -> Command
         ensures value { result ≡ self.now.command }
         ensures within { IsCommand result }

@@ -1,4 +1,6 @@
-//! Lines of scripts, written.
+//! Writes the commands of lines of scripts.
+//!
+//! Each function here that can fail errs with `AllocError`, where a request for memory was refused.
 ghost use Rattle.std.specs.Prelude.{◌≡◌, ◌++◌, string_bytes, OnOk};
 ghost use Rattle.lockscript.specs.Scripts.{command_text};
 
@@ -8,10 +10,7 @@ use std::alloc::AllocError;
 use std::fmt::Write;
 use texts::text::Text;
 
-/// Writes what a line asks for, without its end.
-///
-/// # Errors
-/// `AllocError` where a request for memory was refused.
+/// Adds the text of a command, without a line feed.
 pub fn push_command(out: &mut String, command: &Command) -> Result<(), AllocError>
     ensures { OnOk result (string_bytes out.new ≡ string_bytes out.old ++ command_text command.now) }
 {

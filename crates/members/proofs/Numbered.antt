@@ -1,4 +1,4 @@
--- The item with a number in a list of those from a number on.
+-- The item with a given number in a list of items from a number on.
 use Rattle.std.specs.Prelude.{slice_set, slice_index_or, ◌==◌, ◌-◌}
 use Rattle.std.proofs.Common.{◌≡◌, ℕ, zero, suc, ◌+◌, ◌<◌, ◌≤◌, Bool, true, false, if◌then◌else◌, refl, sym, ◌∙◌, ap, subst, arith, List, [], ◌∷◌, ◌++◌, length, length-append}
 use Rattle.std.proofs.lemmas.Bool.{eqb-true}
@@ -7,7 +7,7 @@ use Rattle.messages.specs.Messages.{is_within}
 use Rattle.members.specs.Numbered.{numbered, IsRest}
 use Rattle.members.proofs.Choices.{if_again, at_number}
 
--- a place after the first is not the first
+-- a number after `from` is not `from`
 later : (from k : ℕ) → ((from + suc k) == from) ≡ false
 later from k = grind (arith, nat_tests)
 
@@ -56,7 +56,7 @@ numbered-push f rest from (y ∷ ys) x n =
     ∙ (ap (λ (m : ℕ). if n == from then f y else (if n == m then f x else numbered f rest (from + 1) ys n)) (sym (onward from (length ys)))
     ∙ swapped (n == from) (n == from + suc (length ys)) (f x) (f y) (numbered f rest (from + 1) ys n) (apart n from (length ys)))
 
--- the first items of a list in which each is as it began
+-- the first i items of a list have the values of `rest`
 pub record Begun {A B : Type 0} (f : A → B) (rest : ℕ → B) (xs : List A) (i : ℕ) : Type 0 where
   pub there : length xs ≡ i
   pub first : IsRest f rest xs
@@ -99,7 +99,7 @@ read_number f rest xs n x least most is =
     let number : 1 + (n - 1) ≡ n = omega arith in
     ap (λ (k : ℕ). numbered f rest 1 xs k) (sym number) ∙ numbered-read f rest 1 xs (n - 1) x place is
 
--- the number is not one of those from 1 on that the list has
+-- a number outside the list has the value of `rest`
 pub numbered-outside : {A B : Type 0} (f : A → B) (rest : ℕ → B) (from : ℕ) (xs : List A) (n : ℕ) → (from ≤ n → from + length xs ≤ n) → numbered f rest from xs n ≡ rest n
 unfolding numbered
 numbered-outside f rest from [] n out = refl

@@ -1,4 +1,4 @@
--- What members say of a node, and what becomes of them.
+-- What the stored members say of a node, and how rules change them.
 use Rattle.std.specs.Prelude.{slice_set, slice_index_or, ◌==◌, ◌-◌}
 use Rattle.std.proofs.Common.{◌≡◌, ℕ, ◌+◌, ◌<◌, ◌≤◌, Bool, true, false, not, nat_le, nat_lt, ◌&&◌, if◌then◌else◌, refl, sym, ◌∙◌, ap, subst, arith, List, length, Some, None, Result, Ok, Err}
 use Rattle.std.proofs.lemmas.Bool.Decides.{nat_tests}
@@ -15,7 +15,7 @@ use Rattle.members.proofs.Numbered.{within_is, put_at, read_number, numbered-out
 abbrev member : Bool → ℕ → MemberParts
 member alive last = record { alive = alive; last = last }
 
--- members whose parts were opened, and the one that stands at a node's place
+-- the stored members, opened, with the one at a node's place
 module _ (ms now : List MemberParts) (view : ms ≡ now) (n : ℕ) (has : is_within (length now) n ≡ true) where
   has_before : is_within (length ms) n ≡ true
   has_before = subst (λ (xs : List MemberParts). is_within (length xs) n ≡ true) (sym view) has
@@ -26,7 +26,7 @@ module _ (ms now : List MemberParts) (view : ms ≡ now) (n : ℕ) (has : is_wit
   most : n ≤ length ms
   most = (within_is (length ms) n has_before).1
 
-  -- another one stands there
+  -- another member is put at the node's place
   module _ (b : Bool) (k : ℕ) where
     abbrev put : List MemberParts
     put = slice_set ms (n - 1) (member b k)
@@ -84,20 +84,20 @@ module _ (ms now : List MemberParts) (view : ms ≡ now) (n : ℕ) (has : is_wit
     pub restarts_next : a ≡ false → last < 65535 → restarted (members_state now) n ≡ Ok (with_restarted (members_state now) n, last + 1)
     restarts_next h lt = dead h ∙ ap (λ (b : Bool). if b then Ok (with_restarted (members_state now) n, last + 1) else Err TooManyRestarts) (few last lt)
 
--- what a declaration that is not refused comes to
+-- a declaration that isn't refused is of a member that is alive, and gives this result
 pub declaration : {A : Type 0} (a b : Bool) (t r : A) → (let x : Result A Refused = if not a then Err Stranger else (if b then Ok t else Err NotAlive) in x ≡ Ok r) → (a ≡ true) × (b ≡ true) × (t ≡ r)
 declaration true true t r h = (refl, refl, cc)
 declaration true false t r h = absurd (cc)
 declaration false b t r h = absurd (cc)
 
--- what a restart that is not refused comes to
+-- a restart that isn't refused is of a member that isn't alive and has an incarnation left, and gives this result
 pub restart : {A : Type 0} (a b c : Bool) (t r : A) → (let x : Result A Refused = if not a then Err Stranger else (if b then Err NotDead else (if c then Ok t else Err TooManyRestarts)) in x ≡ Ok r) → (a ≡ true) × (b ≡ false) × (c ≡ true) × (t ≡ r)
 restart true true c t r h = absurd (cc)
 restart true false true t r h = (refl, refl, refl, cc)
 restart true false false t r h = absurd (cc)
 restart false b c t r h = absurd (cc)
 
--- members after a restart
+-- the members after a restart
 pub restarts : (ms now : List MemberParts) (n k : ℕ) → ms ≡ now → restarted (members_state now) n ≡ Ok (with_restarted (members_state now) n, k) → restarted (members_state now) n ≡ Ok (members_state (slice_set ms (n - 1) (record { alive = true; last = k })), k)
 restarts ms now n k view done =
     let right = restart (is_within (length now) n) (alive_in now n) (nat_le (incarnation_in now n) most_incarnations) (with_restarted (members_state now) n, incarnation_in now n) (with_restarted (members_state now) n, k) done in
@@ -114,11 +114,11 @@ restarts ms now n k view done =
       incarnation = λ m. (put_incarnation ms now view n has true k m ∙ (ap (λ (xs : List MemberParts). if m == n then k else incarnation_in xs m) view ∙ stays m same)) i;
     }
 
--- members of a cluster that begins
+-- the members of a cluster that begins
 pub first_is_first : (ms : List MemberParts) (nodes : ℕ) → length ms ≡ nodes → IsRest (λ m. m.alive) (λ n. true) ms → IsRest (λ m. incarnation_of m.alive m.last) (λ n. 1) ms → members_state ms ≡ first_members nodes
 first_is_first ms nodes there alive first = λ i. record { nodes = there i; alive = λ n. alive n i; incarnation = λ n. first n i }
 
--- none was declared of a node that the cluster does not have
+-- no incarnation was declared failed of a node that the cluster doesn't have
 pub none_declared : (ms : List MemberParts) (n : ℕ) → is_within (length ms) n ≡ false → 0 ≡ incarnation_in ms n - 1
 none_declared ms n out =
     let first : incarnation_in ms n ≡ 1 = numbered-outside (λ y. incarnation_of y.alive y.last) (λ k. 1) 1 ms n (λ least. grind (arith, nat_tests, out)) in

@@ -1,9 +1,9 @@
--- Members as plain data, and what they stand for.
+-- Members as the code stores them, and the state that they stand for.
 use Rattle.std.specs.Prelude.{ℕ, ◌+◌, ◌≤◌, Bool, true, false, List, length}
 use Rattle.members.specs.Members.{MembersState, most_incarnations}
 use Rattle.members.specs.Numbered.{numbered}
 
--- whether a node is alive, and the last incarnation that it began
+-- whether an actor is alive, and the last incarnation that it began
 pub record MemberParts : Type 0 where
   pub alive : Bool
   pub last : ℕ
@@ -12,7 +12,7 @@ pub record IsMember (m : MemberParts) : Type 0 where
   pub begun : 1 ≤ m.last
   pub few : m.last ≤ most_incarnations
 
--- the incarnation that is live, or begins next
+-- the incarnation of an actor that is live, or that begins when it restarts
 abbrev pub incarnation_of : Bool → ℕ → ℕ
 incarnation_of true last = last
 incarnation_of false last = last + 1

@@ -1,4 +1,4 @@
-//! Actors of one kind, which fail and begin again.
+//! Actors of one kind, numbered from 1, that fail and begin again.
 ghost use Rattle.std.specs.Prelude.{◌≡◌, ◌≤◌, true, Some, None, IfSome, IfOk, IfErr, OnErr, length, ◌-◌, slice_index_or};
 ghost use Rattle.messages.specs.Messages.{is_within};
 ghost use Rattle.model.specs.Limits.{IsNumber};
@@ -9,10 +9,10 @@ use messages::refusal::Refused;
 use std::alloc::{AllocError, Global};
 use std::marker::Model;
 
-/// The most incarnations of a node; they are numbered from 1.
+/// The greatest number of incarnations of an actor; they are numbered from 1.
 pub const MOST_INCARNATIONS: u16 = 65_535;
 
-// Whether a node is alive, and the last incarnation that it began.
+// Whether an actor is alive, and the last incarnation that it began.
 #[derive(Clone, Copy)]
 struct Member {
     alive: bool,
@@ -31,8 +31,9 @@ impl Model for Member {
     ghost inverse = { λ m. record { alive = m.alive; last = m.last } };
 }
 
-/// Which actors of a kind are alive, and in which incarnation. One that was declared failed is at once
-/// in its next incarnation, and is not alive until it restarts.
+/// The actors of one kind (the nodes, or the token servers), numbered from 1: which of them are
+/// alive, and in which incarnation. An actor that is declared failed is in its next incarnation at
+/// once, and isn't alive until it restarts.
 #[derive(Drop)]
 pub struct Crowd {
     nodes: Vec<Member>,
@@ -48,7 +49,7 @@ impl Model for Crowd {
 }
 
 impl Crowd {
-    /// The members of a cluster that begins: every node is alive, in its first incarnation.
+    /// The actors of a cluster that begins: `count` of them, all alive in their first incarnation.
     ///
     /// # Errors
     /// `AllocError` where a request for memory was refused.
@@ -65,14 +66,14 @@ impl Crowd {
         Ok(Crowd { nodes })
     }
 
-    // Whether the cluster has a node with the number.
+    // Whether the cluster has an actor with this number.
     fn has(&self, node: u16) -> bool
         ensures { result ≡ is_within (members_state self.now).nodes node }
     {
         1 <= node && node as usize <= self.nodes.len()
     }
 
-    /// The incarnation of the node that is alive, or none.
+    /// The incarnation of the actor, if it is alive.
     pub fn alive(&self, node: u16) -> Option<u16>
         ensures value { result ≡ live_incarnation (members_state self.now) node }
         ensures within { IfSome result (λ incarnation. IsNumber most_incarnations incarnation) }
@@ -88,7 +89,7 @@ impl Crowd {
         }
     }
 
-    /// Whether this incarnation of the node was declared failed.
+    /// Whether this incarnation of the actor was declared failed.
     pub fn declared(&self, node: u16, incarnation: u16) -> bool
         ensures { result ≡ was_declared (members_state self.now) node incarnation }
     {
@@ -103,7 +104,7 @@ impl Crowd {
         }
     }
 
-    /// The greatest incarnation of the node that was declared failed, 0 where none was.
+    /// The greatest incarnation of the actor that was declared failed; 0 where none was.
     pub fn dead(&self, node: u16) -> u16
         ensures { result ≡ (members_state self.now).incarnation node - 1 }
     {
@@ -118,10 +119,11 @@ impl Crowd {
         }
     }
 
-    /// The node is declared failed. Which incarnation of it was alive.
+    /// Declares the actor failed, and gives the incarnation that was alive.
     ///
     /// # Errors
-    /// `Stranger` where the cluster has no such node, `NotAlive` where it is not alive. Nothing changes then.
+    /// `Stranger` where the cluster has no such actor, `NotAlive` where it isn't alive. Nothing
+    /// changes then.
     pub fn declare(&mut self, node: u16) -> Result<u16, Refused>
         ensures ok { IfOk result (λ incarnation. declared_failed (members_state self.old) node ≡ Ok (members_state self.new, incarnation)) }
         ensures within { IfOk result (λ incarnation. IsNumber most_incarnations incarnation) }
@@ -142,10 +144,10 @@ impl Crowd {
         Ok(member.last)
     }
 
-    /// The incarnation in which the node would restart now.
+    /// The incarnation in which the actor would restart now, from 2.
     ///
     /// # Errors
-    /// Those of `restart`.
+    /// Where `restart` errs, the same error.
     pub fn next(&self, node: u16) -> Result<u16, Refused>
         ensures ok { IfOk result (λ incarnation. restarted (members_state self.now) node ≡ Ok (with_restarted (members_state self.now) node, incarnation)) }
         ensures later { IfOk result (λ incarnation. 2 ≤ incarnation) }
@@ -165,11 +167,11 @@ impl Crowd {
         Ok(member.last + 1)
     }
 
-    /// The node restarts. In which incarnation it does.
+    /// Restarts the actor, and gives the incarnation in which it begins.
     ///
     /// # Errors
-    /// `Stranger` where the cluster has no such node, `NotDead` where it is alive, `TooManyRestarts`
-    /// where it had 65,535 incarnations. Nothing changes then.
+    /// `Stranger` where the cluster has no such actor, `NotDead` where it is alive,
+    /// `TooManyRestarts` where it had 65,535 incarnations. Nothing changes then.
     pub fn restart(&mut self, node: u16) -> Result<u16, Refused>
         ensures ok { IfOk result (λ incarnation. restarted (members_state self.old) node ≡ Ok (members_state self.new, incarnation)) }
         ensures within { IfOk result (λ incarnation. IsNumber most_incarnations incarnation) }

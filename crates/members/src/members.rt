@@ -1,4 +1,4 @@
-//! The members of a cluster.
+//! The members of a cluster: its nodes and its token servers.
 ghost use Rattle.std.specs.Prelude.{◌≡◌, ◌-◌, ◌≤◌, IfSome, IfOk, IfErr, OnErr, Ok, Err};
 ghost use Rattle.model.specs.Limits.{IsNumber};
 ghost use Rattle.members.specs.Members.{most_incarnations, first_members, live_incarnation, was_declared, with_restarted, declared_failed, restarted};
@@ -10,8 +10,9 @@ use messages::shape::Shape;
 use std::alloc::{AllocError, Global};
 use std::marker::Model;
 
-/// Which nodes and token servers of a cluster are alive, and in which incarnation, or epoch. One that
-/// was declared failed is at once in its next, and is not alive until it begins again.
+/// The nodes and token servers of a cluster: which of them are alive, and in which incarnation, or
+/// epoch. A member that is declared failed is in its next incarnation or epoch at once, and isn't
+/// alive until it begins again.
 #[derive(Drop)]
 pub struct Members {
     nodes: Crowd,
@@ -27,7 +28,7 @@ impl Model for Members {
 }
 
 impl Members {
-    /// The members of a cluster that begins: all are alive, in the first incarnation.
+    /// The members of a cluster that begins: all are alive, in their first incarnation or epoch.
     ///
     /// # Errors
     /// `AllocError` where a request for memory was refused.
@@ -41,7 +42,7 @@ impl Members {
         })
     }
 
-    /// The incarnation of the node that is alive, or none.
+    /// The incarnation of the node, if it is alive.
     pub fn alive(&self, node: u8) -> Option<u16>
         ensures value { result ≡ live_incarnation (members_state self.now.nodes) node }
         ensures within { IfSome result (λ incarnation. IsNumber most_incarnations incarnation) }
@@ -56,17 +57,18 @@ impl Members {
         self.nodes.declared(node as u16, incarnation)
     }
 
-    /// The greatest incarnation of the node that was declared failed, 0 where none was.
+    /// The greatest incarnation of the node that was declared failed; 0 where none was.
     pub fn dead(&self, node: u8) -> u16
         ensures { result ≡ (members_state self.now.nodes).incarnation node - 1 }
     {
         self.nodes.dead(node as u16)
     }
 
-    /// The node is declared failed. Which incarnation of it was alive.
+    /// Declares the node failed, and gives the incarnation that was alive.
     ///
     /// # Errors
-    /// `Stranger` where the cluster has no such node, `NotAlive` where it is not alive. Nothing changes then.
+    /// `Stranger` where the cluster has no such node, `NotAlive` where it isn't alive. Nothing
+    /// changes then.
     pub fn declare(&mut self, node: u8) -> Result<u16, Refused>
         ensures ok { IfOk result (λ incarnation. declared_failed (members_state self.old.nodes) node ≡ Ok (members_state self.new.nodes, incarnation)) }
         ensures within { IfOk result (λ incarnation. IsNumber most_incarnations incarnation) }
@@ -80,7 +82,7 @@ impl Members {
     /// The incarnation in which the node would restart now.
     ///
     /// # Errors
-    /// Those of `restart`.
+    /// Where `restart` errs, the same error.
     pub fn next(&self, node: u8) -> Result<u16, Refused>
         ensures ok { IfOk result (λ incarnation. restarted (members_state self.now.nodes) node ≡ Ok (with_restarted (members_state self.now.nodes) node, incarnation)) }
         ensures within { IfOk result (λ incarnation. IsNumber most_incarnations incarnation) }
@@ -89,11 +91,11 @@ impl Members {
         self.nodes.next(node as u16)
     }
 
-    /// The node restarts. In which incarnation it does.
+    /// Restarts the node, and gives the incarnation in which it begins.
     ///
     /// # Errors
-    /// `Stranger` where the cluster has no such node, `NotDead` where it is alive, `TooManyRestarts`
-    /// where it had 65,535 incarnations. Nothing changes then.
+    /// `Stranger` where the cluster has no such node, `NotDead` where it is alive,
+    /// `TooManyRestarts` where it had 65,535 incarnations. Nothing changes then.
     pub fn restart(&mut self, node: u8) -> Result<u16, Refused>
         ensures ok { IfOk result (λ incarnation. restarted (members_state self.old.nodes) node ≡ Ok (members_state self.new.nodes, incarnation)) }
         ensures within { IfOk result (λ incarnation. IsNumber most_incarnations incarnation) }
@@ -104,7 +106,8 @@ impl Members {
         self.nodes.restart(node as u16)
     }
 
-    /// The epoch of the file's token server, or none where it was declared failed.
+    /// The epoch of the file's token server; `None` where the server was declared failed, or where
+    /// the cluster has no such file.
     pub fn epoch(&self, file: u16) -> Option<u16>
         ensures value { result ≡ live_incarnation (members_state self.now.servers) file }
         ensures within { IfSome result (λ epoch. IsNumber most_incarnations epoch) }
@@ -119,11 +122,11 @@ impl Members {
         self.servers.declared(file, epoch)
     }
 
-    /// The token server of the file is declared failed. Which epoch of it was alive.
+    /// Declares the file's token server failed, and gives the epoch that was alive.
     ///
     /// # Errors
-    /// `Stranger` where the cluster has no such file, `NotAlive` where its server is not alive. Nothing
-    /// changes then.
+    /// `Stranger` where the cluster has no such file, `NotAlive` where its server isn't alive.
+    /// Nothing changes then.
     pub fn fail_server(&mut self, file: u16) -> Result<u16, Refused>
         ensures ok { IfOk result (λ epoch. declared_failed (members_state self.old.servers) file ≡ Ok (members_state self.new.servers, epoch)) }
         ensures within { IfOk result (λ epoch. IsNumber most_incarnations epoch) }
@@ -134,10 +137,10 @@ impl Members {
         self.servers.declare(file)
     }
 
-    /// The epoch in which the token server of the file would begin again now, from 2.
+    /// The epoch in which the file's token server would be rebuilt now, from 2.
     ///
     /// # Errors
-    /// Those of `start_server`.
+    /// Where `start_server` errs, the same error.
     pub fn next_epoch(&self, file: u16) -> Result<u16, Refused>
         ensures ok { IfOk result (λ epoch. restarted (members_state self.now.servers) file ≡ Ok (with_restarted (members_state self.now.servers) file, epoch)) }
         ensures later { IfOk result (λ epoch. 2 ≤ epoch) }
@@ -147,7 +150,7 @@ impl Members {
         self.servers.next(file)
     }
 
-    /// The token server of the file begins again, in the next epoch. In which one it does.
+    /// Rebuilds the file's token server in its next epoch, and gives that epoch.
     ///
     /// # Errors
     /// `Stranger` where the cluster has no such file, `NotDead` where its server is alive,

@@ -1,4 +1,4 @@
--- Texts of values: no two values share one, and none has a line feed.
+-- The texts of values: no two values share one, and none has a line feed.
 use Rattle.std.proofs.Common.{◌≡◌, ℕ, ◌<◌, ◌^◌, Bool, true, not, eqb, List, [], ◌∷◌, refl, sym, subst, arith, codes, decimal}
 use Rattle.std.specs.Prelude.{⊤}
 use Rattle.std.specs.List.{list_all}
@@ -19,7 +19,7 @@ pub record AreTexts {A : Type 0} (text : A → List ℕ) (Fits : A → Type 0) :
   pub apart : AreApart text Fits
   pub feedless : AllLack line_feed text Fits
 
--- each is one field besides
+-- each text is one field, besides
 pub record AreFields {A : Type 0} (text : A → List ℕ) (Fits : A → Type 0) : Type 0 where
   pub words : AreWords text Fits
   pub texts : AreTexts text Fits
@@ -27,22 +27,22 @@ pub record AreFields {A : Type 0} (text : A → List ℕ) (Fits : A → Type 0) 
 abbrev pub has_no_feed : List ℕ → Bool
 has_no_feed bytes = list_all (λ b. not (eqb b line_feed)) bytes
 
--- two parts, with a byte between them that the first lacks
+-- the texts of a value, a byte that the first text lacks, and a second value
 pub joined : {A B : Type 0} {f : A → List ℕ} {g : B → List ℕ} {P : A → Type 0} {Q : B → Type 0} (c : ℕ) → has_no_feed (c ∷ []) ≡ true → AllLack c f P → AreTexts f P → AreTexts g Q → AreTexts (joined_text c f g) (Both P Q)
 joined {f = f} {g = g} {P = P} {Q = Q} c no_feed lack one two = record {
   apart = apart-joined c f g P Q lack one.apart two.apart;
   feedless = λ p fits. lacks-append line_feed (f p.0) (c ∷ g p.1) (one.feedless p.0 fits.0) (lacks-append line_feed (c ∷ []) (g p.1) (lacks-tested line_feed (c ∷ []) no_feed) (two.feedless p.1 fits.1));
 }
 
--- a field, and what stands behind it
+-- the texts of a field, a space, and a second value
 pub both : {A B : Type 0} {f : A → List ℕ} {g : B → List ℕ} {P : A → Type 0} {Q : B → Type 0} → AreFields f P → AreTexts g Q → AreTexts (pair_text f g) (Both P Q)
 both one two = joined space refl one.words one.texts two
 
--- what is made of others
+-- the texts of values that are made of others
 pub viewed : {A B : Type 0} {f : A → List ℕ} {P : A → Type 0} {g : B → List ℕ} {Q : B → Type 0} (v : Views A B f P g Q) → ((x y : B) → Q x → Q y → v.parts x ≡ v.parts y → x ≡ y) → AreTexts f P → AreTexts g Q
 viewed v made texts = record { apart = view-apart v texts.apart made; feedless = λ x fits. subst (Lacks line_feed) (sym (v.same x)) (texts.feedless (v.parts x) (v.fit x fits)) }
 
--- texts that are written only where more holds
+-- the texts of values with one more condition
 pub where_so : {A : Type 0} {f : A → List ℕ} {P : A → Type 0} (More : Type 0) → AreTexts f P → AreTexts f (λ x. More × P x)
 where_so More texts = record { apart = λ x y x_fits y_fits. texts.apart x y x_fits.1 y_fits.1; feedless = λ x fits. texts.feedless x fits.1 }
 

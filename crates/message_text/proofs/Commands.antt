@@ -1,4 +1,4 @@
--- Numbers of commands by their epochs.
+-- The numbers of commands by epoch.
 use Rattle.std.proofs.Common.{◌≡◌, ℕ, zero, ◌+◌, ◌-◌, ◌*◌, ◌/◌, ◌<◌, ◌≤◌, List, refl, sym, ◌∙◌, ap, arith, decimal}
 use Rattle.std.proofs.Math.Nat.{div-lt_iff_lt-mul, div-mul-le_self, lt-div-mul-add}
 use Rattle.std.proofs.lemmas.Nat.{div-mul-add}
@@ -12,7 +12,7 @@ use Rattle.message_text.specs.Served.{IsCommandNumber, IsCounted}
 use Rattle.message_text.specs.Texts.{command_text, epoch_text}
 use Rattle.message_text.proofs.Views.{Views}
 
--- the epoch of a number after the one at which an epoch begins
+-- the epoch of a number that is less than an epoch's size past the begin of that epoch
 pub epoch_of-before : (epoch n : ℕ) → 1 ≤ epoch → n < 4294967296 → epoch_of (before_epoch epoch + n) ≡ epoch
 epoch_of-before epoch n from few = ap (λ (k : ℕ). k + 1) (div-mul-add (epoch - 1) 4294967296 n few) ∙ omega arith
 
@@ -24,7 +24,7 @@ is_command epoch n epoch_in counted =
     let begins = begin_of-before epoch n epoch_in.0 (omega (arith, counted.1)) in
     record { begun = omega (arith, begins, counted.0); within = omega (arith, epoch_in.0, epoch_in.1, counted.1) }
 
--- the number of a command is one of its epoch
+-- the number of a command is made of its epoch and its number within the epoch
 pub number-in : (number : ℕ) → IsCommand number → IsEpoch (epoch_of number) × IsCounted (number - begin_of number)
 number-in number command =
     let some : zero < 4294967296 = omega arith in
@@ -35,7 +35,7 @@ number-in number command =
     let begun = command.begun in
     ((omega arith, omega arith), (omega arith, omega arith))
 
--- the number after which an epoch begins
+-- the number after which an epoch begins is that of the epoch
 pub is_rebuilt : (epoch : ℕ) → 2 ≤ epoch → epoch ≤ 65535 → IsRebuilt (before_epoch epoch) × (epoch_of (before_epoch epoch) ≡ epoch)
 is_rebuilt epoch least most =
     let some : 1 ≤ epoch = omega (arith, least) in
@@ -51,7 +51,7 @@ apart-epoch m n m_in n_in e =
     let same = apart-number 65535 (omega arith) (epoch_of m) (epoch_of n) (omega (arith, m_in.rebuilt), m_in.within) (omega (arith, n_in.rebuilt), n_in.within) e in
     sym m_in.begins ∙ ap before_epoch same ∙ n_in.begins
 
--- the epoch, the number in it, and what follows
+-- the texts of an epoch, the number within it, and the fields behind them
 module _ {A : Type 0} (f : A → List ℕ) (P : A → Type 0) where
   abbrev pub with_epochs : Views (ℕ × (ℕ × A)) (ℕ × A) (pair_text decimal (pair_text decimal f)) (Both IsEpoch (Both IsCounted P)) (command_text Second f) (Both (IsCommandNumber Second) P)
   with_epochs = record {
@@ -60,7 +60,7 @@ module _ {A : Type 0} (f : A → List ℕ) (P : A → Type 0) where
     same = λ c. refl;
   }
 
--- a command from its epoch and its number in that
+-- two commands with one epoch and one number within it are equal
 pub command-back : {A : Type 0} (m n : ℕ) (x y : A) → ◌≡◌ {A = ℕ × (ℕ × A)} (epoch_of m, (m - begin_of m, x)) (epoch_of n, (n - begin_of n, y)) → ◌≡◌ {A = ℕ × A} (m, x) (n, y)
 command-back {A = A} m n x y e =
     let epochs : epoch_of m ≡ epoch_of n = ap (λ (p : ℕ × (ℕ × A)). p.0) e in

@@ -1,4 +1,4 @@
--- The fields of messages.
+-- The fields of messages: no two values share a text, and no text has a line feed.
 use Rattle.std.proofs.Common.{ℕ, List, [], ◌∷◌, All, length, refl, arith, codes, decimal}
 use Rattle.std.specs.Prelude.{⊤}
 use Rattle.std.specs.List.{flat_map}
@@ -60,7 +60,7 @@ runs = record {
   feedless = λ rs fits. lacks-append line_feed (decimal (length rs)) (flat_map (λ r. space ∷ run_text r) rs) (number (length rs) (omega (arith, few_runs rs fits))) (behind rs fits.0);
 }
 
--- the number of a command, with or without an epoch, and what stands behind it
+-- the texts of a command's number, with or without its epoch, and the fields behind it
 counted : AreFields decimal IsCounted
 counted = up_to 4294967295 (omega arith)
 

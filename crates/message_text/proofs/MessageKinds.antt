@@ -1,4 +1,4 @@
--- The kinds of messages.
+-- The kinds of messages, by the words with which their texts begin.
 use Rattle.std.proofs.Common.{◌≡◌, true, ℕ, List, [], ◌∷◌, inl, inr, refl, codes}
 use Rattle.messages.specs.declared.message.Message.TheVariants.{Request, Grant, Revoke, Taken, Released, Conflict, Deny, Freed, Hello, Report}
 use Rattle.messages.specs.Versions.{may_rebuild}
@@ -12,7 +12,7 @@ use Rattle.message_text.proofs.NameTexts.{call, holder}
 use Rattle.message_text.proofs.SpanParts.{lock, span, wants}
 use Rattle.message_text.proofs.Variants.{Variant, of_variants, variant}
 
--- the words that messages begin with
+-- the words with which the texts of messages begin
 abbrev pub words : List (List ℕ)
 words = codes "grant" ∷ codes "revoke" ∷ codes "deny" ∷ codes "hello" ∷ codes "report" ∷ codes "request" ∷ codes "taken" ∷ codes "conflict" ∷ codes "freed" ∷ codes "released" ∷ []
 

@@ -1,4 +1,4 @@
--- Names of nodes, calls, servers and owners.
+-- The names of nodes, calls, servers and owners: each has one meaning.
 use Rattle.std.proofs.Common.{◌≡◌, ◌≢◌, ℕ, ◌<◌, ◌^◌, false, true, eqb, List, [], ◌∷◌, ◌++◌, None, inl, inr, refl, ap, subst, ◌∙◌, arith, append_assoc, codes, decimal}
 use Rattle.std.specs.Prelude.{◌⊎◌}
 use Rattle.std.specs.List.{starts_with}
@@ -26,11 +26,11 @@ dot-lacks most small n fits = decimal-lacks dot (λ d low high e. omega (arith, 
 pub at_sign-lacks : (most : ℕ) → most < 2 ^ 64 → AllLack at_sign decimal (IsNumber most)
 at_sign-lacks most small n fits = decimal-lacks at_sign (λ d low high e. omega (arith, high, e)) n (omega (arith, fits.1, small))
 
--- a number, a dot, and what stands behind it
+-- the texts of a number, a dot, and a second part
 dotted : {A : Type 0} {f : A → List ℕ} {P : A → Type 0} (most : ℕ) → most < 2 ^ 64 → AreTexts f P → AreTexts (joined_text dot decimal f) (Both (IsNumber most) P)
 dotted most small rest = joined dot refl (dot-lacks most small) (up_to most small).texts rest
 
--- a node in one incarnation
+-- a node in an incarnation is made of two numbers
 abbrev pub hosts : Views (ℕ × ℕ) Host (joined_text dot decimal decimal) (Both (IsNumber most_nodes) (IsNumber 65535)) holder_text IsHolder
 hosts = record {
   parts = λ h. (h.node, h.incarnation);
@@ -44,7 +44,7 @@ host-made p = record { node = p.0; incarnation = p.1 }
 pub holder : AreFields holder_text IsHolder
 holder = record { words = holder_words; texts = viewed hosts (λ x y _ _ e. ap host-made e) (dotted most_nodes (omega arith) (up_to 65535 (omega arith)).texts) }
 
--- a node, its incarnation and the number of a call
+-- a call is made of three numbers
 abbrev pub calls : Views (ℕ × (ℕ × ℕ)) CallId (joined_text dot decimal (joined_text dot decimal decimal)) (Both (IsNumber most_nodes) (Both (IsNumber 65535) IsCounted)) call_text IsCall
 calls = record {
   parts = λ c. (c.node, (c.incarnation, c.number));
@@ -63,7 +63,7 @@ call = record { words = call_words; texts = viewed calls (λ x y _ _ e. ap call-
 pub server : AreTexts server_text AreServerParts
 server = dotted 256 (omega arith) (up_to 65535 (omega arith)).texts
 
--- the number of an owner, and its node
+-- the number of an owner and its node
 abbrev pub numbered_text : ℕ × Host → List ℕ
 numbered_text = joined_text at_sign decimal holder_text
 
@@ -83,7 +83,7 @@ owner_parts o = (o.number, record { node = o.node; incarnation = o.incarnation }
 abbrev pub owner-made : Kind → ℕ × Host → Owner
 owner-made k p = record { node = p.1.node; incarnation = p.1.incarnation; kind = k; number = p.0 }
 
--- an owner is of a kind, or its name begins with another letter
+-- an owner is of this kind, or its name begins with another letter
 abbrev pub IsTold : Kind → Owner → Type 0
 IsTold k o = ((p : ℕ × Host) × AreNumbered (most_of k) p × (o ≡ owner-made k p)) ⊎ (starts_with eqb (owner_text o) (owner_letter k) ≡ false)
 

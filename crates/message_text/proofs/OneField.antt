@@ -1,4 +1,4 @@
--- Names that are one field.
+-- The names of nodes, calls and owners are each one field.
 use Rattle.std.proofs.Common.{◌≡◌, ℕ, true, ◌++◌, refl, arith, codes, decimal}
 use Rattle.model.specs.declared.call.CallId.{CallId}
 use Rattle.model.specs.declared.host.Host.{Host}

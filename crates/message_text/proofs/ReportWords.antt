@@ -1,4 +1,4 @@
--- The words of texts of runs, and the runs that words tell.
+-- The words of the texts of runs, and the runs that words name.
 use Rattle.std.specs.Prelude.{◌==◌, ◌↔◌, IsTrue, nat_lt}
 use Rattle.std.specs.Str.Parse.{digits_value}
 use Rattle.std.specs.List.{flat_map}
@@ -23,7 +23,7 @@ use Rattle.message_text.specs.Reports.{IsRunsText, level_of, may_stand, run_word
 use Rattle.message_text.specs.Served.{AreServedRuns, IsServedSpan}
 use Rattle.message_text.specs.Texts.{run_text, runs_text}
 
--- a word that stands alone
+-- a word without a space is the only word of its text
 words_of-one : (word : List ℕ) → has_no_space word ≡ true → words_of word ≡ word ∷ []
 unfolding words_of
 words_of-one [] one = refl
@@ -35,7 +35,7 @@ words_of-one (b ∷ word) one =
 pub words_of-alone : (word : List ℕ) → IsOneField word → words_of word ≡ word ∷ []
 words_of-alone word one = words_of-one word (has_no_space-one word one)
 
--- the first of more words
+-- the first of several words
 pub words_of-first : (word rest : List ℕ) → Lacks space word → words_of (word ++ space ∷ rest) ≡ word ∷ words_of rest
 unfolding words_of
 words_of-first [] rest lacks = refl
@@ -44,7 +44,7 @@ words_of-first (b ∷ word) rest lacks =
     ap (λ (c : Bool). if c then [] ∷ words_of (word ++ space ∷ rest) else with_byte b (words_of (word ++ space ∷ rest))) (ne_eqb b space first)
     ∙ ap (with_byte b) (words_of-first word rest (λ i lt. lacks (suc i) (omega (arith, lt))))
 
--- a text from its words
+-- the text of a list of words, with spaces between them
 abbrev joined : List (List ℕ) → List ℕ
 joined [] = []
 joined (word ∷ []) = word
@@ -81,7 +81,7 @@ words_of-joined (b ∷ bytes) =
       | false ↦ λ other. joined-byte b (words_of bytes) ∙ ap (λ (r : List ℕ). b ∷ r) rest
     ] refl
 
--- so texts of the same words are one
+-- two texts of the same words are equal
 pub words-apart : (text other : List ℕ) → words_of text ≡ words_of other → text ≡ other
 words-apart text other same = sym (words_of-joined text) ∙ ap joined same ∙ words_of-joined other
 
@@ -96,7 +96,7 @@ offset_word n upto = Lacks-decimal n (omega (arith, upto))
 abbrev behind : List TokenRun → List ℕ
 behind runs = flat_map (λ r. space ∷ run_text r) runs
 
--- a word and runs behind it
+-- the words of a text that has a word and then runs
 words_of-behind : (word : List ℕ) (runs : List TokenRun) → Lacks space word → has_no_space word ≡ true → All (λ (r : TokenRun). IsServedSpan r.span) runs → words_of (word ++ behind runs) ≡ word ∷ flat_map run_words runs
 words_of-behind word [] lacks one served = rw append-nil (words_of-one word one)
 words_of-behind word (r ∷ rest) lacks one served =
@@ -113,7 +113,7 @@ words_of-behind word (r ∷ rest) lacks one served =
     ∙ ap (λ (ws : List (List ℕ)). word ∷ (level ∷ ws)) (words_of-first lo (hi ++ behind rest) (offset_word r.span.lo low))
     ∙ ap (λ (ws : List (List ℕ)). word ∷ (level ∷ (lo ∷ ws))) (words_of-behind hi rest (offset_word r.span.hi span.1) (decimal_is_one_field r.span.hi (omega (arith, span.1))) more)
 
--- no more runs than bytes
+-- there are no more runs than bytes
 runs_fit : (r : TokenRun) (rest : List TokenRun) → All (λ (q : TokenRun). IsServedSpan q.span) (r ∷ rest) → are_longest (r ∷ rest) ≡ true → length (r ∷ rest) + r.span.lo ≤ greatest + 1
 runs_fit r [] served longest = let span = All-head (λ (q : TokenRun). IsServedSpan q.span) r [] served in omega (arith, span.0, span.1)
 runs_fit r (q ∷ rest) served longest =
@@ -134,7 +134,7 @@ words_of-runs runs served =
     let small : length runs < 2 ^ 64 = omega (arith, few_runs runs served) in
     words_of-behind (decimal (length runs)) runs (Lacks-decimal (length runs) small) (decimal_is_one_field (length runs) small) served.0
 
--- a run from its words
+-- a run is read back from its words
 level-back : (level : Level) → level_of (level_text level) ≡ level
 level-back Shared = refl
 level-back Exclusive = refl
@@ -156,7 +156,7 @@ runs-back (r ∷ rest) served =
     run-back r (flat_map run_words rest) (All-head (λ (q : TokenRun). IsServedSpan q.span) r rest served)
     ∙ ap (λ (rs : List TokenRun). r ∷ rs) (runs-back rest (All-tail (λ (q : TokenRun). IsServedSpan q.span) r rest served))
 
--- so the text of runs tells them
+-- the runs that their text names are the runs
 pub told_runs : (runs : List TokenRun) → AreServedRuns runs → runs_in (runs_text runs) ≡ runs
 told_runs runs served = ap (λ (ws : List (List ℕ)). runs_of_words (drop 1 ws)) (words_of-runs runs served) ∙ runs-back runs served.0
 
@@ -165,13 +165,13 @@ is_runs_text text runs served is =
     let same : runs_in text ≡ runs = ap runs_in is ∙ told_runs runs served in
     ((is ∙ ap runs_text (sym same), subst AreServedRuns (sym same) served), same)
 
--- one list of words has one first run
+-- equal words name equal first runs
 pub same_first : (r q : TokenRun) (words others : List (List ℕ)) → IsServedSpan r.span → IsServedSpan q.span → run_words r ++ words ≡ run_words q ++ others → (r ≡ q) × (words ≡ others)
 same_first r q words others r_in q_in same =
     let runs : r ∷ runs_of_words words ≡ q ∷ runs_of_words others = sym (run-back r words r_in) ∙ ap runs_of_words same ∙ run-back q others q_in in
     (cc (runs), ap (drop 3) same)
 
--- a span that begins behind its end is none
+-- three words whose first byte is past their last name no run
 pub no_span : (first second third : List ℕ) (all rest more words : List (List ℕ)) (lo hi : ℕ) → all ≡ first ∷ rest → rest ≡ second ∷ more → more ≡ third ∷ words → (lo ≤ greatest) × (second ≡ decimal lo) → (hi ≤ greatest) × (third ≡ decimal hi) → hi < lo
     → (run : TokenRun) (others : List (List ℕ)) → IsServedSpan run.span → all ≢ run_words run ++ others
 no_span first second third all rest more words lo hi a b c lo_is hi_is lt run others span same =
@@ -182,12 +182,12 @@ no_span first second third all rest more words lo hi a b c lo_is hi_is lt run ot
     let his = decimal_injective hi run.span.hi (omega (arith, hi_is.0)) (omega (arith, span.1)) (sym hi_is.1 ∙ thirds) in
     omega (arith, los, his, lt, span.0)
 
--- the words are those of n runs, of which each may stand behind the one before it
+-- the words are the ones of n runs, each of which may come next behind the one before it
 abbrev pub AreRunWords : Option TokenRun → ℕ → List (List ℕ) → Type 0
 AreRunWords last zero words = words ≡ []
 AreRunWords last (suc n) words = (run : TokenRun) × (more : List (List ℕ)) × (words ≡ run_words run ++ more) × IsServedSpan run.span × (may_stand last run ≡ true) × AreRunWords (Some run) n more
 
--- one run was read
+-- the words of one more run were read
 pub one_run : (last : Option TokenRun) (n m : ℕ) (words more : List (List ℕ)) (run : TokenRun) → n ≡ suc m → words ≡ run_words run ++ more → IsServedSpan run.span → may_stand last run ≡ true → AreRunWords last n words ↔ AreRunWords (Some run) m more
 one_run last n m words more run next is span stands = (onward, λ a. subst (λ (k : ℕ). AreRunWords last k words) (sym next) (run, more, is, span, stands, a))
   where
@@ -197,13 +197,13 @@ one_run last n m words more run next is span stands = (onward, λ a. subst (λ (
         let same = same_first b.0 run b.1 more b.3 span (sym b.2 ∙ is) in
         subst (λ (r : TokenRun). AreRunWords (Some r) m more) same.0 (subst (AreRunWords (Some b.0) m) same.1 b.5)
 
--- no run was read
+-- the words of one more run were not found
 pub no_run : (last : Option TokenRun) (n m : ℕ) (words : List (List ℕ)) → n ≡ suc m → ((run : TokenRun) (more : List (List ℕ)) → IsServedSpan run.span → may_stand last run ≡ true → words ≢ run_words run ++ more) → AreRunWords last n words → ⊥
 no_run last n m words next none a =
     let b = subst (λ (k : ℕ). AreRunWords last k words) next a in
     none b.0 b.1 b.3 b.4 b.2
 
--- runs that may stand behind the one before them
+-- the runs may come next behind the run `last`
 abbrev go_on : Option TokenRun → List TokenRun → Bool
 go_on None runs = are_longest runs
 go_on (Some last) runs = are_longest (last ∷ runs)
@@ -216,7 +216,7 @@ go_on-first : (last : Option TokenRun) (r : TokenRun) (runs : List TokenRun) →
 go_on-first None r runs h = (refl, h)
 go_on-first (Some last) r runs h = and_parts (may_follow last r) (are_longest (r ∷ runs)) h
 
--- what such words tell
+-- the n runs whose words these are, each of which may come next
 record Tell (last : Option TokenRun) (n : ℕ) (words : List (List ℕ)) : Type 0 where
   runs : List TokenRun
   is : words ≡ flat_map run_words runs
@@ -237,20 +237,20 @@ tell last (suc n) words (run, more, is, span, stands, a) =
       longest = go_on-more last run rest.runs stands rest.longest;
     }
 
--- and the words of such runs
+-- the words of the longest runs of a token are the words of that many runs
 run_words-are : (last : Option TokenRun) (runs : List TokenRun) → All (λ (r : TokenRun). IsServedSpan r.span) runs → go_on last runs ≡ true → AreRunWords last (length runs) (flat_map run_words runs)
 run_words-are last [] spans longest = refl
 run_words-are last (r ∷ rest) spans longest =
     let parts = go_on-first last r rest longest in
     (r, flat_map run_words rest, refl, All-head (λ (q : TokenRun). IsServedSpan q.span) r rest spans, parts.0, run_words-are (Some r) rest (All-tail (λ (q : TokenRun). IsServedSpan q.span) r rest spans) parts.1)
 
--- the words of a text of runs tell how many there are
+-- the first word of a text of runs is their number
 pub first_counts : (text word : List ℕ) (words : List (List ℕ)) → words_of text ≡ word ∷ words → IsRunsText text → (word ≡ decimal (length (runs_in text))) × (words ≡ flat_map run_words (runs_in text))
 first_counts text word words is told =
     let same : word ∷ words ≡ decimal (length (runs_in text)) ∷ flat_map run_words (runs_in text) = sym is ∙ ap words_of told.0 ∙ words_of-runs (runs_in text) told.1 in
     (cc same, ap (drop 1) same)
 
--- the text of a number and of so many runs
+-- a text of a number and of the words of that many runs is a text of runs
 pub are_runs : (text : List ℕ) (all words : List (List ℕ)) (count : ℕ) → all ≡ words_of text → (count < 2 ^ 64) × (all ≡ decimal count ∷ words) → IsRunsText text ↔ AreRunWords None count words
 are_runs text all words count whole first = (to, from)
   where
@@ -274,7 +274,7 @@ are_runs text all words count whole first = (to, from)
         ∙ sym (words_of-runs t.runs served) in
         (is_runs_text text t.runs served (words-apart text (runs_text t.runs) texts)).0
 
--- a text that begins with no number is none of runs
+-- a text that doesn't begin with a number is no text of runs
 pub no_count : (text : List ℕ) (all : List (List ℕ)) → all ≡ words_of text → ((count : ℕ) (more : List (List ℕ)) → count < 2 ^ 64 → all ≢ decimal count ∷ more) → IsRunsText text → ⊥
 no_count text all whole none told =
     let runs = runs_in text in
@@ -285,7 +285,7 @@ pub ended_words : (ended : Bool) (rest : List ℕ) → IsTrue ended ↔ ((if end
 ended_words true rest = (λ h. refl, λ e. refl)
 ended_words false rest = (λ h. absurd (false≢true h), λ e. let some = some_word rest in let is = some.2 in absurd cc)
 
--- these of the runs were read, and the words of the others are left
+-- the runs `done` were read, and the words of the other runs are left
 pub record AreLeft (runs done : List TokenRun) (words : List (List ℕ)) : Type 0 where
   pub others : List TokenRun
   pub all : runs ≡ done ++ others
@@ -319,6 +319,6 @@ all_read runs done words left none = by left.others left.all left.left left.span
     by [] all is spans = sym (all ∙ append-nil done)
     by (r ∷ others) all is spans = absurd (none r (flat_map run_words others) (All-head (λ (q : TokenRun). IsServedSpan q.span) r others spans) is)
 
--- texts of runs tell them apart
+-- two lists of runs with one text are equal
 pub apart-runs : AreApart runs_text AreServedRuns
 apart-runs runs others runs_in others_in e = sym (told_runs runs runs_in) ∙ ap (λ (t : List ℕ). runs_of_words (drop 1 (words_of t))) e ∙ told_runs others others_in

@@ -1,4 +1,4 @@
--- Numbers are one field.
+-- The numbers in messages are each one field.
 use Rattle.std.proofs.Common.{arith, decimal}
 use Rattle.model.specs.Limits.{IsNumber}
 use Rattle.messages.specs.Messages.{greatest_number}
@@ -9,6 +9,6 @@ use Rattle.texts.proofs.SingleWords.{number_words}
 pub file_words : AreWords decimal (IsNumber most_files)
 file_words = number_words most_files (omega arith)
 
--- of calls, commands and messages
+-- the numbers of calls, commands and messages are one field
 pub count_words : AreWords decimal (IsNumber greatest_number)
 count_words = number_words greatest_number (omega arith)

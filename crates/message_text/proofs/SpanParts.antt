@@ -1,4 +1,4 @@
--- Spans, ranges of requests and locks from their parts.
+-- Spans, ranges of requests, and locks, made of their parts.
 use Rattle.std.proofs.Common.{◌≡◌, ℕ, ◌≤◌, List, ◌∷◌, ◌++◌, arith, append_assoc, ap, codes, decimal, refl}
 use Rattle.std.specs.Prelude.{⊤}
 use Rattle.std.proofs.lemmas.Fmt.{decimal_injective}
@@ -58,7 +58,7 @@ span-made p = record { lo = p.0; hi = p.1 }
 pub span : AreTexts span_text IsServedSpan
 span = viewed spans (λ x y _ _ e. ap span-made e) offsets
 
--- two offsets and a span
+-- a byte offset, a second one, and a span
 abbrev pub offsets_and_span_text : ℕ × (ℕ × Range) → List ℕ
 offsets_and_span_text = pair_text decimal (pair_text decimal span_text)
 

@@ -1,4 +1,4 @@
--- What is read of the text of a message is that message.
+-- What is read from the text of a message is that message.
 use Rattle.std.proofs.Common.{◌≡◌, Option, Some, None, refl, sym, ap}
 use Rattle.messages.specs.declared.message.Message.{Message}
 use Rattle.messages.specs.declared.version.Version.{Version}

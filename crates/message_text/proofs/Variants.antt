@@ -1,4 +1,4 @@
--- Values of an enum: a text begins with the front of its variant, and the variant's fields stand behind that.
+-- The values of an enum: a text begins with the front of its variant, and the fields of the variant stand behind it.
 use Rattle.std.proofs.Common.{◌≡◌, ℕ, Bool, false, true, eqb, if◌then◌else◌, List, [], ◌∷◌, ◌++◌, None, inl, inr, sym, ap, subst, ◌∙◌}
 use Rattle.std.specs.Prelude.{◌⊎◌}
 use Rattle.std.specs.List.{starts_with}
@@ -19,7 +19,7 @@ pub record Variant {A : Type 0} (text : A → List ℕ) (Fits : A → Type 0) : 
   pub texts : AreTexts rest Fit
   pub feedless : has_no_feed front ≡ true
 
--- the variant with this front, these fields, and values that are made of them
+-- a variant with its front, its fields, and the values that are made of them
 abbrev pub variant : {A F : Type 0} {text : A → List ℕ} {Fits : A → Type 0} {rest : F → List ℕ} {Fit : F → Type 0} (front : List ℕ) → has_no_feed front ≡ true → AreTexts rest Fit → (make : F → A)
     → ((f : F) → Fit f → Fits (make f)) → ((f : F) → text (make f) ≡ front ++ rest f) → ((x : A) → Fits x → ((f : F) × Fit f × (x ≡ make f)) ⊎ (starts_with eqb (text x) front ≡ false)) → Variant text Fits
 variant {F = F} {rest = rest} {Fit = Fit} front feedless texts make fits written told = record {
@@ -37,7 +37,7 @@ other : (b c : Bool) → b ≡ false → (if b then true else c) ≡ true → c 
 other b c is e = sym (ap (λ (d : Bool). if d then true else c) is) ∙ e
 
 module _ {A : Type 0} {text : A → List ℕ} {Fits : A → Type 0} where
-  -- behind a variant's front nothing but its fields makes a value
+  -- a text behind a variant's front that is not one of its fields is the text of no value
   pub none-of : (v : Variant text Fits) (bytes : List ℕ) → Reads v.rest v.Fit bytes None → Reads text Fits (v.front ++ bytes) None
   none-of v bytes none = reads-kind v.kind bytes None none
 
@@ -62,6 +62,6 @@ module _ {A : Type 0} {text : A → List ℕ} {Fits : A → Type 0} where
         | inr not_it ↦ feedless-of vs x fits (other _ _ not_it of)
       ]
 
-  -- values of these variants, where each has its fields' texts
+  -- the texts of values of these variants, from the texts of their fields
   pub of_variants : (vs : List (Variant text Fits)) → ((x : A) → is_of vs (text x) ≡ true) → AreTexts text Fits
   of_variants vs of = record { apart = λ x y x_fits y_fits. apart-of vs x y x_fits y_fits (of x); feedless = λ x fits. feedless-of vs x fits (of x) }

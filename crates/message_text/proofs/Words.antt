@@ -1,4 +1,4 @@
--- Names that are one field.
+-- The names of nodes, calls and owners have no space, and so are words.
 use Rattle.std.proofs.Common.{ℕ, zero, suc, List, [], ◌∷◌, ◌++◌, refl, arith, codes}
 use Rattle.std.specs.Prelude.{⊤}
 use Rattle.model.specs.Limits.{IsCall}
@@ -12,7 +12,7 @@ use Rattle.message_text.specs.Served.{IsHolder}
 use Rattle.message_text.specs.Texts.{blocking_text}
 use Rattle.message_text.proofs.OneField.{call_is_one_field, holder_is_one_field}
 
--- two texts without a byte are one without it
+-- two texts that lack a byte lack it together
 pub lacks-append : (c : ℕ) (x y : List ℕ) → Lacks c x → Lacks c y → Lacks c (x ++ y)
 lacks-append c [] y no_x no_y i lt = no_y i lt
 lacks-append c (b ∷ x) y no_x no_y zero lt = no_x 0 (omega arith)

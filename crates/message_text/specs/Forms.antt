@@ -1,4 +1,4 @@
--- Messages as their texts have them.
+-- Messages as they are read from their texts: the runs of a report stay a text.
 use Rattle.std.specs.Prelude.{⊤}
 use Rattle.messages.specs.declared.message.Message.{Message}
 use Rattle.messages.specs.declared.message.Message.TheVariants as message
@@ -10,7 +10,7 @@ abbrev pub message_in : Form → Message
 message_in (Whole message) = message
 message_in (Report file number holder runs) = message.Report file number holder (runs_in runs.now)
 
--- what stands for the runs of a report is a text of such
+-- the text that stands for the runs of a report is a text of runs
 abbrev pub IsForm : Form → Type 0
 IsForm (Whole message) = ⊤
 IsForm (Report file number holder runs) = IsRunsText runs.now

@@ -1,4 +1,4 @@
--- Names of nodes, calls and owners, and the text of a lock.
+-- The names of nodes, calls, owners and servers, and the text of a lock.
 use Rattle.std.specs.Prelude.{ℕ, List, ◌++◌, codes, decimal}
 use Rattle.model.specs.declared.call.CallId.{CallId}
 use Rattle.model.specs.declared.host.Host.{Host}
@@ -9,7 +9,7 @@ use Rattle.model.specs.declared.owner.Owner.{Owner}
 use Rattle.texts.specs.Reads.{joined_text}
 use Rattle.texts.specs.Words.{mode_text}
 
--- a node in one incarnation
+-- the name of a node in an incarnation
 abbrev pub host_text : ℕ → ℕ → List ℕ
 host_text node incarnation = decimal node ++ codes "." ++ decimal incarnation
 
@@ -29,10 +29,10 @@ lock_text l = mode_text l.mode ++ codes " " ++ decimal l.span.lo ++ codes " " ++
 abbrev pub holder_text : Host → List ℕ
 holder_text h = host_text h.node h.incarnation
 
--- `.`
+-- the byte `.`
 abbrev pub dot : ℕ
 dot = 46
 
--- the server of a file in one epoch
+-- the name of a file's server in an epoch
 abbrev pub server_text : ℕ × ℕ → List ℕ
 server_text = joined_text dot decimal decimal

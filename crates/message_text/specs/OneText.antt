@@ -1,4 +1,4 @@
--- One text writes one message.
+-- Each text is that of one message at most.
 use Rattle.std.specs.Prelude.{◌≡◌, ℕ, List, Option, Some}
 use Rattle.messages.specs.declared.message.Message.{Message}
 use Rattle.messages.specs.declared.version.Version.{Version}
@@ -7,11 +7,11 @@ use Rattle.texts.specs.Reads.{Lacks, Reads}
 use Rattle.message_text.specs.Served.{IsServedMessage}
 use Rattle.message_text.specs.Texts.{message_text}
 
--- two values that fit and have one text are one
+-- two values within their limits that have one text are equal
 abbrev pub HasOneValue : {A : Type 0} → (A → List ℕ) → (A → Type 0) → Type 0
 HasOneValue text Fits = (x y : _) → Fits x → Fits y → text x ≡ text y → x ≡ y
 
--- the texts of messages in a version: two messages have two texts, what is read of a message's text is that message, and the text is one line
+-- in this version, two messages have two texts, what is read from a message's text is that message, and the text is one line
 pub record MessagesHaveTexts (version : Version) : Type 0 where
   pub one_value : HasOneValue (message_text version) (IsServedMessage version)
   pub is_read : (m : Message) → IsServedMessage version m → (found : Option Message) → Reads (message_text version) (IsServedMessage version) (message_text version m) found → found ≡ Some m

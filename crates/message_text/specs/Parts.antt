@@ -1,17 +1,17 @@
--- Parts of the names of nodes, calls and owners.
+-- The parts of names.
 use Rattle.std.specs.Prelude.{◌≢◌, ℕ, ◌≤◌}
 use Rattle.messages.specs.Epochs.{IsEpoch}
 use Rattle.texts.specs.Reads.{Both}
 use Rattle.message_text.specs.Served.{IsFile}
 
--- `@`
+-- the byte `@`
 abbrev pub at_sign : ℕ
 at_sign = 64
 
--- it stands in no number
+-- the byte is no digit
 abbrev pub IsNoDigit : ℕ → Type 0
 IsNoDigit byte = (digit : ℕ) → 48 ≤ digit → digit ≤ 57 → digit ≢ byte
 
--- a file and the epoch of its server
+-- the number of a file and an epoch of its server are within their limits
 abbrev pub AreServerParts : ℕ × ℕ → Type 0
 AreServerParts = Both IsFile IsEpoch

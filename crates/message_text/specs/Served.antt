@@ -1,4 +1,4 @@
--- What messages may write: numbers within their limits, spans that are not empty, and desired spans that contain the required ones.
+-- The limits of what messages can hold: numbers in range, spans that aren't empty, and desired spans that contain the required ones.
 use Rattle.std.specs.Prelude.{◌≡◌, ℕ, ◌≤◌, true, List, All}
 use Rattle.intervals.specs.Bytes.{Range, greatest}
 use Rattle.model.specs.declared.host.Host.{Host}
@@ -19,11 +19,11 @@ use Rattle.messages.specs.declared.version.Version.TheVariants.{First, Second}
 abbrev pub IsFile : ℕ → Type 0
 IsFile = IsNumber most_files
 
--- the number of a call, and that of a command in its epoch
+-- the number of a call, or of a command within its epoch, is in range
 abbrev pub IsCounted : ℕ → Type 0
 IsCounted = IsNumber greatest_number
 
--- the number of a command, which in version 1 is of the first epoch
+-- the number of a command is in range; in version 1 it is of the first epoch
 abbrev pub IsCommandNumber : Version → ℕ → Type 0
 IsCommandNumber First = IsCounted
 IsCommandNumber Second = IsCommand
@@ -40,11 +40,11 @@ AreServedWants w = (IsServedSpan w.required × IsServedSpan w.desired) × (w.des
 abbrev pub IsServedLock : LockInfo → Type 0
 IsServedLock l = IsServedSpan l.span × IsOwner l.owner
 
--- the longest runs of a token, within the bytes of a file
+-- the runs are the longest runs of a token, within the bytes of a file
 abbrev pub AreServedRuns : List TokenRun → Type 0
 AreServedRuns runs = All (λ r. IsServedSpan r.span) runs × (are_longest runs ≡ true)
 
--- the two messages of servers that are rebuilt are written in no version in which none is
+-- a message is within its limits; a hello and a report are written only in a version in which servers can be rebuilt
 abbrev pub IsServedMessage : Version → Message → Type 0
 IsServedMessage version (Request file call blocking mode wanted) = IsFile file × IsCall call × AreServedWants wanted
 IsServedMessage version (Grant file number call mode span) = IsFile file × IsCommandNumber version number × IsCall call × IsServedSpan span

@@ -1,4 +1,4 @@
--- Texts of messages.
+-- The texts of messages.
 use Rattle.std.specs.Prelude.{Bool, false, true, ℕ, ◌-◌, List, ◌∷◌, ◌++◌, codes, decimal, flat_map, length}
 use Rattle.intervals.specs.Bytes.{Range}
 use Rattle.messages.specs.Epochs.{begin_of, epoch_of}
@@ -19,28 +19,28 @@ abbrev pub blocking_text : Blocking → List ℕ
 blocking_text No = codes "now"
 blocking_text Yes = codes "wait"
 
--- the first and the last byte
+-- a span: its first and its last byte
 abbrev pub span_text : Range → List ℕ
 span_text s = pair_text decimal decimal (s.lo, s.hi)
 
--- the required span and the desired one
+-- the two ranges of a request: the required span, then the desired one
 abbrev pub wants_text : Wants → List ℕ
 wants_text w = pair_text span_text span_text (w.required, w.desired)
 
--- the number of a command, and what follows: in version 2 the epoch of the server, the number in the epoch, and what follows
+-- the number of a command and the fields behind it; in version 2 with the epoch in front, and numbered within the epoch
 abbrev pub command_text : {A : Type 0} → Version → (A → List ℕ) → ℕ × A → List ℕ
 command_text First text c = pair_text decimal text c
 command_text Second text c = pair_text decimal (pair_text decimal text) (epoch_of c.0, (c.0 - begin_of c.0, c.1))
 
--- the epoch that begins after the number
+-- the epoch whose commands begin after the number
 abbrev pub epoch_text : ℕ → List ℕ
 epoch_text number = decimal (epoch_of number)
 
--- the level of a run, and its first and last byte
+-- a run: its level, its first byte and its last byte
 abbrev pub run_text : TokenRun → List ℕ
 run_text r = pair_text level_text span_text (r.level, r.span)
 
--- how many runs there are, and each of them
+-- a list of runs: their number, then each of them
 abbrev pub runs_text : List TokenRun → List ℕ
 runs_text runs = decimal (length runs) ++ flat_map (λ r. space ∷ run_text r) runs
 
@@ -66,7 +66,7 @@ message_text version (Hello file number holder) =
 message_text version (Report file number holder runs) =
     codes "report " ++ pair_text decimal (pair_text epoch_text (pair_text holder_text runs_text)) (file, (number, (holder, runs)))
 
--- a token is taken back, its holder answers, or a call is told of the answer
+-- whether the message is a revoke, an answer to one, or a deny
 abbrev pub is_about_revoke : Message → Bool
 is_about_revoke (Revoke file number holder call mode wanted) = true
 is_about_revoke (Released file number holder call span) = true

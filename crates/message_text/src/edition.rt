@@ -1,20 +1,20 @@
-//! Versions of texts, as types.
+//! The two versions of texts, as types.
 ghost use Rattle.std.specs.Prelude.{◌≡◌};
 ghost use Rattle.messages.specs.declared.version.Version.{Version};
 ghost use Rattle.messages.specs.declared.version.Version.TheVariants.{First, Second};
 
 use messages::version::Version;
 
-/// A version of texts.
+/// A version of texts, by a type.
 pub trait Edition {
     ghost version: { Version };
 
-    /// It.
+    /// The version that the type stands for.
     fn version() -> Version
         ensures { result ≡ version };
 }
 
-/// Version 1, in which no epoch is written, and no server is rebuilt.
+/// Version 1: no epoch is written, and no server is rebuilt.
 pub struct FirstEdition;
 
 impl Edition for FirstEdition {
@@ -25,7 +25,7 @@ impl Edition for FirstEdition {
     }
 }
 
-/// Version 2, in which the epochs of servers are written.
+/// Version 2: the epochs of servers are written.
 pub struct SecondEdition;
 
 impl Edition for SecondEdition {

@@ -1,4 +1,4 @@
-//! The fields of messages.
+//! The fields of messages, as types.
 ghost use Rattle.std.specs.Prelude.{◌≡◌, ◌≢◌, ◌++◌, ◌∷◌, ℕ, List, decimal, string_bytes, MatchOption, OnOk, ⊤};
 ghost use Rattle.messages.specs.Epochs.{IsRebuilt};
 ghost use Rattle.messages.specs.declared.version.Version.TheVariants.{First, Second};
@@ -25,7 +25,7 @@ use std::fmt::Write;
 use std::marker::PhantomData;
 use texts::text::{Text, Word, split_field};
 
-/// The number of a file that messages name.
+/// The number of a file, as messages name it.
 pub(crate) struct FileName;
 
 impl Text for FileName {
@@ -48,7 +48,7 @@ impl Word for FileName {
     fn is_one_field() {}
 }
 
-/// The epoch of a server that was rebuilt.
+/// The epoch of a rebuilt server.
 pub(crate) struct EpochName;
 
 impl Text for EpochName {
@@ -71,8 +71,8 @@ impl Word for EpochName {
     fn is_one_field() {}
 }
 
-/// `E K` in a version with epochs, else `K`, and what follows: the number of a command, with the epoch
-/// of the server that gave it.
+/// The number of a command and the fields behind it: `K` and the fields in version 1; `E K` and the
+/// fields, with the epoch of the server that gave the command, in version 2.
 pub(crate) struct Numbered<V, B> {
     of: PhantomData<(V, B)>,
 }
@@ -97,7 +97,7 @@ impl<V: Edition, B: Text> Text for Numbered<V, B> {
     }
 }
 
-// The number of a command of the first epoch, and what follows.
+// The number of a command of the first epoch, and the fields behind it.
 fn of_first_epoch<B: Text>(text: &str) -> Option<(CommandNumber, B::Value)>
     ensures { Reads (command_text First B.text_of) (Both (IsCommandNumber First) B.is_served) text.now result }
 {
@@ -105,7 +105,7 @@ fn of_first_epoch<B: Text>(text: &str) -> Option<(CommandNumber, B::Value)>
     Some((CommandNumber::of(1, number), rest))
 }
 
-// The epoch of a command, its number in that, and what follows.
+// The epoch of a command, its number within the epoch, and the fields behind them.
 fn of_epoch<B: Text>(text: &str) -> Option<(CommandNumber, B::Value)>
     ensures { Reads (command_text Second B.text_of) (Both (IsCommandNumber Second) B.is_served) text.now result }
 {
@@ -113,7 +113,7 @@ fn of_epoch<B: Text>(text: &str) -> Option<(CommandNumber, B::Value)>
     Some((CommandNumber::of(epoch, number), rest))
 }
 
-// Writes the number of a command, and a space.
+// Adds the number of a command, with its epoch in version 2, and a space.
 fn push_number(out: &mut String, version: Version, number: CommandNumber) -> Result<(), AllocError>
     ensures { OnOk result ((rest : List ℕ) → string_bytes out.new ++ rest ≡ string_bytes out.old ++ command_text version (λ (bytes : List ℕ). bytes) (number, rest)) }
 {
@@ -130,7 +130,7 @@ fn push_number(out: &mut String, version: Version, number: CommandNumber) -> Res
     }
 }
 
-/// The value that the first field of a text writes, and what stands behind the space after it.
+/// The value of the first field of a text, and the text behind the space after that field.
 pub(crate) fn first_field<A: Word>(text: &str) -> Option<(A::Value, &str)>
     ensures { MatchOption result ((x : A.Value) (rest : List ℕ) → A.is_served x → text.now ≢ A.text_of x ++ space ∷ rest) (λ found. A.is_served found.0 × (text.now ≡ A.text_of found.0 ++ space ∷ found.1.now)) }
 {
@@ -140,7 +140,7 @@ pub(crate) fn first_field<A: Word>(text: &str) -> Option<(A::Value, &str)>
     Some((value, rest))
 }
 
-/// What a word says of a request: `now` or `wait`.
+/// Whether a request waits: `now` or `wait`.
 pub(crate) struct BlockingWord;
 
 impl Text for BlockingWord {
@@ -170,7 +170,7 @@ impl Word for BlockingWord {
     fn is_one_field() {}
 }
 
-/// `LO HI`.
+/// A span: `LO HI`, its first and its last byte.
 pub(crate) struct SpanText;
 
 impl Text for SpanText {
@@ -195,7 +195,8 @@ impl Text for SpanText {
     }
 }
 
-/// `LO HI LO HI`, the required span and the desired one, which contains it.
+/// The two ranges of a request: `LO HI LO HI`, the required span and the desired one, which
+/// contains it.
 pub(crate) struct WantsText;
 
 impl Text for WantsText {
@@ -227,7 +228,7 @@ impl Text for WantsText {
     }
 }
 
-/// `MODE LO HI OWNER`.
+/// A lock: `MODE LO HI OWNER`.
 pub struct LockText;
 
 impl Text for LockText {

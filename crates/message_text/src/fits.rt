@@ -1,4 +1,5 @@
-//! What the types of the parts of a message hold it to. These functions only say it: they change nothing.
+//! Laws that say what the types of a message's parts guarantee; each is the contract of a function
+//! that does nothing.
 ghost use Rattle.model.specs.Limits.{IsCall};
 ghost use Rattle.messages.specs.Epochs.{IsCommand, IsRebuilt};
 ghost use Rattle.messages.specs.declared.version.Version.TheVariants.{Second};
@@ -78,7 +79,7 @@ fn runs_fit(runs: &TokenRuns)
     }
 }
 
-/// A message is within its limits in version 2, so it has a text that is read as it.
+/// A message is within its limits in version 2; so it has a text from which it is read.
 pub fn message_fits(message: &Message)
     ensures { IsServedMessage Second message.now }
 {

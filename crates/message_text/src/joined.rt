@@ -1,4 +1,4 @@
-//! A number and what stands behind it, with a mark between them.
+//! Fields of two parts: a number, a mark, and a second part.
 ghost use Rattle.std.specs.Prelude.{◌≡◌, ◌≢◌, ◌<◌, ◌∷◌, ◌++◌, ℕ, List, MatchOption};
 ghost use Rattle.texts.specs.Reads.{Both, Lacks, joined_text};
 ghost use Rattle.message_text.specs.Names.{dot};
@@ -10,7 +10,7 @@ use texts::number::Within;
 use texts::text::Text;
 use texts::unsigned::Unsigned;
 
-/// A character that is no digit.
+/// A character that is no digit and stands between two parts.
 pub(crate) trait Mark {
     ghost mark: { ℕ };
 
@@ -40,9 +40,9 @@ impl Mark for AtSign {
     }
 }
 
-/// A way to write values in digits.
+/// A way to write values in digits only.
 pub(crate) trait Digits: Text {
-    /// No text of a value has a byte that is no digit: a law of the type.
+    /// The law of the type that the text of a value has only digits; the function does nothing.
     fn are_digits()
         ensures { (value : Self.Value) → Self.is_served value → (byte : ℕ) → IsNoDigit byte → Lacks byte (Self.text_of value) };
 }
@@ -51,7 +51,7 @@ impl<T: Unsigned, const LEAST: u64, const MOST: u64> Digits for Within<T, LEAST,
     fn are_digits() {}
 }
 
-/// What `A` writes, the mark, and what `B` writes.
+/// A value of `A`, the mark `M`, and a value of `B`.
 pub(crate) struct Joined<A, M, B> {
     of: PhantomData<(A, M, B)>,
 }
@@ -78,7 +78,7 @@ impl<A: Digits, M: Mark, B: Text> Text for Joined<A, M, B> {
     }
 }
 
-// What stands before the first mark of a text, and behind it.
+// The text before the first mark, and the text behind it.
 fn split_mark<M: Mark>(text: &str) -> Option<(&str, &str)>
     ensures no_digit { IsNoDigit M.mark }
     ensures parts { MatchOption result

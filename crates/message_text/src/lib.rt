@@ -1,4 +1,6 @@
-//! Messages and their texts.
+//! The texts of messages between nodes and token servers, and of the names, numbers, spans and
+//! locks in them. This crate knows nothing of the lines of scripts and journals, of files on a
+//! disk, or of threads.
 #![tactic(auto)]
 
 pub mod edition;

@@ -1,4 +1,4 @@
-//! Messages from their texts.
+//! Reads messages from their texts, in either version.
 ghost use Rattle.std.specs.Prelude.{◌++◌, codes};
 ghost use Rattle.texts.specs.Reads.{Reads};
 ghost use Rattle.message_text.specs.Served.{IsServedMessage};
@@ -17,7 +17,7 @@ use messages::message::Message;
 use messages::version::Version;
 use texts::text::{Text, split_field};
 
-/// The message that the text writes in this version.
+/// The message whose text in this version this is, if there is one.
 pub fn message_of(version: Version, text: &str) -> Option<WrittenMessage<'_>>
     ensures { Reads (message_text version) (IsServedMessage version) text.now result }
 {
@@ -27,7 +27,7 @@ pub fn message_of(version: Version, text: &str) -> Option<WrittenMessage<'_>>
     }
 }
 
-/// The message that the text writes in the version.
+/// The message whose text in the version of `V` this is, if there is one.
 pub fn message_in<V: Edition>(text: &str) -> Option<WrittenMessage<'_>>
     ensures { Reads (message_text V.version) (IsServedMessage V.version) text.now result }
 {
@@ -47,7 +47,7 @@ pub fn message_in<V: Edition>(text: &str) -> Option<WrittenMessage<'_>>
     }
 }
 
-// `grant` with these operands.
+// The grant with these operands.
 fn grant_of<V: Edition>(operands: &str) -> Option<WrittenMessage<'_>>
     ensures { Reads (message_text V.version) (IsServedMessage V.version) (codes "grant " ++ operands.now) result }
 {
@@ -61,7 +61,7 @@ fn grant_of<V: Edition>(operands: &str) -> Option<WrittenMessage<'_>>
     }))
 }
 
-// `revoke` with these operands.
+// The revoke with these operands.
 fn revoke_of<V: Edition>(operands: &str) -> Option<WrittenMessage<'_>>
     ensures { Reads (message_text V.version) (IsServedMessage V.version) (codes "revoke " ++ operands.now) result }
 {
@@ -76,7 +76,7 @@ fn revoke_of<V: Edition>(operands: &str) -> Option<WrittenMessage<'_>>
     }))
 }
 
-// `deny` with these operands.
+// The deny with these operands.
 fn deny_of<V: Edition>(operands: &str) -> Option<WrittenMessage<'_>>
     ensures { Reads (message_text V.version) (IsServedMessage V.version) (codes "deny " ++ operands.now) result }
 {
@@ -90,7 +90,7 @@ fn deny_of<V: Edition>(operands: &str) -> Option<WrittenMessage<'_>>
     }))
 }
 
-// `hello` with these operands.
+// The hello with these operands.
 fn hello_of<V: Edition>(operands: &str) -> Option<WrittenMessage<'_>>
     ensures { Reads (message_text V.version) (IsServedMessage V.version) (codes "hello " ++ operands.now) result }
 {
@@ -105,7 +105,7 @@ fn hello_of<V: Edition>(operands: &str) -> Option<WrittenMessage<'_>>
     }))
 }
 
-// `report` with these operands.
+// The report with these operands.
 fn report_of<V: Edition>(operands: &str) -> Option<WrittenMessage<'_>>
     ensures { Reads (message_text V.version) (IsServedMessage V.version) (codes "report " ++ operands.now) result }
 {
@@ -127,7 +127,7 @@ fn report_of<V: Edition>(operands: &str) -> Option<WrittenMessage<'_>>
     Some(WrittenMessage::report(file, number, holder, runs))
 }
 
-// `request` with these operands.
+// The request with these operands.
 fn request_of<V: Edition>(operands: &str) -> Option<WrittenMessage<'_>>
     ensures { Reads (message_text V.version) (IsServedMessage V.version) (codes "request " ++ operands.now) result }
 {
@@ -141,7 +141,7 @@ fn request_of<V: Edition>(operands: &str) -> Option<WrittenMessage<'_>>
     }))
 }
 
-// `taken` with these operands.
+// The taken with these operands.
 fn taken_of<V: Edition>(operands: &str) -> Option<WrittenMessage<'_>>
     ensures { Reads (message_text V.version) (IsServedMessage V.version) (codes "taken " ++ operands.now) result }
 {
@@ -149,7 +149,7 @@ fn taken_of<V: Edition>(operands: &str) -> Option<WrittenMessage<'_>>
     Some(WrittenMessage::whole(Message::Taken { file, number, call }))
 }
 
-// `conflict` with these operands.
+// The conflict with these operands.
 fn conflict_of<V: Edition>(operands: &str) -> Option<WrittenMessage<'_>>
     ensures { Reads (message_text V.version) (IsServedMessage V.version) (codes "conflict " ++ operands.now) result }
 {
@@ -163,7 +163,7 @@ fn conflict_of<V: Edition>(operands: &str) -> Option<WrittenMessage<'_>>
     }))
 }
 
-// `freed` with these operands.
+// The freed with these operands.
 fn freed_of<V: Edition>(operands: &str) -> Option<WrittenMessage<'_>>
     ensures { Reads (message_text V.version) (IsServedMessage V.version) (codes "freed " ++ operands.now) result }
 {
@@ -171,7 +171,7 @@ fn freed_of<V: Edition>(operands: &str) -> Option<WrittenMessage<'_>>
     Some(WrittenMessage::whole(Message::Freed { file, holder }))
 }
 
-// `released` with these operands.
+// The released with these operands.
 fn released_of<V: Edition>(operands: &str) -> Option<WrittenMessage<'_>>
     ensures { Reads (message_text V.version) (IsServedMessage V.version) (codes "released " ++ operands.now) result }
 {

@@ -1,4 +1,4 @@
-//! Names of nodes, calls, owners and servers, and their texts.
+//! The names of nodes, calls, owners and servers, and their texts.
 ghost use Rattle.std.specs.Prelude.{◌≡◌, ◌++◌, codes, string_bytes, OnOk};
 ghost use Rattle.model.specs.Limits.{IsCall, IsOwner};
 ghost use Rattle.texts.specs.Reads.{Reads};
@@ -21,7 +21,7 @@ use texts::number::push_number;
 use texts::text::{Text, Word, after};
 use texts::words::Named;
 
-// `p` for a process, `d` for an open file description.
+// The letter of a kind of owner: `p` for a process, `d` for an open file description.
 fn letter_of(kind: Kind) -> &'static str
     ensures { result.now ≡ owner_letter kind }
 {
@@ -31,7 +31,7 @@ fn letter_of(kind: Kind) -> &'static str
     }
 }
 
-/// Writes `N.I`.
+/// Adds the name of a node in an incarnation, `N.I`.
 pub fn push_host(out: &mut String, node: u8, incarnation: u16) -> Result<(), AllocError>
     ensures { OnOk result (string_bytes out.new ≡ string_bytes out.old ++ host_text node incarnation) }
 {
@@ -40,7 +40,7 @@ pub fn push_host(out: &mut String, node: u8, incarnation: u16) -> Result<(), All
     push_number(out, incarnation)
 }
 
-/// Writes `N.I.C`.
+/// Adds the name of a call, `N.I.C`.
 pub fn push_call(out: &mut String, call: &CallId) -> Result<(), AllocError>
     ensures { OnOk result (string_bytes out.new ≡ string_bytes out.old ++ call_text call.now) }
 {
@@ -49,7 +49,7 @@ pub fn push_call(out: &mut String, call: &CallId) -> Result<(), AllocError>
     push_number(out, call.number)
 }
 
-/// Writes `pPID@N.I` or `dNUMBER@N.I`.
+/// Adds the name of an owner: `pPID@N.I` for a process, `dNUMBER@N.I` for an open file description.
 pub fn push_owner(out: &mut String, owner: &Owner) -> Result<(), AllocError>
     ensures { OnOk result (string_bytes out.new ≡ string_bytes out.old ++ owner_text owner.now) }
 {
@@ -59,7 +59,7 @@ pub fn push_owner(out: &mut String, owner: &Owner) -> Result<(), AllocError>
     push_host(out, owner.node, owner.incarnation)
 }
 
-/// Writes `MODE LO HI OWNER`.
+/// Adds the text of a lock, `MODE LO HI OWNER`.
 pub fn push_lock(out: &mut String, lock: &LockInfo) -> Result<(), AllocError>
     ensures { OnOk result (string_bytes out.new ≡ string_bytes out.old ++ lock_text lock.now) }
 {
@@ -70,7 +70,7 @@ pub fn push_lock(out: &mut String, lock: &LockInfo) -> Result<(), AllocError>
     push_owner(out, &lock.owner)
 }
 
-/// `N.I`.
+/// A node in an incarnation: `N.I`.
 pub struct HostName;
 
 impl Text for HostName {
@@ -94,17 +94,17 @@ impl Word for HostName {
     fn is_one_field() {}
 }
 
-/// The file and the epoch of its server, of `F.E`.
+/// The file and the epoch of its server that `F.E` names.
 pub fn server_of(word: &str) -> Option<(u16, u16)>
     ensures { Reads server_text AreServerParts word.now result }
 {
     <Joined<FileField, Dot, EpochField>>::read(word)
 }
 
-// `N.I.C` in its parts.
+// The three parts of the name of a call, `N.I.C`.
 type CallParts = Joined<NodeField, Dot, Joined<IncarnationField, Dot, Counted>>;
 
-/// The call of `N.I.C`.
+/// The call that `N.I.C` names.
 pub fn call_of(word: &str) -> Option<CallId>
     ensures { Reads call_text IsCall word.now result }
 {
@@ -116,7 +116,7 @@ pub fn call_of(word: &str) -> Option<CallId>
     })
 }
 
-/// `N.I.C`.
+/// A call: `N.I.C`.
 pub struct CallName;
 
 impl Text for CallName {
@@ -139,7 +139,7 @@ impl Word for CallName {
     fn is_one_field() {}
 }
 
-/// `pPID@N.I` or `dNUMBER@N.I`.
+/// An owner: `pPID@N.I` or `dNUMBER@N.I`.
 pub struct OwnerName;
 
 impl Text for OwnerName {
@@ -164,7 +164,7 @@ impl Text for OwnerName {
     }
 }
 
-// The owner of `p` and this behind it.
+// The owner named by `p` and this text behind it.
 fn process_owner(rest: &str) -> Option<Owner>
     ensures { Reads owner_text IsOwner (codes "p" ++ rest.now) result }
 {
@@ -177,7 +177,7 @@ fn process_owner(rest: &str) -> Option<Owner>
     })
 }
 
-// The owner of `d` and this behind it.
+// The owner named by `d` and this text behind it.
 fn description_owner(rest: &str) -> Option<Owner>
     ensures { Reads owner_text IsOwner (codes "d" ++ rest.now) result }
 {

@@ -1,4 +1,4 @@
-//! Numbers in the texts of messages, scripts and journals.
+//! The numbers in the texts of messages, scripts and journals, with their limits.
 use intervals::span::GREATEST;
 use messages::command_number::MOST_EPOCHS;
 use messages::shape::MOST_FILES;
@@ -26,34 +26,34 @@ const GREATEST_EPOCH: u64 = MOST_EPOCHS as u64;
 /// The greatest number of a call, a command, a message or an entry.
 const GREATEST_NUMBER: u64 = 4_294_967_295;
 
-/// The number of a node.
+/// The number of a node, from 1.
 pub type NodeField = Within<u8, 1, GREATEST_NODE>;
 
-/// The number of a file.
+/// The number of a file, from 1.
 pub type FileField = Within<u16, 1, GREATEST_FILE>;
 
-/// The number of a process.
+/// The number of a process on its node, from 1.
 pub type PidField = Within<u16, 1, GREATEST_PID>;
 
-/// The number of a descriptor, open or not.
+/// The number of a descriptor, open or not: 0 to 255.
 pub type DescriptorField = Within<u8, 0, 255>;
 
-/// The number of an open file description.
+/// The number of an open file description on its node, from 1.
 pub(crate) type DescriptionField = Within<u16, 1, GREATEST_DESCRIPTION>;
 
-/// The number of an incarnation.
+/// The number of an incarnation, from 1.
 pub type IncarnationField = Within<u16, 1, GREATEST_INCARNATION>;
 
-/// The epoch of a server.
+/// The epoch of a server, from 1.
 pub type EpochField = Within<u16, 1, GREATEST_EPOCH>;
 
-/// The epoch of a server that was rebuilt.
+/// The epoch of a rebuilt server, from 2.
 pub(crate) type RebuiltField = Within<u16, 2, GREATEST_EPOCH>;
 
-/// The number of a call, a command, a message or an entry.
+/// The number of a call, a command, a message or an entry, from 1.
 pub type Counted = Within<u32, 1, GREATEST_NUMBER>;
 
-/// How many entries there are.
+/// The number of entries, from 0.
 pub type CountField = Within<u32, 0, GREATEST_NUMBER>;
 
 /// The offset of a byte.

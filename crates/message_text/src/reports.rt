@@ -1,4 +1,7 @@
-//! The runs of reports.
+//! The runs of a report as a text: their number, and for each of them its level, first byte and
+//! last byte.
+//!
+//! Each function here that can fail errs with `AllocError`, where a request for memory was refused.
 ghost use Rattle.std.specs.Prelude.{◌≡◌, ◌≢◌, ◌++◌, ◌∷◌, [], ◌↔◌, ◌<◌, ◌^◌, ℕ, List, true, decimal, IsTrue, IfOk, MatchOption, OnOk, string_bytes};
 ghost use Rattle.messages.specs.declared.token_run.TokenRun.{TokenRun as Run};
 ghost use Rattle.message_text.specs.Reports.{IsRunsText, may_stand, run_words, runs_in, words_of};
@@ -16,10 +19,10 @@ use std::marker::Model;
 use texts::number::Within;
 use texts::text::{Text, split_field};
 
-// How many runs there are.
+// The number of runs in a report.
 type Total = Within<u64, 0, 18_446_744_073_709_551_615>;
 
-/// The words of a text that are left.
+/// The remaining words of a text.
 #[derive(Drop)]
 struct Words<'a> {
     rest: &'a str,
@@ -36,7 +39,7 @@ impl<'a> Model for Words<'a> {
 }
 
 impl<'a> Words<'a> {
-    // Those of the text.
+    // The words of the text.
     fn new(text: &'a str) -> Words<'a>
         ensures { result ≡ words_of text.entry.now }
     {
@@ -46,14 +49,14 @@ impl<'a> Words<'a> {
         }
     }
 
-    // Whether none is left.
+    // Whether no word is left.
     fn is_empty(&self) -> bool
         ensures { IsTrue result ↔ (self.now ≡ []) }
     {
         self.ended
     }
 
-    // The next word.
+    // The next word, if one is left.
     fn next(&mut self) -> Option<&'a str>
         ensures { MatchOption result (self.old ≡ []) (λ word. self.old ≡ word.now ∷ self.new) }
     {
@@ -68,14 +71,14 @@ impl<'a> Words<'a> {
         Some(word)
     }
 
-    // The number that the next word writes.
+    // The number whose decimal text the next word is.
     fn next_count(&mut self) -> Option<u64>
         ensures { MatchOption result ((count : ℕ) (more : List (List ℕ)) → count < 2 ^ 64 → self.old ≢ decimal count ∷ more) (λ count. (count < 2 ^ 64) × (self.old ≡ decimal count ∷ self.new)) }
     {
         Total::read(self.next()?)
     }
 
-    // The run that the next three words tell.
+    // The run that the next three words name.
     fn next_run(&mut self) -> Option<TokenRun>
         ensures { MatchOption result ((run : Run) (more : List (List ℕ)) → IsServedSpan run.span → self.old ≢ run_words run ++ more) (λ run. IsServedSpan run.span × (self.old ≡ run_words run ++ self.new)) }
     {
@@ -90,7 +93,7 @@ impl<'a> Words<'a> {
     }
 }
 
-// Whether the run may stand behind the one before it, if there is one.
+// Whether the run may come next behind the run `last`, or is the first one.
 fn may_stand(last: Option<TokenRun>, run: &TokenRun) -> bool
     ensures { result ≡ may_stand last run.now }
 {
@@ -100,7 +103,7 @@ fn may_stand(last: Option<TokenRun>, run: &TokenRun) -> bool
     }
 }
 
-// The next run, if it may stand behind the one before it.
+// The run that the next three words name, if it may come next behind the run `last`.
 fn next_standing(words: &mut Words<'_>, last: Option<TokenRun>) -> Option<TokenRun>
     ensures { MatchOption result ((run : Run) (more : List (List ℕ)) → IsServedSpan run.span → may_stand last run ≡ true → words.old ≢ run_words run ++ more) (λ run. IsServedSpan run.span × (may_stand last run ≡ true) × (words.old ≡ run_words run ++ words.new)) }
 {
@@ -111,7 +114,7 @@ fn next_standing(words: &mut Words<'_>, last: Option<TokenRun>) -> Option<TokenR
     Some(run)
 }
 
-/// Whether the text is that of the longest runs of a token, behind their number.
+/// Whether the text is the number of the longest runs of some token, and these runs.
 pub(crate) fn are_runs(text: &str) -> bool
     ensures { IsTrue result ↔ IsRunsText text.now }
 {
@@ -129,10 +132,7 @@ pub(crate) fn are_runs(text: &str) -> bool
     words.is_empty()
 }
 
-/// The runs that the text tells.
-///
-/// # Errors
-/// `AllocError` where a request for memory was refused.
+/// The runs that the text names.
 pub(crate) fn read_runs(alloc: Global, text: &str) -> Result<TokenRuns, AllocError>
     requires { IsRunsText text.now }
     ensures { IfOk result (λ runs. runs ≡ runs_in text.now) }
@@ -149,10 +149,7 @@ pub(crate) fn read_runs(alloc: Global, text: &str) -> Result<TokenRuns, AllocErr
     }
 }
 
-/// Writes the runs behind their number.
-///
-/// # Errors
-/// `AllocError` where a request for memory was refused.
+/// Adds the number of runs, and the runs.
 pub(crate) fn push_runs(out: &mut String, runs: &TokenRuns) -> Result<(), AllocError>
     ensures { OnOk result (string_bytes out.new ≡ string_bytes out.old ++ runs_text runs.now) }
 {

@@ -1,4 +1,6 @@
-//! Texts of messages.
+//! Writes messages as texts, in either version.
+//!
+//! Each function here that can fail errs with `AllocError`, where a request for memory was refused.
 ghost use Rattle.std.specs.Prelude.{◌≡◌, ◌++◌, codes, decimal, string_bytes, true, OnOk};
 ghost use Rattle.texts.specs.Reads.{pair_text};
 ghost use Rattle.message_text.specs.Names.{holder_text};
@@ -22,10 +24,7 @@ use model::host::Host;
 use std::alloc::AllocError;
 use texts::text::Text;
 
-/// Writes a message as journals of this version do.
-///
-/// # Errors
-/// `AllocError` where a request for memory was refused.
+/// Adds the text of a message in this version.
 pub fn push_message(out: &mut String, version: Version, message: &Message) -> Result<(), AllocError>
     ensures { OnOk result (string_bytes out.new ≡ string_bytes out.old ++ message_text version message.now) }
 {
@@ -35,7 +34,7 @@ pub fn push_message(out: &mut String, version: Version, message: &Message) -> Re
     }
 }
 
-// Writes a message as journals of the version do.
+// Adds the text of a message in the version of `V`.
 fn push_message_in<V: Edition>(out: &mut String, message: &Message) -> Result<(), AllocError>
     ensures { OnOk result (string_bytes out.new ≡ string_bytes out.old ++ message_text V.version message.now) }
 {
@@ -75,7 +74,7 @@ fn push_message_in<V: Edition>(out: &mut String, message: &Message) -> Result<()
     }
 }
 
-// Writes a revoke, its answer, or what a call is told of that.
+// Adds the text of a revoke, of one of its answers, or of a deny.
 fn push_of_revoke<V: Edition>(out: &mut String, message: &Message) -> Result<(), AllocError>
     requires { is_about_revoke message.now ≡ true }
     ensures { OnOk result (string_bytes out.new ≡ string_bytes out.old ++ message_text V.version message.now) }
@@ -117,10 +116,7 @@ fn push_of_revoke<V: Edition>(out: &mut String, message: &Message) -> Result<(),
     }
 }
 
-/// Writes a front, and fields behind it.
-///
-/// # Errors
-/// `AllocError` where a request for memory was refused.
+/// Adds a fixed text, and fields behind it.
 pub fn push<F: Text>(out: &mut String, front: &str, fields: &F::Value) -> Result<(), AllocError>
     ensures { OnOk result (string_bytes out.new ≡ string_bytes out.old ++ (front.now ++ F.text_of fields.now)) }
 {
@@ -128,7 +124,7 @@ pub fn push<F: Text>(out: &mut String, front: &str, fields: &F::Value) -> Result
     F::write(fields, out)
 }
 
-// Writes a report, of which the fields before the runs are given as those of a hello.
+// Adds a report: the file, the epoch and the holder in `about`, as in a hello, and the runs.
 fn push_report(
     out: &mut String,
     about: &(FileNumber, (EpochNumber, Host)),

@@ -1,4 +1,4 @@
-//! Messages as their texts have them.
+//! Messages as they are read from their texts.
 ghost use Rattle.std.specs.Prelude.{◌≡◌, IfOk};
 ghost use Rattle.messages.specs.declared.message.Message.TheVariants as message;
 ghost use Rattle.message_text.specs.Forms.{message_in, IsForm};
@@ -12,7 +12,7 @@ use model::host::Host;
 use std::alloc::{AllocError, Global};
 use std::marker::Model;
 
-// The runs of a report stay text, so that no memory is needed to read it.
+// The runs of a report stay a text, so that reading it takes no memory.
 #[derive(Drop)]
 enum Form<'a> {
     Whole(Message),
@@ -25,7 +25,7 @@ enum Form<'a> {
 }
 
 impl Form<'_> {
-    // The message.
+    // The message, with the runs of a report read.
     fn message(self, alloc: Global) -> Result<Message, AllocError>
         requires { IsForm self }
         ensures { IfOk result (λ message. message ≡ message_in self.entry) }
@@ -47,7 +47,7 @@ impl Form<'_> {
     }
 }
 
-/// A message that was read, of which a report may still have its runs as text.
+/// A message that was read from its text. Of a report, the runs may still be a text.
 #[derive(Drop)]
 pub struct WrittenMessage<'a> {
     form: Form<'a>,
@@ -65,7 +65,7 @@ impl<'a> Model for WrittenMessage<'a> {
 }
 
 impl<'a> WrittenMessage<'a> {
-    /// This message.
+    /// A message that is read completely.
     pub(crate) fn whole(message: Message) -> WrittenMessage<'a>
         ensures { result ≡ message }
     {
@@ -74,7 +74,7 @@ impl<'a> WrittenMessage<'a> {
         }
     }
 
-    /// The report with these runs.
+    /// A report whose runs are still a text.
     pub(crate) fn report(
         file: FileNumber,
         number: EpochNumber,
@@ -94,7 +94,7 @@ impl<'a> WrittenMessage<'a> {
         }
     }
 
-    /// The message.
+    /// The message, with the runs of a report read.
     ///
     /// # Errors
     /// `AllocError` where a request for memory was refused; only the runs of a report need any.

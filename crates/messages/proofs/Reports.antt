@@ -1,4 +1,4 @@
--- The longest runs of a token: what a report of it tells, and that no other list is theirs.
+-- The longest runs of a token: a report of them describes the token, and no other list does.
 use Rattle.std.specs.Prelude.{◌==◌, slice_index_or}
 use Rattle.std.proofs.Common.{◌≡◌, ◌≢◌, ◌⊎◌, ℕ, zero, suc, ◌+◌, ◌-◌, ◌<◌, ◌≤◌, Bool, true, false, not, ◌&&◌, if◌then◌else◌, inl, inr, refl, sym, ◌∙◌, ap, subst, arith, List, [], ◌∷◌, length, map, All, AllPairs, Contains, Option, Some, None}
 use Rattle.std.proofs.lemmas.Bool.{and_parts, and_from, cases_lt, cases_order, eqb-true, false≢true, false_from_ne_true}
@@ -10,11 +10,11 @@ use Rattle.messages.specs.TokenRuns.{same_level, may_follow, go_on_after, are_lo
 use Rattle.messages.proofs.SameRuns.{level_exact, level_refl}
 use Rattle.messages.specs.Reports.{joined, runs_from, runs_of, reported}
 
--- a token has no byte after the last of a file
+-- a token has no byte past the greatest offset
 abbrev pub Ends : (ℕ → Option Level) → Type 0
 Ends t = (b : ℕ) → greatest < b → t b ≡ None
 
--- the run is the next of the bytes from the first on
+-- the run is the first longest run from byte `first` on
 record IsNext (t : ℕ → Option Level) (first : ℕ) (r : TokenRun) : Type 0 where
   after : first ≤ r.span.lo
   ordered : r.span.lo ≤ r.span.hi
@@ -22,12 +22,12 @@ record IsNext (t : ℕ → Option Level) (first : ℕ) (r : TokenRun) : Type 0 w
   all : AllAre t r.span (Some r.level)
   ends : t (r.span.hi + 1) ≢ Some r.level
 
--- these are the longest runs of the bytes from the first on
+-- the list is the longest runs of the bytes from `first` on
 abbrev AreRunsFrom : (ℕ → Option Level) → ℕ → List TokenRun → Type 0
 AreRunsFrom t first [] = (b : ℕ) → first ≤ b → t b ≡ None
 AreRunsFrom t first (r ∷ rest) = IsNext t first r × AreRunsFrom t (r.span.hi + 1) rest
 
--- one byte more
+-- the runs of the bytes from b on, by whether byte b joins the first run of the bytes behind it
 module _ (t : ℕ → Option Level) (b : ℕ) where
   abbrev one : Level → TokenRun
   one level = record { span = record { lo = b; hi = b }; level = level }
@@ -72,7 +72,7 @@ module _ (t : ℕ → Option Level) (b : ℕ) where
         ends = n.ends;
       }
 
-  -- a run that does not join
+  -- a byte that doesn't join the first run is a run of its own
   apart : (level : Level) (r : TokenRun) → IsNext t (b + 1) r → ((r.span.lo == b + 1) && same_level r.level level) ≡ false → t (b + 1) ≢ Some level
   apart level r n other at =
       let after = n.after in
@@ -102,17 +102,17 @@ module _ (t : ℕ → Option Level) (b : ℕ) where
         | false ↦ λ not. (is_one level is (apart level r h.0 not), h)
       ] refl
 
--- the runs of the bytes from b on
+-- `runs_from` gives the longest runs of the bytes from b on
 runs_from-are : (t : ℕ → Option Level) (b n : ℕ) → ((x : ℕ) → b + n ≤ x → t x ≡ None) → AreRunsFrom t b (runs_from t b n)
 unfolding runs_from
 runs_from-are t b zero none = λ x low. none x (omega arith)
 runs_from-are t b (suc n) none = joined_runs t b (t b) (runs_from t (b + 1) n) refl (runs_from-are t (b + 1) n (λ x low. none x (omega arith)))
 
--- the runs of a token
+-- `runs_of` gives the longest runs of a token
 runs_of-are : (t : ℕ → Option Level) → Ends t → AreRunsFrom t 0 (runs_of t)
 runs_of-are t ends = runs_from-are t 0 (greatest + 1) (λ x low. ends x (omega arith))
 
--- no run has a byte before it
+-- none of the runs from `first` on has a byte below it
 nothing_before : (t : ℕ → Option Level) (first : ℕ) (runs : List TokenRun) → AreRunsFrom t first runs → (b : ℕ) → b < first → reported runs b ≡ None
 nothing_before t first [] h b lt = refl
 nothing_before t first (r ∷ rest) h b lt =
@@ -121,7 +121,7 @@ nothing_before t first (r ∷ rest) h b lt =
     let out : is_in r.span b ≡ false = false_from_ne_true (is_in r.span b) (λ is. let low : r.span.lo ≤ b = grind (arith, nat_tests) in absurd (omega arith)) in
     ap (λ (c : Bool). if c then Some r.level else reported rest b) out ∙ nothing_before t (r.span.hi + 1) rest h.1 b (omega arith)
 
--- they tell the token
+-- the longest runs describe the token
 runs_tell : (t : ℕ → Option Level) (first : ℕ) (runs : List TokenRun) → AreRunsFrom t first runs → (b : ℕ) → first ≤ b → reported runs b ≡ t b
 runs_tell t first [] h b low = sym (h b low)
 runs_tell t first (r ∷ rest) h b low = elim (is_in r.span b) as (λ c. is_in r.span b ≡ c → (if c then Some r.level else reported rest b) ≡ t b) [
@@ -132,11 +132,11 @@ runs_tell t first (r ∷ rest) h b low = elim (is_in r.span b) as (λ c. is_in r
   ]
 ] refl
 
--- a report tells the token
+-- the report of a token describes the token
 pub tells_token : (t : ℕ → Option Level) → Ends t → reported (runs_of t) ≡ t
 tells_token t ends i b = runs_tell t 0 (runs_of t) (runs_of-are t ends) b (omega arith) i
 
--- they are the longest
+-- runs of the bytes from `first` on pass the test for longest runs
 longest : (t : ℕ → Option Level) (first : ℕ) (runs : List TokenRun) → AreRunsFrom t first runs → are_longest runs ≡ true
 longest t first [] h = refl
 longest t first (r ∷ rest) h = and_from _ _ (goes_on r rest h) (longest t (r.span.hi + 1) rest h.1)
@@ -156,11 +156,11 @@ longest t first (r ∷ rest) h = and_from _ _ (goes_on r rest h) (longest t (r.s
     goes_on r [] h = refl
     goes_on r (q ∷ rest) h = apart_from r q h.0 h.1.0
 
--- those of a token are
+-- the runs of a token pass the test for longest runs
 pub runs_of-longest : (t : ℕ → Option Level) → Ends t → are_longest (runs_of t) ≡ true
 runs_of-longest t ends = longest t 0 (runs_of t) (runs_of-are t ends)
 
--- there are no two such lists
+-- two lists of longest runs of one token are equal
 next_one : (t : ℕ → Option Level) (first : ℕ) (r q : TokenRun) → IsNext t first r → IsNext t first q → r ≡ q
 next_one t first r q n m =
     let no_earlier : (a b : TokenRun) → IsNext t first a → IsNext t first b → b.span.lo ≤ a.span.lo = λ a b x y. elim (cases_lt a.span.lo b.span.lo) [
@@ -192,7 +192,7 @@ runs_one t first (r ∷ rest) (q ∷ others) h o =
     let tails = runs_one t (r.span.hi + 1) rest others h.1 (subst (λ (x : TokenRun). AreRunsFrom t (x.span.hi + 1) others) (sym heads) o.1) in
     λ i. heads i ∷ tails i
 
--- The runs of bytes with a level, and the list of them.
+-- The spans at which a token has one level, and the list of them.
 module _ (t : ℕ → Option Level) (ends : Ends t) where
   level_at : (a b : Level) → (a ≡ b) ⊎ (a ≡ b → ⊥)
   level_at a b = elim (same_level a b) as (λ c. same_level a b ≡ c → (a ≡ b) ⊎ (a ≡ b → ⊥)) [
@@ -206,7 +206,7 @@ module _ (t : ℕ → Option Level) (ends : Ends t) where
     | Some w ↦ elim (level_at w v) [ inl is ↦ inl (ap Some is) | inr other ↦ inr (λ h. other cc) ]
   ]
 
-  -- the bytes below that have the same level with it
+  -- the first byte of the run that contains byte b
   begins_at : (b : ℕ) (v : Level) → t b ≡ Some v → (lo : ℕ) × (lo ≤ b) × AllAre t (record { lo = lo; hi = b }) (Some v) × ((x : ℕ) → x + 1 ≡ lo → t x ≢ Some v)
   begins_at zero v is = (zero, omega arith, λ x low upto. subst (λ (y : ℕ). t y ≡ Some v) (let same : zero ≡ x = omega arith in same) is, λ x next. absurd (omega arith))
   begins_at (suc b) v is = elim (at_byte b v) [
@@ -223,7 +223,7 @@ module _ (t : ℕ → Option Level) (ends : Ends t) where
         (suc b, omega arith, one, λ x next. subst (λ (y : ℕ). t y ≢ Some v) (let same : b ≡ x = omega arith in same) other)
   ]
 
-  -- and those above, of which there are fewer than n
+  -- the last byte of the run that contains byte b, which has fewer than n bytes above b
   ends_at : (n b : ℕ) (v : Level) → greatest < b + n → t b ≡ Some v → (hi : ℕ) × (b ≤ hi) × AllAre t (record { lo = b; hi = hi }) (Some v) × (t (hi + 1) ≢ Some v)
   ends_at zero b v past is = let none = ends b (omega arith) in absurd cc
   ends_at (suc n) b v past is = elim (at_byte (b + 1) v) [
@@ -240,7 +240,7 @@ module _ (t : ℕ → Option Level) (ends : Ends t) where
         (b, omega arith, one, other)
   ]
 
-  -- the longest run around a byte
+  -- a byte with a level is in a longest run
   run_around : (b : ℕ) (v : Level) → t b ≡ Some v → (s : Range) × IsRun t s v × (s.lo ≤ b) × (b ≤ s.hi)
   run_around b v is =
       let down = begins_at b v is in
@@ -253,7 +253,7 @@ module _ (t : ℕ → Option Level) (ends : Ends t) where
       ] in
       (record { lo = down.0; hi = up.0 }, record { ordered = omega arith; all = all; begins = down.3; ends = up.3 }, low, high)
 
-  -- all runs from the first byte on are listed, and none goes on there
+  -- the list has each longest run that begins at `first` or above it, in ascending order, and no run contains both `first` and the byte below it
   record ListsFrom (first : ℕ) (runs : List (Range × Level)) : Type 0 where
     edge : (b : ℕ) (v : Level) → b + 1 ≡ first → t b ≡ Some v → t first ≢ Some v
     late : All (λ (r : Range × Level). first ≤ r.0.lo) runs
@@ -261,7 +261,7 @@ module _ (t : ℕ → Option Level) (ends : Ends t) where
     complete : (s : Range) (v : Level) → IsRun t s v → first ≤ s.lo → Contains runs (s, v)
     rises : AllPairs (λ (r q : Range × Level). r.0.lo < q.0.lo) runs
 
-  -- a byte from there on is in a run that begins there or later
+  -- a byte from `first` on with a level is in a run that begins at `first` or above it
   late_run : (first : ℕ) (runs : List (Range × Level)) → ListsFrom first runs → (b : ℕ) (v : Level) → first ≤ b → t b ≡ Some v → (s : Range) × Contains runs (s, v) × (s.lo ≤ b)
   late_run first runs l b v low is =
       let found = run_around b v is in
@@ -305,7 +305,7 @@ module _ (t : ℕ → Option Level) (ends : Ends t) where
         ends = run.ends;
       }
 
-      -- the next begins past this one
+      -- the next run begins past the end of this one
       past : (k : ℕ) (d : Range × Level) → k < length rest → r.0.hi + 1 ≤ (slice_index_or rest k d).0.lo
       past k d lt =
           let q = slice_index_or rest k d in
@@ -341,7 +341,7 @@ module _ (t : ℕ → Option Level) (ends : Ends t) where
         rises = λ i j d lt within. l.rises (suc i) (suc j) d (omega arith) (omega arith);
       }
 
-  -- a list of each longest run once, by first byte, is theirs
+  -- a list that has each longest run of the token once, in ascending order, is `runs_of` it
   module _ (runs : List (Range × Level)) (each : All (λ (r : Range × Level). IsRun t r.0 r.1) runs) (complete : (s : Range) (v : Level) → IsRun t s v → Contains runs (s, v)) (rises : AllPairs (λ (r q : Range × Level). r.0.lo < q.0.lo) runs) where
     pub lists_runs_of : map run_of runs ≡ runs_of t
     lists_runs_of =

@@ -1,4 +1,4 @@
--- The derived `==` of runs, and that of their lists, is equality.
+-- The derived `==` of token runs, and the one of lists of them, is equality.
 use Rattle.std.specs.Cmp.Lexicographic.{pointwise, pointwise_decides}
 use Rattle.std.proofs.Common.{◌≡◌, Bool, true, false, Decides, List, rules, refl, sym, subst}
 use Rattle.messages.specs.contracts.token_run.TokenRunPartialEq.TheImpl as derived
@@ -12,7 +12,7 @@ run_eq a b = search rules
 pub run_eq-Decides : (a b : TokenRun) → Decides (derived.ghosts.eq a b) (a ≡ b)
 run_eq-Decides a b = subst (λ (r : Bool). Decides r (a ≡ b)) (sym (run_eq a b)) (run_exact a b, λ e. subst (λ (x : TokenRun). same_run a x ≡ true) e (run_refl a))
 
--- two tests that decide the same are one
+-- two tests that decide one statement are equal
 one_answer : {P : Type 0} (r s : Bool) → Decides r P → Decides s P → r ≡ s
 one_answer true true d e = refl
 one_answer false false d e = refl

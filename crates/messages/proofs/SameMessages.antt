@@ -1,4 +1,4 @@
--- When two messages are one, and two events.
+-- The tests of messages and of events decide equality.
 use Rattle.std.specs.Prelude.{true, ℕ, ◌&&◌, ◌==◌}
 use Rattle.std.proofs.Common.{◌≡◌, Bool, Decides, rules, arith, refl, sym, ap, subst}
 use Rattle.std.proofs.lemmas.Bool.{false≢true}
@@ -31,11 +31,11 @@ use Rattle.messages.proofs.SameRuns.{range_exact, range_refl, runs_decide}
 use Rattle.messages.specs.TokenRuns.{same_range}
 use Rattle.messages.specs.Messages.{same_call, same_wants, same_blocking, same_host, same_lock, same_message, SameMessageIsEquality}
 
--- a test that passes equals alone, and each with itself, decides equality
+-- a test that passes only equal values, and each value with itself, decides equality
 exact_Decides : {A : Type 0} (same : A → A → Bool) → ((a b : A) → same a b ≡ true → a ≡ b) → ((a : A) → same a a ≡ true) → (a b : A) → Decides (same a b) (a ≡ b)
 exact_Decides {A} same exact itself a b = (exact a b, λ e. subst (λ (x : A). same a x ≡ true) e (itself a))
 
--- two tests that decide decide both
+-- the conjunction of two tests decides the conjunction of their statements
 pub both : {P Q : Type 0} {x y : Bool} → Decides x P → Decides y Q → Decides (x && y) (P × Q)
 both d k = Decides-and _ _ d k
 
@@ -76,7 +76,7 @@ lock_Decides a b =
     Decides-like _ (λ (owners, (modes, spans)) i. record { owner = owners i; mode = modes i; span = spans i }) (λ e. (cc, (cc, cc)))
     (both (owner_Decides a.owner b.owner) (both (mode_Decides a.mode b.mode) (range_Decides a.span b.span)))
 
--- so hosts and calls that test alike are one
+-- hosts and calls that the tests find alike are equal
 pub host_exact : (a b : Host) → same_host a b ≡ true → a ≡ b
 host_exact a b = (host_Decides a b).0
 
@@ -86,7 +86,7 @@ call_exact a b = (call_Decides a b).0
 pub call_refl : (a : CallId) → same_call a a ≡ true
 call_refl a = (call_Decides a a).1 refl
 
--- and so does the test of messages
+-- the test of messages decides equality
 message_Decides : (a b : Message) → Decides (same_message a b) (a ≡ b)
 message_Decides (Request f c u m w) (Request g d v n x) =
     Decides-like _ (λ (files, (calls, (blockings, (modes, wants)))) i. Request (files i) (calls i) (blockings i) (modes i) (wants i)) (λ e. (cc, (cc, (cc, (cc, cc)))))
@@ -128,7 +128,7 @@ same_message-is-equality a b = message_Decides a b
 pub message_eq : (a b : Message) → derived.ghosts.eq a b ≡ same_message a b
 message_eq a b = search (rules, runs_eq)
 
--- and so is equality
+-- the derived `==` of messages decides equality
 pub message_eq-Decides : (a b : Message) → Decides (derived.ghosts.eq a b) (a ≡ b)
 message_eq-Decides a b =
     let P : Bool → Type 0 = λ r. Decides r (a ≡ b) in
@@ -151,7 +151,7 @@ op_eq-Decides _ _ = (λ h. absurd (false≢true h), λ e. cc)
 call_events : (node pid n p : ℕ) (op o : Op) → derived_of_events.ghosts.eq (Call node pid op) (Call n p o) ≡ ((node == n) && ((pid == p) && derived_of_ops.ghosts.eq op o))
 call_events node pid n p op o = search rules
 
--- and so is that of events
+-- the derived `==` of events decides equality
 pub event_eq-Decides : (a b : Event) → Decides (derived_of_events.ghosts.eq a b) (a ≡ b)
 event_eq-Decides (Call node pid op) (Call n p o) = Decides-at _ _ (call_events node pid n p op o) (
     Decides-like _ (λ (nodes, (pids, ops)) i. Call (nodes i) (pids i) (ops i)) (λ e. (cc, (cc, cc)))

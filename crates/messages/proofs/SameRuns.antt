@@ -1,4 +1,4 @@
--- When two lists of runs of tokens are one.
+-- The test of lists of token runs decides equality.
 use Rattle.std.specs.Prelude.{true, List, [], ◌∷◌}
 use Rattle.std.proofs.Common.{◌≡◌, Decides, refl, subst, eq-eqb}
 use Rattle.std.proofs.lemmas.Bool.{and_parts, and_from, eqb-true, false≢true}
@@ -50,6 +50,6 @@ pub runs_refl : (a : List TokenRun) → same_runs a a ≡ true
 runs_refl [] = refl
 runs_refl (x ∷ xs) = and_from _ _ (run_refl x) (runs_refl xs)
 
--- so the test is equality
+-- the test of lists of runs decides equality
 pub runs_decide : (a b : List TokenRun) → Decides (same_runs a b) (a ≡ b)
 runs_decide a b = (runs_exact a b, λ e. subst (λ (x : List TokenRun). same_runs a x ≡ true) e (runs_refl a))

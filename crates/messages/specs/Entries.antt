@@ -1,4 +1,4 @@
--- Entries of the journal.
+-- The entries of the journal.
 use Rattle.std.specs.Prelude.{◌≡◌, ◌≤◌, ℕ, List, Option, Some, None}
 use Rattle.model.specs.declared.call.CallId.{CallId}
 use Rattle.model.specs.declared.reply.Reply.{Reply}
@@ -15,13 +15,13 @@ pub record EntryFields : Type 0 where
   pub reply : Option (CallId × Reply)
   pub sends : List Message
 
--- a call has a name, of its own node; nothing else has one
+-- a call has a name, which is of its node; any other event has none
 abbrev pub NamesItsCall : Event → Option CallId → Type 0
 NamesItsCall (Call node pid op) None = ⊥
 NamesItsCall (Call node pid op) (Some id) = id.node ≡ node
 NamesItsCall _ call = call ≡ None
 
--- an interrupt and a retry have the incarnation of their node, of which the first is 1, a declaration the one that is declared, a restart the one that begins, a failure and a start of a server its epoch; nothing else has one
+-- the incarnation or epoch of an event, from 1: live (interrupt, retry), declared failed (declaration, failure) or beginning (restart, start); else 0
 abbrev pub NamesItsIncarnation : Event → ℕ → Type 0
 NamesItsIncarnation (Interrupt node pid) incarnation = 1 ≤ incarnation
 NamesItsIncarnation (Retry node pid) incarnation = 1 ≤ incarnation
@@ -31,22 +31,22 @@ NamesItsIncarnation (FailServer file) incarnation = 1 ≤ incarnation
 NamesItsIncarnation (StartServer file) incarnation = 1 ≤ incarnation
 NamesItsIncarnation _ incarnation = incarnation ≡ 0
 
--- an entry as it is kept, with one incarnation for the event and for the name of a call
+-- the entry as it is stored: one number for the incarnation of a call's name and for the one that another event names
 abbrev pub kept : Event → ℕ → ℕ → Option (CallId × Reply) → List Message → EntryFields
 kept (Call node pid op) incarnation number reply sends =
     record { event = Call node pid op; incarnation = 0; call = Some (record { node = node; incarnation = incarnation; number = number }); reply = reply; sends = sends }
 kept event incarnation number reply sends = record { event = event; incarnation = incarnation; call = None; reply = reply; sends = sends }
 
--- what is kept beside an event: of a call the incarnation and the number of its name, else the incarnation that the event names
+-- the two numbers stored with an event: incarnation and number of a call's name; else the incarnation that the event names, if any
 abbrev pub IsKept : Event → ℕ → ℕ → Type 0
 IsKept (Call node pid op) incarnation number = IsCall (record { node = node; incarnation = incarnation; number = number })
 IsKept event incarnation number = NamesItsIncarnation event incarnation
 
--- what is kept of the incarnation that the event names and of the name that it gave
+-- the incarnation and the number that are stored: the ones of the call's name if there is one, else the incarnation that the event names
 abbrev pub kept_name : ℕ → Option CallId → ℕ × ℕ
 kept_name incarnation (Some call) = (call.incarnation, call.number)
 kept_name incarnation None = (incarnation, 0)
 
--- the entry of an event with this outcome, and the incarnation that it names, 0 for none
+-- the entry of an event with its outcome and the incarnation that it names, 0 for none
 abbrev pub entry_of : Event → ℕ → Outcome → EntryFields
 entry_of event incarnation outcome = record { event = event; incarnation = incarnation; call = outcome.call; reply = outcome.reply; sends = outcome.sends }

@@ -9,13 +9,13 @@ use Rattle.messages.specs.declared.kept_reply.Kept.TheVariants as reply
 use Rattle.messages.specs.declared.sends.Kept.{Kept as KeptSends}
 use Rattle.messages.specs.declared.sends.Kept.TheVariants as sends
 
--- the call that is answered, and its reply
+-- the call that is answered and its reply, if any, as an entry stores them
 abbrev pub reply_of : KeptReply → Option (CallId × Reply)
 reply_of reply.Nothing = None
 reply_of (reply.Done call) = Some (call, Done)
 reply_of (reply.Other answer) = Some answer.value
 
--- the messages in their order
+-- the messages in their order, as an entry stores them
 abbrev pub messages_of : KeptSends → List Message
 messages_of sends.Nothing = []
 messages_of (sends.One message) = message ∷ []

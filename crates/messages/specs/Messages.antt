@@ -1,4 +1,4 @@
--- Who a message is for and from, and when two messages are one.
+-- The addressee and the node of a message, and the equality of messages.
 use Rattle.std.specs.Prelude.{◌≡◌, ℕ, Bool, true, false, ◌&&◌, ◌==◌, nat_le, ◌↔◌, IsTrue, List, None}
 use Rattle.std.specs.List.{list_any}
 use Rattle.model.specs.Owners.{same_mode, same_owner, host_of_call}
@@ -16,7 +16,7 @@ use Rattle.messages.specs.declared.message.Message.TheVariants.{Request, Grant, 
 pub use Rattle.messages.specs.TokenRuns.{same_range, same_runs}
 use Rattle.messages.specs.declared.outcome.Outcome.{Outcome}
 
--- who takes the message
+-- the actor that a message is for
 abbrev pub addressee : Message → Actor
 addressee (Request file call blocking mode wanted) = AServer file
 addressee (Grant file number call mode span) = ANode call.node
@@ -29,7 +29,7 @@ addressee (Freed file holder) = AServer file
 addressee (Hello file number holder) = ANode holder.node
 addressee (Report file number holder runs) = AServer file
 
--- the node, in its incarnation, that sends the message or takes it
+-- the node, in its incarnation, that sends the message or receives it
 abbrev pub host_of : Message → Host
 host_of (Request file call blocking mode wanted) = host_of_call call
 host_of (Grant file number call mode span) = host_of_call call
@@ -58,11 +58,11 @@ file_of (Report file number holder runs) = file
 abbrev pub greatest_number : ℕ
 greatest_number = 4294967295
 
--- the number is one of those from 1 to n
+-- whether k is a number from 1 to n
 abbrev pub is_within : ℕ → ℕ → Bool
 is_within n k = nat_le 1 k && nat_le k n
 
--- no call is named and nothing is answered, these messages are sent
+-- the outcome that sends these messages, names no call and answers none
 abbrev pub sending : List Message → Outcome
 sending messages = record { call = None; reply = None; sends = messages }
 
@@ -80,7 +80,7 @@ same_blocking _ _ = false
 abbrev pub same_lock : LockInfo → LockInfo → Bool
 same_lock a b = same_owner a.owner b.owner && (same_mode a.mode b.mode && same_range a.span b.span)
 
--- messages are equal by value
+-- whether two messages are equal by value
 abbrev pub same_message : Message → Message → Bool
 same_message (Request f c u m w) (Request g d v n x) = (f == g) && (same_call c d && (same_blocking u v && (same_mode m n && same_wants w x)))
 same_message (Grant f k c m s) (Grant g l d n t) = (f == g) && ((k == l) && (same_call c d && (same_mode m n && same_range s t)))
@@ -94,15 +94,15 @@ same_message (Hello f k h) (Hello g l i) = (f == g) && ((k == l) && same_host h 
 same_message (Report f k h r) (Report g l i s) = (f == g) && ((k == l) && (same_host h i && same_runs r s))
 same_message _ _ = false
 
--- the message tells that a lock of the holder is in the way, as its answer to the command with that number
+-- whether the message is the holder's answer to the command with that number, and says that a lock of the holder is in the way
 abbrev pub is_conflict : ℕ → Host → ℕ → Message → Bool
 is_conflict file holder number (Conflict f k h call lock) = (f == file) && ((k == number) && same_host h holder)
 is_conflict file holder number _ = false
 
--- the message is one of those
+-- whether the message is in the list
 abbrev pub is_among : List Message → Message → Bool
 is_among messages m = list_any (same_message m) messages
 
--- that is equality
+-- `same_message` holds exactly of two equal messages
 abbrev pub SameMessageIsEquality : Type 0
 SameMessageIsEquality = (a b : Message) → IsTrue (same_message a b) ↔ (a ≡ b)

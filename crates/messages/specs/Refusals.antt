@@ -1,11 +1,11 @@
--- The numbers of refusals.
+-- The numbers of refusals in listings.
 use Rattle.std.specs.Prelude.{ℕ}
 use Rattle.messages.specs.declared.refusal.StepError.{StepError}
 use Rattle.messages.specs.declared.refusal.StepError.TheVariants as step
 use Rattle.messages.specs.declared.refusal.Refused.{Refused}
 use Rattle.messages.specs.declared.refusal.Refused.TheVariants.{NoMemory, Busy, Stranger, JournalFull, Spent, NotAlive, NotDead, TooManyRestarts, Fenced}
 
--- the number by which listings know it
+-- the number of a refusal in listings
 abbrev pub number_of : Refused → ℕ
 number_of NoMemory = 3
 number_of Busy = 13
@@ -17,7 +17,7 @@ number_of NotDead = 11
 number_of TooManyRestarts = 12
 number_of Fenced = 15
 
--- a refusal of one actor's step, among all
+-- the refusal of an event, where the step of its actor is refused
 abbrev pub refused_by : StepError → Refused
 refused_by step.NoMemory = NoMemory
 refused_by step.Busy = Busy

@@ -1,4 +1,4 @@
--- Shapes of clusters.
+-- The shapes of clusters.
 use Rattle.std.specs.Prelude.{ℕ}
 use Rattle.model.specs.declared.policy.Policy.{Policy}
 use Rattle.model.specs.Limits.{IsNumber, most_nodes}
@@ -10,7 +10,7 @@ pub record ShapeFields : Type 0 where
   pub files : ℕ
   pub policy : Policy
 
--- files of a cluster
+-- the greatest number of files in a cluster
 abbrev pub most_files : ℕ
 most_files = 256
 
@@ -18,6 +18,6 @@ pub record IsShape (s : ShapeFields) : Type 0 where
   pub nodes_in : IsNumber most_nodes s.nodes
   pub files_in : IsNumber most_files s.files
 
--- a cluster may have so many nodes and files
+-- a cluster may have that many nodes and that many files
 abbrev pub IsServed : ℕ → ℕ → Type 0
 IsServed nodes files = IsNumber most_nodes nodes × IsNumber most_files files

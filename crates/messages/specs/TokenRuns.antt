@@ -1,4 +1,4 @@
--- Which lists are the longest runs of a token, and when two such lists are one.
+-- The longest runs of a token as a list, and the equality of such lists.
 use Rattle.std.specs.Prelude.{◌+◌, Bool, true, false, not, ◌&&◌, ◌==◌, nat_lt, List, [], ◌∷◌}
 use Rattle.intervals.specs.Bytes.{Range}
 use Rattle.model.specs.declared.level.Level.{Level}
@@ -21,20 +21,20 @@ same_runs [] [] = true
 same_runs (x ∷ xs) (y ∷ ys) = same_run x y && same_runs xs ys
 same_runs _ _ = false
 
--- the second run may stand next: it begins past the first, and where they touch they differ in level
+-- whether run b may come next behind run a: it begins past the end of a, and has another level where the two are adjacent
 abbrev pub may_follow : TokenRun → TokenRun → Bool
 may_follow a b = nat_lt a.span.hi b.span.lo && not ((b.span.lo == a.span.hi + 1) && same_level b.level a.level)
 
--- the runs may stand after this one
+-- whether the runs may come behind run a
 abbrev pub go_on_after : TokenRun → List TokenRun → Bool
 go_on_after a [] = true
 go_on_after a (b ∷ rest) = may_follow a b
 
--- each run begins past the one before, and those that touch differ in level: so they are the longest runs of a token, by first byte
+-- whether these are the longest runs of a token: each begins past the end of the one before, with another level where the two are adjacent
 abbrev pub are_longest : List TokenRun → Bool
 are_longest [] = true
 are_longest (a ∷ rest) = go_on_after a rest && are_longest rest
 
--- a run and its level
+-- the run of a span and its level
 abbrev pub run_of : Range × Level → TokenRun
 run_of r = record { span = r.0; level = r.1 }

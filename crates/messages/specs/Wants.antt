@@ -1,4 +1,4 @@
--- What a request needs, and what it would like to have with that.
+-- The required and the desired range of a token request.
 use Rattle.intervals.specs.Bytes.{Range}
 
 pub record Wants : Type 0 where

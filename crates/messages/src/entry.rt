@@ -1,4 +1,4 @@
-//! Entries of the journal.
+//! The entries of the journal: an event with its reply and the messages that it sends.
 ghost use Rattle.std.specs.Prelude.{◌≡◌, ◌↔◌, IsTrue};
 ghost use Rattle.messages.specs.Entries.{NamesItsCall, NamesItsIncarnation, entry_of, kept_name};
 
@@ -10,15 +10,17 @@ use model::call::CallId;
 use model::reply::Reply;
 use std::marker::Model;
 
-/// One entry of the journal: an event, and what it gave. `call` is there exactly where the event is
-/// a call, and names its node; `incarnation` is that of the node where the event is a retry or
-/// declares it failed, the new one where it restarts (each at least 1), else 0.
+/// An entry of the journal: an event and its outcome. A call has `call`, its name, which is of the
+/// call's node; no other event has one. `incarnation` is the live one of the node for an interrupt,
+/// a retry or a declaration, the new one for a restart, and the epoch for a failure or a start of a
+/// server (each at least 1); it is 0 for every other event.
 #[derive(Drop)]
 pub struct Entry {
     event: Event,
-    // That of the call's name, where the event is a call.
+    // The incarnation in the call's name, where the event is a call; else the one that the event
+    // names, or 0.
     incarnation: u16,
-    // The number of the call's name, where the event is a call.
+    // The number in the call's name, where the event is a call; else 0.
     number: u32,
     outcome: KeptOutcome,
 }
@@ -33,7 +35,8 @@ impl Model for Entry {
     ghost invariant = { λ e. IsKept e.event e.incarnation e.number };
 }
 
-// The incarnation and the number that are kept of an event that gave this name.
+// The incarnation and the number that an entry keeps: the ones of the call's name, or the
+// incarnation that the event names.
 fn kept_name(incarnation: u16, call: Option<CallId>) -> (u16, u32)
     ensures { result ≡ kept_name incarnation call }
 {
@@ -44,7 +47,8 @@ fn kept_name(incarnation: u16, call: Option<CallId>) -> (u16, u32)
 }
 
 impl Entry {
-    /// The entry of an event that names no incarnation and gave this outcome, of which it keeps this.
+    /// The entry of an event that names no incarnation, with its outcome; `kept` is what the entry
+    /// keeps of the outcome.
     pub fn new(event: Event, outcome: Outcome, kept: KeptOutcome) -> Entry
         requires named { NamesItsCall event outcome.call }
         requires no_incarnation { NamesItsIncarnation event 0 }
@@ -55,8 +59,8 @@ impl Entry {
         Entry::at_node(event, 0, outcome, kept)
     }
 
-    /// The entry of an event that gave this outcome, of which it keeps this, with the live incarnation of
-    /// its node where it names one, from 1, else 0.
+    /// The entry of an event with its outcome, and the incarnation or epoch that it names, from 1,
+    /// else 0; `kept` is what the entry keeps of the outcome.
     pub fn at_node(event: Event, incarnation: u16, outcome: Outcome, kept: KeptOutcome) -> Entry
         requires named { NamesItsCall event outcome.call }
         requires incarnated { NamesItsIncarnation event incarnation }
@@ -79,7 +83,7 @@ impl Entry {
         &self.event
     }
 
-    /// The incarnation of the node where the event names one, at least 1; else 0.
+    /// The incarnation or epoch that the event names, at least 1; 0 where it names none.
     pub fn incarnation(&self) -> u16
         ensures value { result ≡ self.now.incarnation }
         ensures incarnated { NamesItsIncarnation self.now.event result }
@@ -90,7 +94,7 @@ impl Entry {
         }
     }
 
-    /// The name that the call took, where the event is a call.
+    /// The name of the call, where the event is a call.
     pub fn call(&self) -> Option<CallId>
         ensures value { result ≡ self.now.call }
         ensures named { NamesItsCall self.now.event result }
@@ -105,21 +109,21 @@ impl Entry {
         }
     }
 
-    /// The call that is answered, and its reply.
+    /// The call that the event answers, and its reply.
     pub fn reply(&self) -> Option<(CallId, Reply)>
         ensures { result ≡ self.now.reply }
     {
         self.outcome.reply.get()
     }
 
-    /// The messages that are sent, in the order in which the rules name them.
+    /// The messages that the event sends, in the order in which the rules name them.
     pub fn sends(&self) -> &[SharedMessage]
         ensures { result.now ≡ self.now.sends }
     {
         self.outcome.sends.as_slice()
     }
 
-    /// Whether both say the same.
+    /// Whether both entries are equal.
     pub fn same(&self, other: &Entry) -> bool
         ensures { IsTrue result ↔ (self.now ≡ other.now) }
     {
@@ -135,14 +139,14 @@ impl Entry {
     }
 }
 
-// Whether both are the same messages in the same order.
+// Whether both are lists of equal messages in the same order.
 fn same_messages(one: &[SharedMessage], other: &[SharedMessage]) -> bool
     ensures { IsTrue result ↔ (one.now ≡ other.now) }
 {
     one == other
 }
 
-// Whether both name the same call, or none.
+// Whether both are the same call's name, or none.
 fn same_names(one: &Option<CallId>, other: &Option<CallId>) -> bool
     ensures { IsTrue result ↔ (one.now ≡ other.now) }
 {

@@ -1,12 +1,11 @@
-//! Numbers after which the commands of an epoch begin.
+//! The counts after which the commands of an epoch begin.
 ghost use Rattle.std.specs.Prelude.{◌≡◌, ◌≤◌};
 ghost use Rattle.messages.specs.Epochs.{most_epochs, before_epoch, epoch_of, IsRebuilt};
 
 use crate::command_number::NUMBERS;
 use std::marker::Model;
 
-/// The number after which the commands of a server that was rebuilt begin: that of an epoch, from 2 to
-/// 65,535.
+/// The count after which the commands of a rebuilt server's epoch, 2 to 65,535, begin.
 #[derive(Clone, Copy, PartialEq, Eq, Hash)]
 pub struct EpochNumber {
     count: u64,
@@ -26,7 +25,7 @@ impl Model for EpochNumber {
 }
 
 impl EpochNumber {
-    /// That of the epoch.
+    /// The count after which the commands of the epoch begin.
     pub fn of(epoch: u16) -> EpochNumber
         requires least { 2 ≤ epoch }
         requires most { epoch ≤ most_epochs }
@@ -37,7 +36,7 @@ impl EpochNumber {
         }
     }
 
-    /// The epoch, 2 to 65,535.
+    /// The epoch whose commands begin after the count, 2 to 65,535.
     pub fn epoch(self) -> u16
         ensures value { result ≡ epoch_of self }
         ensures begins { before_epoch result ≡ self }
@@ -47,7 +46,7 @@ impl EpochNumber {
         (self.count / NUMBERS + 1) as u16
     }
 
-    /// The number.
+    /// The count.
     pub fn get(self) -> u64
         ensures value { result ≡ self }
         ensures begins { IsRebuilt result }

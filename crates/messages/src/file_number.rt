@@ -1,4 +1,4 @@
-//! Numbers of files.
+//! The numbers of files, as a type that admits no other numbers.
 ghost use Rattle.std.specs.Prelude.{◌≡◌, ◌↔◌, IfSome, IsSome};
 ghost use Rattle.model.specs.Limits.{IsNumber};
 ghost use Rattle.messages.specs.Shapes.{most_files};
@@ -27,7 +27,7 @@ impl Model for FileNumber {
 }
 
 impl FileNumber {
-    /// The number of a file that there may be, 1 to 256; `None` for any other.
+    /// The number of a file, if it is from 1 to 256; else `None`.
     pub fn new(number: u16) -> Option<FileNumber>
         ensures value { IfSome result (λ file. file ≡ number) }
         ensures served { IsSome result ↔ IsNumber most_files number }
@@ -38,7 +38,7 @@ impl FileNumber {
         Some(FileNumber { number })
     }
 
-    /// The number of a file that there may be.
+    /// The number of a file, known to be from 1 to 256.
     pub fn of(number: u16) -> FileNumber
         requires { IsNumber most_files number }
         ensures { result ≡ number }

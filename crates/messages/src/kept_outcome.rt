@@ -1,10 +1,11 @@
-//! What entries keep of outcomes.
+//! What an entry of the journal keeps of an outcome.
 ghost use Rattle.std.specs.Prelude.{◌≡◌, [], None};
 
 use crate::kept_reply::KeptReply;
 use crate::sends::Sends;
 
-/// The reply and the messages of an outcome, as its entry keeps them: what may need memory of its own.
+/// The reply and the messages of an outcome, as an entry keeps them: the parts that may need memory
+/// of their own.
 #[derive(Drop)]
 pub struct KeptOutcome {
     pub reply: KeptReply,
@@ -12,7 +13,7 @@ pub struct KeptOutcome {
 }
 
 impl KeptOutcome {
-    /// Nothing is answered and nothing is sent. It takes no memory.
+    /// The outcome without a reply and without messages. It takes no memory.
     pub fn nothing() -> KeptOutcome
         ensures reply { result.reply ≡ None }
         ensures sends { result.sends ≡ [] }

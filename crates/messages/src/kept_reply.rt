@@ -1,4 +1,6 @@
-//! Replies as entries keep them.
+//! Replies as entries of the journal keep them.
+//!
+//! Each function here that can fail errs with `AllocError`, where a request for memory was refused.
 ghost use Rattle.std.specs.Prelude.{◌≡◌, None, IfOk};
 ghost use Rattle.messages.specs.KeptOutcomes.{reply_of};
 
@@ -7,7 +9,7 @@ use model::reply::Reply;
 use std::alloc::{AllocError, Global};
 use std::marker::Model;
 
-// Most entries reply nothing, or that a call is done.
+// Most entries have no reply, or the reply `Done`: these need no memory of their own.
 #[derive(Drop)]
 enum Kept {
     Nothing,
@@ -15,8 +17,8 @@ enum Kept {
     Other(Box<(CallId, Reply)>),
 }
 
-/// The call that an entry answers and its reply, or none, in 16 bytes; a reply that says more than that
-/// the call is done has memory of its own. Contracts see the call and the reply.
+/// The call that an entry answers with its reply, or none, in 16 bytes. Any reply but `Done` has
+/// memory of its own. Contracts see the call and the reply.
 #[derive(Drop)]
 pub struct KeptReply {
     kept: Kept,
@@ -34,7 +36,7 @@ impl Model for KeptReply {
 }
 
 impl KeptReply {
-    /// No call is answered. It takes no memory.
+    /// No reply. It takes no memory.
     pub fn nothing() -> KeptReply
         ensures { result ≡ None }
     {
@@ -43,10 +45,7 @@ impl KeptReply {
         }
     }
 
-    /// This call is answered, with this reply, or none is.
-    ///
-    /// # Errors
-    /// `AllocError` where a request for memory was refused.
+    /// Stores this reply to this call, or none.
     pub fn new(alloc: Global, reply: Option<(CallId, Reply)>) -> Result<KeptReply, AllocError>
         ensures { IfOk result (λ kept. kept ≡ reply) }
     {

@@ -1,4 +1,6 @@
-//! Messages between nodes and token servers, events, and entries of the journal.
+//! The messages between nodes and token servers, the events and outcomes of their steps, and the
+//! entries of the journal. This crate knows nothing of the states of nodes and servers, of how any
+//! of this is written as text, of files on a disk, or of threads.
 #![tactic(auto)]
 
 pub mod actor;

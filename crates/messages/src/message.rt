@@ -1,4 +1,4 @@
-//! Messages between nodes and token servers.
+//! The messages between nodes and token servers.
 ghost use Rattle.std.specs.Prelude.{◌≡◌, ◌↔◌, IsTrue, IfOk};
 ghost use Rattle.model.specs.Limits.{IsNumber};
 ghost use Rattle.messages.specs.Messages.{addressee, host_of, file_of, SameMessageIsEquality};
@@ -17,19 +17,20 @@ use model::lock_info::LockInfo;
 use model::mode::Mode;
 use std::alloc::{AllocError, Global};
 
-/// Whether a request waits where a lock blocks it (POSIX.1-2017 `fcntl()`, F_SETLKW), or is denied.
+/// Whether the request of a blocked call waits until locks go (POSIX.1-2017 `fcntl()`, F_SETLKW),
+/// or is denied.
 #[derive(Clone, Copy, PartialEq, Eq, Hash)]
 pub enum Blocking {
     No,
     Yes,
 }
 
-/// A message, with the file that it is about, 1 to 256. `call` is the call of the node that asks,
-/// `number` the number of a command of the server to a node, from 1; of a revoke and its answers the
-/// command is the one to the `holder`, the node whose token is in the way.
+/// A message between a node and the token server of a file, 1 to 256. `call` names the call that
+/// needs the token. `number` is the number of the command that the message is, or that it answers:
+/// for a revoke and its answers the command to the `holder`, the node whose token is in the way.
 #[derive(Clone, PartialEq, Eq, Hash, Drop)]
 pub enum Message {
-    /// A node asks the server for a token.
+    /// From a node to the server: a call needs a token.
     Request {
         file: FileNumber,
         call: CallId,
@@ -37,7 +38,8 @@ pub enum Message {
         mode: Mode,
         wanted: Wanted,
     },
-    /// The server gives it.
+    /// From the server to the node of the call, as a command: the node's token is raised on the
+    /// span.
     Grant {
         file: FileNumber,
         number: CommandNumber,
@@ -45,7 +47,8 @@ pub enum Message {
         mode: Mode,
         span: Span,
     },
-    /// The server takes a token back, as far as the mode needs it.
+    /// From the server to a holder, as a command: give up the token that the call needs, as far as
+    /// its mode excludes it.
     Revoke {
         file: FileNumber,
         number: CommandNumber,
@@ -54,13 +57,13 @@ pub enum Message {
         mode: Mode,
         wanted: Wanted,
     },
-    /// The node has what it was granted.
+    /// From a node to the server, the answer to a grant: the node has the token.
     Taken {
         file: FileNumber,
         number: CommandNumber,
         call: CallId,
     },
-    /// The holder gave the span up.
+    /// From a holder to the server, an answer to a revoke: the holder gave up the span.
     Released {
         file: FileNumber,
         number: CommandNumber,
@@ -68,7 +71,7 @@ pub enum Message {
         call: CallId,
         span: Span,
     },
-    /// A lock of the holder is in the way.
+    /// From a holder to the server, an answer to a revoke: a lock of the holder is in the way.
     Conflict {
         file: FileNumber,
         number: CommandNumber,
@@ -76,7 +79,8 @@ pub enum Message {
         call: CallId,
         lock: LockInfo,
     },
-    /// The server denies the call, for the lock that the holder named in its answer to that command.
+    /// From the server to the node of the call: the call is denied, for the lock that the holder
+    /// named when it answered the revoke with that number.
     Deny {
         file: FileNumber,
         call: CallId,
@@ -84,19 +88,20 @@ pub enum Message {
         number: CommandNumber,
         lock: LockInfo,
     },
-    /// Locks of a holder that were in the way may be gone.
+    /// From a holder to the server: locks that the holder named in the way may be gone.
     Freed {
         file: FileNumber,
         holder: Host,
     },
-    /// A server that was rebuilt asks a node for its token; the number is the one after which its
-    /// commands begin.
+    /// From a rebuilt server to a node: report your token. The number is the one after which the
+    /// commands of the server's epoch begin.
     Hello {
         file: FileNumber,
         number: EpochNumber,
         holder: Host,
     },
-    /// The node tells it.
+    /// From a node to a rebuilt server, the answer to a hello: the longest runs of the node's
+    /// token.
     Report {
         file: FileNumber,
         number: EpochNumber,
@@ -106,7 +111,7 @@ pub enum Message {
 }
 
 impl Message {
-    /// Who takes the message.
+    /// The actor that the message is for.
     pub fn addressee(&self) -> Actor
         ensures { result ≡ addressee self.now }
     {
@@ -124,7 +129,7 @@ impl Message {
         }
     }
 
-    /// The node, in its incarnation, that sends the message or takes it.
+    /// The node, in its incarnation, that sends the message or receives it.
     pub fn host(&self) -> Host
         ensures { result ≡ host_of self.now }
     {
@@ -161,7 +166,7 @@ impl Message {
         }
     }
 
-    /// Whether both are one and the same message.
+    /// Whether both messages are equal.
     pub fn same(&self, other: &Message) -> bool
         ensures { IsTrue result ↔ (self.now ≡ other.now) }
     {
@@ -193,7 +198,7 @@ impl Message {
     }
 }
 
-/// That messages are compared by value, as the rules do, is equality.
+/// The test `same_message` of the definitions, by value, holds exactly of two equal messages.
 pub fn same_message_is_equality()
     ensures { SameMessageIsEquality }
 {}

@@ -1,4 +1,4 @@
-//! Outcomes of steps.
+//! The outcomes of steps: the name of a call, a reply, and messages.
 ghost use Rattle.std.specs.Prelude.{◌≡◌};
 ghost use Rattle.messages.specs.Messages.{sending};
 
@@ -7,8 +7,8 @@ use crate::message::Message;
 use model::call::CallId;
 use model::reply::Reply;
 
-/// What a step of an actor gives: the name that a call took, at most one reply, and messages in the
-/// order in which the rules name them.
+/// The outcome of a step of an actor: the name of the call, if the event is one; at most one reply
+/// to a call; and messages, in the order in which the rules name them.
 #[derive(Drop)]
 pub struct Outcome {
     pub call: Option<CallId>,
@@ -17,7 +17,7 @@ pub struct Outcome {
 }
 
 impl Outcome {
-    /// No call is named and nothing is answered; these messages are sent.
+    /// The outcome that sends these messages, names no call and answers none.
     pub fn sending(sends: Items<Message>) -> Outcome
         ensures { result ≡ sending sends }
     {

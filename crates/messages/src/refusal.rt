@@ -1,4 +1,4 @@
-//! Why a call of the library is refused.
+//! The reasons for which a step or an event is refused.
 ghost use Rattle.std.specs.Prelude.{◌≡◌};
 ghost use Rattle.messages.specs.declared.refusal.StepError.TheVariants as step;
 ghost use Rattle.messages.specs.declared.refusal.Refused.TheVariants.{NoMemory};
@@ -7,7 +7,7 @@ ghost use Rattle.messages.specs.Refusals.{number_of, refused_by};
 use std::alloc::{AllocError, AllocFailed};
 use thiserror::Error;
 
-/// What a step of a node or a server may be refused for.
+/// A reason for which a step of a node or of a token server is refused.
 #[derive(Clone, Copy, Debug, PartialEq, Eq, Error)]
 pub enum StepError {
     /// A request for memory was refused.
@@ -16,10 +16,10 @@ pub enum StepError {
     /// The process has an open call.
     #[error("the process has an open call")]
     Busy,
-    /// A number outside the shape of the cluster, or a message for another.
+    /// A number is outside the shape of the cluster, or the message is for another actor.
     #[error("not of this cluster")]
     Stranger,
-    /// A counter is at its greatest number.
+    /// A counter of calls or commands is at its greatest number.
     #[error("no number is left")]
     Spent,
 }
@@ -40,7 +40,7 @@ impl<T: Drop> From<AllocFailed<T>> for StepError {
     }
 }
 
-/// What an event may be refused for.
+/// A reason for which an event is refused.
 #[derive(Clone, Copy, Debug, PartialEq, Eq, Error)]
 pub enum Refused {
     /// A request for memory was refused.
@@ -49,25 +49,25 @@ pub enum Refused {
     /// The process has an open call.
     #[error("the process has an open call")]
     Busy,
-    /// A number outside the shape of the cluster, or a message that was never sent.
+    /// A number is outside the shape of the cluster, or the message was never sent.
     #[error("not of this cluster")]
     Stranger,
-    /// The journal has as many entries as it may.
+    /// The journal has as many entries as it may have.
     #[error("the journal is full")]
     JournalFull,
-    /// A counter is at its greatest number.
+    /// A counter of calls or commands is at its greatest number.
     #[error("no number is left")]
     Spent,
-    /// The node is not live.
+    /// The node, or the token server, is not alive.
     #[error("the node is not alive")]
     NotAlive,
-    /// The node is live.
+    /// The node, or the token server, is alive.
     #[error("the node is alive")]
     NotDead,
-    /// The node has had its last incarnation.
+    /// The node, or the token server, has had its last incarnation.
     #[error("the node was restarted too often")]
     TooManyRestarts,
-    /// The node was declared failed, and takes no step.
+    /// The node, or the token server, was declared failed, and takes no step.
     #[error("the node was declared failed")]
     Fenced,
 }
@@ -102,7 +102,7 @@ impl From<StepError> for Refused {
 }
 
 impl Refused {
-    /// The number by which listings know the refusal: 3, 10 to 16 or 19.
+    /// The number of the refusal in listings: 3, 10 to 16 or 19.
     pub fn number(self) -> u16
         ensures { result ≡ number_of self }
     {

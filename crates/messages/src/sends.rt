@@ -1,4 +1,6 @@
-//! What an entry sends.
+//! The messages that an entry of the journal sends.
+//!
+//! Each function here that can fail errs with `AllocError`, where a request for memory was refused.
 ghost use Rattle.std.specs.Prelude.{◌≡◌, ◌↔◌, IsTrue, [], ◌∷◌, IfOk};
 ghost use Rattle.messages.specs.KeptOutcomes.{messages_of};
 
@@ -17,7 +19,8 @@ enum Kept {
     Many(Box<Items<SharedMessage>>),
 }
 
-/// The messages that an entry sends, in the order in which the rules name them. Contracts see the list.
+/// The messages that an entry sends, in the order in which the rules name them. Contracts see their
+/// list.
 #[derive(Drop)]
 pub struct Sends {
     kept: Kept,
@@ -33,14 +36,14 @@ impl Model for Sends {
     ghost view = { λ s. messages_of s.kept };
 }
 
-// A copy of the message, which one names so far.
+// A copy of the message, with one owner.
 fn shared(alloc: Global, message: &Message) -> Result<SharedMessage, AllocError>
     ensures { IfOk result (λ shared. shared ≡ message.now) }
 {
     SharedMessage::new(alloc, message.copy(alloc)?)
 }
 
-// Copies of the messages, each of which one names so far.
+// Copies of the messages, with one owner each.
 fn all_shared(alloc: Global, messages: &[Message]) -> Result<Items<SharedMessage>, AllocError>
     ensures { IfOk result (λ items. items ≡ messages.now) }
 {
@@ -62,9 +65,6 @@ impl Sends {
     }
 
     /// Copies of these messages.
-    ///
-    /// # Errors
-    /// `AllocError` where a request for memory was refused.
     pub fn copies(alloc: Global, messages: &[Message]) -> Result<Sends, AllocError>
         ensures { IfOk result (λ sends. sends ≡ messages.now) }
     {
@@ -76,7 +76,7 @@ impl Sends {
         Ok(Sends { kept })
     }
 
-    /// The messages, in their order.
+    /// The messages, in the order in which the rules name them.
     pub fn as_slice(&self) -> &[SharedMessage]
         ensures { result.now ≡ self.now }
     {

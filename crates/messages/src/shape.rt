@@ -1,4 +1,4 @@
-//! Shapes of clusters.
+//! The shape of a cluster: its version, its size and its policy.
 ghost use Rattle.std.specs.Prelude.{◌≡◌, ◌↔◌, IfOk, IsOk};
 ghost use Rattle.model.specs.Limits.{IsNumber, most_nodes};
 ghost use Rattle.messages.specs.Versions.{most_regions};
@@ -10,11 +10,11 @@ use model::policy::Policy;
 use std::marker::Model;
 use thiserror::Error;
 
-/// How many files a cluster may have.
+/// The greatest number of files in a cluster; they are numbered from 1.
 pub const MOST_FILES: u16 = 256;
 
-/// The version of a cluster, its size and how much its nodes ask for: the number of nodes (1 to 64),
-/// the number of files (1 to 256), and the policy.
+/// The shape of a cluster: the version, the number of nodes (1 to 64), the number of files (1 to
+/// 256), and the policy, which says how many bytes nodes request beyond those that a call needs.
 #[derive(Clone, Copy, PartialEq, Eq)]
 pub struct Shape {
     version: Version,
@@ -35,13 +35,13 @@ impl Model for Shape {
     ghost inverse = { λ s. record { version = s.version; nodes = s.nodes; files = s.files; policy = s.policy } };
 }
 
-/// There is no cluster of that size.
+/// No cluster can have that many nodes or files.
 #[derive(Clone, Copy, Debug, PartialEq, Eq, Error)]
 #[error("no cluster has so many nodes or files")]
 pub struct BadShape;
 
 impl BadShape {
-    /// The number by which listings know the refusal.
+    /// The number of the refusal in listings, 22.
     pub fn number(self) -> u16
         ensures { result ≡ 22 }
     {
@@ -50,10 +50,11 @@ impl BadShape {
 }
 
 impl Shape {
-    /// A cluster of the second version, of so many nodes (1 to 64) and files (1 to 256).
+    /// The shape of a cluster of the second version with `nodes` nodes (1 to 64) and `files` files
+    /// (1 to 256).
     ///
     /// # Errors
-    /// `BadShape` where one of the numbers is outside.
+    /// `BadShape` where one of the two numbers is out of range.
     pub fn new(nodes: u8, files: u16, policy: Policy) -> Result<Shape, BadShape>
         ensures ok { IfOk result (λ shape. shape ≡ record { version = Version.Second; nodes = nodes; files = files; policy = policy }) }
         ensures served { IsOk result ↔ IsServed nodes files }
@@ -61,10 +62,11 @@ impl Shape {
         Shape::of(Version::Second, nodes, files, policy)
     }
 
-    /// A cluster of the first version, of so many nodes (1 to 64) and files (1 to 256).
+    /// The shape of a cluster of the first version with `nodes` nodes (1 to 64) and `files` files
+    /// (1 to 256).
     ///
     /// # Errors
-    /// `BadShape` where one of the numbers is outside.
+    /// `BadShape` where one of the two numbers is out of range.
     pub fn version1(nodes: u8, files: u16, policy: Policy) -> Result<Shape, BadShape>
         ensures ok { IfOk result (λ shape. shape ≡ record { version = Version.First; nodes = nodes; files = files; policy = policy }) }
         ensures served { IsOk result ↔ IsServed nodes files }
@@ -72,10 +74,11 @@ impl Shape {
         Shape::of(Version::First, nodes, files, policy)
     }
 
-    /// A cluster of the version, of so many nodes (1 to 64) and files (1 to 256).
+    /// The shape of a cluster of the given version with `nodes` nodes (1 to 64) and `files` files
+    /// (1 to 256).
     ///
     /// # Errors
-    /// `BadShape` where one of the numbers is outside.
+    /// `BadShape` where one of the two numbers is out of range.
     pub fn of(version: Version, nodes: u8, files: u16, policy: Policy) -> Result<Shape, BadShape>
         ensures ok { IfOk result (λ shape. shape ≡ record { version = version; nodes = nodes; files = files; policy = policy }) }
         ensures served { IsOk result ↔ IsServed nodes files }
@@ -94,21 +97,21 @@ impl Shape {
         })
     }
 
-    /// The version.
+    /// The version of the cluster.
     pub fn version(&self) -> Version
         ensures { result ≡ self.now.version }
     {
         self.version
     }
 
-    /// How many regions an owner may have in a file.
+    /// The greatest number of regions that an owner may have in a file.
     pub fn most_regions(&self) -> usize
         ensures { result ≡ most_regions self.now.version }
     {
         self.version.most_regions()
     }
 
-    /// How many nodes there are; they are numbered from 1.
+    /// The number of nodes in the cluster; they are numbered from 1.
     pub fn nodes(&self) -> u8
         ensures value { result ≡ self.now.nodes }
         ensures within { IsNumber most_nodes result }
@@ -116,7 +119,7 @@ impl Shape {
         self.nodes
     }
 
-    /// How many files there are; they are numbered from 1.
+    /// The number of files in the cluster; they are numbered from 1.
     pub fn files(&self) -> u16
         ensures value { result ≡ self.now.files }
         ensures within { IsNumber most_files result }

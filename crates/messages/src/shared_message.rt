@@ -1,4 +1,4 @@
-//! Messages that are kept once.
+//! Messages that are stored once, with a count of their owners.
 ghost use Rattle.std.specs.Prelude.{◌≡◌, ◌↔◌, IsTrue, IfOk};
 
 use crate::message::Message;
@@ -6,8 +6,8 @@ use std::alloc::{AllocError, Global};
 use std::marker::Model;
 use std::sync::Arc;
 
-/// A message that is kept once, by whoever names it: the messages that were sent, the entry that sends
-/// it and those that deliver it. Contracts see the message.
+/// A message that is stored once for all its owners: the list of messages that were sent, the entry
+/// that sends it and the entries that deliver it. Contracts see the message.
 #[derive(Drop)]
 pub struct SharedMessage {
     message: Arc<Message, Global>,
@@ -50,7 +50,7 @@ impl Eq for SharedMessage {
 }
 
 impl SharedMessage {
-    /// The message, which one names so far.
+    /// The message, with one owner.
     ///
     /// # Errors
     /// `AllocError` where a request for memory was refused; the message is dropped.
@@ -69,10 +69,10 @@ impl SharedMessage {
         &*self.message
     }
 
-    /// The same message, which one more names. It takes no memory.
+    /// The same message, with one more owner. It takes no memory.
     ///
     /// # Errors
-    /// `AllocError` where as many name it as can be counted.
+    /// `AllocError` where the message has as many owners as can be counted.
     pub fn share(&self) -> Result<SharedMessage, AllocError>
         ensures { IfOk result (λ shared. shared ≡ self.now) }
     {
@@ -81,7 +81,7 @@ impl SharedMessage {
         })
     }
 
-    /// Whether both are one and the same message.
+    /// Whether the shared message is equal to the other one.
     pub fn same(&self, other: &Message) -> bool
         ensures { IsTrue result ↔ (self.now ≡ other.now) }
     {

@@ -1,4 +1,6 @@
-//! Runs of tokens.
+//! The longest runs of tokens, as reports name them.
+//!
+//! Each function here that can fail errs with `AllocError`, where a request for memory was refused.
 ghost use Rattle.std.specs.Prelude.{◌≡◌, ◌↔◌, true, IfOk, IfSome, IsSome, IsTrue, map};
 ghost use Rattle.messages.specs.TokenRuns.{are_longest, may_follow, run_of};
 
@@ -8,14 +10,14 @@ use std::alloc::{AllocError, Global};
 use std::hash::{Hash, Hasher};
 use std::marker::Model;
 
-/// A longest run of bytes of a token, with its level.
+/// A longest run of bytes at which a token has one level.
 #[derive(Clone, Copy, PartialEq, Eq)]
 pub struct TokenRun {
     pub span: Span,
     pub level: Level,
 }
 
-/// The longest runs of a token, by first byte, which contracts see as their list.
+/// The longest runs of a token, in ascending order. Contracts see their list.
 #[derive(Drop)]
 pub struct TokenRuns {
     runs: Vec<TokenRun>,
@@ -65,7 +67,7 @@ impl Eq for TokenRuns {
     ghost laws = { lists_equiv laws-law };
 }
 
-// Reports of one node for one epoch are alike: their runs are left out.
+// Reports of one node for one epoch are equal, so the hash of a report leaves out its runs.
 impl Hash for TokenRuns {
     ghost use Rattle.std.specs.Prelude.{[], refl};
 
@@ -77,8 +79,8 @@ impl Hash for TokenRuns {
 }
 
 impl TokenRun {
-    /// Whether the run may stand behind this one: it begins past it, and where they touch they differ
-    /// in level.
+    /// Whether this run may come next behind the run `before`: it begins past the end of `before`,
+    /// and has another level where the two are adjacent.
     pub fn may_follow(self, before: TokenRun) -> bool
         ensures { result ≡ may_follow before self }
     {
@@ -87,7 +89,7 @@ impl TokenRun {
     }
 }
 
-// Whether these are the longest runs of a token, by first byte.
+// Whether these runs, in this order, are the longest runs of a token.
 fn are_longest(runs: &[TokenRun]) -> bool
     ensures { result ≡ are_longest runs.now }
 {
@@ -105,10 +107,8 @@ fn are_longest(runs: &[TokenRun]) -> bool
 }
 
 impl TokenRuns {
-    /// These runs, which are known to be the longest of a token, by first byte.
-    ///
-    /// # Errors
-    /// `AllocError` where a request for memory was refused.
+    /// The list of these runs, which are known to be the longest runs of a token in ascending
+    /// order.
     pub fn of(alloc: Global, runs: &[(Span, Level)]) -> Result<TokenRuns, AllocError>
         requires { are_longest (map run_of runs.now) ≡ true }
         ensures { IfOk result (λ made. made ≡ map run_of runs.now) }
@@ -123,8 +123,8 @@ impl TokenRuns {
         Ok(TokenRuns { runs: listed })
     }
 
-    /// These runs, if they are the longest of a token, by first byte: each begins past the one before,
-    /// and those that touch differ in level.
+    /// The list of these runs, if they are the longest runs of a token in ascending order: each
+    /// begins past the end of the one before it, and has another level where the two are adjacent.
     pub fn new(runs: Vec<TokenRun>) -> Option<TokenRuns>
         ensures value { IfSome result (λ made. made ≡ runs.items) }
         ensures longest { IsSome result ↔ (are_longest runs.items ≡ true) }
@@ -136,7 +136,7 @@ impl TokenRuns {
         }
     }
 
-    /// The runs, by first byte.
+    /// The runs, in ascending order.
     pub fn as_slice(&self) -> &[TokenRun]
         ensures value { result.now ≡ self.now }
         ensures longest { are_longest self.now ≡ true }
@@ -144,17 +144,14 @@ impl TokenRuns {
         self.runs.as_slice()
     }
 
-    /// Whether both are the same runs.
+    /// Whether both are equal lists of runs.
     pub fn same(&self, other: &TokenRuns) -> bool
         ensures { IsTrue result ↔ (self.now ≡ other.now) }
     {
         self == other
     }
 
-    /// The same runs.
-    ///
-    /// # Errors
-    /// `AllocError` where a request for memory was refused.
+    /// An equal list of runs.
     pub fn copy(&self, alloc: Global) -> Result<TokenRuns, AllocError>
         ensures { IfOk result (λ runs. runs ≡ self.now) }
     {

@@ -1,4 +1,4 @@
-//! Versions of clusters.
+//! The versions of clusters, and how they differ.
 ghost use Rattle.std.specs.Prelude.{◌≡◌};
 ghost use Rattle.messages.specs.Versions.{most_regions, may_rebuild};
 
@@ -6,14 +6,14 @@ ghost use Rattle.messages.specs.Versions.{most_regions, may_rebuild};
 /// may fail and be rebuilt, and how its journals are written.
 #[derive(Clone, Copy, PartialEq, Eq)]
 pub enum Version {
-    /// 1,024 regions, and no server is rebuilt.
+    /// An owner may have 1,024 regions in a file, and a failed token server is never rebuilt.
     First,
-    /// 16,384 regions, and servers are rebuilt.
+    /// An owner may have 16,384 regions in a file, and a failed token server can be rebuilt.
     Second,
 }
 
 impl Version {
-    /// How many regions an owner may have in a file.
+    /// The greatest number of regions that an owner may have in a file.
     pub fn most_regions(self) -> usize
         ensures { result ≡ most_regions self }
     {

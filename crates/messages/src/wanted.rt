@@ -1,11 +1,11 @@
-//! Ranges of token requests.
+//! The two ranges of a token request.
 ghost use Rattle.std.specs.Prelude.{◌≡◌, ◌≤◌};
 
 use intervals::span::Span;
 use std::marker::Model;
 
-/// The bytes that a call needs, and those that its node would like to have with them, which contain
-/// the first. (The required and the desired range: Schmuck and Haskin, FAST 2002.)
+/// The required range of a token request, the bytes that the call needs, and the desired range, the
+/// bytes that the node would like to have, which contains it (Schmuck and Haskin, FAST 2002).
 #[derive(Clone, Copy, PartialEq, Eq, Hash)]
 pub struct Wanted {
     pub required: Span,
@@ -26,7 +26,7 @@ impl Model for Wanted {
 }
 
 impl Wanted {
-    /// What a request needs, and what it would like to have with that.
+    /// The two ranges of a token request; the desired one is known to contain the required one.
     pub fn new(required: Span, desired: Span) -> Wanted
         requires starts_within { desired.lo ≤ required.lo }
         requires ends_within { required.hi ≤ desired.hi }

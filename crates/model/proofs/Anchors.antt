@@ -1,4 +1,4 @@
--- Locks that hang on descriptors: what closing descriptors and the exit of processes leave of a node's table.
+-- What is left of a node's locks after descriptors are closed and processes exit.
 use Rattle.std.proofs.Common.{◌≡◌, ℕ, zero, suc, ◌<◌, ◌≤◌, Bool, true, false, if◌then◌else◌, ◌&&◌, ◌==◌, ◌⊎◌, inl, inr, refl, sym, ◌∙◌, ap, subst, arith, Option, Some, None}
 use Rattle.std.proofs.lemmas.Bool.{and_parts, and_from, eqb-true, eq-eqb, ne_eqb, cases_Bool, cases_eq, both_ways, false_from_ne_true}
 use Rattle.std.proofs.lemmas.Option.{none-some, same_Some}
@@ -22,12 +22,12 @@ use Rattle.model.proofs.Hanging.{hangs_on, itself}
 use Rattle.model.proofs.LimitLaws.{gone_limit}
 use Rattle.model.proofs.NodeTables.{GoesOn, same_goes_on, goes_then}
 
--- a lock that is left where some are dropped
+-- a byte that is locked after a choice to drop locks was not chosen, and was locked before
 pub left : (b : Bool) (bytes : ℕ → Option Mode) (k : ℕ) (mode : Mode) → (if b then nothing else bytes) k ≡ Some mode → (b ≡ false) × (bytes k ≡ Some mode)
 left true bytes k mode h = absurd (none-some mode h)
 left false bytes k mode h = (refl, h)
 
--- a descriptor that is left where one is closed
+-- a descriptor that is open after a choice to close it was not chosen, and was open before
 pub left_open : (b : Bool) (x : Option Opened) (o : Opened) → (if b then None else x) ≡ Some o → (b ≡ false) × (x ≡ Some o)
 left_open true x o h = absurd (none-some o h)
 left_open false x o h = (refl, h)
@@ -36,7 +36,7 @@ of_some : (d : ℕ) (x : Option Opened) → is_of d x ≡ true → (o : Opened) 
 of_some d None h = absurd (cc)
 of_some d (Some o) h = (o, refl, eqb-true o.description d h)
 
--- the descriptor that an open description has
+-- a description that is open has a descriptor, and here it is
 open_refers : (ps : Processes) (d : ℕ) → is_open ps d ≡ true → (pid : ℕ) × (fd : ℕ) × (o : Opened) × (ps.opened pid fd ≡ Some o) × (o.description ≡ d)
 open_refers ps d h =
     let pids : ℕ → Bool = λ pid. some_passes (λ fd. is_of d (ps.opened pid fd)) 0 most_descriptors in
@@ -47,7 +47,7 @@ open_refers ps d h =
     let found = of_some d (ps.opened pid fd) two.here in
     (pid, fd, found.0, found.1, found.2)
 
--- one descriptor is closed
+-- one descriptor is closed: which locks and descriptors are left
 module _ (ps : Processes) (h : Locks) (n i : ℕ) (a : AreAnchored ps h n i) (pid fd : ℕ) (o : Opened) (there : ps.opened pid fd ≡ Some o) where
   abbrev p : Process
   p = record { node = n; incarnation = i; pid = pid }
@@ -67,7 +67,7 @@ module _ (ps : Processes) (h : Locks) (n i : ℕ) (a : AreAnchored ps h n i) (pi
     | inr apart ↦ rw apart h
   ]
 
-  -- what a lock hangs on still, or it hung on this one alone
+  -- two descriptors with equal numbers refer to the same
   the_same : (q k : ℕ) (x : Opened) → ps.opened q k ≡ Some x → (q ≡ pid) × (k ≡ fd) → x ≡ o
   the_same q k x h same =
       same_Some x o (sym h ∙ (λ j. ps.opened (same.0 j) (same.1 j)) ∙ there)
@@ -78,7 +78,7 @@ module _ (ps : Processes) (h : Locks) (n i : ℕ) (a : AreAnchored ps h n i) (pi
     | inr other ↦ inr (λ both. other both.0)
   ]
 
-  -- a lock that is left was there, is not one of the process in that file, and is of no description that nothing refers to
+  -- a lock is left by a close: it stood before, isn't a process lock in that file, and its description, if it has one, is still open
   pub record IsLeft (file : ℕ) (owner : Owner) (b : ℕ) (mode : Mode) : Type 0 where
     pub was : h file owner b ≡ Some mode
     pub not_its : ((o.file == file) && same_owner (process_owner p) owner) ≡ false
@@ -138,11 +138,11 @@ module _ (ps : Processes) (h : Locks) (n i : ℕ) (a : AreAnchored ps h n i) (pi
         (a.locks file owner b mode node incarnation l.was);
   }
 
--- every table step below is about one node in one incarnation
+-- another node or incarnation than the one that the steps below are about
 abbrev IsElsewhere : ℕ → ℕ → ℕ → ℕ → Type 0
 IsElsewhere n i m k = ((m == n) && (k == i)) ≡ false
 
--- what closing and exiting keep
+-- what closes and exits of one node keep of the table
 pub record Leaves (n i : ℕ) (t u : Table) : Type 0 where
   pub anchored : IsAnchored u n i
   pub others : (m k : ℕ) → IsElsewhere n i m k → u.on m k ≡ t.on m k
@@ -253,7 +253,7 @@ exited_to-more : (t : Table) (n i k : ℕ) → exited_to t n i (suc k) ≡ exite
 unfolding exited_to
 exited_to-more t n i k = refl
 
--- the descriptors of a process below a number are closed
+-- the table after the descriptors of a process with numbers below k are closed
 pub record IsShut (n i pid k : ℕ) (t u : Table) : Type 0 where
   pub leaves : Leaves n i t u
   pub runs : (q : ℕ) → (u.on n i).runs q ≡ (t.on n i).runs q
@@ -300,7 +300,7 @@ module _ (n i pid : ℕ) where
       let u = closed_below t who k in
       subst (IsShut n i pid (suc k) t) (sym (closed_below-more t who k)) (shut_more k t u (descriptor u who k) refl (shut_below k t a))
 
-  -- the process exits
+  -- the table after a process exits
   pub record HasExited (t u : Table) : Type 0 where
     pub leaves : Leaves n i t u
     pub stopped : (u.on n i).runs pid ≡ false
@@ -355,7 +355,7 @@ module _ (n i pid : ℕ) where
     | false ↦ λ h. record { leaves = leaves_same n i t a; stopped = h; others_run = λ q r. r; others = λ q other. same_goes_on (t.on n i) (t.on n i) q refl }
   ] refl
 
--- the processes up to a number have exited
+-- the table after the processes with numbers up to k exit
 pub record HaveExited (n i k : ℕ) (t u : Table) : Type 0 where
   pub leaves : Leaves n i t u
   pub stopped : (q : ℕ) → 1 ≤ q → q ≤ k → (u.on n i).runs q ≡ false
@@ -376,7 +376,7 @@ exit_all n i (suc k) t a =
       ];
     })
 
--- the table without what the node had in that incarnation
+-- the table without the processes and locks of a node's incarnation
 abbrev pub without_host : Table → ℕ → ℕ → Table
 without_host t n i = record {
   limit = t.limit;
@@ -384,7 +384,7 @@ without_host t n i = record {
   locks = λ file owner. if (owner.node == n) && (owner.incarnation == i) then nothing else t.locks file owner;
 }
 
--- so that is what is left where every process of the node exits, while no lock outlives its descriptors
+-- all processes of a node exit: the table without that node's incarnation is left
 module _ (t : Table) (n i : ℕ) (a : IsAnchored t n i) where
   abbrev last : Table
   last = gone t n i

@@ -5,14 +5,14 @@ use Rattle.std.proofs.lemmas.Bool.{ltb-true, ltb-false}
 use Rattle.intervals.specs.Search.{first, some_passes, first_answer, IsFirst}
 use Rattle.intervals.proofs.SearchLaws.{first_is_first}
 
--- x is f's answer at k, and f has none at the numbers from lo that come before k
+-- f has answer x at number k, and no answer at the numbers from lo that come before k
 pub record IsFirstAnswer {A : Type 0} (f : ℕ → Option A) (lo n : ℕ) (x : A) (k : ℕ) : Type 0 where
   pub least : lo ≤ k
   pub below : k < lo + n
   pub here : f k ≡ Some x
   pub none_before : (j : ℕ) → lo ≤ j → j < k → f j ≡ None
 
--- f has no answer at the n numbers from lo, or this is its first
+-- f has no answer at the n numbers from lo, or r is its first answer there
 abbrev pub Answers : {A : Type 0} → (ℕ → Option A) → ℕ → ℕ → Option A → Type 0
 Answers f lo n r = MatchOption r ((k : ℕ) → lo ≤ k → k < lo + n → f k ≡ None) (λ x. (k : ℕ) × IsFirstAnswer f lo n x k)
 

@@ -1,4 +1,4 @@
--- The lowest lock that blocks.
+-- The search for the lowest lock that blocks an owner.
 use Rattle.std.specs.Prelude.{◌≡◌, ◌≢◌, ℕ, ◌+◌, ◌-◌, ◌<◌, ◌≤◌, Bool, true, false, ◌&&◌, nat_lt, nat_le, if◌then◌else◌, Option, Some, None, MatchOption, refl}
 use Rattle.std.specs.declared.cmp.Ordering.{Ordering}
 use Rattle.std.specs.declared.cmp.Ordering.TheVariants.{Less, Equal, Greater}
@@ -20,7 +20,7 @@ use Rattle.model.proofs.OwnerLaws.{owner_exact, owner_refl}
 use Rattle.model.proofs.AnswerLaws.{Answers, IsFirstAnswer, first_answer_is}
 use Rattle.model.proofs.RunLaws.{some_start, start_from, run_ends, run_from-is_run}
 
--- the order of numbers
+-- the comparison of two numbers, by cases
 nat_equal : (a : ℕ) → nat_cmp a a ≡ Equal
 nat_equal a = grind (arith, nat_tests)
 
@@ -40,7 +40,7 @@ nat_both a b h k = elim (cases_order a b) [
 then_equal : (x y : Ordering) → x ≡ Equal → ordering_then x y ≡ y
 then_equal x y e = ap (λ z. ordering_then z y) e
 
--- what neither way is greater is equal in each part
+-- two ordered pairs, neither of which is greater, are equal in their first parts and in their second parts
 first_part : (x y : Ordering) → ordering_then x y ≢ Greater → x ≢ Greater
 first_part x y h e = h (ap (λ z. ordering_then z y) e)
 
@@ -57,7 +57,7 @@ kind_equal : (a : Kind) → kind_cmp a a ≡ Equal
 kind_equal OfProcess = refl
 kind_equal OfDescription = refl
 
--- two owners of which neither comes after the other are one
+-- two owners neither of which comes after the other are equal
 owners_both : (a b : Owner) → owner_cmp a b ≢ Greater → owner_cmp b a ≢ Greater → a ≡ b
 owners_both a b h k =
     let node : a.node ≡ b.node = nat_both _ _ (first_part _ _ h) (first_part _ _ k) in
@@ -72,7 +72,7 @@ owners_both a b h k =
     let number : a.number ≡ b.number = nat_both _ _ h3 k3 in
     λ i. record { node = node i; incarnation = incarnation i; kind = kind i; number = number i }
 
--- owners of one kind stand by number
+-- owners of one kind on one node stand by their numbers
 by_number : (node incarnation : ℕ) (kind : Kind) (a b : ℕ) → a ≤ b → owner_cmp (record { node = node; incarnation = incarnation; kind = kind; number = a }) (record { node = node; incarnation = incarnation; kind = kind; number = b }) ≢ Greater
 by_number node incarnation kind a b h e = not_greater (sym (then_equal _ _ (kind_equal kind)) ∙ sym (then_equal _ _ (nat_equal incarnation)) ∙ sym (then_equal _ _ (nat_equal node)) ∙ e)
   where
@@ -85,7 +85,7 @@ by_kind node incarnation a b e = less (sym (then_equal _ _ (nat_equal incarnatio
     less : Less ≢ Greater
     less e = cc
 
--- and so do the owners of a node by their places
+-- the owners of a node stand by their places in the order
 abbrev pub owner_if : ℕ → ℕ → Bool → ℕ → Owner
 owner_if node incarnation b k = if b then record { node = node; incarnation = incarnation; kind = OfProcess; number = k + 1 } else record { node = node; incarnation = incarnation; kind = OfDescription; number = k + 1 - most_processes }
 
@@ -101,7 +101,7 @@ by_place_if node incarnation j k false false h x y = by_number node incarnation 
 by_place : (node incarnation j k : ℕ) → j ≤ k → owner_cmp (owner_at node incarnation j) (owner_at node incarnation k) ≢ Greater
 by_place node incarnation j k h = by_place_if node incarnation j k _ _ h refl refl
 
--- a region that begins at lo, with what else is asked of it
+-- a region begins at byte lo, reaches into the span, and excludes the mode
 pub record RegionAt (h : FileLocks) (s : Range) (mode : Mode) (owner : Owner) (lo : ℕ) (held : Mode) (lock : LockInfo) : Type 0 where
   pub conflicts : excludes held mode ≡ true
   pub starts : is_start same_mode (h owner) lo ≡ true
@@ -128,7 +128,7 @@ module _ (h : FileLocks) (s : Range) (mode : Mode) (owner : Owner) (lo : ℕ) wh
   region_there : (held : Mode) → h owner lo ≡ Some held → excludes held mode ≡ true → is_start same_mode (h owner) lo ≡ true → s.lo ≤ (run_from same_mode (h owner) lo held).hi → region_at h s mode owner lo (h owner lo) ≡ Some (record { owner = owner; mode = held; span = run_from same_mode (h owner) lo held })
   region_there held here conflicts starts reaches = ap (region_at h s mode owner lo) here ∙ all_true _ _ _ _ _ conflicts starts (le-leb _ _ reaches)
 
--- other owners alone are asked
+-- the search looks only at other owners than the one that is blocked
 blocking_if : (b : Bool) (x : Option LockInfo) (lock : LockInfo) → (if b then None else x) ≡ Some lock → (b ≡ false) × (x ≡ Some lock)
 blocking_if true x lock e = absurd (cc)
 blocking_if false x lock e = (refl, e)
@@ -141,7 +141,7 @@ barred : (mode held : Mode) (x : Option Mode) → x ≡ Some held → excludes h
 barred mode held x e conflicts = ap (bars mode) e ∙ conflicts
 
 module _ (h : FileLocks) (owner : Owner) (s : Range) (mode : Mode) (own : IsOfNode h owner.node owner.incarnation) (order : s.lo ≤ s.hi) (within : s.hi ≤ greatest) where
-  -- what the search finds blocks
+  -- a lock that the search finds at a byte and an owner blocks
   blocking_blocks : (lo : ℕ) (other : Owner) (lock : LockInfo) → lo ≤ s.hi → blocking_at h owner s mode lo other ≡ Some lock → (lock.owner ≡ other) × (lock.span.lo ≡ lo) × Blocks h owner s mode lock
   blocking_blocks lo other lock below e =
       let parts = blocking_if (same_owner other owner) (region_at h s mode other lo (h other lo)) lock e in
@@ -159,7 +159,7 @@ module _ (h : FileLocks) (owner : Owner) (s : Range) (mode : Mode) (own : IsOfNo
       } in
       subst P (sym at.region) (refl, refl, blocks)
 
-  -- and it finds what blocks
+  -- a lock that blocks is found at its first byte and its owner
   blocks_blocking : (lock : LockInfo) → Blocks h owner s mode lock → blocking_at h owner s mode lock.span.lo lock.owner ≡ Some lock
   blocks_blocking lock b =
       let bytes = h lock.owner in
@@ -172,14 +172,14 @@ module _ (h : FileLocks) (owner : Owner) (s : Range) (mode : Mode) (own : IsOfNo
       let apart : same_owner lock.owner owner ≡ false = elim (cases_Bool (same_owner lock.owner owner)) [ inl is ↦ absurd (b.is_other (owner_exact _ _ is)) | inr other ↦ other ] in
       blocking_other _ _ apart ∙ region_there h s mode lock.owner lo lock.mode here b.conflicts start reaches ∙ (λ i. Some (record { owner = lock.owner; mode = lock.mode; span = record { lo = lo; hi = hi i } }))
 
-  -- the locks that the node's owners hold at byte lo
+  -- the lock that begins at byte lo and blocks, if its owner has place k
   abbrev asked : ℕ → ℕ → Option LockInfo
   asked lo k = blocking_at h owner s mode lo (owner_at owner.node owner.incarnation k)
 
   abbrev asked_all : ℕ → Option LockInfo
   asked_all lo = first_answer (asked lo) 0 most_owners
 
-  -- a lock that blocks is found at its first byte and at its owner's place
+  -- a lock that blocks is found at its first byte, at the place of its owner
   pub record FoundAt (lock : LockInfo) (k : ℕ) : Type 0 where
     pub below : k < 0 + most_owners
     pub whose : lock.owner ≡ owner_at owner.node owner.incarnation k
@@ -200,14 +200,14 @@ module _ (h : FileLocks) (owner : Owner) (s : Range) (mode : Mode) (own : IsOfNo
       let nothing = all at.0 (omega arith) at.1.below in
       let here = at.1.here in cc
 
-  -- with nothing found no byte is barred
+  -- if the search finds nothing no lock blocks
   none_blocks : ((lo : ℕ) → 0 ≤ lo → lo < 0 + (s.hi + 1) → asked_all lo ≡ None) → (lock : LockInfo) → Blocks h owner s mode lock → ⊥
   none_blocks none lock b = found_all lock b _ refl (none lock.span.lo (omega arith) (under lock.span.lo b.starts))
     where
       under : (lo : ℕ) → lo ≤ s.hi → lo < 0 + (s.hi + 1)
       under lo h = omega arith
 
-  -- a byte that is barred is one of a lock that blocks
+  -- a byte that bars the mode is in a lock that blocks
   pub barred_blocks : (other : Owner) (b : ℕ) (held : Mode) → other ≢ owner → s.lo ≤ b → b ≤ s.hi → h other b ≡ Some held → excludes held mode ≡ true → (lock : LockInfo) × Blocks h owner s mode lock
   barred_blocks other b held apart above below here conflicts =
       let start = some_start (h other) held b here in
@@ -242,7 +242,7 @@ module _ (h : FileLocks) (owner : Owner) (s : Range) (mode : Mode) (own : IsOfNo
   pub free_without_blocker : ((lock : LockInfo) → Blocks h owner s mode lock → ⊥) → IsFree h owner s mode
   free_without_blocker none other b apart above below = free_at other b (h other b) none apart above below refl
 
-  -- the lock found first is the lowest
+  -- the lock that the search finds is the lowest
   lowest_found : (lock : LockInfo) (lo k : ℕ) → IsFirstAnswer asked_all 0 (s.hi + 1) lock lo → IsFirstAnswer (asked lo) 0 most_owners lock k → IsLowestBlocker h owner s mode lock
   lowest_found lock lo k at_byte at_owner =
       let is = blocking_blocks lo (owner_at owner.node owner.incarnation k) lock (under lo at_byte.below) at_owner.here in
@@ -280,14 +280,14 @@ unfolding lowest_blocker
 lowest_is_lowest h owner s mode own order within =
     lowest_by h owner s mode own order within (lowest_blocker h owner s mode) (first_answer_is (asked_all h owner s mode own order within) 0 (s.hi + 1))
 
--- one of two lowest locks comes before the other or begins with it
+-- of two lowest locks, each comes before the other or begins with it, so they begin at one byte
 same_start : (a b : LockInfo) → IsNotAfter a b → IsNotAfter b a → (a.span.lo ≡ b.span.lo) × (owner_cmp a.owner b.owner ≢ Greater) × (owner_cmp b.owner a.owner ≢ Greater)
 same_start a b (inl lt) (inl gt) = absurd (omega arith)
 same_start a b (inl lt) (inr same) = absurd (let e = same.0 in omega arith)
 same_start a b (inr same) (inl gt) = absurd (let e = same.0 in omega arith)
 same_start a b (inr first) (inr second) = (first.0, first.1, second.1)
 
--- two regions of which neither comes before the other are one
+-- two regions neither of which comes before the other are equal
 pub one_region : (h : FileLocks) (a b : LockInfo) → IsRegion h a → IsRegion h b → IsNotAfter a b → IsNotAfter b a → a ≡ b
 one_region h a b x y before after =
     let start = same_start a b before after in
@@ -303,11 +303,11 @@ one_region h a b x y before after =
     same_mode_of : {m n : Mode} → Some m ≡ Some n → m ≡ n
     same_mode_of e = cc
 
--- two lowest locks are one
+-- two locks that are both the lowest that blocks are equal
 pub one_lowest : (h : FileLocks) (owner : Owner) (s : Range) (mode : Mode) (a b : LockInfo) → IsLowestBlocker h owner s mode a → IsLowestBlocker h owner s mode b → a ≡ b
 one_lowest h owner s mode a b x y = one_region h a b x.blocks.region y.blocks.region (x.lowest b y.blocks) (y.lowest a x.blocks)
 
--- a lock that blocks bars one of the bytes
+-- a lock that blocks bars a byte of the span
 pub blocks_bars : (h : FileLocks) (owner : Owner) (s : Range) (mode : Mode) (lock : LockInfo) → s.lo ≤ s.hi → Blocks h owner s mode lock → IsFree h owner s mode → ⊥
 blocks_bars h owner s mode lock order b free = elim (cases_lt s.lo lock.span.lo) [
   | inl lt ↦ at_byte lock.span.lo (omega arith) b.starts (omega arith) b.region.ordered
@@ -323,6 +323,6 @@ one_answer h owner s mode None (Some b) order x y = absurd (blocks_bars h owner 
 one_answer h owner s mode (Some a) None order x y = absurd (blocks_bars h owner s mode a order x.blocks y)
 one_answer h owner s mode (Some a) (Some b) order x y = ap Some (one_lowest h owner s mode a b x y)
 
--- what is free, or the lowest lock, is what the search gives
+-- the right answer (the span is free, or the lowest lock that blocks) is the one of the search
 pub is_lowest_blocker : (h : FileLocks) (owner : Owner) (s : Range) (mode : Mode) (r : Option LockInfo) → IsOfNode h owner.node owner.incarnation → s.lo ≤ s.hi → s.hi ≤ greatest → MatchOption r (IsFree h owner s mode) (IsLowestBlocker h owner s mode) → r ≡ lowest_blocker h owner s mode
 is_lowest_blocker h owner s mode r own order within x = one_answer h owner s mode r (lowest_blocker h owner s mode) order x (lowest_is_lowest h owner s mode own order within)

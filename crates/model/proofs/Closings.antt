@@ -1,4 +1,4 @@
--- What a close and an exit make of the table of a node.
+-- What a close and an exit make of the table of one node.
 use Rattle.std.proofs.Common.{◌≡◌, ℕ, zero, suc, Bool, true, false, if◌then◌else◌, ◌&&◌, ◌==◌, refl, sym, ◌∙◌, Option, Some, None}
 use Rattle.std.proofs.lemmas.Option.{none-some}
 use Rattle.model.specs.declared.mode.Mode.{Mode}
@@ -16,7 +16,7 @@ use Rattle.model.specs.Anchors.{IsOwn}
 use Rattle.model.proofs.NodeTables.{Follows, same_follows}
 use Rattle.model.proofs.Anchors.{left, left_open, Leaves, closed_leaves, shut_goes_on, exits}
 
--- the locks that are left were there
+-- each lock that stands afterwards stood before
 abbrev pub AreFewer : Locks → Locks → Type 0
 AreFewer before after = (file : ℕ) (owner : Owner) (b : ℕ) (mode : Mode) → after file owner b ≡ Some mode → before file owner b ≡ Some mode
 
@@ -58,12 +58,12 @@ module _ (p : Process) where
         | false ↦ λ file owner b mode h. h
       ]
 
--- what is open was open before
+-- each descriptor that is open afterwards was open before, on the same description
 abbrev pub AreFewerOpen : Processes → Processes → Type 0
 AreFewerOpen before after = (pid fd : ℕ) (o : Opened) → after.opened pid fd ≡ Some o → before.opened pid fd ≡ Some o
 
 module _ (p : Process) where
-  -- the node's processes, but those
+  -- a choice between the processes before and those after opens no new descriptor
   chosen_open : (b : Bool) (before after : Processes) → AreFewerOpen before after → AreFewerOpen before (if b then after else before)
   chosen_open true before after fewer = fewer
   chosen_open false before after fewer = λ pid fd o h. h
@@ -93,7 +93,7 @@ module _ (p : Process) where
       let fewer : AreFewerOpen (around shut p) (around (exited t p) p) = chosen_open ((p.node == p.node) && (p.incarnation == p.incarnation)) (around shut p) (with_process (around shut p) p.pid false (λ fd. None)) (λ q k x h. (left_open (q == p.pid) ((around shut p).opened q k) x h).1) in
       λ pid k x h. open_below t most_descriptors pid k x (fewer pid k x h)
 
--- fewer locks of a node's owners are of those owners
+-- locks that are fewer are still of the node's owners
 pub fewer_of_node : (before after : Locks) (n i : ℕ) → AreFewer before after → ((file : ℕ) → IsOfNode (before file) n i) → (file : ℕ) → IsOfNode (after file) n i
 fewer_of_node before after n i fewer own file = record {
   is_own = λ o b mode h. (own file).is_own o b mode (fewer file o b mode h);
@@ -104,7 +104,7 @@ fewer_of_node before after n i fewer own file = record {
     none_left o b none None is = is
     none_left o b none (Some mode) is = absurd (none-some mode (sym none ∙ fewer file o b mode is))
 
--- the table stays the node's own
+-- the table that a close leaves is still the node's own
 left_own : (t u : Table) (n i : ℕ) → IsOwn t n i → Leaves n i t u → AreFewer t.locks u.locks → IsOwn u n i
 left_own t u n i own leaves fewer = record {
   others = λ m k h. leaves.others m k h ∙ own.others m k h;

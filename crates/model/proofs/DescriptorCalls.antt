@@ -1,4 +1,4 @@
--- The laws of closes, exits and forks.
+-- The laws of calls that close descriptors, exit and fork.
 use Rattle.std.proofs.Common.{◌≡◌, ℕ, Bool, true, false, if◌then◌else◌, ◌&&◌, ◌==◌, refl, sym, ◌∙◌, ap, subst, ℤ, Option, Some, None, Result, Ok, Err}
 use Rattle.std.proofs.lemmas.Bool.{and_from, eq-eqb, both_ways}
 use Rattle.intervals.specs.Bytes.{nothing}
@@ -76,7 +76,7 @@ last_close t u p fd file o there step =
     let P : Table → Type 0 = λ x. x.locks file (description_owner p o.description) ≡ (if is_open (around x p) o.description then t.locks file (description_owner p o.description) else nothing) in
     subst P (sym (close_closes t u p fd o there step)) (description_left t p fd o file)
 
--- a process that doesn't run has nothing
+-- a process that does not run has no descriptor and holds no lock
 stopped_gone : (t : Table) (p : Process) → IsAnchored t p.node p.incarnation → is_running t p ≡ false → HasGone t p
 stopped_gone t p a stopped = record {
   stopped = stopped;
@@ -126,7 +126,7 @@ fork_shares t u p child a step =
       ] refl
     ] step.1
 
--- the tests of a lock call
+-- a lock call keeps the table the node's own, whether or not it passes its tests
 tested : (t u : Table) (n i : ℕ) (found : Result LockTarget Reply) (reply : Reply) (Answer : LockTarget → Type 0) → IsOwn t n i → ((c : LockTarget) → found ≡ Ok c → Answer c → IsOwn u n i) → AfterTests t found reply u Answer → IsOwn u n i
 tested t u n i (Err refusal) reply Answer own answers h = subst (λ (x : Table). IsOwn x n i) (sym h.1) own
 tested t u n i (Ok c) reply Answer own answers h = answers c refl h

@@ -35,7 +35,7 @@ open_refers ps d h =
     below : (k : ℕ) → k < 0 + 64 → k < 64
     below k h = omega arith
 
--- descriptors of a node in a row
+-- the place of a descriptor when all descriptors of a node stand in a row
 abbrev slot : ℕ → ℕ → ℕ
 slot pid fd = (pid - 1) * 64 + fd
 
@@ -61,7 +61,7 @@ same_slot ps d e p q x y f g h =
     let fds : x ≡ y = slot-fd p q x y f.pid_in.0 g.pid_in.0 f.fd_in g.fd_in h in
     one_description d e (ps.opened p x) f.refers (rw (pids, fds) g.refers)
 
--- were all descriptions open, no descriptor would be free
+-- if all descriptions were open no descriptor would be free
 not_all_open : (ps : Processes) (pid fd : ℕ) → IsNumber most_processes pid → fd < most_descriptors → ps.opened pid fd ≡ None → ((d : ℕ) → IsNumber most_descriptions d → is_open ps d ≡ true) → ⊥
 not_all_open ps pid fd pid_in fd_in free all = no_hole 16384 (λ k. slot (pid_of ps (k + 1)) (fd_of ps (k + 1))) (slot pid fd) (record {
   within = λ k h. let r = of k h in slot-below _ _ r.pid_in r.fd_in;
@@ -82,7 +82,7 @@ not_all_open ps pid fd pid_in fd_in free all = no_hole 16384 (λ k. slot (pid_of
     less : (j k : ℕ) → j + 1 ≡ k + 1 → j ≡ k
     less j k e = omega arith
 
--- a description's number is free where a descriptor is
+-- the number that `lowest_description` finds is in range where a descriptor is free
 pub lowest_description-number : (ps : Processes) (pid fd : ℕ) → IsNumber most_processes pid → fd < most_descriptors → ps.opened pid fd ≡ None → IsNumber most_descriptions (lowest_description ps)
 lowest_description-number ps pid fd pid_in fd_in free = met (lowest_description ps) (first_is_first (λ d. not (is_open ps d)) 1 most_descriptions)
   where
@@ -99,7 +99,7 @@ lowest_description-number ps pid fd pid_in fd_in free = met (lowest_description 
       | inr le ↦ (f.least, le)
     ]
 
--- a process with no descriptors refers to none
+-- a process without descriptors refers to no description
 pub none_refers : (opened : ℕ → Option Opened) (d n : ℕ) → ((fd : ℕ) → opened fd ≡ None) → some_passes (λ fd. is_of d (opened fd)) 0 n ≡ false
 none_refers opened d n none = some_passes-none (λ fd. is_of d (opened fd)) 0 n n (record { all = λ j above below. ap (is_of d) (none j) }) (omega arith)
 

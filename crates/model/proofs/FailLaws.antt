@@ -1,4 +1,4 @@
--- Processes that exit one after the other.
+-- Processes that exit in order of their numbers.
 use Rattle.std.specs.Prelude.{◌≡◌, ℕ, zero, suc, ◌+◌, ◌-◌, ◌≤◌, false, None, refl}
 use Rattle.std.proofs.Common.{arith, ap, sym, ◌∙◌}
 use Rattle.model.specs.declared.process.Process.{Process}
@@ -14,13 +14,13 @@ closed_below-suc : (t : Table) (p : Process) (n : ℕ) → closed_below t p (suc
 unfolding closed_below
 closed_below-suc t p n = refl
 
--- one descriptor more
+-- one more descriptor is closed
 pub closed_below-more : (t new : Table) (p : Process) (n : ℕ) → new ≡ closed_below t p n → closed_if new p n (descriptor new p n) ≡ closed_below t p (n + 1)
 closed_below-more t new p n so_far =
     let next : suc n ≡ n + 1 = omega arith in
     ap (λ (x : Table). closed_if x p n (descriptor x p n)) so_far ∙ sym (closed_below-suc t p n) ∙ ap (closed_below t p) next
 
--- the process goes when its descriptors are closed
+-- the process ends after its descriptors are closed
 abbrev ended : Table → Process → Table
 ended t p = with_processes t p (with_process (around t p) p.pid false (λ fd. None))
 
@@ -35,14 +35,14 @@ exited_to-suc : (t : Table) (node incarnation n : ℕ) → exited_to t node inca
 unfolding exited_to
 exited_to-suc t node incarnation n = refl
 
--- the processes before this one have exited
+-- the table after the processes with lower numbers have exited
 abbrev pub exited_before : Table → ℕ → ℕ → ℕ → Table
 exited_before t node incarnation pid = exited_to t node incarnation (pid - 1)
 
 pub exited_before-first : (t : Table) (node incarnation : ℕ) → t ≡ exited_before t node incarnation 1
 exited_before-first t node incarnation = sym (exited_to-zero t node incarnation)
 
--- one process more
+-- one more process exits
 pub exited_before-more : (t new : Table) (node incarnation pid : ℕ) → 1 ≤ pid → new ≡ exited_before t node incarnation pid → exited_if new (record { node = node; incarnation = incarnation; pid = pid }) ≡ exited_before t node incarnation (pid + 1)
 exited_before-more t new node incarnation pid h so_far =
     let this : suc (pid - 1) ≡ pid = omega arith in
@@ -55,7 +55,7 @@ exited_before-more t new node incarnation pid h so_far =
 pub exited_before-whole : (t new : Table) (node incarnation pid : ℕ) → new ≡ exited_before t node incarnation pid → pid ≡ 257 → new ≡ gone t node incarnation
 exited_before-whole t new node incarnation pid so_far is = so_far ∙ ap (exited_before t node incarnation) is
 
--- where none runs, none exits
+-- a process that doesn't run doesn't exit
 exited_if-none : (t : Table) (p : Process) → (t.on p.node p.incarnation).runs p.pid ≡ false → exited_if t p ≡ t
 exited_if-none t p h = rw h refl
 

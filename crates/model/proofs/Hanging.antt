@@ -1,4 +1,4 @@
--- What locks hang on.
+-- What locks depend on.
 use Rattle.std.proofs.Common.{◌≡◌, ℕ, true, ◌&&◌, ◌==◌, refl, subst, ℤ, Option, Some, Ok}
 use Rattle.std.proofs.lemmas.Bool.{and_from, eq-eqb}
 use Rattle.std.proofs.lemmas.Option.{none-some}
@@ -25,12 +25,12 @@ anchored_none h n i none = record {
   locks = λ file owner b mode node incarnation held. absurd (none file owner b mode held);
 }
 
--- what holds on to a descriptor does where that stays
+-- what a lock depends on still stands where the descriptors stay
 pub hangs_on : (file : ℕ) (kind : Kind) (number : ℕ) (before after : Processes) → ((q fd : ℕ) (x : Opened) → before.opened q fd ≡ Some x → after.opened q fd ≡ Some x) → Hangs before file kind number → Hangs after file kind number
 hangs_on file OfProcess number before after stays (fd, x, h, of) = (fd, x, stays number fd x h, of)
 hangs_on file OfDescription number before after stays (q, fd, x, h, description, of) = (q, fd, x, stays q fd x h, description, of)
 
--- a lock call that passes its tests is about a lock that would hang on its descriptor
+-- the lock of a call that passes its tests would depend on the descriptor of the call
 pub target_hangs : (t : Table) (p : Process) (need : Option Mode) (fd : ℕ) (kind : Kind) (start len : ℤ) (c : LockTarget) → target t p need fd kind start len ≡ Ok c → Hangs (t.on p.node p.incarnation) c.file c.owner.kind c.owner.number
 target_hangs t p need fd kind start len c h =
     let runs = if_then (is_running t p) (target_at p need kind (descriptor t p fd) (seg start len)) c NoProcess h in
@@ -41,6 +41,6 @@ target_hangs t p need fd kind start len c h =
     its OfProcess o there = (fd, o, there, refl)
     its OfDescription o there = (p.pid, fd, o, there, refl, refl)
 
--- processes of the node
+-- the node is itself
 pub itself : (n i : ℕ) → ((n == n) && (i == i)) ≡ true
 itself n i = and_from _ _ (eq-eqb n n refl) (eq-eqb i i refl)

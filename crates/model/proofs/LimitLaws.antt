@@ -73,7 +73,7 @@ after_exit_limit t p =
     let out : Bool → Table × Reply = λ b. if b then (exited t p, Done) else (t, NoProcess) in
     elim (is_running t p) as (λ b. (out b).0.limit ≡ t.limit) [ true ↦ exited_limit t p | false ↦ refl ]
 
--- what a call comes to has the limit that the table had
+-- a call whose table has the old limit leaves a table with the old limit
 is_limit : (t u : Table) (answer : Table × Reply) (reply : Reply) → answer.0.limit ≡ t.limit → Is answer reply u → u.limit ≡ t.limit
 is_limit t u answer reply same h = ap (λ (x : Table). x.limit) h.1 ∙ same
 

@@ -38,7 +38,7 @@ same_goes_on before after pid same = subst (λ (ps : Processes). GoesOn before p
 pub goes_then : (one two three : Processes) (pid : ℕ) → GoesOn one two pid → GoesOn two three pid → GoesOn one three pid
 goes_then one two three pid a b = record { runs = λ h. b.runs (a.runs h); opened = λ fd o h. b.opened fd o (a.opened fd o h) }
 
--- what a call of a process makes of the table: it stays the node's own, and the other processes go on
+-- the table that a call of one process leaves: it is still the node's own, and the other processes go on
 pub record Follows (t u : Table) (node incarnation pid : ℕ) : Type 0 where
   pub own : IsOwn u node incarnation
   pub others : (qid : ℕ) → (qid ≡ pid → ⊥) → GoesOn (t.on node incarnation) (u.on node incarnation) qid
@@ -54,7 +54,7 @@ own_empty limit node incarnation = record {
   anchored = anchored_none (empty_table limit).locks node incarnation (λ file owner b mode h. none-some mode h);
 }
 
--- its owners are of the node, in that incarnation
+-- both kinds of owners are of the node, in that incarnation
 abbrev either : ℕ → ℕ → ℕ → Bool → Owner
 either n i k b = if b then record { node = n; incarnation = i; kind = OfProcess; number = k + 1 } else record { node = n; incarnation = i; kind = OfDescription; number = k + 1 - most_processes }
 
@@ -64,7 +64,7 @@ owner_at-node n i k = elim (nat_lt k most_processes) as (λ b. (either n i k b).
 pub owner_at-incarnation : (n i k : ℕ) → (owner_at n i k).incarnation ≡ i
 owner_at-incarnation n i k = elim (nat_lt k most_processes) as (λ b. (either n i k b).incarnation ≡ i) [ true ↦ refl | false ↦ refl ]
 
--- processes and descriptors that are more than before, and still as those of a node are
+-- the processes and descriptors of a node after some are added, still as `IsOwn` wants them
 pub record AreMore (before after : Processes) : Type 0 where
   pub runs : (pid : ℕ) → before.runs pid ≡ true → after.runs pid ≡ true
   pub opened : (pid fd : ℕ) (o : Opened) → before.opened pid fd ≡ Some o → after.opened pid fd ≡ Some o
@@ -99,7 +99,7 @@ module _ (t : Table) (node incarnation pid : ℕ) (own : IsOwn t node incarnatio
     others = λ q other. subst (λ (x : Processes). GoesOn ps x q) (sym (on_own after)) (record { runs = more.runs q; opened = more.opened q });
   }
 
-  -- a process begins, with descriptors that other processes have too
+  -- a process begins, with descriptors that another process has too
   begun : (child : ℕ) (fds : ℕ → Option Opened) → IsNumber most_processes child → ps.runs child ≡ false → ((fd : ℕ) (o : Opened) → fds fd ≡ Some o → (q : ℕ) × (ps.opened q fd ≡ Some o)) → AreMore ps (with_process ps child true fds)
   begun child fds number idle inherits = record {
     runs = λ q h. elim (cases_Bool (q == child)) [ inl same ↦ rw same refl | inr other ↦ rw other h ];
@@ -151,7 +151,7 @@ module _ (t : Table) (node incarnation pid : ℕ) (own : IsOwn t node incarnatio
         ] refl
       ]
 
-  -- a descriptor opens, that agrees with those of its description
+  -- a descriptor opens, and agrees with the others of its description
   opened_more : (fd : ℕ) (o : Opened) → ps.runs pid ≡ true → fd < most_descriptors → ps.opened pid fd ≡ None → IsNumber most_descriptions o.description → ((q k : ℕ) (x : Opened) → ps.opened q k ≡ Some x → o.description ≡ x.description → o ≡ x) → AreMore ps (with_descriptor ps pid fd (Some o))
   opened_more fd o runs lt free number agrees = record {
     runs = λ q h. h;
@@ -203,7 +203,7 @@ module _ (t : Table) (node incarnation pid : ℕ) (own : IsOwn t node incarnatio
       below : (k : ℕ) → nat_lt k 64 ≡ true → k < 64
       below k h = grind (arith, nat_tests, h)
 
-  -- what a descriptor refers to is open
+  -- a description that a descriptor refers to is open
   open_there : (q k : ℕ) (x : Opened) → ps.opened q k ≡ Some x → is_open ps x.description ≡ true
   open_there q k x h =
       let its = own.anchored.descriptors q k x h in
@@ -243,7 +243,7 @@ module _ (t : Table) (node incarnation pid : ℕ) (own : IsOwn t node incarnatio
         | false ↦ λ runs. same_follows t node incarnation pid own
       ] refl
 
--- bytes are locked or freed
+-- no byte past the greatest offset is held after a span is set or freed
 put_ends : (f : ℕ → Option Mode) (s : Range) (mode : Option Mode) (b : ℕ) → s.hi ≤ greatest → greatest < b → f b ≡ None → put f s mode b ≡ None
 put_ends f s mode b within past none =
     let out : is_in s b ≡ false = past_end s.lo s.hi greatest b within past in
@@ -264,7 +264,7 @@ locked_of_node h file f c s mode node incarnation place place_in owner within ow
   ];
 }
 
--- a change of locks leaves the processes
+-- a call that sets or frees bytes leaves the processes as they were
 pub lock_processes : (t : Table) (c : LockTarget) (mode : Option Mode) → (lock_within t c mode).0.on ≡ t.on
 lock_processes t c mode =
     let out : Bool → Table × Reply = λ b. if b then (locked t c mode, Done) else (t, NoLocks) in
@@ -295,7 +295,7 @@ lock_own t node incarnation c mode is hangs own =
       | false ↦ own
     ]
 
--- what a call keeps the processes of
+-- a call that changes no process, and leaves a table of the node's own, is one that `Follows` admits
 pub locks_follow : (t u : Table) (node incarnation pid : ℕ) → u.on ≡ t.on → IsOwn u node incarnation → Follows t u node incarnation pid
 locks_follow t u node incarnation pid same own = record { own = own; others = λ qid other. same_goes_on (t.on node incarnation) (u.on node incarnation) qid (ap (λ (on : ℕ → ℕ → Processes). on node incarnation) same) }
 

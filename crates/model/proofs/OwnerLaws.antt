@@ -1,4 +1,4 @@
--- Owners and nodes that test alike are one.
+-- The tests of owners and nodes: owners that test alike are equal, and an owner or a node tests alike with itself.
 use Rattle.std.specs.Prelude.{◌≡◌, true, refl}
 use Rattle.std.proofs.Common.{eq-eqb}
 use Rattle.std.proofs.lemmas.Bool.{and_parts, and_from, eqb-true, false≢true}

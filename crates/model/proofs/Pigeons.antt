@@ -1,4 +1,4 @@
--- As many places as numbers: none of them is free where each number has its own.
+-- The pigeonhole principle: n numbers with n places of their own leave no place free.
 use Rattle.std.specs.Prelude.{◌≡◌, ◌≢◌, ℕ, zero, suc, ◌<◌, ◌==◌, if◌then◌else◌, refl}
 use Rattle.std.proofs.Common.{arith, sym, ◌∙◌, inl, inr}
 use Rattle.std.proofs.lemmas.Bool.{cases_Bool, cases_eq, eq-eqb, eqb-true}
@@ -10,7 +10,7 @@ pub record Placed (n : ℕ) (place : ℕ → ℕ) (hole : ℕ) : Type 0 where
   pub hole_in : hole < n
   pub empty : (k : ℕ) → k < n → place k ≢ hole
 
--- who stands at place n moves to the hole
+-- the number at place n moves to the hole
 moved : ℕ → ℕ → ℕ → ℕ
 moved n hole p = if p == n then hole else p
 
@@ -43,7 +43,7 @@ moved-own n hole p q not_p not_q e = elim (cases_eq p n) [
   ]
 ]
 
--- one number and one place less
+-- without its last number and its last place a placement is one of fewer numbers
 fewer : (n : ℕ) (place : ℕ → ℕ) (hole : ℕ) → Placed (suc n) place hole → Placed n (λ k. moved n hole (place k)) (moved n hole (place n))
 fewer n place hole p = record {
   within = λ k h. moved-below n hole (place k) p.hole_in (p.within k (one_more k h)) (p.empty k (one_more k h));

@@ -11,7 +11,7 @@ use Rattle.model.specs.Table.{Table, LockTarget, around, descriptor, is_running,
 use Rattle.model.specs.Step.{Is, AfterTests, SetStep, WaitStep, QueryStep}
 use Rattle.model.specs.Laws.{TellsNoChange, OnlyDoneCallsChange}
 
--- an answer that tells of no change comes with the same table
+-- a reply that says that nothing changed comes with the old table
 abbrev Keeps : Table → Table × Reply → Type 0
 Keeps t answer = TellsNoChange answer.1 → answer.0 ≡ t
 

@@ -1,4 +1,4 @@
--- A call that is answered alike leaves one table, and, unless a lock is named, has one answer.
+-- Equal answers leave equal tables, and a call has one answer unless that names a lock.
 use Rattle.std.specs.Prelude.{◌↔◌, IsTrue, MatchOption, ℤ, pos, negsuc, nat_le}
 use Rattle.std.proofs.Common.{◌≡◌, ◌≢◌, ℕ, zero, suc, ◌+◌, ◌-◌, ◌≤◌, Bool, true, false, if◌then◌else◌, refl, sym, ◌∙◌, ap, subst, inl, inr, arith, Option, Some, None, Result, Ok, Err}
 use Rattle.std.proofs.lemmas.Bool.{both_ways, cases_lt}
@@ -24,7 +24,7 @@ use Rattle.model.specs.Table.{Table, LockTarget, around, beside, is_running, des
 use Rattle.model.specs.Step.{BlocksCall, Unblocked, AfterTests, SetStep, WaitStep, QueryStep, IsPossible, Step}
 use Rattle.model.specs.Replay.{NeverAnswers, NamesNoLock}
 
--- a span has a byte
+-- a segment that is valid has a byte
 abbrev HasByte : Result Range SpanError → Type 0
 HasByte (Ok s) = s.lo ≤ s.hi
 HasByte (Err e) = Unit {0}
@@ -46,11 +46,11 @@ seg-byte (pos s) (negsuc n) = before (nat_le (suc n) s)
     before true = byte_if (nat_le (s - 1) greatest) (record { lo = s - suc n; hi = s - 1 }) Overflow (λ h. omega arith)
     before false = tt
 
--- the reply names no lock, and is not that of an interrupt
+-- the reply names no lock, and is not `Interrupted`
 abbrev pub IsSure : Reply → Type 0
 IsSure reply = NamesNoLock reply × (Interrupted ≢ reply)
 
--- a call's span has a byte, and a test that fails names no lock and interrupts nothing
+-- a lock call's span has a byte, and a refusal by its tests names no lock and is not `Interrupted`
 abbrev pub IsTarget : Result LockTarget Reply → Type 0
 IsTarget (Ok c) = c.span.lo ≤ c.span.hi
 IsTarget (Err e) = IsSure e
@@ -68,7 +68,7 @@ target_at-is p need kind (Some o) (Ok span) h = target_if (allows o.access need)
 pub target-is : (t : Table) (p : Process) (need : Option Mode) (fd : ℕ) (kind : Kind) (start len : ℤ) → IsTarget (target t p need fd kind start len)
 target-is t p need fd kind start len = target_if (is_running t p) _ _ (target_at-is p need kind (descriptor t p fd) (seg start len) (seg-byte start len)) ((λ lock. (λ e. cc, λ e. cc), λ e. cc))
 
--- a call beside the locks names none, and is not interrupted
+-- the answer to a call that concerns processes and descriptors names no lock and is not `Interrupted`
 abbrev NamesNone : Table × Reply → Type 0
 NamesNone answer = IsSure answer.1
 
@@ -84,7 +84,7 @@ unlock-names_none : (t : Table) (r : Result LockTarget Reply) → IsTarget r →
 unlock-names_none t (Err e) h = h
 unlock-names_none t (Ok c) h = within-names_none _ _ _
 
--- the lock of a call that is blocked, and the call
+-- a call that a lock blocks is not free
 blocked_is_not_free : (t : Table) (c : LockTarget) (mode : Mode) (lock : LockInfo) → c.span.lo ≤ c.span.hi → BlocksCall t c mode lock → Unblocked t c mode → ⊥
 blocked_is_not_free t c mode lock span blocks free = elim (cases_lt c.span.lo lock.span.lo) [
   | inl above ↦ at lock.span.lo (omega arith) (let s = blocks.starts in omega arith) (omega arith) (let o = blocks.region.ordered in omega arith)
@@ -95,7 +95,7 @@ blocked_is_not_free t c mode lock span blocks free = elim (cases_lt c.span.lo lo
     at b low high from to =
         both_ways (excludes lock.mode mode) (sym (ap (bars mode) (blocks.region.all b from to)) ∙ free lock.owner b blocks.is_other low high) blocks.conflicts
 
--- an answer of a call that no lock blocks
+-- a set whose answer names no lock found the span free, and its reply is the one of `lock_within`
 settled : (t : Table) (mode : Mode) (b : Reply) (m : Table) (c : LockTarget) → NamesNoLock b → SetStep t mode b m c → Unblocked t c mode × (b ≡ (lock_within t c (Some mode)).1)
 settled t mode (Again lock) m c none k = absurd ((none lock).0 refl)
 settled t mode Done m c none k = (k.0, k.1.0)
@@ -108,7 +108,7 @@ set_replies t mode Done b n m c span none h k = h.1.0 ∙ sym (settled t mode b 
 set_replies t mode NoLocks b n m c span none h k = h.1.0 ∙ sym (settled t mode b m c none k).1
 set_replies t mode _ b n m c span none h k = absurd h
 
--- an answer of a query that names no lock
+-- a query whose answer names no lock found the span free
 query_free : (t : Table) (mode : Mode) (b : Reply) (m : Table) (c : LockTarget) → NamesNoLock b → QueryStep t mode b m c → Unblocked t c mode × (b ≡ Free)
 query_free t mode (Blocked lock) m c none k = absurd ((none lock).1 refl)
 query_free t mode Free m c none k = (k.0, refl)
@@ -119,7 +119,7 @@ query_replies t mode (Blocked lock) b n m c span none h k = absurd (blocked_is_n
 query_replies t mode Free b n m c span none h k = sym (query_free t mode b m c none k).1
 query_replies t mode _ b n m c span none h k = absurd h
 
--- what a lock call may be answered after its tests, and the table that it then leaves
+-- what a lock call may be answered after its tests, with the table that it leaves
 abbrev LockAnswers : Type 1
 LockAnswers = Reply → Table → LockTarget → Type 0
 
@@ -134,7 +134,7 @@ wait_is_set t mode Done n c sure h = h
 wait_is_set t mode NoLocks n c sure h = h
 wait_is_set t mode _ n c sure h = absurd h
 
--- a call that may get an answer that names no lock gets no other, unless it is interrupted
+-- a call that may get a reply that names no lock gets no other reply, unless it is interrupted
 pub replies_are_one : (t : Table) (p : Process) (op : Op) (a b : Reply) (n m : Table) → Interrupted ≢ a → IsSure b → Step t p op a n → Step t p op b m → a ≡ b
 replies_are_one t p Spawn a b n m sure none h k = h.0 ∙ sym k.0
 replies_are_one t p (Fork child) a b n m sure none h k = h.1.0 ∙ sym k.1.0
@@ -172,7 +172,7 @@ tests_tables : (Answer : LockAnswers) (t : Table) (a : Reply) (n m : Table) (r :
 tests_tables Answer t a n m (Err e) one h k = h.1 ∙ sym k.1
 tests_tables Answer t a n m (Ok c) one h k = one c h k
 
--- one answer leaves one table
+-- a call with one reply leaves one table
 pub tables_are_one : (t : Table) (p : Process) (op : Op) (a : Reply) (n m : Table) → Step t p op a n → Step t p op a m → n ≡ m
 tables_are_one t p Spawn a n m h k = h.1 ∙ sym k.1
 tables_are_one t p (Fork child) a n m h k = h.1.1 ∙ sym k.1.1
@@ -185,7 +185,7 @@ tables_are_one t p (Wait fd kind mode start len) a n m h k = tests_tables (WaitS
 tables_are_one t p (Unlock fd kind start len) a n m h k = h.1 ∙ sym k.1
 tables_are_one t p (Query fd kind mode start len) a n m h k = tests_tables (QueryStep t mode) t a n m (target t p None fd kind start len) (query_tables t mode a n m) h k
 
--- no call but one for a lock is answered by a lock
+-- only a lock call is answered with a lock
 spawn-names_none : (t : Table) (p : Process) → NamesNone (beside t p (after_spawn (around t p) p.pid))
 spawn-names_none t p = names_none_if t p ((around t p).runs p.pid) _ _ ((λ lock. (λ e. cc, λ e. cc), λ e. cc)) ((λ lock. (λ e. cc, λ e. cc), λ e. cc))
 
@@ -215,7 +215,7 @@ exit-names_none : (t : Table) (p : Process) (b : Bool) → NamesNone (if b then 
 exit-names_none t p true = (λ lock. (λ e. cc, λ e. cc), λ e. cc)
 exit-names_none t p false = (λ lock. (λ e. cc, λ e. cc), λ e. cc)
 
--- a call that is not about a lock names none
+-- the operation is not a lock call
 abbrev IsNoLockCall : Op → Type 0
 IsNoLockCall (Set fd kind mode start len) = ⊥
 IsNoLockCall (Wait fd kind mode start len) = ⊥
@@ -276,7 +276,7 @@ unlock_never t p fd kind start len lock new h = ((other_never t new p (Unlock fd
 pub unlock_never-blocked : (t : Table) (p : Process) (fd : ℕ) (kind : Kind) (start len : ℤ) (lock : LockInfo) → NeverAnswers t p (Unlock fd kind start len) (Blocked lock)
 unlock_never-blocked t p fd kind start len lock new h = ((other_never t new p (Unlock fd kind start len) (Blocked lock) tt h).0 lock).1 refl
 
--- nor is it interrupted
+-- only a wait is interrupted
 pub spawn_never-interrupted : (t : Table) (p : Process) → NeverAnswers t p Spawn Interrupted
 spawn_never-interrupted t p new h = (other_never t new p Spawn Interrupted tt h).1 refl
 
@@ -298,17 +298,17 @@ exit_never-interrupted t p new h = (other_never t new p Exit Interrupted tt h).1
 pub unlock_never-interrupted : (t : Table) (p : Process) (fd : ℕ) (kind : Kind) (start len : ℤ) → NeverAnswers t p (Unlock fd kind start len) Interrupted
 unlock_never-interrupted t p fd kind start len new h = (other_never t new p (Unlock fd kind start len) Interrupted tt h).1 refl
 
--- no call of a process that there can not be is answered
+-- a call that names an impossible process is never answered
 pub impossible_never : (t : Table) (p : Process) (op : Op) (reply : Reply) → (IsPossible op → ⊥) → NeverAnswers t p op reply
 impossible_never t p (Fork child) reply never new h = never h.0
 impossible_never t p _ reply never new h = never tt
 
--- a test names no lock
+-- a refusal by a test names no lock
 tests_never : (Answer : LockTarget → Type 0) (t new : Table) (reply : Reply) (r : Result LockTarget Reply) → IsTarget r → ((e : Reply) → IsSure e → reply ≡ e → ⊥) → ((c : LockTarget) → Answer c → ⊥) → AfterTests t r reply new Answer → ⊥
 tests_never Answer t new reply (Err e) is differs none h = differs e is h.0
 tests_never Answer t new reply (Ok c) is differs none h = none c h
 
--- a lock that blocks is named to a set in one way, to a query in another
+-- a set is never answered as a query is, nor a query as a set is
 pub set_never-blocked : (t : Table) (p : Process) (fd : ℕ) (kind : Kind) (mode : Mode) (start len : ℤ) (lock : LockInfo) → NeverAnswers t p (Set fd kind mode start len) (Blocked lock)
 set_never-blocked t p fd kind mode start len lock new h =
     tests_never (SetStep t mode (Blocked lock) new) t new (Blocked lock) (target t p (Some mode) fd kind start len) (target-is t p (Some mode) fd kind start len) (λ e no is. (no.0 lock).1 is) (λ c k. k) h
@@ -317,7 +317,7 @@ pub query_never-again : (t : Table) (p : Process) (fd : ℕ) (kind : Kind) (mode
 query_never-again t p fd kind mode start len lock new h =
     tests_never (QueryStep t mode (Again lock) new) t new (Again lock) (target t p None fd kind start len) (target-is t p None fd kind start len) (λ e no is. (no.0 lock).0 is) (λ c k. k) h
 
--- a call that waits is told of no lock, and one that does not wait is not interrupted
+-- a wait is never answered with a lock, and only a wait is interrupted
 pub wait_never : (t : Table) (p : Process) (fd : ℕ) (kind : Kind) (mode : Mode) (start len : ℤ) (lock : LockInfo) → NeverAnswers t p (Wait fd kind mode start len) (Again lock)
 wait_never t p fd kind mode start len lock new h =
     tests_never (WaitStep t mode (Again lock) new) t new (Again lock) (target t p (Some mode) fd kind start len) (target-is t p (Some mode) fd kind start len) (λ e no is. (no.0 lock).0 is) (λ c k. k) h
@@ -334,7 +334,7 @@ pub query_never-interrupted : (t : Table) (p : Process) (fd : ℕ) (kind : Kind)
 query_never-interrupted t p fd kind mode start len new h =
     tests_never (QueryStep t mode Interrupted new) t new Interrupted (target t p None fd kind start len) (target-is t p None fd kind start len) (λ e no is. no.1 is) (λ c k. k) h
 
--- nor is a call answered so that a test refuses
+-- a call that its tests refuse gets no other answer
 refused_names : (Answer : LockTarget → Type 0) (t new : Table) (reply : Reply) (r : Result LockTarget Reply) (e : Reply) → r ≡ Err e → IsTarget r → AfterTests t r reply new Answer → IsSure e × (reply ≡ e)
 refused_names Answer t new reply r e is target h =
     let P : Result LockTarget Reply → Type 0 = λ x. AfterTests t x reply new Answer in
@@ -361,14 +361,14 @@ interrupted-by t p fd kind mode start len c is =
     let P : Result LockTarget Reply → Type 0 = λ r. AfterTests t r Interrupted t (WaitStep t mode Interrupted t) in
     subst P (sym is) refl
 
--- while it is blocked it is answered in no other way
+-- a wait that a lock blocks gets no answer but an interrupt
 pub blocked-waits : (t : Table) (p : Process) (fd : ℕ) (kind : Kind) (mode : Mode) (start len : ℤ) (lock : LockInfo) (c : LockTarget) (b : Reply) → target t p (Some mode) fd kind start len ≡ Ok c → BlocksCall t c mode lock → IsSure b → NeverAnswers t p (Wait fd kind mode start len) b
 blocked-waits t p fd kind mode start len lock c b is blocks sure new h =
     let P : Result LockTarget Reply → Type 0 = λ r. AfterTests t r b new (WaitStep t mode b new) in
     let span : c.span.lo ≤ c.span.hi = subst IsTarget is (target-is t p (Some mode) fd kind start len) in
     blocked_is_not_free t c mode lock span blocks (settled t mode b new c sure.0 (wait_is_set t mode b new c sure.1 (subst P is h))).0
 
--- a blocked call is answered by the locks that block it, and by no other
+-- a set or a query is never answered with a lock that doesn't block it
 pub blocked-only_by : (t : Table) (p : Process) (fd : ℕ) (kind : Kind) (mode : Mode) (start len : ℤ) (lock : LockInfo) (c : LockTarget) → target t p (Some mode) fd kind start len ≡ Ok c → (BlocksCall t c mode lock → ⊥) → NeverAnswers t p (Set fd kind mode start len) (Again lock)
 blocked-only_by t p fd kind mode start len lock c is none new h =
     let P : Result LockTarget Reply → Type 0 = λ r. AfterTests t r (Again lock) new (SetStep t mode (Again lock) new) in
@@ -389,7 +389,7 @@ query_blocked-by t p fd kind mode start len lock c is blocks =
     let P : Result LockTarget Reply → Type 0 = λ r. AfterTests t r (Blocked lock) t (QueryStep t mode (Blocked lock) t) in
     subst P (sym is) (blocks, refl)
 
--- the run at the first byte of a span is the one region there
+-- the run that contains the first byte of a span is the one region there
 pub found-is_run : (f : ℕ → Option Mode) (s : Range) (v : Mode) (found : Option (Range × Mode)) → s.lo ≤ s.hi → MatchOption found (f s.lo ≡ None) (λ run. IsRun f run.0 run.1 × (run.0.lo ≤ s.lo) × (s.lo ≤ run.0.hi)) → (found ≡ Some (s, v)) ↔ IsRun f s v
 found-is_run f s v None ordered none = (λ h. cc, λ run. absurd (let here = run.all s.lo (omega arith) ordered in cc))
 found-is_run f s v (Some run) ordered is = (
@@ -400,7 +400,7 @@ found-is_run f s v (Some run) ordered is = (
     the_same : {A : Type 0} {x y : A} → Some x ≡ Some y → x ≡ y
     the_same h = cc
 
--- it is found exactly where the region is there
+-- the run is found exactly where the region stands
 pub found_where_region : (f g : ℕ → Option Mode) (s span : Range) (v : Mode) (found : Option (Range × Mode)) (b : Bool) → f ≡ g → s ≡ span → s.lo ≤ s.hi → MatchOption found (f s.lo ≡ None) (λ run. IsRun f run.0 run.1 × (run.0.lo ≤ s.lo) × (s.lo ≤ run.0.hi)) → IsTrue b ↔ (found ≡ Some (span, v)) → IsTrue b ↔ IsRun g span v
 found_where_region f g s span v found b same spans ordered is test =
     let P : Range → Type 0 = λ r. (found ≡ Some (r, v)) ↔ IsRun g r v in

@@ -9,7 +9,7 @@ use Rattle.model.specs.declared.mode.Mode.TheVariants.{Read, Write}
 use Rattle.model.specs.Owners.{same_mode}
 use Rattle.intervals.proofs.SearchLaws.{first_is_first}
 
--- it has the mode exactly where it is that
+-- the test `has` holds of a byte exactly where the byte has the mode
 pub has_true : (x : Option Mode) (v : Mode) → has same_mode v x ≡ true → x ≡ Some v
 has_true None v h = absurd (cc)
 has_true (Some Read) Read h = refl
@@ -28,7 +28,7 @@ pub other_value : (x : Option Mode) (v : Mode) → x ≢ Some v → has same_mod
 other_value x v h = elim (cases_Bool (has same_mode v x)) [ inl is ↦ absurd (h (has_true x v is)) | inr not_it ↦ not_it ]
 
 module _ (f : ℕ → Option Mode) (v : Mode) where
-  -- at a byte with the mode a run begins exactly where the byte below has another
+  -- at a byte with the mode a run begins exactly if the byte below has not the mode
   pub start_begins : (b : ℕ) → f b ≡ Some v → is_start same_mode f b ≡ true → (c : ℕ) → c + 1 ≡ b → f c ≢ Some v
   unfolding is_start
   start_begins zero here start c e = absurd (omega arith)
@@ -88,7 +88,7 @@ module _ (f : ℕ → Option Mode) (v : Mode) where
     ]
   ]
 
-  -- the run from a byte is a longest run where one begins there
+  -- the bytes from lo to the last with the mode are a longest run if one begins at lo
   ends_at : (lo k : ℕ) → lo ≤ greatest → ((b : ℕ) → greatest < b → f b ≡ None) → IsFirst (λ b. not (has same_mode v (f b))) (lo + 1) (greatest - lo) k → f k ≢ Some v
   ends_at lo k within no_more is = elim (cases_lt k (lo + 1 + (greatest - lo))) [
     | inl lt ↦ has_false (f k) v (not-true _ (is.here lt))

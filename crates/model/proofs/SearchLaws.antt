@@ -1,4 +1,4 @@
--- What searches give, number by number.
+-- What searches over numbers give.
 use Rattle.std.specs.Prelude.{◌≡◌, ℕ, ◌+◌, ◌<◌, ◌≤◌, Bool, true, false, nat_lt}
 use Rattle.std.proofs.Common.{arith, ap, ◌∙◌, inl, inr}
 use Rattle.std.proofs.lemmas.Bool.{cases_order, cases_lt, both_ways}
@@ -22,7 +22,7 @@ failed-more passes lo i f no_i = record { all = λ j above below. elim (cases_lt
     same : (j : ℕ) → i ≤ j → j < i + 1 → j ≡ i
     same j le below = omega arith
 
--- the number that passes after others that don't is the first
+-- a number that passes after numbers that do not is the one that `first` gives
 pub first-found : (passes : ℕ → Bool) (lo n i : ℕ) → Failed passes lo i → lo ≤ i → i < lo + n → passes i ≡ true → first passes lo n ≡ i
 first-found passes lo n i f above below is = met (first passes lo n) (first_is_first passes lo n)
   where
@@ -32,7 +32,7 @@ first-found passes lo n i f above below is = met (first passes lo n) (first_is_f
       | inr rest ↦ elim rest [ inl lt ↦ absurd (both_ways (passes k) (f.all k k_first.least lt) (k_first.here (omega arith))) | inr gt ↦ absurd (both_ways (passes i) (k_first.none_before i above gt) is) ]
     ]
 
--- with none that passes it is the number after them
+-- where none of the n numbers passes, the search gives the number after them
 pub first-none : (passes : ℕ → Bool) (lo n i : ℕ) → Failed passes lo i → lo + n ≤ i → first passes lo n ≡ lo + n
 first-none passes lo n i f far = met (first passes lo n) (first_is_first passes lo n)
   where

@@ -83,7 +83,7 @@ pub owner_is : (p : Process) (kind : Kind) (o : Opened) → IsNumber most_proces
 owner_is p OfProcess o pid_in d_in = process_is p pid_in
 owner_is p OfDescription o pid_in d_in = description_is p o.description d_in
 
--- what a lock call may be about
+-- the owner and the bytes of a lock call are ones that the node and a file can have
 pub record IsTarget (node incarnation : ℕ) (c : LockTarget) : Type 0 where
   pub owner : IsOwner node incarnation c.owner
   pub span : IsSpan c.span
@@ -113,7 +113,7 @@ target_is t p need fd kind start len c pid_in numbers h =
       span = seg_span start len passes.span passes.names;
     })
 
--- where the process still runs and its descriptors still stand, the call is about the same
+-- a lock call is about the same where its process still runs and its descriptors still stand
 pub target-keeps : (t u : Table) (p : Process) (need : Option Mode) (fd : ℕ) (kind : Kind) (start len : ℤ) (c : LockTarget) → (is_running t p ≡ true → is_running u p ≡ true) → ((o : Opened) → is_running t p ≡ true → descriptor t p fd ≡ Some o → descriptor u p fd ≡ Some o) → target t p need fd kind start len ≡ Ok c → target u p need fd kind start len ≡ Ok c
 target-keeps t u p need fd kind start len c runs stands h =
     let before = if_then (is_running t p) (target_at p need kind (descriptor t p fd) (seg start len)) c NoProcess h in
@@ -124,7 +124,7 @@ target-keeps t u p need fd kind start len c runs stands h =
     let Q : Bool → Type 0 = λ b. (if b then target_at p need kind (descriptor u p fd) (seg start len) else Err NoProcess) ≡ Ok c in
     subst Q (sym (runs before.0)) now
 
--- what passes its tests is about bytes of a file
+-- a lock call that passes its tests is about bytes of a file
 pub target_span : (t : Table) (p : Process) (need : Option Mode) (fd : ℕ) (kind : Kind) (start len : ℤ) (c : LockTarget) → target t p need fd kind start len ≡ Ok c → IsSpan c.span
 target_span t p need fd kind start len c h =
     let runs = if_then (is_running t p) (target_at p need kind (descriptor t p fd) (seg start len)) c NoProcess h in

@@ -1,4 +1,4 @@
--- The lowest lock in the way, of all those of a node.
+-- The lowest lock in the way, among all locks of a node.
 use Rattle.std.specs.Prelude.{◌≡◌, ◌≢◌, ℕ, ◌+◌, ◌≤◌, Bool, true, false, ◌==◌, nat_lt, if◌then◌else◌, Option, Some, None, MatchOption, refl}
 use Rattle.std.proofs.Common.{arith, ne_eqb, ap, sym, ◌∙◌, subst, inl, inr}
 use Rattle.std.proofs.lemmas.Bool.{and_right, cases_lt, both_ways}
@@ -14,7 +14,7 @@ use Rattle.model.specs.Locks.{FileLocks, bars, IsFree, IsRegion, Blocks, IsLowes
 use Rattle.model.proofs.OwnerLaws.{owner_refl}
 use Rattle.model.proofs.BlockerLaws.{owner_if, lowest_is_lowest, one_region, barred_blocks, blocks_bars}
 
--- an owner that holds nothing: processes count from 1
+-- the owner with the number 0, which no process has: it holds nothing
 abbrev nobody : ℕ → ℕ → Owner
 nobody node incarnation = record { node = node; incarnation = incarnation; kind = OfProcess; number = 0 }
 
@@ -25,7 +25,7 @@ not_nobody_if node incarnation k false = and_right (node == node) _ (and_right (
 not_nobody : (node incarnation k : ℕ) → same_owner (owner_at node incarnation k) (nobody node incarnation) ≡ false
 not_nobody node incarnation k = not_nobody_if node incarnation k (nat_lt k most_processes)
 
--- so the search over all owners is the search over those that are not nobody
+-- the search over all owners is the one over the owners that are not nobody
 other_owner : (x : Bool) (r : Option LockInfo) → x ≡ false → r ≡ (if x then None else r)
 other_owner true r e = absurd (cc)
 other_owner false r e = refl
@@ -38,7 +38,7 @@ in_way-is_blocker h node incarnation s mode =
     ap (λ (f : ℕ → ℕ → Option LockInfo). first_answer (λ lo. first_answer (f lo) 0 most_owners) 0 (s.hi + 1)) same
 
 module _ (h : FileLocks) (node incarnation : ℕ) (own : IsOfNode h node incarnation) where
-  -- what an owner holds is not nobody's
+  -- an owner that holds a byte is not nobody
   is_somebody : (o : Owner) (b : ℕ) (mode : Mode) → h o b ≡ Some mode → o ≢ nobody node incarnation
   is_somebody o b mode here same =
       let place = own.is_own o b mode here in
@@ -69,14 +69,14 @@ module _ (h : FileLocks) (node incarnation : ℕ) (own : IsOfNode h node incarna
   pub clear_has_none : (s : Range) (mode : Mode) (lock : LockInfo) → s.lo ≤ s.hi → IsClear h s mode → IsRegion h lock → IsInWay s mode lock → ⊥
   clear_has_none s mode lock order clear region way = blocks_bars h (nobody node incarnation) s mode lock order (region_blocks s mode lock region way) (λ o b other. clear o b)
 
-  -- what is clear, or the lowest lock in the way, is one
+  -- two answers that are each right for one span and mode are equal
   one_answer : (s : Range) (mode : Mode) (a b : Option LockInfo) → s.lo ≤ s.hi → MatchOption a (IsClear h s mode) (IsLowestInWay (IsRegion h) s mode) → MatchOption b (IsClear h s mode) (IsLowestInWay (IsRegion h) s mode) → a ≡ b
   one_answer s mode None None order x y = refl
   one_answer s mode None (Some b) order x y = absurd (clear_has_none s mode b order x y.is_one y.in_way)
   one_answer s mode (Some a) None order x y = absurd (clear_has_none s mode a order y x.is_one x.in_way)
   one_answer s mode (Some a) (Some b) order x y = ap Some (one_region h a b x.is_one y.is_one (x.lowest b y.is_one y.in_way) (y.lowest a x.is_one x.in_way))
 
-  -- a barred byte is one of a region that excludes the mode
+  -- a byte that bars the mode is in a region that excludes the mode
   pub barred_region : (mode : Mode) (o : Owner) (b : ℕ) (x : Option Mode) → h o b ≡ x → bars mode x ≡ true → (lock : LockInfo) × IsRegion h lock × IsInWay (record { lo = b; hi = b }) mode lock
   barred_region mode o b None here bar = absurd (cc)
   barred_region mode o b (Some held) here bar =
@@ -92,6 +92,6 @@ lowest_in_way_is_lowest h node incarnation s mode own order within =
 pub lowest_in_way_is_one : LowestInWayIsOne
 lowest_in_way_is_one h s mode a b x y = one_region h a b x.is_one y.is_one (x.lowest b y.is_one y.in_way) (y.lowest a x.is_one x.in_way)
 
--- and it is what the search gives
+-- a right answer is the one that the search gives
 pub is_lowest_in_way : (h : FileLocks) (node incarnation : ℕ) (s : Range) (mode : Mode) (r : Option LockInfo) → IsOfNode h node incarnation → s.lo ≤ s.hi → s.hi ≤ greatest → MatchOption r (IsClear h s mode) (IsLowestInWay (IsRegion h) s mode) → r ≡ lowest_in_way h node incarnation s mode
 is_lowest_in_way h node incarnation s mode r own order within x = one_answer h node incarnation own s mode r (lowest_in_way h node incarnation s mode) order x (lowest_in_way_is_lowest h node incarnation s mode own order within)

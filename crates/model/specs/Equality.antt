@@ -1,4 +1,4 @@
--- The tests of modes and owners are equality.
+-- The definitions' tests of modes and owners are equality.
 use Rattle.std.specs.Prelude.{◌≡◌, ◌↔◌, IsTrue}
 use Rattle.model.specs.declared.mode.Mode.{Mode}
 use Rattle.model.specs.declared.owner.Owner.{Owner}

@@ -1,4 +1,4 @@
--- What programs may rely on: which calls change nothing, and what is left where descriptors close, and where processes fork and exit.
+-- What programs may rely on: which calls change nothing, and what is left where descriptors are closed, and where processes fork and exit.
 use Rattle.std.specs.Prelude.{◌≡◌, ℕ, true, false, if◌then◌else◌, Some, None, ℤ}
 use Rattle.intervals.specs.Bytes.{nothing}
 use Rattle.model.specs.declared.op.Op.{Op}
@@ -18,7 +18,7 @@ use Rattle.model.specs.Anchors.{IsAnchored, IsOwn}
 use Rattle.model.specs.Step.{Step}
 use Rattle.model.specs.Replay.{NeverAnswers}
 
--- POSIX.1-2017 fcntl(): a process that closes any descriptor of a file has no lock there afterwards, whichever descriptor made it
+-- POSIX.1-2017 fcntl(): a process that closes any descriptor of a file has no lock there afterwards, whichever descriptor made the lock
 abbrev pub ClosedFileHasNoLock : Type 0
 ClosedFileHasNoLock =
     (t u : Table) (p : Process) (fd : ℕ) (o : Opened)
@@ -26,7 +26,7 @@ ClosedFileHasNoLock =
     → Step t p (Close fd) Done u
     → u.locks o.file (process_owner p) ≡ nothing
 
--- Linux fcntl(2), F_OFD_SETLK: a description keeps its locks until the last descriptor of the node that refers to it is closed, and has none from then on
+-- Linux fcntl(2), F_OFD_SETLK: a description keeps its locks until the node's last descriptor of it is closed, and has none from then on
 abbrev pub LastCloseDropsLocks : Type 0
 LastCloseDropsLocks =
     (t u : Table) (p : Process) (fd file : ℕ) (o : Opened)
@@ -34,21 +34,21 @@ LastCloseDropsLocks =
     → Step t p (Close fd) Done u
     → u.locks file (description_owner p o.description) ≡ (if is_open (around u p) o.description then t.locks file (description_owner p o.description) else nothing)
 
--- a process runs no more, has no descriptor and owns nothing
+-- the process doesn't run, has no descriptor and holds no lock of its own
 pub record HasGone (t : Table) (p : Process) : Type 0 where
   pub stopped : is_running t p ≡ false
   pub shut : (fd : ℕ) → descriptor t p fd ≡ None
   pub released : (file : ℕ) → t.locks file (process_owner p) ≡ nothing
 
--- POSIX.1-2017 _exit(): of a process that exits nothing is left, where no lock outlives its descriptors; its number is free
+-- POSIX.1-2017 _exit(): a process that exits leaves no descriptor and no lock of its own, and its number is free
 abbrev pub ExitLeavesNothing : Type 0
 ExitLeavesNothing = (t u : Table) (p : Process) → IsAnchored t p.node p.incarnation → Step t p Exit Done u → HasGone u p
 
--- the process with that number of the same node
+-- the process with the number pid on the same node, in the same incarnation, as p
 abbrev pub sibling : Process → ℕ → Process
 sibling p pid = record { node = p.node; incarnation = p.incarnation; pid = pid }
 
--- the child has each descriptor of its parent, on the same description, and no lock
+-- the child runs, has each descriptor of its parent on the same description, and holds no process lock
 pub record IsChild (t u : Table) (parent child : Process) : Type 0 where
   pub runs : is_running u child ≡ true
   pub inherits : (fd : ℕ) → descriptor u child fd ≡ descriptor t parent fd
@@ -58,7 +58,7 @@ pub record IsChild (t u : Table) (parent child : Process) : Type 0 where
 abbrev pub ForkSharesDescriptions : Type 0
 ForkSharesDescriptions = (t u : Table) (p : Process) (child : ℕ) → IsAnchored t p.node p.incarnation → Step t p (Fork child) Done u → IsChild t u p (sibling p child)
 
--- whatever its processes call, a node's table stays its own, and no lock outlives its descriptors
+-- a call of a node's process keeps the table of that node's own processes and locks, and no lock outlives its descriptors
 abbrev pub CallsKeepAnchors : Type 0
 CallsKeepAnchors =
     (t u : Table) (p : Process) (op : Op) (reply : Reply)
@@ -67,7 +67,7 @@ CallsKeepAnchors =
     → Step t p op reply u
     → IsOwn u p.node p.incarnation
 
--- a reply of a call that is refused, or that asks only
+-- the reply is of a call that was refused, interrupted, or only asked: neither Done nor a descriptor
 abbrev pub TellsNoChange : Reply → Type 0
 TellsNoChange Done = ⊥
 TellsNoChange (Fd fd) = ⊥
@@ -77,7 +77,7 @@ TellsNoChange _ = Unit {0}
 abbrev pub OnlyDoneCallsChange : Type 0
 OnlyDoneCallsChange = (t u : Table) (p : Process) (op : Op) (reply : Reply) → TellsNoChange reply → Step t p op reply u → u ≡ t
 
--- POSIX.1-2017 fcntl(), F_SETLKW: a call that waits is never told of a lock in its way, and one that is interrupted has changed nothing
+-- POSIX.1-2017 fcntl(), F_SETLKW: a call that waits is never answered with a lock in its way, and an interrupted call has changed nothing
 pub record WaitsAreNotDenied : Type 0 where
   pub never_again : (t : Table) (p : Process) (fd : ℕ) (kind : Kind) (mode : Mode) (start len : ℤ) (lock : LockInfo) → NeverAnswers t p (Wait fd kind mode start len) (Again lock)
   pub unchanged : (t u : Table) (p : Process) (op : Op) → Step t p op Interrupted u → u ≡ t

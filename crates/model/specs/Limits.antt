@@ -1,29 +1,29 @@
--- Numbers of nodes, processes, descriptions and calls.
+-- The ranges of the numbers of nodes, processes, descriptions and calls.
 use Rattle.std.specs.Prelude.{ℕ, ◌≤◌}
 use Rattle.model.specs.declared.owner.Kind.{Kind}
 use Rattle.model.specs.declared.owner.Kind.TheVariants.{OfProcess, OfDescription}
 
--- nodes of a cluster
+-- the greatest number of nodes in a cluster
 abbrev pub most_nodes : ℕ
 most_nodes = 64
 
--- processes of a node
+-- the greatest number of processes on a node
 abbrev pub most_processes : ℕ
 most_processes = 256
 
--- descriptors of a process
+-- the greatest number of descriptors in a process
 abbrev pub most_descriptors : ℕ
 most_descriptors = 64
 
--- open file descriptions of a node: each process with all its descriptors
+-- the greatest number of open file descriptions on a node: all descriptors of all its processes
 abbrev pub most_descriptions : ℕ
 most_descriptions = 16384
 
--- a number that counts from 1 up to the most
+-- n is a number from 1 to most
 abbrev pub IsNumber : ℕ → ℕ → Type 0
 IsNumber most n = (1 ≤ n) × (n ≤ most)
 
--- an incarnation of a node
+-- the number of a node, and of one of its incarnations, are in range
 pub record IsHost (node incarnation : ℕ) : Type 0 where
   pub node_in : IsNumber most_nodes node
   pub incarnation_in : IsNumber 65535 incarnation
@@ -47,7 +47,7 @@ pub record OwnerFields : Type 0 where
   pub kind : Kind
   pub number : ℕ
 
--- how many owners of a kind a node can have
+-- the greatest number of owners of a kind on a node
 abbrev pub most_of : Kind → ℕ
 most_of OfProcess = most_processes
 most_of OfDescription = most_descriptions

@@ -1,4 +1,4 @@
--- Who may hold a lock, and in which order owners stand.
+-- The owners of locks, and their order.
 use Rattle.std.specs.Prelude.{ℕ, ◌+◌, ◌-◌, Bool, true, false, ◌&&◌, ◌==◌, nat_lt, if◌then◌else◌}
 use Rattle.std.specs.declared.cmp.Ordering.{Ordering}
 use Rattle.std.specs.declared.cmp.Ordering.TheVariants.{Less, Equal, Greater}
@@ -29,34 +29,34 @@ same_owner a b = (a.node == b.node) && ((a.incarnation == b.incarnation) && (sam
 abbrev pub same_host : Host → Host → Bool
 same_host a b = (a.node == b.node) && (a.incarnation == b.incarnation)
 
--- the node, in its incarnation, of a call
+-- the node and the incarnation that made a call
 abbrev pub host_of_call : CallId → Host
 host_of_call c = record { node = c.node; incarnation = c.incarnation }
 
--- the process as an owner of locks
+-- the owner that a process is
 abbrev pub process_owner : Process → Owner
 process_owner p = record { node = p.node; incarnation = p.incarnation; kind = OfProcess; number = p.pid }
 
--- Linux fcntl(2), F_OFD_SETLK: an open file description of the process's node owns locks of its own
+-- Linux fcntl(2), F_OFD_SETLK: the owner that description d of the process's node is
 abbrev pub description_owner : Process → ℕ → Owner
 description_owner p d = record { node = p.node; incarnation = p.incarnation; kind = OfDescription; number = d }
 
--- processes come before descriptions
+-- the order of kinds: processes before descriptions
 abbrev pub kind_cmp : Kind → Kind → Ordering
 kind_cmp OfProcess OfProcess = Equal
 kind_cmp OfProcess OfDescription = Less
 kind_cmp OfDescription OfProcess = Greater
 kind_cmp OfDescription OfDescription = Equal
 
--- owners stand by node, by incarnation, processes before descriptions, and by number
+-- the order of owners: by node, then incarnation, then kind (processes before descriptions), then number
 abbrev pub owner_cmp : Owner → Owner → Ordering
 owner_cmp a b = ordering_then (nat_cmp a.node b.node) (ordering_then (nat_cmp a.incarnation b.incarnation) (ordering_then (kind_cmp a.kind b.kind) (nat_cmp a.number b.number)))
 
--- how many owners a node can have in one incarnation
+-- the number of owners that a node can have in one incarnation
 abbrev pub most_owners : ℕ
 most_owners = 16640
 
--- the owner at the k-th place of the order of a node's owners, the first being 0
+-- the owner at place k, from 0, in the order of the owners that a node can have
 abbrev pub owner_at : ℕ → ℕ → ℕ → Owner
 owner_at node incarnation k =
     if nat_lt k most_processes

@@ -1,4 +1,4 @@
--- What a single machine's fcntl() may answer, and what it then leaves.
+-- What a single machine's fcntl() may reply to a call, and which table it leaves.
 use Rattle.std.specs.Prelude.{◌≡◌, Result, Ok, Err, Some, None}
 use Rattle.model.specs.declared.lock_info.LockInfo.{LockInfo}
 use Rattle.model.specs.declared.mode.Mode.{Mode}
@@ -12,11 +12,11 @@ use Rattle.model.specs.Limits.{IsNumber, most_processes}
 use Rattle.model.specs.Descriptors.{after_spawn, after_fork, after_open, after_dup}
 use Rattle.model.specs.Table.{Table, LockTarget, around, beside, target, lock_within, after_unlock, after_close, after_exit}
 
--- the answer and the new table are these
+-- the reply and the new table are the given answer
 abbrev pub Is : Table × Reply → Reply → Table → Type 0
 Is answer reply new = (reply ≡ answer.1) × (new ≡ answer.0)
 
--- no other owner blocks the call
+-- no other owner's lock blocks the call
 abbrev pub Unblocked : Table → LockTarget → Mode → Type 0
 Unblocked t c mode = IsFree (t.locks c.file) c.owner c.span mode
 
@@ -24,37 +24,37 @@ Unblocked t c mode = IsFree (t.locks c.file) c.owner c.span mode
 abbrev pub BlocksCall : Table → LockTarget → Mode → LockInfo → Type 0
 BlocksCall t call mode lock = Blocks (t.locks call.file) call.owner call.span mode lock
 
--- the first test that fails decides; if none does, the call may be answered so
+-- a call that fails one of its tests gets the refusal; else its reply is one that `Answer` admits
 abbrev pub AfterTests : Table → Result LockTarget Reply → Reply → Table → (LockTarget → Type 0) → Type 0
 AfterTests old (Err refusal) reply new Answer = Is (old, refusal) reply new
 AfterTests old (Ok c) reply new Answer = Answer c
 
--- POSIX.1-2017 fcntl(), F_SETLK: where a lock of another owner blocks, one such lock is named; else the bytes are set
+-- POSIX.1-2017 fcntl(), F_SETLK: where locks of other owners block, the reply names one of them; else the bytes are set
 abbrev pub SetStep : Table → Mode → Reply → Table → LockTarget → Type 0
 SetStep old mode (Again lock) new c = Blocks (old.locks c.file) c.owner c.span mode lock × (new ≡ old)
 SetStep old mode Done new c = Unblocked old c mode × Is (lock_within old c (Some mode)) Done new
 SetStep old mode NoLocks new c = Unblocked old c mode × Is (lock_within old c (Some mode)) NoLocks new
 SetStep old mode _ new c = ⊥
 
--- POSIX.1-2017 fcntl(), F_SETLKW: as F_SETLK, but where a lock of another owner blocks there is no answer yet; the wait may be interrupted (EINTR) at any time, and then nothing changes
+-- POSIX.1-2017 fcntl(), F_SETLKW: as F_SETLK where no lock blocks, else no reply yet; an interrupt (EINTR) may come at any time and changes nothing
 abbrev pub WaitStep : Table → Mode → Reply → Table → LockTarget → Type 0
 WaitStep old mode Interrupted new c = new ≡ old
 WaitStep old mode Done new c = Unblocked old c mode × Is (lock_within old c (Some mode)) Done new
 WaitStep old mode NoLocks new c = Unblocked old c mode × Is (lock_within old c (Some mode)) NoLocks new
 WaitStep old mode _ new c = ⊥
 
--- POSIX.1-2017 fcntl(), F_GETLK: where a lock of another owner would block, one such lock is named; nothing changes
+-- POSIX.1-2017 fcntl(), F_GETLK: where locks of other owners would block, the reply names one of them; nothing changes
 abbrev pub QueryStep : Table → Mode → Reply → Table → LockTarget → Type 0
 QueryStep old mode (Blocked lock) new c = Blocks (old.locks c.file) c.owner c.span mode lock × (new ≡ old)
 QueryStep old mode Free new c = Unblocked old c mode × (new ≡ old)
 QueryStep old mode _ new c = ⊥
 
--- a process that the operation names has a number that a process can have
+-- the number of the process that a fork names is in range
 abbrev pub IsPossible : Op → Type 0
 IsPossible (Fork child) = IsNumber most_processes child
 IsPossible _ = Unit {0}
 
--- from the old table the call of the process may get this reply and leave the new one; no process has a number past the greatest
+-- the call of process p may get this reply from the old table and leave the new one; a fork's child has a number in range
 abbrev pub Step : Table → Process → Op → Reply → Table → Type 0
 Step old p Spawn reply new = Is (beside old p (after_spawn (around old p) p.pid)) reply new
 Step old p (Fork child) reply new = IsNumber most_processes child × Is (beside old p (after_fork (around old p) p.pid child)) reply new

@@ -1,11 +1,12 @@
-//! Names of calls.
+//! The number that names a call in the whole cluster.
 ghost use Rattle.std.specs.Prelude.{◌≡◌};
 ghost use Rattle.model.specs.Owners.{host_of_call};
 
 use crate::host::Host;
 use std::marker::Model;
 
-/// A call, by its node (1 to 64), the node's incarnation (from 1) and its number there (from 1).
+/// The number of a call: its node (1 to 64), the node's incarnation (from 1) and the call's number
+/// in that incarnation (from 1).
 #[derive(Clone, Copy, Debug, PartialEq, Eq, Hash)]
 pub struct CallId {
     pub node: u8,
@@ -26,7 +27,7 @@ impl Model for CallId {
 }
 
 impl CallId {
-    /// The node, in its incarnation, that the call is of.
+    /// The node and the incarnation that made the call.
     pub fn host(&self) -> Host
         ensures { result ≡ host_of_call self.now }
     {

@@ -1,12 +1,12 @@
-//! Laws of equality.
+//! Laws that say that the definitions' tests of modes and of owners are equality.
 ghost use Rattle.model.specs.Equality.{SameModeIsEquality, SameOwnerIsEquality};
 
-/// Where the definitions test whether two modes are one, they are equal.
+/// The test `same_mode` of the definitions holds exactly of two equal modes.
 pub fn same_mode_is_equality()
     ensures { SameModeIsEquality }
 {}
 
-/// Where the definitions test whether two owners are one, they are equal.
+/// The test `same_owner` of the definitions holds exactly of two equal owners.
 pub fn same_owner_is_equality()
     ensures { SameOwnerIsEquality }
 {}

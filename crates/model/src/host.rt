@@ -1,4 +1,4 @@
-//! Nodes in one incarnation.
+//! A node in one of its incarnations.
 use std::marker::Model;
 
 /// A node (1 to 64) in one of its incarnations (from 1): each restart of the node is a new one.

@@ -1,37 +1,39 @@
-//! Laws of the definitions.
+//! Laws of the one table: what calls leave of locks and descriptors, and what the searches for
+//! locks find.
 ghost use Rattle.model.specs.Locks.{LowestIsLowest, LowestInWayIsLowest, LowestInWayIsOne};
 ghost use Rattle.model.specs.Laws.{ClosedFileHasNoLock, LastCloseDropsLocks, ExitLeavesNothing, ForkSharesDescriptions, CallsKeepAnchors, OnlyDoneCallsChange, WaitsAreNotDenied};
 
-/// The search for the lowest lock that blocks finds it, and finds none exactly where no byte of the
-/// span is barred.
+/// The search for the lowest lock that blocks an owner finds that lock, and finds none exactly
+/// where no other owner's lock on the span excludes the mode.
 pub fn the_lowest_blocker_is_the_lowest()
     ensures { LowestIsLowest }
 {}
 
-/// The search for the lowest lock in the way of a mode, of all those of a node, finds it, and finds
-/// none exactly where no lock on the span excludes the mode.
+/// The search among all locks of a node for the lowest one in the way of a mode finds that lock,
+/// and finds none exactly where no lock on the span excludes the mode.
 pub fn the_lowest_in_the_way_is_the_lowest()
     ensures { LowestInWayIsLowest }
 {}
 
-/// At most one region is the lowest in the way.
+/// At most one region is the lowest in the way of a mode on a span.
 pub fn the_lowest_in_the_way_is_one()
     ensures { LowestInWayIsOne }
 {}
 
-/// A process that closes a descriptor of a file holds nothing there, whichever descriptor made the
-/// lock (POSIX.1-2017 `fcntl()`).
+/// A process that closes any descriptor of a file holds no lock on that file afterwards, whichever
+/// descriptor made the lock (POSIX.1-2017 `fcntl()`).
 pub fn a_closed_file_has_no_lock()
     ensures { ClosedFileHasNoLock }
 {}
 
-/// A description keeps its locks until the last descriptor of its node that refers to it is closed
-/// (Linux `fcntl(2)`, F_OFD_SETLK).
+/// An open file description keeps its locks until the last descriptor of its node that refers to it
+/// is closed (Linux `fcntl(2)`, F_OFD_SETLK).
 pub fn the_last_close_drops_locks()
     ensures { LastCloseDropsLocks }
 {}
 
-/// Of a process that exits nothing is left, and its number is free (POSIX.1-2017 `_exit()`).
+/// A process that exits leaves neither descriptors nor locks of its own, and its number is free
+/// (POSIX.1-2017 `_exit()`).
 pub fn an_exit_leaves_nothing()
     ensures { ExitLeavesNothing }
 {}
@@ -42,7 +44,7 @@ pub fn a_fork_shares_descriptions()
     ensures { ForkSharesDescriptions }
 {}
 
-/// Whatever the processes of a node call, none of its locks outlives the descriptors that it hangs on.
+/// No call of a node's processes leaves a lock without the descriptors that it depends on.
 pub fn no_lock_outlives_its_descriptors()
     ensures { CallsKeepAnchors }
 {}
@@ -52,8 +54,8 @@ pub fn only_done_calls_change()
     ensures { OnlyDoneCallsChange }
 {}
 
-/// A call that waits is never answered by a lock in its way, and a call that is interrupted has changed
-/// nothing (POSIX.1-2017 `fcntl()`, F_SETLKW and EINTR).
+/// A call that waits is never answered with a lock in its way, and a call that is interrupted has
+/// changed nothing (POSIX.1-2017 `fcntl()`, F_SETLKW and EINTR).
 pub fn waits_are_not_denied()
     ensures { WaitsAreNotDenied }
 {}

@@ -1,7 +1,8 @@
-//! Levels of tokens.
+//! The levels of tokens: what a token lets its node lock at a byte.
 use intervals::span_map::Exact;
 
-/// What a token lets its node lock at a byte: read locks alone, or any.
+/// What a token lets its node lock at a byte: read locks only (`Shared`), or locks of either mode
+/// (`Exclusive`).
 #[derive(Clone, Copy, Debug, PartialEq, Eq)]
 pub enum Level {
     Shared,

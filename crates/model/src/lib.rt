@@ -1,4 +1,7 @@
-//! The words of lock calls, and the one table that a single machine would keep.
+//! The vocabulary of record-lock calls (owners, modes, operations, replies) and of tokens (levels,
+//! policies), and the definition of the one table that a single machine's `fcntl()` would keep.
+//! This crate knows nothing of messages, of how tokens are given out, of texts that are printed, of
+//! files on a disk, or of threads.
 #![tactic(auto)]
 
 pub mod access;

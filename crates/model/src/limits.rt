@@ -1,13 +1,15 @@
-//! How many there may be of each thing.
+//! The greatest numbers of nodes, processes, descriptors and descriptions.
 
-/// Nodes of a cluster; they are numbered from 1.
+/// The greatest number of nodes in a cluster. Nodes are numbered from 1.
 pub const MOST_NODES: u8 = 64;
 
-/// Processes of a node; they are numbered from 1.
+/// The greatest number of processes on a node. Processes are numbered from 1.
 pub const MOST_PROCESSES: u16 = 256;
 
-/// Descriptors of a process (POSIX.1-2017 `open()`, OPEN_MAX); they are numbered from 0.
+/// The greatest number of descriptors in a process (POSIX.1-2017 `open()`, OPEN_MAX). Descriptors
+/// are numbered from 0.
 pub const MOST_DESCRIPTORS: u8 = 64;
 
-/// Open file descriptions of a node: each process with all its descriptors. They are numbered from 1.
+/// The greatest number of open file descriptions on a node: all descriptors of all its processes.
+/// Descriptions are numbered from 1.
 pub const MOST_DESCRIPTIONS: u16 = 16_384;

@@ -1,9 +1,9 @@
-//! What lock calls are about.
+//! The file, the owner and the bytes that a lock call is about.
 use crate::owner::Owner;
 use intervals::span::Span;
 use std::marker::Model;
 
-/// What a lock call is about: a file, the owner of the lock, and the bytes.
+/// What a lock call is about: a file by its number, the owner of the lock, and the bytes.
 #[derive(Clone, Copy, Debug, PartialEq, Eq)]
 pub struct LockTarget {
     pub file: u16,

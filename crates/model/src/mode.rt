@@ -1,4 +1,4 @@
-//! Modes of locks.
+//! The two modes of locks, and when two locks exclude each other.
 use intervals::span_map::Exact;
 
 /// How a byte is locked. A read lock is shared, a write lock is exclusive. (POSIX.1-2017
@@ -13,7 +13,8 @@ impl Mode {
     ghost use Rattle.std.specs.Prelude.{◌≡◌};
     ghost use Rattle.model.specs.Locks.{bar_of, excludes};
 
-    /// The mode of locks that exclude this one on a byte; `None` where locks of either mode do.
+    /// The mode of the locks that may not stand on a byte beside a lock of this mode; `None` where
+    /// locks of neither mode may.
     pub fn bar(self) -> Option<Mode>
         ensures { result ≡ bar_of self }
     {
@@ -23,7 +24,7 @@ impl Mode {
         }
     }
 
-    /// Whether locks of the two modes, of two owners, may not share a byte.
+    /// Whether locks of these two modes, held by two owners, may not stand on one byte.
     pub fn excludes(self, other: Mode) -> bool
         ensures { result ≡ excludes self other }
     {

@@ -1,33 +1,36 @@
-//! Operations.
+//! The operations that a process can call.
 use crate::access::Access;
 use crate::mode::Mode;
 use crate::owner::Kind;
 
-/// What a process asks for.
+/// An operation that a process calls. Files are numbers; a segment is START and LEN as in
+/// `struct flock`.
 #[derive(Clone, Copy, Debug, PartialEq, Eq)]
 pub enum Op {
-    /// The process begins.
+    /// Begins the calling process.
     Spawn,
-    /// A process with this number begins, with the caller's descriptors (POSIX.1-2017 `fork()`).
+    /// Begins the process with the number `child` and gives it the caller's descriptors
+    /// (POSIX.1-2017 `fork()`).
     Fork {
         child: u16,
     },
-    /// A descriptor of a file.
+    /// Opens a file on a new descriptor (POSIX.1-2017 `open()`).
     Open {
         file: u16,
         access: Access,
     },
-    /// One more descriptor of what this one refers to (POSIX.1-2017 `dup()`).
+    /// Makes one more descriptor that refers to the same open file description as `fd`
+    /// (POSIX.1-2017 `dup()`).
     Dup {
         fd: u8,
     },
-    /// The descriptor goes (POSIX.1-2017 `close()`).
+    /// Closes the descriptor (POSIX.1-2017 `close()`).
     Close {
         fd: u8,
     },
-    /// The process goes, with its descriptors (POSIX.1-2017 `_exit()`).
+    /// Ends the calling process and closes its descriptors (POSIX.1-2017 `_exit()`).
     Exit,
-    /// A lock on a segment, at once or not at all (POSIX.1-2017 `fcntl()`, F_SETLK).
+    /// Locks a segment at once, or is denied (POSIX.1-2017 `fcntl()`, F_SETLK).
     Set {
         fd: u8,
         kind: Kind,
@@ -35,7 +38,7 @@ pub enum Op {
         start: i64,
         len: i64,
     },
-    /// A lock on a segment, as soon as no lock is in the way (POSIX.1-2017 `fcntl()`, F_SETLKW).
+    /// Locks a segment as soon as no lock is in the way (POSIX.1-2017 `fcntl()`, F_SETLKW).
     Wait {
         fd: u8,
         kind: Kind,
@@ -43,14 +46,14 @@ pub enum Op {
         start: i64,
         len: i64,
     },
-    /// No lock on a segment (POSIX.1-2017 `fcntl()`, F_SETLK with F_UNLCK).
+    /// Frees a segment (POSIX.1-2017 `fcntl()`, F_SETLK with F_UNLCK).
     Unlock {
         fd: u8,
         kind: Kind,
         start: i64,
         len: i64,
     },
-    /// Whether a lock on a segment would be in the way of another owner's, and which one is
+    /// Asks whether another owner's lock would be in the way of a lock on a segment, and which one
     /// (POSIX.1-2017 `fcntl()`, F_GETLK).
     Query {
         fd: u8,

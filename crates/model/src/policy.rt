@@ -1,11 +1,12 @@
-//! How much nodes ask for.
+//! How many bytes a node requests beyond those that a call needs.
 
-/// How much of a file a node asks for beyond the bytes that a call needs. (The required and the
-/// desired range of a token request: Schmuck and Haskin, FAST 2002.)
+/// How much of a file a node requests beyond the bytes that a call needs: the desired range of a
+/// token request, which contains the required range (Schmuck and Haskin, FAST 2002).
 #[derive(Clone, Copy, Debug, PartialEq, Eq)]
 pub enum Policy {
-    /// The whole file where the node holds no token of it, else all from the first byte needed on.
+    /// The whole file where the node holds no token of it, else all bytes from the first one that
+    /// the call needs.
     Wide,
-    /// No more than the call needs.
+    /// Only the bytes that the call needs.
     Exact,
 }

@@ -1,8 +1,8 @@
-//! Processes.
+//! A process, named by its node, the node's incarnation and a number.
 use std::marker::Model;
 
-/// A process, by its node, the node's incarnation and its number there: nodes from 1 to 64,
-/// incarnations from 1, process numbers from 1 to 256.
+/// A process, named by its node (1 to 64), the node's incarnation (from 1) and the number of the
+/// process there (1 to 256).
 #[derive(Clone, Copy, Debug, PartialEq, Eq)]
 pub struct Process {
     pub node: u8,

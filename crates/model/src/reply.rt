@@ -1,27 +1,30 @@
-//! Replies.
+//! The replies to calls: what a process gets back from each operation.
 use crate::lock_info::LockInfo;
 
-/// What a call is answered.
+/// The reply to a call.
 #[derive(Clone, Copy, Debug, PartialEq, Eq)]
 pub enum Reply {
     Done,
-    /// The new descriptor.
+    /// A descriptor was opened, with this number.
     Fd(u8),
-    /// A lock of another owner that blocks, a whole region (POSIX.1-2017 `fcntl()`, EAGAIN).
+    /// A lock of another owner is in the way: a whole region (POSIX.1-2017 `fcntl()`, EAGAIN).
     Again(LockInfo),
-    /// No lock blocks (POSIX.1-2017 `fcntl()`, F_GETLK with F_UNLCK).
+    /// No lock would be in the way of the queried one (POSIX.1-2017 `fcntl()`, F_GETLK with
+    /// F_UNLCK).
     Free,
-    /// A lock of another owner that would block, a whole region (POSIX.1-2017 `fcntl()`, F_GETLK).
+    /// A lock of another owner would be in the way of the queried one: a whole region (POSIX.1-2017
+    /// `fcntl()`, F_GETLK).
     Blocked(LockInfo),
-    /// The wait for a lock ended without it (POSIX.1-2017 `fcntl()`, EINTR).
+    /// The wait for a lock ended without the lock (POSIX.1-2017 `fcntl()`, EINTR).
     Interrupted,
-    /// The caller doesn't run.
+    /// The calling process doesn't run.
     NoProcess,
-    /// The process runs already.
+    /// The process that should begin runs already.
     Exists,
-    /// No such descriptor, or not one that is open for the mode (POSIX.1-2017 `fcntl()`, EBADF).
+    /// The process has no such descriptor, or it is not open for the mode (POSIX.1-2017 `fcntl()`,
+    /// EBADF).
     BadFd,
-    /// The process has 64 descriptors (POSIX.1-2017 `open()`, EMFILE).
+    /// The process has 64 descriptors already (POSIX.1-2017 `open()`, EMFILE).
     TooManyFiles,
     /// The owner would have too many regions in the file (POSIX.1-2017 `fcntl()`, ENOLCK).
     NoLocks,

@@ -1,4 +1,4 @@
--- Whatever a node does, no lock of it outlives its descriptors.
+-- No step of a node leaves a lock without its descriptors.
 use Rattle.std.specs.Prelude.{◌≡◌, ℕ, zero, suc, ◌+◌, ◌==◌, ◌++◌, ◌∷◌, [], ◌&&◌, nat_le, nat_lt, Bool, true, false, not, if◌then◌else◌, List, All, filter, find, is_some, Option, Some, None, Result, Ok, Err, IfOk, IfSome, ℤ, refl}
 use Rattle.std.proofs.Common.{arith, ap, sym, subst, ◌∙◌, get_or, inl, inr}
 use Rattle.std.proofs.lemmas.Bool.{and_parts, eq-eqb, both_ways, cases_Bool, not-true}
@@ -50,7 +50,7 @@ use Rattle.node_core.specs.Anchors.{Waits, AreAnchored, IsAnchored}
 use Rattle.node_core.specs.Parts.{NodeParts, table_of}
 use Rattle.node_core.proofs.NodeLaws.{find-own, if-both}
 
--- what the lock of an open call would hang on
+-- the lock of an open call would depend on a descriptor that is open
 waits-hangs : (t : Table) (n i : ℕ) (c : OpenCall) → Waits t n i c → Hangs (t.on n i) c.file c.owner.kind c.owner.number
 waits-hangs t n i c w = subst (λ (o : Owner). Hangs (t.on n i) c.file o.kind o.number) w.owner (by w.kind)
   where
@@ -58,14 +58,14 @@ waits-hangs t n i c w = subst (λ (o : Owner). Hangs (t.on n i) c.file o.kind o.
     by OfProcess = (w.fd, w.opened, w.there, w.file)
     by OfDescription = (c.pid, w.fd, w.opened, w.there, refl, w.file)
 
--- what it is about
+-- an open call is about an owner and bytes that the node can have
 waits-target : (t : Table) (n i : ℕ) (c : OpenCall) → IsOwn t n i → Waits t n i c → IsTarget n i (target_of c)
 waits-target t n i c own w = record {
   owner = subst (IsOwner n i) w.owner (owner_is (record { node = n; incarnation = i; pid = c.pid }) w.kind w.opened w.pid_in (own.descriptions c.pid w.fd w.opened w.there));
   span = record { ordered = w.span.ordered; ends = w.span.ends };
 }
 
--- it waits on while its process goes on
+-- an open call keeps its descriptor while its process goes on
 waits-on : (t u : Table) (n i : ℕ) (c : OpenCall) → GoesOn (t.on n i) (u.on n i) c.pid → Waits t n i c → Waits u n i c
 waits-on t u n i c goes w = record {
   pid_in = w.pid_in;
@@ -78,7 +78,7 @@ waits-on t u n i c goes w = record {
   span = w.span;
 }
 
--- a call that passes its tests waits
+-- a lock call that passes its tests has a descriptor, as an open call needs one
 found-waits : (t : Table) (n i pid number : ℕ) (its : LockCommand) (mode : Mode) (need : Option Mode) (fd : ℕ) (kind : Kind) (start len : ℤ) (c : LockTarget) → IsNumber most_processes pid → target t (record { node = n; incarnation = i; pid = pid }) need fd kind start len ≡ Ok c → Waits t n i (record { number = number; pid = pid; lock_command = its; file = c.file; owner = c.owner; mode = mode; span = c.span })
 found-waits t n i pid number its mode need fd kind start len c pid_in found =
     let p : Process = record { node = n; incarnation = i; pid = pid } in
@@ -96,15 +96,15 @@ found-waits t n i pid number its mode need fd kind start len c pid_in found =
       span = record { ordered = span.ordered; ends = span.ends };
     }
 
--- fewer calls are open
+-- all holds still if fewer calls are open
 fewer-anchored : (t : Table) (n i : ℕ) (calls : List OpenCall) (test : OpenCall → Bool) → AreAnchored t n i calls → AreAnchored t n i (filter test calls)
 fewer-anchored t n i calls test h = record { own = h.own; waiting = All-filter test (Waits t n i) calls h.waiting }
 
--- no call of the process is open
+-- none of the open calls is of the process
 abbrev pub AreOthers : List OpenCall → ℕ → Type 0
 AreOthers calls pid = All (λ (c : OpenCall). c.pid ≡ pid → ⊥) calls
 
--- a call of another process
+-- all holds still after a call of another process
 follows-anchored : (t u : Table) (n i pid : ℕ) (calls : List OpenCall) → Follows t u n i pid → AreOthers calls pid → All (Waits t n i) calls → AreAnchored u n i calls
 follows-anchored t u n i pid calls follows others waiting = record {
   own = follows.own;
@@ -122,7 +122,7 @@ settled-anchored : (s : NodeState) (number pid : ℕ) (answer : Table × Reply) 
 settled-anchored s number pid answer follows others h =
     fewer-anchored answer.0 s.node s.incarnation s.pending (λ c. not (c.number == number)) (follows-anchored s.table answer.0 s.node s.incarnation pid s.pending follows others h.waiting)
 
--- that locks may be gone is told at most
+-- all holds still after a Freed is sent, or none
 freed-anchored : (file : ℕ) (e : Effect) → IsAnchored e.state → IsAnchored (with_freed file e).state
 freed-anchored file e h =
     let told : Effect = record { state = with_file e.state file (record (e.state.files file) { owes_freed = false }); reply = e.reply; sends = e.sends ++ Freed file (host e.state) ∷ [] } in
@@ -151,7 +151,7 @@ unlocked-anchored : (s : NodeState) (number : ℕ) (found : Result LockTarget Re
 unlocked-anchored s number (Err refusal) h = h
 unlocked-anchored s number (Ok c) h = locked-anchored s number c None h
 
--- an open call gets its lock
+-- all holds still after an open call gets its lock
 set-anchored : (s : NodeState) (c : OpenCall) → IsAnchored s → Waits s.table s.node s.incarnation c → IsAnchored (settled s c.number (lock_within s.table (target_of c) (Some c.mode))).state
 set-anchored s c h w =
     let n = s.node in
@@ -168,7 +168,7 @@ here-anchored s c lock_command.Set h w = locked-anchored s c.number (target_of c
 here-anchored s c lock_command.Wait h w = locked-anchored s c.number (target_of c) (Some c.mode) (set-anchored s c h w)
 here-anchored s c lock_command.Query h w = answered-anchored s c.number Free h
 
--- an open call is tried
+-- all holds still after an open call is tried
 tried-anchored : (s : NodeState) (c : OpenCall) → IsAnchored s → Waits s.table s.node s.incarnation c → IsAnchored (tried s c).state
 tried-anchored s c h w = elim (lowest_blocker (s.table.locks c.file) c.owner c.span c.mode) as (λ x. IsAnchored (tried_against s c x).state) [
   | Some lock ↦ answered_if-anchored s c.number (refusal_of c.lock_command lock) h
@@ -189,7 +189,7 @@ lock_call-anchored s number pid its mode (Ok t) waits h =
     let w = waits t refl in
     tried-anchored (record s { pending = s.pending ++ c ∷ [] }) c (record { own = h.own; waiting = All-push (Waits s.table s.node s.incarnation) s.pending c h.waiting w }) w
 
--- a process is not busy where no open call is its own
+-- none of the open calls is of a process that has no open call
 pub idle-others : (calls : List OpenCall) (pid : ℕ) → is_some (find (λ (c : OpenCall). c.pid == pid) calls) ≡ false → AreOthers calls pid
 idle-others [] pid h = All-nil (λ (c : OpenCall). c.pid ≡ pid → ⊥)
 idle-others (d ∷ ds) pid h =
@@ -199,7 +199,7 @@ idle-others (d ∷ ds) pid h =
       | inr other ↦ All-cons (λ (c : OpenCall). c.pid ≡ pid → ⊥) d ds (λ is. both_ways (d.pid == pid) other (eq-eqb d.pid pid is)) (idle-others ds pid (ap (λ b. is_some (out b)) (sym other) ∙ h))
     ]
 
--- the process has no open call, unless it exits
+-- the process has no open call, or it exits
 abbrev MayGo : NodeState → ℕ → Op → Type 0
 MayGo s pid Exit = Unit {0}
 MayGo s pid _ = AreOthers s.pending pid
@@ -211,7 +211,7 @@ not_busy s pid _ h = idle-others s.pending pid h
 within : (most n : ℕ) → is_within most n ≡ true → IsNumber most n
 within most n h = (grind (arith, nat_tests, h), grind (arith, nat_tests, h))
 
--- a call is taken
+-- all holds still after a call is taken
 called-anchored : (s : NodeState) (number pid : ℕ) (op : Op) → IsNumber most_processes pid → is_in_shape s.shape op ≡ true → MayGo s pid op → IsAnchored s → IsAnchored (called s number pid op).state
 called-anchored s number pid Spawn pid_in known others h =
     settled-anchored s number pid (beside s.table (process s pid) (after_spawn (around s.table (process s pid)) pid)) (spawn_follows s.table s.node s.incarnation pid h.own pid_in) others h
@@ -244,7 +244,7 @@ called-anchored s number pid (Unlock fd kind start len) pid_in known others h =
 called-anchored s number pid (Query fd kind mode start len) pid_in known others h =
     lock_call-anchored s number pid lock_command.Query mode (target s.table (process s pid) None fd kind start len) (λ c found. found-waits s.table s.node s.incarnation pid number lock_command.Query mode None fd kind start len c pid_in found) h
 
--- what a step leaves
+-- all holds after the step, if it isn't refused
 abbrev Leaves : Result (NodeState × Outcome) StepError → Type 0
 Leaves r = IfOk r (λ done. IsAnchored done.0)
 
@@ -266,7 +266,7 @@ call-anchored s pid op h =
           ] refl
     ] refl
 
--- the answer to a command is sent again at most
+-- all holds still after the answer to a command is sent again, or none
 remembered-anchored : (s : NodeState) (x : Option Message) → IsAnchored s → IsAnchored (remembered s x).state
 remembered-anchored s None h = h
 remembered-anchored s (Some m) h = h
@@ -282,7 +282,7 @@ denied-anchored : (s : NodeState) (lock : LockInfo) (x : Option OpenCall) → Is
 denied-anchored s lock None h = h
 denied-anchored s lock (Some c) h = answered_if-anchored s c.number (refusal_of c.lock_command lock) h
 
--- a message is taken
+-- all holds still after a message is taken
 delivered-anchored : (s : NodeState) (m : Message) → IsAnchored s → IsAnchored (delivered s m).state
 delivered-anchored s (Grant file number call mode span) h =
     let waiting = find-own (Waits s.table s.node s.incarnation) (λ c. c.number == call.number) s.pending h.waiting in
@@ -317,14 +317,14 @@ retry-anchored s pid h =
     let waiting = find-own (Waits s.table s.node s.incarnation) (λ c. c.pid == pid) s.pending h.waiting in
     elim (is_pid pid) as (λ b. Leaves (if b then Ok (outcome None (tried_if s (open_call_of s pid))) else Err Stranger)) [ true ↦ tried_if-anchored s (open_call_of s pid) h waiting | false ↦ tt ]
 
--- whatever the event is
+-- all holds still after each event
 pub rule-anchored : (s : NodeState) (e : NodeEvent) → IsAnchored s → IfOk (node_rule s e) (λ done. IsAnchored done.0)
 rule-anchored s (event.Call pid op) h = call-anchored s pid op h
 rule-anchored s (event.Deliver m) h = message-anchored s m h
 rule-anchored s (event.Interrupt pid) h = interrupt-anchored s pid h
 rule-anchored s (event.Retry pid) h = retry-anchored s pid h
 
--- so it is of a node that begins
+-- all holds of a node that begins
 pub first_anchored : (p : NodeParts) → processes p.processes ≡ no_processes → held p.locks ≡ no_locks → p.pending ≡ [] → AreAnchored (table_of p) p.node p.incarnation p.pending
 first_anchored p none free idle =
     let empty : table_of p ≡ empty_table p.locks.limit = λ i. record { limit = p.locks.limit; on = λ n k. if-both ((n == p.node) && (k == p.incarnation)) (processes p.processes) no_processes none i; locks = free i } in

@@ -1,4 +1,4 @@
--- What a node knows in the epoch of a command.
+-- What a node knows of a file in the epoch of a command.
 use Rattle.std.specs.Prelude.{◌≡◌, ℕ, ◌+◌, ◌==◌, ◌||◌, Bool, true, false, nat_lt, if◌then◌else◌, ◌∷◌, Some, None, Result, Ok, Err, IfOk, refl}
 use Rattle.std.specs.declared.alloc.AllocError.{AllocError}
 use Rattle.std.proofs.Common.{ap, sym, subst, ◌∙◌}
@@ -20,11 +20,11 @@ use Rattle.node_core.specs.Parts.{NodeParts, out_of_order}
 use Rattle.node_core.specs.Plans.{effect_of}
 use Rattle.node_core.proofs.PlanLaws.{on, if-if}
 
--- of the file itself that is what its rules say
+-- the file of the command is as `renewed` says
 pub in_epoch-file : (s : NodeState) (file number : ℕ) → (in_epoch s file number).files file ≡ renewed (s.files file) number
 in_epoch-file s file number = ap (λ (b : Bool). if b then renewed (s.files file) number else s.files file) (eq-eqb file file refl)
 
--- the token stays, and whether a Freed is owed
+-- entering an epoch keeps the token, and whether a Freed is owed
 renewed-token : (f : FileState) (number : ℕ) → (renewed f number).token ≡ f.token
 renewed-token f number = by (nat_lt f.last (begin_of number))
   where
@@ -45,7 +45,7 @@ token-in s file number = ap (λ (f : FileState). f.token) (in_epoch-file s file 
 owes-in : (s : NodeState) (file number : ℕ) → ((in_epoch s file number).files file).owes_freed ≡ (s.files file).owes_freed
 owes-in s file number = ap (λ (f : FileState). f.owes_freed) (in_epoch-file s file number) ∙ renewed-owes (s.files file) number
 
--- what a command that is done makes of the node does not hang on what came before
+-- what a done command makes of the file doesn't depend on what the file had before
 done-in : (s : NodeState) (file number : ℕ) (token : Token) (answer : Message) (owes_freed : Bool) → after_command (in_epoch s file number) file token number answer owes_freed ≡ after_command s file token number answer owes_freed
 done-in s file number token answer owes_freed =
     let done : FileState = record { token = token; last = number; answer = Some answer; owes_freed = owes_freed } in
@@ -65,7 +65,7 @@ revoked-in s file number call mode wanted =
     (λ i. sent (after_command (in_epoch s file number) file (after_giving_up (token-in s file number i) mode gives) number answer (is_conflict gives || owes-in s file number i)) answer)
     ∙ ap (λ (next : NodeState). sent next answer) (done-in s file number (after_giving_up (s.files file).token mode gives) answer (is_conflict gives || (s.files file).owes_freed))
 
--- a message is sent before the others
+-- an effect with one message put before the others
 pub effect-before : (p : NodeParts) (does : Effect) (first : Message) (e : EffectFields) (r : Result EffectFields AllocError) → does ≡ effect_of p e → IfOk r (λ a. a ≡ record { edit = e.edit; reply = e.reply; sends = first ∷ e.sends }) → IfOk r (λ a. before first does ≡ effect_of p a)
 effect-before p does first e (Err x) is made = tt
 effect-before p does first e (Ok a) is made = ap (before first) is ∙ sym (ap (effect_of p) made)

@@ -1,4 +1,4 @@
--- Rows of files.
+-- What the rows of a node say of its files, and what changes of rows say.
 use Rattle.std.specs.Prelude.{◌≡◌, ◌≢◌, ℕ, zero, suc, ◌+◌, ◌-◌, ◌<◌, ◌≤◌, ◌⊎◌, ◌==◌, if◌then◌else◌, List, [], ◌∷◌, ◌++◌, Some, length, slice_index_or, slice_set, refl}
 use Rattle.std.specs.List.{slice_get}
 use Rattle.std.proofs.Common.{arith, ap, sym, ◌∙◌, inl, inr}
@@ -9,7 +9,7 @@ use Rattle.node_core.specs.declared.file_row.FileRow.{FileRow}
 use Rattle.node_core.specs.State.{FileState, first_file}
 use Rattle.node_core.specs.Files.{state_of, state_or, file_state}
 
--- of no file is anything known
+-- the empty list of rows knows nothing of each file
 pub file_state-none : file_state [] ≡ (λ file. first_file)
 unfolding file_state
 file_state-none = λ i file. none file i
@@ -24,7 +24,7 @@ nothing-push [] r nothing e (suc k) = refl
 nothing-push (x ∷ files) r nothing e zero = nothing zero
 nothing-push (x ∷ files) r nothing e (suc k) = nothing-push files r (λ j. nothing (suc j)) e k
 
--- one more file of which nothing is known
+-- one more row of a file that nothing is known of
 pub file_state-push : (files : List FileRow) (r : FileRow) → file_state files ≡ (λ file. first_file) → state_of r ≡ first_file → file_state (files ++ r ∷ []) ≡ (λ file. first_file)
 unfolding file_state
 file_state-push files r nothing e = λ i file. pushed file i
@@ -33,7 +33,7 @@ file_state-push files r nothing e = λ i file. pushed file i
     pushed zero = refl
     pushed (suc file) = nothing-push files r (λ k. ap (λ f. f (suc k)) nothing) e file
 
--- the row of a file
+-- the row of a file says what the rows say of the file
 pub file_state-read : (files : List FileRow) (file : ℕ) (r : FileRow) → IsNumber (length files) file → r ≡ slice_index_or files (file - 1) r → state_of r ≡ file_state files file
 unfolding file_state
 file_state-read files zero r within e = absurd (let h = within.0 in omega arith)
@@ -42,7 +42,7 @@ file_state-read files (suc file) r within e =
     let here : r ≡ slice_index_or files file r = e ∙ ap (λ k. slice_index_or files k r) at in
     ap state_or (sym (slice_get_read files (length files) file r refl (let h = within.1 in omega arith) here))
 
--- the row itself
+-- the row of a file is the one at its place
 pub row-there : (files : List FileRow) (file : ℕ) (r : FileRow) → IsNumber (length files) file → r ≡ slice_index_or files (file - 1) r → slice_get files (file - 1) ≡ Some r
 row-there files file r within e = slice_get_read files (length files) (file - 1) r refl (let h = within.0 in let k = within.1 in omega arith) e
 
@@ -58,7 +58,7 @@ slice_get-set_other (x ∷ files) zero (suc j) r ne = refl
 slice_get-set_other (x ∷ files) (suc k) zero r ne = refl
 slice_get-set_other (x ∷ files) (suc k) (suc j) r ne = slice_get-set_other files k j r (λ e. ne (ap suc e))
 
--- the rows with one of them changed
+-- the rows after one of them is replaced
 pub file_state-set : (files : List FileRow) (file : ℕ) (r : FileRow) (state : FileState) → IsNumber (length files) file → state_of r ≡ state → file_state (slice_set files (file - 1) r) ≡ (λ f. if f == file then state else file_state files f)
 unfolding file_state
 file_state-set files zero r state within e = absurd (let h = within.0 in omega arith)
@@ -78,12 +78,12 @@ file_state-set files (suc file) r state within e = λ i f. changed f (cases_eq f
     changed zero (inr ne) = ap (λ b. if b then state else first_file) (sym (ne_eqb zero (suc file) ne))
     changed (suc f) (inr ne) = ap (λ k. state_or (slice_get (slice_set files k r) f)) at ∙ ap state_or (slice_get-set_other files file f r (apart f ne)) ∙ ap (λ b. if b then state else state_or (slice_get files f)) (sym (ne_eqb (suc f) (suc file) ne))
 
--- the rows with one of them changed by what it said
+-- the rows after one of them is changed by a function of what it said
 pub file_state-change : (files : List FileRow) (file : ℕ) (r new : FileRow) (change : FileState → FileState) → IsNumber (length files) file → r ≡ slice_index_or files (file - 1) r → state_of new ≡ change (state_of (slice_index_or files (file - 1) r)) → file_state (slice_set files (file - 1) new) ≡ (λ f. if f == file then change (file_state files file) else file_state files f)
 file_state-change files file r new change within is e =
     file_state-set files file new (change (file_state files file)) within (e ∙ ap change (ap state_of (sym is) ∙ file_state-read files file r within is))
 
--- rows that say the same one by one
+-- rows that agree one by one say the same of each file
 pub file_state-same : (files others : List FileRow) (n : ℕ) → length files ≤ n → length others ≤ n → ((k : ℕ) → k < n → state_or (slice_get files k) ≡ state_or (slice_get others k)) → file_state files ≡ file_state others
 unfolding file_state
 file_state-same files others n within others_within same = λ i file. at file i

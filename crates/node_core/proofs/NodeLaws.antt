@@ -1,4 +1,4 @@
--- A node's parts and its state.
+-- The parts of a node and the state that they stand for.
 use Rattle.std.specs.Prelude.{◌≡◌, ℕ, ◌≤◌, ◌&&◌, ◌==◌, Bool, true, false, nat_lt, if◌then◌else◌, List, [], ◌∷◌, Option, Some, None, Result, Ok, Err, All, IfOk, IfSome, MatchOption, find, length, refl}
 use Rattle.std.proofs.Common.{arith, ap, sym, subst, ◌∙◌}
 use Rattle.std.proofs.lemmas.Bool.{and_from, eq-eqb}
@@ -46,7 +46,7 @@ use Rattle.descriptors.specs.Calls.{after}
 use Rattle.node_core.specs.Plans.{table_after, TableFits}
 use Rattle.node_core.specs.declared.edit.TableEdit.TheVariants.{OfProcess as OfProcessEdit}
 
--- the node itself is its own
+-- a node's own numbers pass the test for them
 own_host : (node incarnation : ℕ) → ((node == node) && (incarnation == incarnation)) ≡ true
 own_host node incarnation = and_from _ _ (eq-eqb node node refl) (eq-eqb incarnation incarnation refl)
 
@@ -58,7 +58,7 @@ pub around-own : (p : NodeParts) (pid : ℕ) → around (node_state p).table (pr
 unfolding node_state
 around-own p pid = ap (λ b. if b then processes p.processes else no_processes) (own_host p.node p.incarnation)
 
--- a call that concerns processes and descriptors alone
+-- a call that concerns only processes and descriptors is planned as the rule says
 pub beside-ok : (p : NodeParts) (pid : ℕ) (e : ProcessEdit) (answer : Reply) (f : Processes → Result (Processes × Reply) Reply) → f (processes p.processes) ≡ Ok (edited (processes p.processes) e, answer) → beside (node_state p).table (process (node_state p) pid) (f (around (node_state p).table (process (node_state p) pid))) ≡ (table_after (host (node_state p)) (node_state p).table (OfProcessEdit e), answer)
 beside-ok p pid e answer f is =
     ap (λ x. beside (node_state p).table (process (node_state p) pid) (f x)) (around-own p pid)
@@ -70,7 +70,7 @@ beside-err p pid refusal f e =
     ap (λ x. beside (node_state p).table (process (node_state p) pid) (f x)) (around-own p pid)
     ∙ ap (beside (node_state p).table (process (node_state p) pid)) e
 
--- a node that begins
+-- the state of a node that begins
 pub first-state : (shape : ShapeFields) (node incarnation : ℕ) (rows : List ProcessEntry) (locks : TableParts) (files : List FileRow) → processes rows ≡ no_processes → held locks ≡ no_locks → locks.limit ≡ most_regions shape.version → file_state files ≡ (λ file. first_file) → node_state (record { shape = shape; node = node; incarnation = incarnation; calls = 0; processes = rows; locks = locks; pending = []; files = files }) ≡ first_node shape node incarnation
 unfolding node_state
 first-state shape node incarnation rows locks files none free limit nothing = λ i. record {
@@ -111,7 +111,7 @@ opened-within ps new pid file told access P e here there q k o some =
     let is = open_if (ps.runs pid) (nat_lt (lowest_fd ps pid) most_descriptors) (with_descriptor ps pid (lowest_fd ps pid) (Some made)) new (lowest_fd ps pid) told e in
     opened_if ((q == pid) && (k == lowest_fd ps pid)) (ps.opened q k) o made P here (there q k o) (sym (ap (λ (x : Processes). x.opened q k) is) ∙ some)
 
--- a process that begins has nothing open
+-- a process that begins has no open descriptor
 abbrev begun : Processes → ℕ → Processes × Reply
 begun ps pid = (with_process ps pid true (λ fd. None), Done)
 
@@ -169,19 +169,19 @@ unfolding node_state
 spawn-within p e pid told is fits h =
     (fits, λ q fd o some. spawned-within ((processes p.processes).runs pid) (processes p.processes) (edited (processes p.processes) e) pid told (λ o. IsNumber p.shape.files o.file) is h.opened_in q fd o some)
 
--- what refers to a file of the shape goes on so after each call
+-- after each call the open descriptors are of files of the shape
 pub call-within : (p : NodeParts) (e : ProcessEdit) (pid : ℕ) (call : ProcessCall) (reply : Reply) → after (processes p.processes) pid call ≡ Ok (edited (processes p.processes) e, reply) → NamesFile (node_state p).shape.files call → ProcessFits p.processes e → IsNode p → TableFits p (OfProcessEdit e)
 call-within p e pid Spawn reply is named fits h = spawn-within p e pid reply is fits h
 call-within p e pid (Fork child) reply is named fits h = fork-within p e pid child reply is fits h
 call-within p e pid (Open file access) reply is named fits h = open-within p e pid file reply access is named fits h
 call-within p e pid (Dup fd) reply is named fits h = dup-within p e pid fd reply is fits h
 
--- what a node asks for contains what the call needs
+-- the desired range contains the required one
 pub desired-ends : (policy : Policy) (t : Token) (s : Range) → s.hi ≤ greatest → s.hi ≤ (desired policy t s).hi
 desired-ends Exact t s h = omega arith
 desired-ends Wide t s h = elim (holds_nothing t) as (λ b. s.hi ≤ (if b then whole else record { lo = s.lo; hi = greatest }).hi) [ true ↦ h | false ↦ h ]
 
--- the files of a node
+-- a file of the shape has a row
 pub file-within : (p : NodeParts) (file : ℕ) → IsNumber (node_state p).shape.files file → IsNode p → IsNumber (length p.files) file
 unfolding node_state
 file-within p file h is = subst (λ n. IsNumber n file) (sym is.files_in) h
@@ -198,13 +198,13 @@ node-blocker p c r own is x =
     let of_host : IsOfNode (held p.locks c.file) c.owner.node c.owner.incarnation = subst (λ n. IsOfNode (held p.locks c.file) c.owner.node n) (sym own.own.of_incarnation) of_node in
     is_lowest_blocker (held p.locks c.file) c.owner c.span c.mode r of_host own.span.ordered own.span.ends x
 
--- what a node gives up by the regions of its locks
+-- the answer to a revoke, by the regions of the node's locks
 pub node-gives : (p : NodeParts) (file : ℕ) (mode : Mode) (required desired : Range) (gives : GaveUp) → IsNode p → IsRevocable required desired → IsGivenUp (IsRegion (held p.locks file)) mode required desired gives → gives ≡ gave_up ((node_state p).table.locks file) (node_state p).node (node_state p).incarnation mode required desired
 unfolding node_state
 node-gives p file mode required desired gives is revocable given =
     gave_up_is_one (held p.locks file) p.node p.incarnation mode required desired gives (is.anchored.own.locks file) revocable given
 
--- what a lock call of a process is about
+-- a lock call that fails a test is refused
 pub target-refused : (p : NodeParts) (pid : ℕ) (need : Option Mode) (fd : ℕ) (kind : Kind) (segment : Result Range SpanError) (e : FdError) → resolved (processes p.processes) pid fd ≡ Err e → target_in (around (node_state p).table (process (node_state p) pid)) (process (node_state p) pid) need fd kind segment ≡ Err (fd_reply e)
 target-refused p pid need fd kind segment e h =
     ap (λ ps. target_in ps (process (node_state p) pid) need fd kind segment) (around-own p pid) ∙ target-err (processes p.processes) (process (node_state p) pid) need fd kind segment e h
@@ -222,7 +222,7 @@ target-file p pid fd opened (Ok t) is h same =
     let within = is.opened_in pid fd opened (resolved_ok ((processes p.processes).runs pid) ((processes p.processes).opened pid fd) (record { node = 0; incarnation = 0; pid = pid }) None OfProcess (Err Invalid) opened h).0 in
     subst (λ n. IsNumber p.shape.files n) (sym same) within
 
--- two nodes in one state
+-- two nodes are in the same state
 pub record IsSameState (p q : NodeParts) : Type 0 where
   pub shape : p.shape ≡ q.shape
   pub node : p.node ≡ q.node
@@ -249,7 +249,7 @@ same-state p q s = λ i. record {
   files = s.files i;
 }
 
--- the processes of a state
+-- the processes of the node in a state
 own_processes : NodeState → Processes
 own_processes s = s.table.on s.node s.incarnation
 

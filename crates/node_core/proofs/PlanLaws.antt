@@ -1,4 +1,4 @@
--- Planned steps.
+-- A planned step changes the node as the rule says.
 use Rattle.std.specs.Prelude.{◌≡◌, ℕ, ◌+◌, ◌<◌, ◌==◌, ◌&&◌, Bool, true, false, not, if◌then◌else◌, List, [], ◌∷◌, ◌++◌, All, length, Option, Some, Result, Ok, Err, IfOk, filter, refl}
 use Rattle.std.specs.declared.alloc.AllocError.{AllocError}
 use Rattle.std.proofs.Common.{arith, ap, sym, subst, ◌∙◌}
@@ -45,7 +45,7 @@ use Rattle.node_core.proofs.NodeLaws.{around-own}
 pub on : {A : Type 0} (b : Bool) (x y : A) → b ≡ true → (if b then x else y) ≡ x
 on b x y h = ap (λ (c : Bool). if c then x else y) h
 
--- a file that comes after those that are told stays as it is
+-- a file behind the ones for which a Freed is sent stays as it is
 told-other : (files : ℕ → FileState) (freed : List ℕ) (file : ℕ) → All (λ f. f < file) freed → files_told files freed file ≡ files file
 told-other files [] file below = refl
 told-other files (f ∷ more) file below =
@@ -54,12 +54,12 @@ told-other files (f ∷ more) file below =
     told-other (told files f) more file (All-tail (λ k. k < file) f more below)
     ∙ ap (λ (b : Bool). if b then record (files f) { owes_freed = false } else files file) (ne_eqb file f other)
 
--- one more file is told
+-- a Freed is sent for one more file
 pub told-push : (files : ℕ → FileState) (freed : List ℕ) (file : ℕ) → files_told files (freed ++ file ∷ []) ≡ told (files_told files freed) file
 told-push files [] file = refl
 told-push files (f ∷ more) file = told-push (told files f) more file
 
--- none that are told come after it
+-- the files for which a Freed is sent are still below the next number
 rises-more : (freed : List ℕ) (file : ℕ) → All (λ f. f < file) freed → All (λ f. f < file + 1) freed
 rises-more [] file rises = All-nil (λ f. f < file + 1)
 rises-more (f ∷ more) file rises =
@@ -71,7 +71,7 @@ owes-still : (p : NodeParts) (e : EffectFields) (file : ℕ) (b : Bool) → All 
 owes-still p e file b rises asked =
     ap (λ (f : FileState). f.owes_freed) (told-other (drafted p e.edit.draft).files e.edit.freed file rises) ∙ asked
 
--- the server hears
+-- the effect of a step that sends a Freed for one more file, which is owed
 pub told-effect : (p : NodeParts) (e : EffectFields) (file : ℕ) (r : Result EffectFields AllocError) → All (λ f. f < file) e.edit.freed → ((drafted p e.edit.draft).files file).owes_freed ≡ true → IfOk r (λ t. t ≡ record { edit = record e.edit { freed = e.edit.freed ++ file ∷ [] }; reply = e.reply; sends = e.sends ++ Freed file (host (node_state p)) ∷ [] }) → IfOk r (λ told. with_freed file (effect_of p e) ≡ effect_of p told)
 told-effect p e file (Err x) rises asked made = tt
 told-effect p e file (Ok t) rises asked made =
@@ -81,27 +81,27 @@ told-effect p e file (Ok t) rises asked made =
     ∙ ap hears (sym (told-push files e.edit.freed file))
     ∙ sym (ap (effect_of p) made)
 
--- so the change fits still
+-- a change still fits if it sends a Freed for one more file
 pub told-fits : (p : NodeParts) (e : EffectFields) (file : ℕ) (m : Message) (r : Result EffectFields AllocError) → PartsFit p e.edit → IsNumber (node_state p).shape.files file → IfOk r (λ t. t ≡ record { edit = record e.edit { freed = e.edit.freed ++ file ∷ [] }; reply = e.reply; sends = e.sends ++ m ∷ [] }) → IfOk r (λ t. PartsFit p t.edit)
 told-fits p e file m (Err x) fits within made = tt
 told-fits p e file m (Ok t) fits within made =
     subst (λ (x : EffectFields). PartsFit p x.edit) (sym made) (fits.0, fits.1, fits.2, All-push (IsNumber (node_state p).shape.files) e.edit.freed file fits.3 within)
 
--- and the files that are told rise
+-- the files for which a Freed is sent still rise
 pub told-rises : (e : EffectFields) (file : ℕ) (m : Message) (r : Result EffectFields AllocError) → All (λ f. f < file) e.edit.freed → IfOk r (λ t. t ≡ record { edit = record e.edit { freed = e.edit.freed ++ file ∷ [] }; reply = e.reply; sends = e.sends ++ m ∷ [] }) → IfOk r (λ t. All (λ f. f < file + 1) t.edit.freed)
 told-rises e file m (Err x) rises made = tt
 told-rises e file m (Ok t) rises made =
     let here : file < file + 1 = omega arith in
     subst (λ (x : EffectFields). All (λ f. f < file + 1) x.edit.freed) (sym made) (All-push (λ f. f < file + 1) e.edit.freed file (rises-more e.edit.freed file rises) here)
 
--- or it has no need to
+-- the effect of a step stays if no Freed is owed for the file
 pub told-nothing : (p : NodeParts) (e : EffectFields) (file : ℕ) → All (λ f. f < file) e.edit.freed → ((drafted p e.edit.draft).files file).owes_freed ≡ false → with_freed file (effect_of p e) ≡ effect_of p e
 told-nothing p e file rises asked =
     let files = (drafted p e.edit.draft).files in
     let heard : Effect = record { state = record (planned p e.edit) { files = told (files_told files e.edit.freed) file }; reply = e.reply; sends = e.sends ++ Freed file (host (node_state p)) ∷ [] } in
     ap (λ (b : Bool). if b then heard else effect_of p e) (owes-still p e file false rises asked)
 
--- what a step comes to
+-- the outcome of a planned step is the one of its effect
 pub outcome-planned : (p : NodeParts) (E : Effect) (e : EffectFields) (call : Option CallId) (change : Change) → E ≡ effect_of p e → change ≡ record { edit = e.edit; outcome = record { call = call; reply = e.reply; sends = e.sends } } → outcome call E ≡ (planned p change.edit, change.outcome)
 outcome-planned p E e call change is made = ap (outcome call) is ∙ sym (ap (λ (x : Change). (planned p x.edit, x.outcome)) made)
 
@@ -109,11 +109,11 @@ pub if-if : {A : Type 0} (b : Bool) (x y z : A) → (if b then x else (if b then
 if-if true x y z = refl
 if-if false x y z = refl
 
--- the parts once the edit is made
+-- the parts of a node after a change
 abbrev changed : NodeParts → ℕ → List ProcessEntry → TableParts → List OpenCall → List FileRow → NodeParts
 changed p calls rows locks pending files = record p { calls = calls; processes = rows; locks = locks; pending = pending; files = files }
 
--- what the edit leaves of the processes and the locks of a host
+-- the processes and locks of a host after a change
 abbrev pub Leaves : Host → List ProcessEntry → TableParts → TableEdit → List ProcessEntry → TableParts → Type 0
 Leaves h rows locks e rows_left locks_left = (on : ℕ → ℕ → Processes) → shown on h rows_left locks_left ≡ table_after h (shown on h rows locks) e
 
@@ -138,12 +138,12 @@ node-planned p e calls rows locks pending files counted made left known =
       files = known i;
     }
 
--- what is open is of files of the shape
+-- the open descriptors are of files of the shape before the change
 opened-before : (p : NodeParts) → IsNode p → (pid fd : ℕ) (o : Opened) → ((node_state p).table.on p.node p.incarnation).opened pid fd ≡ Some o → IsNumber p.shape.files o.file
 unfolding node_state
 opened-before p h pid fd o is = h.opened_in pid fd o (ap (λ (ps : Processes). ps.opened pid fd) (sym (around-own p 0)) ∙ is)
 
--- so it is once the edit is made
+-- the open descriptors are of files of the shape after the change
 opened-after : (p : NodeParts) (e : TableEdit) → TableFits p e → IsNode p → (pid fd : ℕ) (o : Opened) → ((table_after (host (node_state p)) (node_state p).table e).on p.node p.incarnation).opened pid fd ≡ Some o → IsNumber p.shape.files o.file
 unfolding node_state
 opened-after p Nothing fit h pid fd o is = opened-before p h pid fd o is
@@ -167,7 +167,7 @@ calls-edited p (Left pid number) fit h =
     let theirs : OpenCall → Bool = λ c. not (c.pid == pid) in
     All-filter (λ c. not (c.number == number)) (IsOwnCall p.shape.files p.node p.incarnation) (filter theirs p.pending) (All-filter theirs (IsOwnCall p.shape.files p.node p.incarnation) p.pending h.calls_in)
 
--- the node stays one
+-- the node is sound after a change that fits
 pub node-edited : (p : NodeParts) (e : Edit) (calls : ℕ) (rows : List ProcessEntry) (locks : TableParts) (pending : List OpenCall) (files : List FileRow) → pending ≡ pending_after p.pending e.calls → length files ≡ length p.files → node_state (changed p calls rows locks pending files) ≡ planned p e → Fits p e → IsNode p → IsNode (changed p calls rows locks pending files)
 unfolding node_state
 node-edited p e calls rows locks pending files left count is fit h = record {

@@ -1,4 +1,4 @@
--- What the lists of a node say.
+-- What the lists that a node gives say of its state.
 use Rattle.std.specs.Prelude.{◌≡◌, ℕ, zero, suc, ◌≤◌, ◌<◌, true, false, List, [], length, map, None}
 use Rattle.std.proofs.Common.{refl, ap, sym, subst, arith, ◌∙◌}
 use Rattle.std.proofs.lemmas.Bool.Decides.{nat_tests}
@@ -20,7 +20,7 @@ use Rattle.node_core.specs.State.{FileState, first_file}
 use Rattle.node_core.specs.Files.{state_or, file_state}
 use Rattle.node_core.specs.Parts.{NodeParts, node_state, IsNode}
 
--- no token has no runs
+-- the empty token has no runs
 pub no_runs : ListsRuns no_token []
 no_runs = record {
   each = All-nil (λ (r : Range × Level). IsRun no_token r.0 r.1);
@@ -28,7 +28,7 @@ no_runs = record {
   rises = λ i j d lt within. absurd (omega arith);
 }
 
--- nothing is known of a file outside
+-- nothing is known of a file that is not of the shape
 pub file_state-past : (files : List FileRow) (file : ℕ) → is_within (length files) file ≡ false → file_state files file ≡ first_file
 unfolding file_state
 file_state-past files zero outside = refl
@@ -36,29 +36,29 @@ file_state-past files (suc file) outside =
     let past : length files ≤ file = grind (arith, nat_tests, outside) in
     ap state_or (slice_get_past files file past)
 
--- so the node's token for it has no runs
+-- the node's token for a file that is not of the shape has no runs
 pub past_runs : (p : NodeParts) (file : ℕ) (runs : List (Range × Level)) → length p.files ≡ p.shape.files → is_within p.shape.files file ≡ false → runs ≡ [] → ListsRuns ((node_state p).files file).token runs
 unfolding node_state
 past_runs p file runs there outside none =
     let is = file_state-past p.files file (ap (λ (n : ℕ). is_within n file) there ∙ outside) in
     subst (λ (s : FileState). ListsRuns s.token runs) (sym is) (subst (ListsRuns no_token) (sym none) no_runs)
 
--- a file of the shape
+-- a file that passes the test is of the shape
 pub file_in_shape : (p : NodeParts) (file : ℕ) → is_within p.shape.files file ≡ true → IsNumber (node_state p).shape.files file
 unfolding node_state
 file_in_shape p file within = (grind (arith, nat_tests, within), grind (arith, nat_tests, within))
 
--- the node's locks are of its own
+-- the locks of a node are of its own owners
 pub node-owners : (p : NodeParts) (file : ℕ) → IsNode p → IsOfNode ((node_state p).table.locks file) (node_state p).node (node_state p).incarnation
 unfolding node_state
 node-owners p file n = n.anchored.own.locks file
 
--- and no lock of it outlives its descriptors
+-- no lock of a node outlives its descriptors
 pub node-anchored : (p : NodeParts) → IsNode p → IsAnchored (node_state p).table (node_state p).node (node_state p).incarnation
 unfolding node_state
 node-anchored p n = n.anchored.own.anchored
 
--- the list of a token's longest runs, as a report has them
+-- the list of a token's longest runs is the list that a report has
 pub reported_runs : (t : Token) (runs listed : List (Range × Level)) → ListsRuns t runs → ((b : ℕ) → greatest < b → t b ≡ None) → listed ≡ runs → map run_of listed ≡ runs_of t
 reported_runs t runs listed l ends same = ap (map run_of) same ∙ lists_runs_of t ends runs l.each l.complete l.rises
 

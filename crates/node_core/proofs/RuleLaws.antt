@@ -1,4 +1,4 @@
--- What the rule of a node comes to.
+-- What the rule of a node comes to, for its laws.
 use Rattle.std.specs.Prelude.{◌≡◌, ℕ, zero, suc, ◌+◌, ◌-◌, ◌≤◌, ◌<◌, Bool, true, false, not, ◌&&◌, ◌||◌, ◌==◌, nat_le, nat_lt, if◌then◌else◌, is_some, [], ◌∷◌, ◌++◌, Option, Some, None, Result, Ok, Err, IfOk, IsOkAnd, ℤ, pos, negsuc, refl}
 use Rattle.std.proofs.Common.{arith, ap, sym, ◌∙◌, subst}
 use Rattle.std.proofs.lemmas.Bool.{and_from, eq-eqb, le-leb, lt-ltb}
@@ -45,7 +45,7 @@ use Rattle.node_core.specs.Parts.{IsSpan}
 use Rattle.node_core.proofs.EpochLaws.{in_epoch-file}
 use Rattle.node_core.specs.Laws.{MayCall, CoveredSetIsDone, CoveredWaitIsDone, IsUntouched, InterruptChangesNothing, GivesUp, ClearRevokeGivesUp}
 
--- a branch that is taken
+-- a branch whose test holds is taken
 taken : {A : Type 0} (P : A → Type 0) (b : Bool) (x y : A) → b ≡ true → P x → P (if b then x else y)
 taken P true x y e h = h
 taken P false x y e h = absurd (cc)
@@ -58,7 +58,7 @@ not_taken : {A : Type 0} (P : A → Type 0) (b : Bool) (x y : A) → b ≡ false
 not_taken P false x y e h = h
 not_taken P true x y e h = absurd (cc)
 
--- what a segment is
+-- a valid segment is a span of bytes of a file
 span_if : (b : Bool) (s : Range) (e : SpanError) → (b ≡ true → IsSpan s) → IfOk (if b then Ok s else Err e) IsSpan
 span_if true s e h = h refl
 span_if false s e h = tt
@@ -76,7 +76,7 @@ seg-span (pos s) (negsuc n) = before (nat_le (suc n) s)
     before true = up_to-span (s - suc n) (s - 1) (omega arith)
     before false = tt
 
--- what a call is about: a lock of the process's node, on bytes of a file
+-- a lock call is about a lock of its process's node, on bytes of a file
 record IsAbout (p : Process) (t : LockTarget) : Type 0 where
   of_node : t.owner.node ≡ p.node
   of_incarnation : t.owner.incarnation ≡ p.incarnation
@@ -97,7 +97,7 @@ target-about : (t : Table) (p : Process) (need : Option Mode) (fd : ℕ) (kind :
 target-about t p need fd kind start len =
     about_if p (is_running t p) (target_at p need kind (descriptor t p fd) (seg start len)) (Err NoProcess) (target_at-about p need kind (descriptor t p fd) (seg start len) (seg-span start len)) tt
 
--- the server may hear more, the reply is the same
+-- an effect with a Freed has the same reply
 reply_if : (b : Bool) (x y : Effect) → x.reply ≡ y.reply → (if b then x else y).reply ≡ y.reply
 reply_if true x y e = e
 reply_if false x y e = refl
@@ -114,11 +114,11 @@ locked_by-reply s number t mode =
 lock_within-done : (t : Table) (c : LockTarget) (mode : Option Mode) → regions_with t c mode ≤ t.limit → (lock_within t c mode).1 ≡ Done
 lock_within-done t c mode h = taken (λ (a : Table × Reply). a.1 ≡ Done) (nat_le (regions_with t c mode) t.limit) (locked t c mode, Done) (t, NoLocks) (le-leb _ _ h) refl
 
--- what asks for a lock that the node's own table then gives
+-- the call asks for a lock that the node's own table can give
 abbrev Locks : LockCommand → Type 0
 Locks its = (s : NodeState) (c : OpenCall) → answered_here s c its ≡ locked_by s c.number (target_of c) (Some c.mode)
 
--- a call within the node's token that nothing is in the way of
+-- a call that no lock blocks and the token covers is answered Done
 tried-done : (s : NodeState) (c : OpenCall) (r : Option LockInfo) → r ≡ None → Locks c.lock_command → covers (s.files c.file).token c.span c.mode ≡ true → regions_with s.table (target_of c) (Some c.mode) ≤ s.table.limit → (tried_against s c r).reply ≡ Some (id_of s c.number, Done)
 tried-done s c r none locks covered few =
     ap (λ (r : Option LockInfo). (tried_against s c r).reply) none
@@ -127,7 +127,7 @@ tried-done s c r none locks covered few =
     ∙ locked_by-reply s c.number (target_of c) (Some c.mode)
     ∙ ap (λ (a : Reply). Some (id_of s c.number, a)) (lock_within-done s.table (target_of c) (Some c.mode) few))
 
--- so such a call for a lock is answered Done
+-- a new lock call that no lock blocks and the token covers is answered Done
 lock_call-done : (s : NodeState) (number pid : ℕ) (its : LockCommand) (fd : ℕ) (kind : Kind) (mode : Mode) (start len : ℤ) (t : LockTarget) → Locks its → target s.table (process s pid) (Some mode) fd kind start len ≡ Ok t → IsOfNode (s.table.locks t.file) s.node s.incarnation → IsFree (s.table.locks t.file) t.owner t.span mode → covers (s.files t.file).token t.span mode ≡ true → regions_with s.table t (Some mode) ≤ s.table.limit → (lock_call s number pid its mode (target s.table (process s pid) (Some mode) fd kind start len)).reply ≡ Some (id_of s number, Done)
 lock_call-done s number pid its fd kind mode start len t locks is own free covered few =
     let about : IsAbout (process s pid) t = subst (λ (r : Result LockTarget Reply). IfOk r (IsAbout (process s pid))) is (target-about s.table (process s pid) (Some mode) fd kind start len) in
@@ -159,7 +159,7 @@ covered_wait_is_done s pid fd kind mode start len t may is own free covered few 
     let done = lock_call-done (record s { calls = s.calls + 1 }) (s.calls + 1) pid lock_command.Wait fd kind mode start len t locks is own free covered few in
     call-taken s pid (Wait fd kind mode start len) (λ r. r.1.reply ≡ Some (id_of s (s.calls + 1), Done)) may refl refl done
 
--- a call that is answered or stays open
+-- an effect of a reply, or of none, leaves processes, locks and tokens
 answered_if-untouched : (s : NodeState) (number : ℕ) (x : Option Reply) → IsUntouched s (outcome None (answered_if s number x))
 answered_if-untouched s number None = record { table = refl; files = refl; silent = refl }
 answered_if-untouched s number (Some reply) = record { table = refl; files = refl; silent = refl }
@@ -173,7 +173,7 @@ interrupt_changes_nothing s pid within =
     taken (λ (r : Result (NodeState × Outcome) StepError). IsOkAnd r (IsUntouched s)) (is_pid pid) (Ok (outcome None (interrupted s (open_call_of s pid)))) (Err Stranger) (and_from _ _ (le-leb _ _ within.0) (le-leb _ _ within.1)) (
     interrupted-untouched s (open_call_of s pid))
 
--- a lowered level is in nobody's way
+-- a lowered level conflicts with no lock of the mode
 lowered_level-apart : (x : Option Level) (mode : Mode) → level_conflicts (lowered_level x mode) mode ≡ false
 lowered_level-apart x Write = refl
 lowered_level-apart None Read = refl
@@ -190,7 +190,7 @@ gives-apart h node incarnation t mode required desired (Released s) own order cl
     within : (b : ℕ) → required.lo ≤ b → b < required.lo + (required.hi + 1 - required.lo) → is_in s b ≡ true
     within b above below = and_from _ _ (le-leb s.lo b (let k : s.lo ≤ required.lo = given.1.has_first in omega arith)) (le-leb b s.hi (let k : required.hi ≤ s.hi = given.1.has_last in omega arith))
 
--- where nothing is in the way a span around the required bytes is given up
+-- the answer to a revoke gives up a span around the required bytes
 record IsReleased (required : Range) (gives : GaveUp) : Type 0 where
   span : Range
   is : gives ≡ Released span

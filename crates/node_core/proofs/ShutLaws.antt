@@ -1,4 +1,4 @@
--- Calls by which a process closes descriptors.
+-- The effects of calls by which a process closes descriptors.
 use Rattle.std.specs.Prelude.{◌≡◌, ℕ, zero, suc, ◌+◌, ◌≤◌, ◌<◌, ◌==◌, Bool, true, false, if◌then◌else◌, Option, None, Ok, Err, refl}
 use Rattle.std.proofs.Common.{arith, ap, sym, ◌∙◌, inl, inr}
 use Rattle.std.proofs.lemmas.Bool.{cases_eq, eq-eqb, ne_eqb}
@@ -23,7 +23,7 @@ use Rattle.node_core.specs.Parts.{NodeParts, node_state, IsNode}
 use Rattle.node_core.specs.Plans.{numbered, table_after}
 use Rattle.node_core.proofs.NodeLaws.{around-own}
 
--- the one file that passes is told, if it is among those up to n
+-- if one file passes, a Freed is sent for it if it is among the files up to n
 freed-none : (file n : ℕ) (e : Effect) → n < file → with_freed_of (λ f. file == f) n e ≡ e
 unfolding with_freed_of
 freed-none file zero e past = refl
@@ -46,7 +46,7 @@ freed-one file (suc n) e low high =
       | inr other ↦ ap next (ne_eqb file (suc n) other) ∙ freed-one file n e low (omega arith)
     ]
 
--- the files up to one more
+-- a Freed is sent for the files up to one more
 pub freed-more : (passes : ℕ → Bool) (n : ℕ) (e before : Effect) → with_freed_of passes n e ≡ before → with_freed_of passes (n + 1) e ≡ (if passes (n + 1) then with_freed (n + 1) before else before)
 unfolding with_freed_of
 freed-more passes n e before is =
@@ -59,7 +59,7 @@ pub freed-zero : (passes : ℕ → Bool) (e : Effect) → with_freed_of passes 0
 unfolding with_freed_of
 freed-zero passes e = refl
 
--- no server hears of a call that is refused
+-- no Freed is sent for a call that is refused
 not-freed : (s : NodeState) (number : ℕ) (passes : ℕ → Bool) (t : Table) (r : Reply) → may_free None r ≡ false → shut_by s number passes (t, r) ≡ settled s number (t, r)
 not-freed s number passes t r none =
     ap (λ (b : Bool). if b then with_freed_of passes s.shape.files (settled s number (t, r)) else settled s number (t, r)) none
@@ -68,7 +68,7 @@ fd-frees : (e : FdError) → may_free None (fd_reply e) ≡ false
 fd-frees NoProcess = refl
 fd-frees BadFd = refl
 
--- a close that is refused
+-- the effect of a close that is refused
 pub close-refused : (p : NodeParts) (pid fd : ℕ) (e : FdError) → resolved (processes p.processes) pid fd ≡ Err e → called (numbered (node_state p)) ((node_state p).calls + 1) pid (op.Close fd) ≡ settled (numbered (node_state p)) ((node_state p).calls + 1) ((node_state p).table, fd_reply e)
 close-refused p pid fd e is =
     let s = node_state p in
@@ -79,7 +79,7 @@ close-refused p pid fd e is =
     ap (shut_by (numbered s) (s.calls + 1) passes) (refused_there t q fd (is_running t q) (descriptor t q fd) e found)
     ∙ not-freed (numbered s) (s.calls + 1) passes t (fd_reply e) (fd-frees e)
 
--- a close that is done
+-- the effect of a close that is done
 pub close-found : (p : NodeParts) (pid fd : ℕ) (o : Opened) → resolved (processes p.processes) pid fd ≡ Ok o → IsNumber (node_state p).shape.files o.file → called (numbered (node_state p)) ((node_state p).calls + 1) pid (op.Close fd) ≡ with_freed o.file (settled (numbered (node_state p)) ((node_state p).calls + 1) (table_after (host (node_state p)) (node_state p).table (Closes pid fd), Done))
 close-found p pid fd o is within =
     let s = node_state p in
@@ -95,33 +95,33 @@ close-found p pid fd o is within =
 runs-own : (p : NodeParts) (pid : ℕ) (b : Bool) → (processes p.processes).runs pid ≡ b → is_running (node_state p).table (process (node_state p) pid) ≡ b
 runs-own p pid b is = ap (λ (ps : Processes). ps.runs pid) (around-own p pid) ∙ is
 
--- what an exit comes to
+-- the effect of an exit, by whether the process runs
 abbrev exit-answered : NodeState → ℕ → Bool → Effect
 exit-answered s pid b =
     shut_by (without_call_of (numbered s) pid) (s.calls + 1) (has_open (around s.table (process s pid)) pid) (if b then (exited s.table (process s pid), Done) else (s.table, reply.NoProcess))
 
--- an exit that is done, before servers hear
+-- the effect of an exit that is done, before a Freed is sent
 abbrev pub exit-effect : NodeState → ℕ → Effect
 exit-effect s pid = settled (without_call_of (numbered s) pid) (s.calls + 1) (table_after (host s) s.table (Exits pid), Done)
 
--- an exit that is refused
+-- the effect of an exit that is refused
 pub exit-refused : (p : NodeParts) (pid : ℕ) → (processes p.processes).runs pid ≡ false → called (numbered (node_state p)) ((node_state p).calls + 1) pid op.Exit ≡ settled (without_call_of (numbered (node_state p)) pid) ((node_state p).calls + 1) ((node_state p).table, reply.NoProcess)
 exit-refused p pid stopped = ap (exit-answered (node_state p) pid) (runs-own p pid false stopped)
 
--- an exit that is done
+-- the effect of an exit that is done
 pub exit-done : (p : NodeParts) (pid : ℕ) → (processes p.processes).runs pid ≡ true → called (numbered (node_state p)) ((node_state p).calls + 1) pid op.Exit ≡ with_freed_of (has_open (processes p.processes) pid) (node_state p).shape.files (exit-effect (node_state p) pid)
 exit-done p pid runs =
     ap (exit-answered (node_state p) pid) (runs-own p pid true runs)
     ∙ ap (λ (ps : Processes). with_freed_of (has_open ps pid) (node_state p).shape.files (exit-effect (node_state p) pid)) (around-own p pid)
 
--- what a descriptor refers to is of a file of the shape
+-- an open descriptor is of a file of the shape
 pub opened-within-shape : (p : NodeParts) (pid fd : ℕ) (o : Opened) → IsNode p → resolved (processes p.processes) pid fd ≡ Ok o → IsNumber (node_state p).shape.files o.file
 unfolding node_state
 opened-within-shape p pid fd o node is =
     let there = found_there ((processes p.processes).runs pid) ((processes p.processes).opened pid fd) o is in
     node.opened_in pid fd o there.1
 
--- the files of the shape, one after the other
+-- each number up to the number of files is of a file of the shape
 pub next-file : (p : NodeParts) (n count : ℕ) → count ≡ p.shape.files → n < count → IsNumber (node_state p).shape.files (n + 1)
 unfolding node_state
 next-file p n count is below = (omega arith, let at = is in omega arith)

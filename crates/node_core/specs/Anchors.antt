@@ -1,4 +1,4 @@
--- No lock of a node outlives its descriptors.
+-- No lock of a node outlives its descriptors, and no open call outlives its own.
 use Rattle.std.specs.Prelude.{◌≡◌, ℕ, List, All, Some}
 use Rattle.model.specs.declared.owner.Kind.{Kind}
 use Rattle.model.specs.declared.opened.Opened.{Opened}
@@ -9,7 +9,7 @@ use Rattle.fcntl_table.specs.Targets.{IsSpan}
 use Rattle.node_core.specs.declared.open_call.OpenCall.{OpenCall}
 use Rattle.node_core.specs.State.{NodeState}
 
--- an open call: its process has a descriptor of the file, on which the lock would hang
+-- an open call has a descriptor of its process for the file, on which its lock would depend
 pub record Waits (t : Table) (node incarnation : ℕ) (c : OpenCall) : Type 0 where
   pub pid_in : IsNumber most_processes c.pid
   pub kind : Kind
@@ -20,7 +20,7 @@ pub record Waits (t : Table) (node incarnation : ℕ) (c : OpenCall) : Type 0 wh
   pub owner : owner_of (record { node = node; incarnation = incarnation; pid = c.pid }) kind opened ≡ c.owner
   pub span : IsSpan c.span
 
--- the table is the node's own, no lock in it outlives its descriptors, and no open call its descriptor
+-- the table is the node's own, no lock in it outlives its descriptors, and each open call has its descriptor
 pub record AreAnchored (t : Table) (node incarnation : ℕ) (calls : List OpenCall) : Type 0 where
   pub own : IsOwn t node incarnation
   pub waiting : All (Waits t node incarnation) calls

@@ -1,4 +1,4 @@
--- A node takes a call of one of its processes.
+-- How a node takes a call of one of its processes.
 use Rattle.std.specs.Prelude.{ℕ, ◌+◌, Bool, true, false, not, ◌&&◌, nat_lt, if◌then◌else◌, [], ◌∷◌, ◌++◌, is_some, Some, None, Result, Ok, Err}
 use Rattle.model.specs.declared.mode.Mode.{Mode}
 use Rattle.model.specs.declared.op.Op.{Op}
@@ -18,34 +18,34 @@ use Rattle.node_core.specs.declared.open_call.OpenCall.{OpenCall}
 use Rattle.node_core.specs.State.{NodeState, Effect, answered, without_call_of, open_call_of, process, id_of, outcome}
 use Rattle.node_core.specs.Try.{settled, may_free, with_freed_of, locked_by, tried}
 
--- the number is one of a process
+-- whether the number is one that a process can have
 abbrev pub is_pid : ℕ → Bool
 is_pid pid = is_within most_processes pid
 
--- the file that the operation names is of the shape, and the process is one that a node can have
+-- whether the file or the process that the operation names is in range
 abbrev pub is_in_shape : ShapeFields → Op → Bool
 is_in_shape shape (Fork child) = is_pid child
 is_in_shape shape (Open file access) = is_within shape.files file
 is_in_shape shape _ = true
 
--- a call about a lock that passes its first tests is open, and is tried
+-- a lock call that passes its first tests is open, and is tried; else it is answered
 abbrev pub lock_call : NodeState → ℕ → ℕ → LockCommand → Mode → Result LockTarget Reply → Effect
 lock_call s number pid lock_command mode (Err refusal) = answered s number refusal
 lock_call s number pid lock_command mode (Ok target) =
     let c : OpenCall = record { number = number; pid = pid; lock_command = lock_command; file = target.file; owner = target.owner; mode = mode; span = target.span } in
     tried (record s { pending = s.pending ++ c ∷ [] }) c
 
--- the bytes are freed, if the call passes its first tests
+-- the bytes are freed, if the call passes its first tests; then it is answered
 abbrev pub unlock_call : NodeState → ℕ → Result LockTarget Reply → Effect
 unlock_call s number (Err refusal) = answered s number refusal
 unlock_call s number (Ok target) = locked_by s number target None
 
--- descriptors of the files that pass are closed: the servers hear that locks may be gone
+-- the answer to a call that closes descriptors of the files that pass: if it is done, a Freed is sent for each of these files that is owed one
 abbrev pub shut_by : NodeState → ℕ → (ℕ → Bool) → Table × Reply → Effect
 shut_by s number passes answer =
     if may_free None answer.1 then with_freed_of passes s.shape.files (settled s number answer) else settled s number answer
 
--- the call with that number: all but set, wait and query are answered in the same step
+-- the effect of the call with that number: all calls but set, wait and query are answered in the same step
 abbrev pub called : NodeState → ℕ → ℕ → Op → Effect
 called s number pid Spawn = settled s number (beside s.table (process s pid) (after_spawn (around s.table (process s pid)) pid))
 called s number pid (Fork child) = settled s number (beside s.table (process s pid) (after_fork (around s.table (process s pid)) pid child))
@@ -58,11 +58,11 @@ called s number pid (Wait fd kind mode start len) = lock_call s number pid lock_
 called s number pid (Unlock fd kind start len) = unlock_call s number (target s.table (process s pid) None fd kind start len)
 called s number pid (Query fd kind mode start len) = lock_call s number pid lock_command.Query mode (target s.table (process s pid) None fd kind start len)
 
--- the call takes the next number
+-- the step of a new call, which takes the next number
 abbrev pub after_call : NodeState → ℕ → Op → NodeState × Outcome
 after_call s pid op = outcome (Some (id_of s (s.calls + 1))) (called (record s { calls = s.calls + 1 }) (s.calls + 1) pid op)
 
--- the call locks bytes, at once or when no lock is in the way any more
+-- whether the operation sets a lock, at once or as soon as no lock is in the way
 abbrev pub is_set : Op → Bool
 is_set (Set fd kind mode start len) = true
 is_set (Wait fd kind mode start len) = true
@@ -72,11 +72,11 @@ abbrev pub is_exit : Op → Bool
 is_exit Exit = true
 is_exit _ = false
 
--- the process waits for an answer, and the call is none that it may make then: it may exit
+-- whether the process waits for a reply and may not make this call; it may always exit
 abbrev pub is_busy : NodeState → ℕ → Op → Bool
 is_busy s pid op = not (is_exit op) && is_some (open_call_of s pid)
 
--- a process has at most one open call
+-- the rule of calls: each process has one open call at most
 abbrev pub call_rule : NodeState → ℕ → Op → Result (NodeState × Outcome) StepError
 call_rule s pid op =
     if not (is_pid pid && is_in_shape s.shape op) then Err Stranger

@@ -1,4 +1,4 @@
--- A node takes a message of a token server.
+-- How a node takes a message of a token server.
 use Rattle.std.specs.Prelude.{ℕ, ◌+◌, Bool, true, false, not, ◌&&◌, ◌||◌, ◌==◌, nat_le, nat_lt, if◌then◌else◌, ◌∷◌, Option, Some, None, Result, Ok, Err}
 use Rattle.intervals.specs.Bytes.{Range}
 use Rattle.model.specs.declared.mode.Mode.{Mode}
@@ -25,7 +25,7 @@ use Rattle.messages.specs.Reports.{runs_of}
 use Rattle.node_core.specs.State.{FileState, NodeState, Effect, with_file, quiet, sent, host, outcome, open_call}
 use Rattle.node_core.specs.Try.{refusal_of, answered_if, tried_if}
 
--- a command of a later epoch than the last is the first that the node hears of its server: commands of older epochs and the answer to the last count no longer
+-- the file in the epoch of a command: if that is later than the last command's, older commands and the remembered answer don't count any longer
 abbrev pub renewed : FileState → ℕ → FileState
 renewed f number = if nat_lt f.last (begin_of number) then record f { last = begin_of number; answer = None } else f
 
@@ -37,7 +37,7 @@ abbrev pub remembered : NodeState → Option Message → Effect
 remembered s None = quiet s
 remembered s (Some answer) = sent s answer
 
--- commands are done in the order of their numbers, each once; the last one is answered again
+-- commands are done in order of their numbers, each once; the last one that was done is answered again, any other does nothing
 abbrev pub in_order : NodeState → ℕ → ℕ → Effect → Effect
 in_order s file number effect =
     if number == (s.files file).last + 1 then effect
@@ -47,43 +47,43 @@ in_order s file number effect =
 abbrev pub before : Message → Effect → Effect
 before first e = record { state = e.state; reply = e.reply; sends = first ∷ e.sends }
 
--- the command is done: the file has this token from now on, and this is the answer
+-- a command is done: the file has this token, number, answer and owed Freed from now on
 abbrev pub after_command : NodeState → ℕ → Token → ℕ → Message → Bool → NodeState
 after_command s file token number answer owes_freed = with_file s file (record { token = token; last = number; answer = Some answer; owes_freed = owes_freed })
 
--- the token is raised, and the call that it was for is tried if it is still open
+-- a grant is done: the token is raised, and the call that it is for is tried if it is still open
 abbrev pub granted : NodeState → ℕ → ℕ → CallId → Mode → Range → Effect
 granted s file number call mode span =
     let next = after_command s file (raised (s.files file).token span mode) number (Taken file number call) (s.files file).owes_freed in
     before (Taken file number call) (tried_if next (open_call next call.number))
 
--- the answer to a revoke
+-- the answer to a revoke, as a message
 abbrev pub answer_to : ℕ → ℕ → Host → CallId → GaveUp → Message
 answer_to file number holder call (Released span) = message.Released file number holder call span
 answer_to file number holder call (Conflict lock) = message.Conflict file number holder call lock
 
--- a lock was named in the way
+-- whether the answer names a lock in the way
 abbrev pub is_conflict : GaveUp → Bool
 is_conflict (Released span) = false
 is_conflict (Conflict lock) = true
 
--- the token is given up as far as no lock is in the way; a lock in the way of what is required is named
+-- a revoke is done: a lock in the way of the required bytes is named; without one the token is given up around them, as far as no lock is in the way
 abbrev pub revoked : NodeState → ℕ → ℕ → CallId → Mode → Wants → Effect
 revoked s file number call mode wanted =
     let gives = gave_up (s.table.locks file) s.node s.incarnation mode wanted.required wanted.desired in
     let answer = answer_to file number (host s) call gives in
     sent (after_command s file (after_giving_up (s.files file).token mode gives) number answer (is_conflict gives || (s.files file).owes_freed)) answer
 
--- an open call is answered with the lock in its way; one that waits stays open
+-- a denial: an open call is answered with the lock in its way; a wait stays open
 abbrev pub denied : NodeState → LockInfo → Option OpenCall → Effect
 denied s lock None = quiet s
 denied s lock (Some c) = answered_if s c.number (refusal_of c.lock_command lock)
 
--- a server that was rebuilt hears which token the node has, as long as no command of its epoch is done
+-- a hello of a rebuilt server: the token is reported, as long as no command of the server's epoch is done
 abbrev pub told : NodeState → ℕ → ℕ → Effect
 told s file number = if number == (s.files file).last then sent s (Report file number (host s) (runs_of (s.files file).token)) else quiet s
 
--- a command, or a server's greeting, in the epoch that it is of
+-- the effect of a grant, a revoke or a hello, in the epoch that it is of
 abbrev pub done_in : NodeState → Message → Effect
 done_in s (Grant file number call mode span) = in_order s file number (granted s file number call mode span)
 done_in s (Revoke file number holder call mode wanted) = in_order s file number (revoked s file number call mode wanted)
@@ -101,7 +101,7 @@ abbrev pub is_node : ℕ → Actor → Bool
 is_node node (ANode n) = n == node
 is_node node (AServer file) = false
 
--- a message for another incarnation of the node does nothing
+-- the rule of messages: a message for another incarnation of the node does nothing
 abbrev pub deliver_rule : NodeState → Message → Result (NodeState × Outcome) StepError
 deliver_rule s m =
     if not (is_node s.node (addressee m) && is_within s.shape.files (file_of m)) then Err Stranger

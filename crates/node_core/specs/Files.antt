@@ -1,4 +1,4 @@
--- What a node knows of its files.
+-- What the rows of a node say of its files.
 use Rattle.std.specs.Prelude.{ℕ, zero, suc, List, Option, Some, None}
 use Rattle.std.specs.List.{slice_get}
 use Rattle.token_set.specs.Sets.{token_of}
@@ -14,7 +14,7 @@ abbrev pub state_or : Option FileRow → FileState
 state_or None = first_file
 state_or (Some r) = state_of r
 
--- what the rows say of each file: the first of them of file 1
+-- what the rows say of each file; the first row is of file 1
 unfoldable pub file_state : List FileRow → ℕ → FileState
 file_state rows zero = first_file
 file_state rows (suc file) = state_or (slice_get rows file)

@@ -1,4 +1,4 @@
--- A node interrupts the wait of a process.
+-- How a node interrupts the wait of a process.
 use Rattle.std.specs.Prelude.{ℕ, if◌then◌else◌, Option, Some, None, Result, Ok, Err}
 use Rattle.model.specs.declared.reply.Reply.{Reply}
 use Rattle.model.specs.declared.reply.Reply.TheVariants.{Interrupted}
@@ -12,12 +12,12 @@ use Rattle.node_core.specs.State.{NodeState, Effect, open_call_of, outcome, quie
 use Rattle.node_core.specs.Try.{answered_if}
 use Rattle.node_core.specs.Calls.{is_pid}
 
--- what an interrupt answers: a call that waits alone
+-- the reply to an interrupt; none unless the call is a wait
 abbrev pub interruption_of : LockCommand → Option Reply
 interruption_of Wait = Some Interrupted
 interruption_of _ = None
 
--- POSIX.1-2017 fcntl(), EINTR: a call that waits is answered and open no longer; to another, or to none, nothing happens
+-- POSIX.1-2017 fcntl(), EINTR: a call that waits is answered and open no longer; nothing happens to any other call
 abbrev pub interrupted : NodeState → Option OpenCall → Effect
 interrupted s None = quiet s
 interrupted s (Some c) = answered_if s c.number (interruption_of c.lock_command)

@@ -20,13 +20,13 @@ use Rattle.node_core.specs.State.{NodeState, host, process, id_of, open_call_of}
 use Rattle.node_core.specs.Commands.{renewed}
 use Rattle.node_core.specs.Node.{node_rule}
 
--- the process may call: it is one of the node, it has no open call, and a number is left
+-- the process may make a call: its number is in range, it has no open call, and a call number is left
 pub record MayCall (s : NodeState) (pid : ℕ) : Type 0 where
   pub pid_in : IsNumber most_processes pid
   pub idle : open_call_of s pid ≡ None
   pub left : s.calls < greatest_number
 
--- a set that no lock of another owner of the node blocks, whose bytes the token covers, and that leaves its owner within the limit of regions, is answered Done in its own step
+-- a set that no lock of the node blocks and the token covers is answered Done in its own step, if its owner stays within the limit of regions
 abbrev pub CoveredSetIsDone : Type 0
 CoveredSetIsDone =
     (s : NodeState) (pid fd : ℕ) (kind : Kind) (mode : Mode) (start len : ℤ) (t : LockTarget)
@@ -38,7 +38,7 @@ CoveredSetIsDone =
     → regions_with s.table t (Some mode) ≤ s.table.limit
     → IsOkAnd (node_rule s (Call pid (Set fd kind mode start len))) (λ r. r.1.reply ≡ Some (id_of s (s.calls + 1), Done))
 
--- and so is a wait
+-- a wait that no lock of the node blocks and the token covers is answered Done in its own step, if its owner stays within the limit of regions
 abbrev pub CoveredWaitIsDone : Type 0
 CoveredWaitIsDone =
     (s : NodeState) (pid fd : ℕ) (kind : Kind) (mode : Mode) (start len : ℤ) (t : LockTarget)
@@ -50,17 +50,17 @@ CoveredWaitIsDone =
     → regions_with s.table t (Some mode) ≤ s.table.limit
     → IsOkAnd (node_rule s (Call pid (Wait fd kind mode start len))) (λ r. r.1.reply ≡ Some (id_of s (s.calls + 1), Done))
 
--- processes, locks and tokens are as they were, and nobody hears of it
+-- the step leaves processes, locks and tokens as they were, and sends nothing
 pub record IsUntouched (s : NodeState) (r : NodeState × Outcome) : Type 0 where
   pub table : r.0.table ≡ s.table
   pub files : r.0.files ≡ s.files
   pub silent : r.1.sends ≡ []
 
--- an interrupt changes nothing but which calls are open
+-- an interrupt changes only which calls are open
 abbrev pub InterruptChangesNothing : Type 0
 InterruptChangesNothing = (s : NodeState) (pid : ℕ) → IsNumber most_processes pid → IsOkAnd (node_rule s (Interrupt pid)) (IsUntouched s)
 
--- the one answer to a revoke gives up a span around the required bytes, and none of these is in the way of the mode in the node's token any more
+-- the one answer gives up a span around the required bytes, none of which then conflicts with the mode in the node's token
 pub record GivesUp (s : NodeState) (file number : ℕ) (call : CallId) (mode : Mode) (required : Range) (r : NodeState × Outcome) : Type 0 where
   pub span : Range
   pub has_first : span.lo ≤ required.lo
@@ -68,7 +68,7 @@ pub record GivesUp (s : NodeState) (file number : ℕ) (call : CallId) (mode : M
   pub answer : r.1.sends ≡ Released file number (host s) call span ∷ []
   pub clear : conflicts (r.0.files file).token required mode ≡ false
 
--- a revoke that is next in order in its epoch, where no lock of the node excludes the mode on the required bytes, is answered by giving them up
+-- a revoke that is next in order, and whose mode no lock of the node excludes on the required bytes, is answered by giving them up
 abbrev pub ClearRevokeGivesUp : Type 0
 ClearRevokeGivesUp =
     (s : NodeState) (file number : ℕ) (call : CallId) (mode : Mode) (wanted : Wants)

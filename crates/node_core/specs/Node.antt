@@ -10,7 +10,7 @@ use Rattle.node_core.specs.Commands.{deliver_rule}
 use Rattle.node_core.specs.Interrupts.{interrupt_rule}
 use Rattle.node_core.specs.Retries.{retry_rule}
 
--- what a node does at an event, or why it refuses it
+-- the rule of a node: its step at an event, or the reason for which the event is refused
 abbrev pub node_rule : NodeState → NodeEvent → Result (NodeState × Outcome) StepError
 node_rule s (Call pid op) = call_rule s pid op
 node_rule s (Deliver m) = deliver_rule s m

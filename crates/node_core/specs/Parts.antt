@@ -1,4 +1,4 @@
--- What a node is made of, and the state that it is.
+-- The parts that the code keeps of a node, and the state that they stand for.
 use Rattle.std.specs.Prelude.{◌≡◌, ℕ, Bool, ◌&&◌, ◌||◌, ◌==◌, nat_le, if◌then◌else◌, List, All, length, Some}
 use Rattle.intervals.specs.Bytes.{Range}
 use Rattle.model.specs.declared.opened.Opened.{Opened}
@@ -58,14 +58,14 @@ node_state p = record {
   files = file_state p.files;
 }
 
--- what each open call keeps
+-- what holds of each open call: its number and file are in range, and it is about a lock of its node on bytes of a file
 pub record IsOwnCall (files node incarnation : ℕ) (c : OpenCall) : Type 0 where
   pub number_in : IsNumber greatest_number c.number
   pub file_in : IsNumber files c.file
   pub own : IsOwn node incarnation c.owner
   pub span : IsSpan c.span
 
--- what each node keeps
+-- what holds of each node: its numbers are in range, its locks and open calls have their descriptors, and all files are of the shape
 pub record IsNode (p : NodeParts) : Type 0 where
   pub host : IsHost p.node p.incarnation
   pub anchored : AreAnchored (table_of p) p.node p.incarnation p.pending
@@ -73,7 +73,7 @@ pub record IsNode (p : NodeParts) : Type 0 where
   pub opened_in : (pid fd : ℕ) (o : Opened) → (processes p.processes).opened pid fd ≡ Some o → IsNumber p.shape.files o.file
   pub calls_in : All (IsOwnCall p.shape.files p.node p.incarnation) p.pending
 
--- what a call of the process on processes and descriptors makes of the table, and its answer
+-- the table after a call that concerns only processes and descriptors, with the reply
 abbrev pub asked : NodeState → ℕ → ProcessCall → Table × Reply
 asked s pid call = beside s.table (process s pid) (after (around s.table (process s pid)) pid call)
 
@@ -82,28 +82,28 @@ abbrev pub NamesFile : ℕ → ProcessCall → Type 0
 NamesFile files (Open file access) = IsNumber files file
 NamesFile files _ = Unit {0}
 
--- the message is for this node, and about a file of the shape
+-- whether the message is for this node, and about a file of the shape
 abbrev pub is_for : NodeState → Message → Bool
 is_for s m = is_node s.node (addressee m) && is_within s.shape.files (file_of m)
 
--- what each open call of the node keeps
+-- what holds of each open call of the node
 abbrev pub IsCallOf : NodeState → OpenCall → Type 0
 IsCallOf s c = IsOwnCall s.shape.files s.node s.incarnation c
 
--- what the grant makes of the node's knowledge of the file
+-- the file after a grant is done
 abbrev pub granted_file : FileState → Command → Range → FileState
 granted_file f c span = record { token = raised f.token span c.mode; last = c.number; answer = Some (Taken c.file c.number c.call); owes_freed = f.owes_freed }
 
--- what the revoke makes of it, where the holder gives this up
+-- the file after a revoke is done, with the holder's answer
 abbrev pub revoked_file : FileState → Command → Host → GaveUp → FileState
 revoked_file f c holder gives =
     record { token = after_giving_up f.token c.mode gives; last = c.number; answer = Some (answer_to c.file c.number holder c.call gives); owes_freed = is_conflict gives || f.owes_freed }
 
--- a command that is not the next one: the last one done is answered again, others do nothing
+-- a command that isn't the next one: the last one that was done is answered again, any other does nothing
 abbrev pub out_of_order : NodeState → ℕ → ℕ → Effect
 out_of_order s file number = if (number == (s.files file).last) && nat_le 1 number then remembered s (s.files file).answer else quiet s
 
--- the node after a command
+-- the node after a grant is done
 abbrev pub after_grant : NodeState → Command → Range → NodeState
 after_grant s c span = with_file s c.file (granted_file (s.files c.file) c span)
 

@@ -1,4 +1,4 @@
-//! Answers to commands of token servers.
+//! The answers to commands of token servers.
 ghost use Rattle.std.specs.Prelude.{◌≡◌};
 ghost use Rattle.node_core.specs.Answers.{message_of};
 
@@ -9,16 +9,16 @@ use model::call::CallId;
 use model::host::Host;
 use token_set::gave_up::GaveUp;
 
-/// What an answer says of its command.
+/// The part of an answer that depends on the kind of its command.
 #[derive(Clone, Copy)]
 pub enum AnswerBody {
-    /// The node has what it was granted.
+    /// The answer to a grant: the node has the token.
     Taken,
-    /// The holder gave that up, or named the lock in the way.
+    /// The answer of a holder to a revoke: it gave up a span, or names a lock in the way.
     GaveUp(Host, GaveUp),
 }
 
-/// The answer to a command, which the node remembers, as the message that it is.
+/// The answer to a command, which the node remembers until the next one.
 #[derive(Clone, Copy)]
 pub struct Answer {
     pub file: FileNumber,
@@ -28,7 +28,7 @@ pub struct Answer {
 }
 
 impl Answer {
-    /// The message. Takes no memory.
+    /// The answer as a message. Takes no memory.
     pub fn message(self) -> Message
         ensures { result ≡ message_of self }
     {

@@ -1,10 +1,10 @@
-//! What a step of a node changes, and what it gives.
+//! A planned step of a node: its change and its outcome.
 ghost use Rattle.std.specs.Prelude.{◌≡◌};
 
 use crate::edit::Edit;
 use messages::outcome::Outcome;
 
-/// A step that is planned: what it changes, and what it gives.
+/// A planned step of a node: what it changes, and its outcome.
 #[derive(Drop)]
 pub struct Change {
     pub edit: Edit,
@@ -12,7 +12,7 @@ pub struct Change {
 }
 
 impl Change {
-    /// What the step gives.
+    /// The outcome of the step.
     pub fn outcome(&self) -> &Outcome
         ensures { result.now ≡ self.now.outcome }
     {

@@ -1,4 +1,4 @@
-//! Commands of token servers.
+//! The commands of token servers, a grant or a revoke, by what both have.
 ghost use Rattle.std.specs.Prelude.{◌≡◌};
 ghost use Rattle.messages.specs.declared.message.Message.TheVariants.{Taken};
 ghost use Rattle.node_core.specs.Answers.{message_of};
@@ -12,8 +12,8 @@ use model::host::Host;
 use model::mode::Mode;
 use token_set::gave_up::GaveUp;
 
-/// What a grant and a revoke have in common: the file, the number of the command, the call of the node
-/// that asks, and its mode.
+/// What a grant and a revoke both have: the file, the number of the command, the call that needs
+/// the token, and its mode.
 #[derive(Clone, Copy, Debug, PartialEq, Eq)]
 pub struct Command {
     pub file: FileNumber,
@@ -34,7 +34,7 @@ impl Command {
         }
     }
 
-    /// The answer to it as a grant.
+    /// The answer to the command, if it is a grant.
     pub fn taken(&self) -> Answer
         ensures { message_of result ≡ Taken self.now.file self.now.number self.now.call }
     {
@@ -46,8 +46,8 @@ impl Command {
         }
     }
 
-    /// The answer of the holder to it as a revoke: the bytes that were given up, or the lock that was
-    /// in the way.
+    /// The answer of the holder to the command, if it is a revoke: the span that was given up, or
+    /// the lock in the way.
     pub fn answer(&self, holder: Host, gives: GaveUp) -> Answer
         ensures { message_of result ≡ answer_to self.now.file self.now.number holder self.now.call gives }
     {

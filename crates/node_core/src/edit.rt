@@ -16,8 +16,8 @@ use messages::items::Items;
 use model::host::Host;
 use std::alloc::Global;
 
-/// What a step changes before a call is tried: whether the call takes the next number, and what a
-/// command makes of a file.
+/// The changes of a step that come before a call is tried: whether the call takes the next number,
+/// and what a command changes at its file.
 #[derive(Drop)]
 pub struct Draft {
     pub numbered: bool,
@@ -25,7 +25,7 @@ pub struct Draft {
 }
 
 impl Draft {
-    /// Nothing.
+    /// The draft without a change.
     pub fn none() -> Draft
         ensures { result ≡ record { numbered = false; command = None } }
     {
@@ -35,7 +35,7 @@ impl Draft {
         }
     }
 
-    /// A call takes the next number.
+    /// The draft of a call, which takes the next number.
     pub fn of_call() -> Draft
         ensures { result ≡ record { numbered = true; command = None } }
     {
@@ -45,7 +45,7 @@ impl Draft {
         }
     }
 
-    /// What a command makes of a file.
+    /// The draft of a command, which changes its file.
     pub fn of_command(edit: FileEdit) -> Draft
         ensures { result ≡ record { numbered = false; command = Some edit } }
     {
@@ -56,22 +56,22 @@ impl Draft {
     }
 }
 
-/// What a step changes of the processes and their locks.
+/// What a step changes of the node's processes and their locks.
 #[derive(Drop)]
 pub enum TableEdit {
     Nothing,
     /// A process begins, or a descriptor opens.
     OfProcess(ProcessEdit),
-    /// What one owner holds in one file changes.
+    /// An owner's locks in a file change.
     OfLocks(LockEdit),
-    /// A descriptor of a process is closed, with the locks that hang on it.
+    /// A descriptor of a process is closed, and the locks that depend on it are dropped.
     Closes { pid: u16, fd: u8 },
-    /// All descriptors of a process are closed, which runs no longer.
+    /// A process exits: all its descriptors are closed, and it runs no longer.
     Exits { pid: u16 },
 }
 
-/// What a step changes: its draft, and then the processes and their locks, the open calls, and the files
-/// whose servers hear that locks may be gone, in that order.
+/// What a step changes, in this order: its draft, the processes and their locks, the open calls,
+/// and the files for which a Freed is sent and owed no longer.
 #[derive(Drop)]
 pub struct Edit {
     pub draft: Draft,
@@ -81,7 +81,7 @@ pub struct Edit {
 }
 
 impl Edit {
-    /// The draft, and nothing more. Takes no memory.
+    /// The draft and no other change. Takes no memory.
     pub fn of(alloc: Global, draft: Draft) -> Edit
         ensures { result ≡ record { draft = draft; table = Nothing; calls = Same; freed = [] } }
     {
@@ -93,7 +93,7 @@ impl Edit {
         }
     }
 
-    /// Nothing. Takes no memory.
+    /// No change. Takes no memory.
     pub fn none(alloc: Global) -> Edit
         ensures { result ≡ record { draft = record { numbered = false; command = None }; table = Nothing; calls = Same; freed = [] } }
     {
@@ -101,7 +101,7 @@ impl Edit {
     }
 }
 
-/// Makes a planned change of processes and locks on the host. Takes no memory.
+/// Makes a planned change of the host's processes and locks. Takes no memory.
 pub fn apply_table(processes: &mut Processes, locks: &mut LockTable, host: Host, edit: TableEdit)
     requires { RowsFit processes.old locks.old edit }
     ensures { (on : ℕ → ℕ → ProcessTable) → shown on host processes.new locks.new ≡ table_after host (shown on host processes.old locks.old) edit }

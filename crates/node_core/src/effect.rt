@@ -1,4 +1,6 @@
-//! What comes of a step.
+//! The effect of a step: its change, a reply, and messages.
+//!
+//! Each function here that can fail errs with `AllocError`, where a request for memory was refused.
 ghost use Rattle.std.specs.Prelude.{◌≡◌, Some, None, [], ◌∷◌, ◌++◌, IfOk};
 
 use crate::change::Change;
@@ -10,7 +12,7 @@ use model::call::CallId;
 use model::reply::Reply;
 use std::alloc::{AllocError, Global};
 
-/// What comes of a step: what it changes, at most one reply, and messages in their order.
+/// The effect of a step: what it changes, at most one reply, and messages in their order.
 #[derive(Drop)]
 pub struct Effect {
     pub edit: Edit,
@@ -19,7 +21,7 @@ pub struct Effect {
 }
 
 impl Effect {
-    /// Nothing is answered or sent.
+    /// The effect without a reply and without messages.
     pub fn quiet(alloc: Global, edit: Edit) -> Effect
         ensures { result ≡ record { edit = edit; reply = None; sends = [] } }
     {
@@ -30,7 +32,7 @@ impl Effect {
         }
     }
 
-    /// Nothing is answered, the message is sent.
+    /// The effect of sending one message, without a reply.
     pub fn sent(alloc: Global, edit: Edit, message: Message) -> Result<Effect, AllocError>
         ensures { IfOk result (λ effect. effect ≡ record { edit = edit; reply = None; sends = message ∷ [] }) }
     {
@@ -41,7 +43,7 @@ impl Effect {
         })
     }
 
-    /// The call is answered.
+    /// The effect of a reply to a call, without messages.
     pub fn answered(alloc: Global, edit: Edit, call: CallId, reply: Reply) -> Effect
         ensures { result ≡ record { edit = edit; reply = Some (call, reply); sends = [] } }
     {
@@ -52,7 +54,7 @@ impl Effect {
         }
     }
 
-    /// The message is sent before the others.
+    /// Puts `first` before the other messages.
     pub fn after(self, alloc: Global, first: Message) -> Result<Effect, AllocError>
         ensures { IfOk result (λ effect. effect ≡ record { edit = self.edit; reply = self.reply; sends = first ∷ self.sends }) }
     {
@@ -65,7 +67,8 @@ impl Effect {
         })
     }
 
-    /// For one more file no Freed is owed any longer, and the message is sent after the others.
+    /// Puts `last` behind the other messages, and adds the file to those for which no Freed is owed
+    /// any longer.
     pub fn before(self, file: u16, last: Message) -> Result<Effect, AllocError>
         ensures { IfOk result (λ effect. effect ≡ record { edit = record self.edit { freed = self.edit.freed ++ file ∷ [] }; reply = self.reply; sends = self.sends ++ last ∷ [] }) }
     {
@@ -79,7 +82,8 @@ impl Effect {
         Ok(Effect { edit, reply, sends })
     }
 
-    /// The change of a step in which the call took a name, if one did.
+    /// The change and the outcome of a step, with the name that the call took, if the step is one
+    /// of a call.
     pub fn change(self, call: Option<CallId>) -> Change
         ensures { result ≡ record { edit = self.edit; outcome = record { call = call; reply = self.reply; sends = self.sends } } }
     {

@@ -1,16 +1,16 @@
-//! What a node takes.
+//! The events of a node: what can happen to it.
 use messages::message::Message;
 use model::op::Op;
 
-/// What may happen at a node.
+/// An event of a node.
 #[derive(PartialEq, Eq, Drop)]
 pub enum NodeEvent {
     /// A process of the node makes a call.
     Call { pid: u16, op: Op },
-    /// A message comes.
+    /// A message for the node is delivered.
     Deliver(Message),
     /// The wait of a process is interrupted.
     Interrupt { pid: u16 },
-    /// The open call of a process is tried again.
+    /// The node tries the open call of a process again.
     Retry { pid: u16 },
 }

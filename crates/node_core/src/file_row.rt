@@ -1,4 +1,6 @@
 //! What a node knows of one file.
+//!
+//! Each function here that can fail errs with `AllocError`, where a request for memory was refused.
 ghost use Rattle.std.specs.Prelude.{◌≡◌, ◌↔◌, false, IfOk, IsTrue};
 ghost use Rattle.node_core.specs.State.{first_file};
 ghost use Rattle.node_core.specs.Answers.{answer_of};
@@ -17,9 +19,10 @@ use token_set::edit::TokenEdit;
 use token_set::gave_up::GaveUp;
 use token_set::set::TokenSet;
 
-/// Of one file: the token, the number of the last command done (0 at first; the number before the first
-/// of a later epoch, once the node has heard of that), the answer to it, and whether the node named one
-/// of its locks as in the way of another since it last sent Freed.
+/// What a node knows of one file: its token; the number of the last command that it did (0 at
+/// first; once it has heard of a later epoch, the number after which that epoch's commands begin);
+/// its answer to that command; and whether it owes the server a Freed, since it named one of its
+/// locks in the way and sent no Freed after that.
 #[derive(Drop)]
 pub struct FileRow {
     pub token: TokenSet,
@@ -28,8 +31,8 @@ pub struct FileRow {
     pub owes_freed: bool,
 }
 
-/// What a command changes of what a node knows of a file: the token, the number of the last command and
-/// the answer to it, and whether a lock was named.
+/// What a command changes at its file: the token, the number and the answer of the last command,
+/// and whether a Freed is owed.
 #[derive(Drop)]
 pub struct FileEdit {
     pub file: u16,
@@ -39,7 +42,7 @@ pub struct FileEdit {
     pub owes_freed: bool,
 }
 
-// Whether both are the same message, or none.
+// Whether both stand for the same message, or for none.
 fn same_answers(one: Option<Answer>, other: Option<Answer>) -> bool
     ensures { IsTrue result ↔ (answer_of one ≡ answer_of other) }
 {
@@ -50,7 +53,7 @@ fn same_answers(one: Option<Answer>, other: Option<Answer>) -> bool
     }
 }
 
-// Whether a lock was named as in the way.
+// Whether the answer names a lock in the way.
 fn is_conflict(gives: &GaveUp) -> bool
     ensures { result ≡ is_conflict gives.now }
 {
@@ -61,7 +64,7 @@ fn is_conflict(gives: &GaveUp) -> bool
 }
 
 impl FileRow {
-    /// No token, and no command yet.
+    /// The row of a file that the node knows nothing of: no token, and no command yet.
     pub fn new(alloc: Global) -> FileRow
         ensures { state_of result ≡ first_file }
     {
@@ -73,8 +76,9 @@ impl FileRow {
         }
     }
 
-    /// What hearing of the epoch of a command changes: where it is later than that of the last command,
-    /// commands of older epochs and the answer to the last count no longer. Takes no memory.
+    /// The change by which the node enters the epoch of a command: if it is later than the one of
+    /// the last command, older commands and the remembered answer don't count any longer. Takes no
+    /// memory.
     pub fn plan_renewal(&self, file: u16, number: u64) -> FileEdit
         ensures file { result.file ≡ file }
         ensures state { file_after self.now result ≡ renewed (state_of self.now) number }
@@ -94,10 +98,7 @@ impl FileRow {
         }
     }
 
-    /// What the grant changes: the token is raised, and the answer is remembered.
-    ///
-    /// # Errors
-    /// `AllocError` where a request for memory was refused.
+    /// The change by a grant: the token is raised, and the answer is remembered.
     pub fn plan_grant(&self, command: &Command, span: Span) -> Result<FileEdit, AllocError>
         ensures file { IfOk result (λ edit. edit.file ≡ command.now.file) }
         ensures state { IfOk result (λ edit. file_after self.now edit ≡ granted_file (state_of self.now) command.now span) }
@@ -111,11 +112,8 @@ impl FileRow {
         })
     }
 
-    /// What the revoke changes where the holder gives that: what it gives up is lowered in the token, the
-    /// answer is remembered, and a Freed is owed where one of the holder's locks was named.
-    ///
-    /// # Errors
-    /// `AllocError` where a request for memory was refused.
+    /// The change by a revoke, with the holder's answer `gives`: a span that is given up is lowered
+    /// in the token; the answer is remembered; and a Freed is owed if the answer names a lock.
     pub fn plan_revoke(
         &self,
         command: &Command,
@@ -134,7 +132,7 @@ impl FileRow {
         })
     }
 
-    /// The command is done. Takes no memory.
+    /// Makes a planned change. Takes no memory.
     pub fn apply(&mut self, edit: FileEdit)
         ensures { state_of self.new ≡ file_after self.old edit }
     {
@@ -151,7 +149,7 @@ impl FileRow {
         self.owes_freed = owes_freed;
     }
 
-    /// No Freed is owed for the file any longer.
+    /// Notes that no Freed is owed for the file any longer.
     pub fn clear_owed(&mut self)
         ensures { state_of self.new ≡ record (state_of self.old) { owes_freed = false } }
     {
@@ -170,7 +168,7 @@ impl FileRow {
         })
     }
 
-    /// Whether both say the same.
+    /// Whether both rows say the same of the file.
     pub fn same(&self, other: &FileRow) -> bool
         ensures { IsTrue result ↔ (state_of self.now ≡ state_of other.now) }
     {

@@ -1,4 +1,6 @@
-//! The files of a node.
+//! What a node knows of all its files, as a list of rows.
+//!
+//! Each function here that can fail errs with `AllocError`, where a request for memory was refused.
 ghost use Rattle.std.specs.Prelude.{◌≡◌, ◌-◌, ◌↔◌, Some, IfOk, IsTrue, All, length};
 ghost use Rattle.std.specs.List.{slice_get};
 ghost use Rattle.model.specs.Limits.{IsNumber};
@@ -9,7 +11,7 @@ ghost use Rattle.node_core.specs.Plans.{files_after, told, files_told, CommandFi
 use crate::file_row::{FileEdit, FileRow};
 use std::alloc::{AllocError, Global};
 
-/// So many files of which nothing is known.
+/// The rows of `count` files that the node knows nothing of.
 pub fn new_files(alloc: Global, count: u16) -> Result<Vec<FileRow>, AllocError>
     ensures state { IfOk result (λ files. file_state files.items ≡ (λ file. first_file)) }
     ensures count { IfOk result (λ files. length files.items ≡ count) }
@@ -32,7 +34,7 @@ pub fn copy_files(alloc: Global, files: &[FileRow]) -> Result<Vec<FileRow>, Allo
     Ok(copy)
 }
 
-/// Whether the rows say the same of each file.
+/// Whether both lists say the same of each file.
 pub fn same_files(files: &[FileRow], others: &[FileRow]) -> bool
     requires { length files.now ≡ length others.now }
     ensures { IsTrue result ↔ (file_state files.now ≡ file_state others.now) }
@@ -54,7 +56,7 @@ pub fn file_of(files: &[FileRow], file: u16) -> &FileRow
     &files[file as usize - 1]
 }
 
-/// The command is done at its file, if there is one. Takes no memory.
+/// Makes the planned change of a command at its file, if there is one. Takes no memory.
 pub fn apply_command(files: &mut Vec<FileRow>, command: Option<FileEdit>)
     requires { CommandFits (length files.old.items) command }
     ensures state { file_state files.new.items ≡ files_after (file_state files.old.items) files.old.items command }
@@ -66,7 +68,7 @@ pub fn apply_command(files: &mut Vec<FileRow>, command: Option<FileEdit>)
     }
 }
 
-// No Freed is owed for the file any longer.
+// Notes that no Freed is owed for the file any longer.
 fn clear_one(files: &mut Vec<FileRow>, file: u16)
     requires { IsNumber (length files.old.items) file }
     ensures state { file_state files.new.items ≡ told (file_state files.old.items) file }
@@ -76,7 +78,7 @@ fn clear_one(files: &mut Vec<FileRow>, file: u16)
     row.clear_owed();
 }
 
-/// No Freed is owed for these files any longer. Takes no memory.
+/// Notes that no Freed is owed for these files any longer. Takes no memory.
 pub fn clear_owed(files: &mut Vec<FileRow>, freed: &[u16])
     requires { All (IsNumber (length files.old.items)) freed.now }
     ensures state { file_state files.new.items ≡ files_told (file_state files.old.items) freed.now }

@@ -1,4 +1,6 @@
-//! A node: its processes, their locks and open calls, and its tokens.
+//! A node: its processes, their locks and open calls, and its tokens, with the rule that says what
+//! it does at each event. This crate knows nothing of other nodes' states, of the states of token
+//! servers, of time, of texts that are printed, or of threads.
 #![tactic(auto)]
 
 pub mod answer;

@@ -1,4 +1,4 @@
-//! A node.
+//! The node, and how its steps are planned and applied.
 ghost use Rattle.std.specs.Prelude.{◌≡◌, ◌≢◌, ◌≤◌, ◌-◌, ◌↔◌, Some, Ok, Err, IfOk, IfErr, IfSome, IsTrue};
 ghost use Rattle.std.specs.List.{slice_get};
 ghost use Rattle.model.specs.Limits.{IsNumber, most_processes};
@@ -30,8 +30,8 @@ use model::process::Process;
 use std::alloc::{AllocError, Global};
 use std::marker::Model;
 
-/// A node of the cluster in one incarnation: its processes and what they have open, their locks,
-/// its open calls in order of arrival, and for each file what it knows of it.
+/// A node of the cluster in one incarnation: its processes with their descriptors, their locks, its
+/// open calls in order of arrival, and what it knows of each file.
 #[derive(Drop)]
 pub struct Node {
     shape: Shape,
@@ -73,7 +73,7 @@ impl Model for Node {
     }) };
 }
 
-// Whether both are the same shape.
+// Whether both shapes are equal.
 fn same_shape(shape: Shape, other: Shape) -> bool
     ensures { IsTrue result ↔ (shape ≡ other) }
 {
@@ -81,7 +81,7 @@ fn same_shape(shape: Shape, other: Shape) -> bool
 }
 
 impl Node {
-    /// A node of the shape that begins, in that incarnation (from 1).
+    /// A node of the shape that begins in an incarnation, from 1.
     ///
     /// # Errors
     /// `AllocError` where a request for memory was refused.
@@ -91,7 +91,7 @@ impl Node {
         requires incarnation { 1 ≤ incarnation }
         ensures { IfOk result (λ made. node_state made ≡ first_node shape node incarnation) }
     {
-        let _ = shape.nodes(); // tells the proof how many nodes there may be
+        let _ = shape.nodes(); // tells the proof that the number of nodes is in range
         let files = new_files(alloc, shape.files())?;
         Ok(Node {
             shape,
@@ -148,7 +148,7 @@ impl Node {
         }
     }
 
-    /// The node in its incarnation.
+    /// The node and its incarnation.
     #[tactic(auto, unfolding(crate::specs::Parts::node_state))]
     pub fn host(&self) -> Host
         ensures { result ≡ host (node_state self.now) }
@@ -159,7 +159,7 @@ impl Node {
         }
     }
 
-    // The open call with that number.
+    // The open call with this number.
     #[tactic(auto, unfolding(crate::specs::Parts::node_state))]
     fn open_call(&self, number: u32) -> Option<OpenCall>
         ensures value { result ≡ open_call (node_state self.now) number }
@@ -192,37 +192,37 @@ impl Node {
         requires { IsNumber (node_state self.now).shape.files file }
         ensures { result ≡ file }
     {
-        let _ = self.shape.files(); // tells the proof how many files there may be
+        let _ = self.shape.files(); // tells the proof that the number of files is in range
         FileNumber::of(file)
     }
 
-    /// What the node will do where that message comes, as `plan` says.
+    /// Plans what the node does when the message is delivered, as `plan` does for the event.
     ///
     /// # Errors
-    /// Those of `step`.
+    /// The errors of `step`, in the same cases.
     pub fn plan_delivery(&self, alloc: Global, message: &Message) -> Result<Change, StepError>
         ensures ok { IfOk result (λ change. node_rule (node_state self.now) (Deliver message.now) ≡ Ok (planned self.now change.edit, change.outcome)) }
         ensures err { IfErr result (λ error. error ≢ StepError.NoMemory → node_rule (node_state self.now) (Deliver message.now) ≡ Err error) }
         ensures refused { (r : StepError) → node_rule (node_state self.now) (Deliver message.now) ≡ Err r → result ≡ Err r }
         ensures fits { IfOk result (λ change. Fits self.now change.edit) }
     {
-        let _ = &self.shape; // tells the proof what each node keeps
+        let _ = &self.shape; // tells the proof what holds of every node
         self.plan_message(alloc, message)
     }
 
-    /// What the node will do at an event, as `step` says. It costs what the parts that the event
-    /// changes hold, and no more: of the locks those of one owner in one file, of the files one. An
-    /// `exit` looks at each file, whether its server was named a lock. A Hello costs what the token has.
+    /// Plans what the node does at an event, as `step` says. It costs what the parts that the event
+    /// changes hold, and no more: the locks of one owner in one file, and one file. An `exit` looks
+    /// at each file, whether a Freed is owed for it. A Hello costs as much as the token holds.
     ///
     /// # Errors
-    /// Those of `step`.
+    /// The errors of `step`, in the same cases.
     pub fn plan(&self, alloc: Global, event: &NodeEvent) -> Result<Change, StepError>
         ensures ok { IfOk result (λ change. node_rule (node_state self.now) event.now ≡ Ok (planned self.now change.edit, change.outcome)) }
         ensures err { IfErr result (λ error. error ≢ StepError.NoMemory → node_rule (node_state self.now) event.now ≡ Err error) }
         ensures refused { (r : StepError) → node_rule (node_state self.now) event.now ≡ Err r → result ≡ Err r }
         ensures fits { IfOk result (λ change. Fits self.now change.edit) }
     {
-        let _ = &self.shape; // tells the proof what each node keeps
+        let _ = &self.shape; // tells the proof what holds of every node
         match event {
             NodeEvent::Call { pid, op } => self.plan_call(alloc, *pid, op),
             NodeEvent::Deliver(message) => self.plan_delivery(alloc, message),
@@ -231,7 +231,7 @@ impl Node {
         }
     }
 
-    // Makes a planned change of each part.
+    // Makes a planned change of each part of the node.
     #[tactic(auto, unfolding(crate::specs::Parts::node_state))]
     fn apply_edit(&mut self, edit: Edit)
         requires { Fits self.old edit }
@@ -252,7 +252,7 @@ impl Node {
         clear_owed(&mut self.files, freed.as_slice());
     }
 
-    /// Makes a planned change. Takes no memory.
+    /// Makes a planned change, and gives the outcome of its step. Takes no memory.
     pub fn apply(&mut self, change: Change) -> Outcome
         requires { Fits self.old change.edit }
         ensures state { node_state self.new ≡ planned self.old change.edit }
@@ -263,13 +263,14 @@ impl Node {
         outcome
     }
 
-    /// What the node does at an event, and what that gives. The node itself stays as it is.
+    /// What the node does at an event: the node afterwards, and the outcome. This node stays as it
+    /// is.
     ///
     /// # Errors
-    /// In this order: `Stranger` where a process's number is outside 1 to 256, a file is outside the
-    /// shape, or a message is for another; `Busy` where the process has an open call and doesn't exit;
-    /// `Spent` where no call number is left. Each of them comes before memory is asked for. `NoMemory`
-    /// where a request for memory was refused.
+    /// In this order: `Stranger` where the number of a process is outside 1 to 256, a file is
+    /// outside the shape, or a message is for another actor; `Busy` where the process has an open
+    /// call and doesn't exit; `Spent` where no call number is left. Each of these is tested before
+    /// memory is requested. `NoMemory` where a request for memory was refused.
     pub fn step(&self, alloc: Global, event: &NodeEvent) -> Result<(Node, Outcome), StepError>
         ensures ok { IfOk result (λ r. node_rule (node_state self.now) event.now ≡ Ok (node_state r.0, r.1)) }
         ensures err { IfErr result (λ error. error ≢ StepError.NoMemory → node_rule (node_state self.now) event.now ≡ Err error) }
@@ -281,7 +282,7 @@ impl Node {
         Ok((next, outcome))
     }
 
-    /// Whether both are in the same state.
+    /// Whether both nodes are in the same state.
     pub fn same(&self, other: &Node) -> bool
         ensures { IsTrue result ↔ (node_state self.now ≡ node_state other.now) }
     {

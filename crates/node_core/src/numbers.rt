@@ -1,4 +1,4 @@
-//! Numbers of processes, files, nodes and commands.
+//! Tests of the numbers of processes, files, nodes and commands.
 ghost use Rattle.std.specs.Prelude.{◌≡◌};
 ghost use Rattle.messages.specs.Epochs.{begin_of};
 ghost use Rattle.messages.specs.Messages.{is_within};
@@ -10,14 +10,14 @@ use messages::actor::Actor;
 use messages::command_number::GREATEST_NUMBER;
 use model::limits::MOST_PROCESSES;
 
-/// Whether the number is one of a process.
+/// Whether the number is one that a process can have.
 pub fn is_pid(pid: u16) -> bool
     ensures { result ≡ is_pid pid }
 {
     is_within(MOST_PROCESSES, pid)
 }
 
-/// How many calls a node took, with one more or without.
+/// The number of calls that a node took, after one more call or after none.
 pub fn calls_after(calls: u32, numbered: bool) -> u32
     requires { NumberFits calls numbered }
     ensures { result ≡ calls_after calls numbered }
@@ -28,17 +28,17 @@ pub fn calls_after(calls: u32, numbered: bool) -> u32
     calls
 }
 
-// How many numbers an epoch has.
+// The number of counts in an epoch.
 const NUMBERS: u64 = GREATEST_NUMBER as u64 + 1;
 
-/// The number after which the epoch of a command's number begins.
+/// The count after which the epoch of a command begins.
 pub fn begin_of(number: u64) -> u64
     ensures { result ≡ begin_of number }
 {
     number / NUMBERS * NUMBERS
 }
 
-/// Whether the number is one of those from 1 to the most.
+/// Whether the number is from 1 to `most`.
 pub fn is_within(most: u16, number: u16) -> bool
     ensures { result ≡ is_within most number }
 {

@@ -1,4 +1,4 @@
-//! Open calls.
+//! The open calls of processes: what they want, and what they are about.
 ghost use Rattle.std.specs.Prelude.{◌≡◌, ◌↔◌, IsTrue};
 ghost use Rattle.node_core.specs.State.{target_of};
 ghost use Rattle.node_core.specs.Try.{refusal_of, blocking_of};
@@ -12,19 +12,20 @@ use model::mode::Mode;
 use model::owner::Owner;
 use model::reply::Reply;
 
-/// What an open call asks for: the lock, now or as soon as it is free, or whether it would be free.
+/// What an open call wants: a lock now, a lock as soon as it is free, or to know whether it is
+/// free.
 #[derive(Clone, Copy, Debug, PartialEq, Eq)]
 pub enum LockCommand {
-    /// A lock, at once or not at all (POSIX.1-2017 `fcntl()`, F_SETLK).
+    /// A lock at once, or a denial (POSIX.1-2017 `fcntl()`, F_SETLK).
     Set,
-    /// A lock, as soon as none is in the way (POSIX.1-2017 `fcntl()`, F_SETLKW).
+    /// A lock as soon as no lock is in the way (POSIX.1-2017 `fcntl()`, F_SETLKW).
     Wait,
-    /// Whether a lock is in the way, and which (POSIX.1-2017 `fcntl()`, F_GETLK).
+    /// Whether a lock is in the way, and which one (POSIX.1-2017 `fcntl()`, F_GETLK).
     Query,
 }
 
 impl LockCommand {
-    /// The reply that names a lock in the way; a wait stays open.
+    /// The reply that names a lock in the way; `None` for a wait, which stays open.
     pub fn refusal(self, lock: LockInfo) -> Option<Reply>
         ensures { result ≡ refusal_of self lock }
     {
@@ -35,7 +36,7 @@ impl LockCommand {
         }
     }
 
-    /// What an interrupt answers: a wait alone (POSIX.1-2017 `fcntl()`, EINTR).
+    /// The reply to an interrupt; `None` unless the call is a wait (POSIX.1-2017 `fcntl()`, EINTR).
     pub fn interruption(self) -> Option<Reply>
         ensures { result ≡ interruption_of self }
     {
@@ -45,7 +46,7 @@ impl LockCommand {
         }
     }
 
-    /// Whether the request for its token waits where a lock blocks it.
+    /// Whether a token request of the call waits where a lock blocks it.
     pub fn blocking(self) -> Blocking
         ensures { result ≡ blocking_of self }
     {
@@ -56,7 +57,7 @@ impl LockCommand {
     }
 }
 
-/// A call that has no reply yet: its number, its process, what it asks for, and the lock that it is
+/// A call without a reply yet: its number, its process, what it wants, and the lock that it is
 /// about.
 #[derive(Clone, Copy, Debug, PartialEq, Eq)]
 pub struct OpenCall {
@@ -70,7 +71,7 @@ pub struct OpenCall {
 }
 
 impl OpenCall {
-    /// What the call is about.
+    /// The file, the owner and the bytes that the call is about.
     pub fn target(&self) -> LockTarget
         ensures { result ≡ target_of self.now }
     {
@@ -81,7 +82,7 @@ impl OpenCall {
         }
     }
 
-    /// Whether both are one and the same call.
+    /// Whether both calls are equal.
     pub fn same(&self, other: &OpenCall) -> bool
         ensures { IsTrue result ↔ (self.now ≡ other.now) }
     {

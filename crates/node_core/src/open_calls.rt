@@ -1,4 +1,6 @@
-//! The open calls of a node, in order of arrival.
+//! The open calls of a node.
+//!
+//! Each function here that can fail errs with `AllocError`, where a request for memory was refused.
 ghost use Rattle.std.specs.Prelude.{◌≡◌, ◌==◌, ◌↔◌, ◌++◌, ◌∷◌, ◌<◌, ◌≤◌, [], not, IfOk, IsTrue, is_some, find, filter, length};
 ghost use Rattle.std.specs.Vec.{vec_capacity};
 ghost use Rattle.node_core.specs.Plans.{pending_after, HasRoom};
@@ -8,24 +10,24 @@ use crate::open_call::OpenCall;
 use std::alloc::{AllocError, Global};
 use std::marker::Model;
 
-/// How a step changes the open calls.
+/// A change of the open calls by a step.
 #[derive(Drop)]
 pub enum CallsEdit {
-    /// They stay.
+    /// The open calls stay as they are.
     Same,
-    /// One more call is open, and comes last; the list is empty and has room for all of them.
+    /// One more call is open, the last in order; the list is empty and has room for all open calls.
     Put(OpenCall, Vec<OpenCall>),
-    /// The call with that number is open no longer.
+    /// The call with this number is open no longer.
     Gone(u32),
-    /// The call of the process is open no longer, nor is the one with that number.
+    /// The open call of the process, and the call with this number, are open no longer.
     Left { pid: u16, number: u32 },
 }
 
-/// The open calls of a node, in order of arrival; at most one of each process.
+/// The open calls of a node, in order of arrival. Each process has one at most.
 #[derive(Drop)]
 pub struct OpenCalls {
     calls: Vec<OpenCall>,
-    // What they may be: most searches for a call that is not open end here.
+    // Most searches for a call that isn't open end at these hints.
     hints: Hints,
 }
 
@@ -43,7 +45,7 @@ impl Model for OpenCalls {
     ghost invariant = { λ c. All (IsHinted c.hints) c.calls.items };
 }
 
-// Puts one more call last, by the list that has room for all.
+// Adds a call behind the others, which all move to the list `room`.
 fn put_last(calls: &mut Vec<OpenCall>, call: OpenCall, room: Vec<OpenCall>)
     requires empty { room.items ≡ [] }
     requires room { length calls.old.items < vec_capacity room }
@@ -59,7 +61,7 @@ fn put_last(calls: &mut Vec<OpenCall>, call: OpenCall, room: Vec<OpenCall>)
 }
 
 impl OpenCalls {
-    /// No open calls.
+    /// The list without open calls.
     pub fn new(alloc: Global) -> OpenCalls
         ensures { result ≡ [] }
     {
@@ -69,10 +71,7 @@ impl OpenCalls {
         }
     }
 
-    /// The same open calls in the same order.
-    ///
-    /// # Errors
-    /// `AllocError` where a request for memory was refused.
+    /// Equal open calls, in the same order.
     pub fn copy(&self) -> Result<OpenCalls, AllocError>
         ensures { IfOk result (λ copy. copy ≡ self.now) }
     {
@@ -89,7 +88,7 @@ impl OpenCalls {
         self.calls.as_slice()
     }
 
-    /// The open call with that number.
+    /// The open call with this number, if there is one.
     pub fn get(&self, number: u32) -> Option<OpenCall>
         ensures { result ≡ find (λ c. c.number == number) self.now }
     {
@@ -102,7 +101,7 @@ impl OpenCalls {
             .copied()
     }
 
-    /// The open call of the process.
+    /// The open call of the process, if it has one.
     pub fn call_of(&self, pid: u16) -> Option<OpenCall>
         ensures { result ≡ find (λ c. c.pid == pid) self.now }
     {
@@ -120,9 +119,6 @@ impl OpenCalls {
     }
 
     /// An empty list with room for all open calls and one more.
-    ///
-    /// # Errors
-    /// `AllocError` where a request for memory was refused.
     pub fn room(&self) -> Result<Vec<OpenCall>, AllocError>
         ensures empty { IfOk result (λ room. room.items ≡ []) }
         ensures room { IfOk result (λ room. length self.now < vec_capacity room) }
@@ -130,7 +126,7 @@ impl OpenCalls {
         Vec::with_capacity(*self.calls.allocator(), self.calls.len() + 1)
     }
 
-    // Puts one more call last, by the list that has room for all.
+    // Adds a call behind the others, which all move to the list `room`.
     fn put(&mut self, call: OpenCall, room: Vec<OpenCall>)
         requires empty { room.items ≡ [] }
         requires room { length self.old < vec_capacity room }
@@ -140,7 +136,7 @@ impl OpenCalls {
         put_last(&mut self.calls, call, room);
     }
 
-    // The call with that number is open no longer.
+    // Removes the call with this number.
     fn drop_call(&mut self, number: u32)
         ensures { self.new ≡ filter (λ c. not (c.number == number)) self.old }
     {
@@ -150,7 +146,7 @@ impl OpenCalls {
         }
     }
 
-    // No call of the process is open any longer.
+    // Removes the call of the process.
     fn drop_calls_of(&mut self, pid: u16)
         ensures { self.new ≡ filter (λ c. not (c.pid == pid)) self.old }
     {
@@ -176,7 +172,7 @@ impl OpenCalls {
         }
     }
 
-    /// Whether both are the same calls in the same order.
+    /// Whether both have equal calls in the same order.
     pub fn same(&self, other: &OpenCalls) -> bool
         ensures { IsTrue result ↔ (self.now ≡ other.now) }
     {

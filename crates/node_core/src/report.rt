@@ -1,4 +1,6 @@
-//! What a node reports of its tokens.
+//! The report of a node's token.
+//!
+//! Each function here that can fail errs with `AllocError`, where a request for memory was refused.
 ghost use Rattle.std.specs.Prelude.{◌≡◌, IfOk};
 ghost use Rattle.messages.specs.Reports.{runs_of};
 ghost use Rattle.token_set.specs.Sets.{token_of};
@@ -7,10 +9,7 @@ use messages::token_run::TokenRuns;
 use std::alloc::{AllocError, Global};
 use token_set::set::TokenSet;
 
-/// The longest runs of the token, as a message has them.
-///
-/// # Errors
-/// `AllocError` where a request for memory was refused.
+/// The longest runs of the token, as a report has them.
 pub fn runs_of(alloc: Global, token: &TokenSet) -> Result<TokenRuns, AllocError>
     ensures { IfOk result (λ runs. runs ≡ runs_of (token_of token.now)) }
 {

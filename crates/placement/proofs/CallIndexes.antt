@@ -1,4 +1,4 @@
--- An index of calls that takes one more.
+-- The index of calls, as one more is added.
 use Rattle.std.proofs.Common.{◌≡◌, rules, ℕ, zero, suc, ◌+◌, ◌==◌, ◌&&◌, Bool, true, false, cond, if◌then◌else◌, refl, sym, ◌∙◌, ap, subst, arith, List, [], ◌∷◌, ◌++◌, length, append-nil, slice_get, Option, Some, None, is_some}
 use Rattle.std.specs.Global.{Vec}
 use Rattle.std.specs.Option.{option_or, option_map_or}
@@ -20,7 +20,7 @@ use Rattle.placement.proofs.Index.{option_or-none, not_found}
 host_eq : (a b : Host) → derived.ghosts.eq a b ≡ same_host a b
 host_eq a b = search rules
 
--- so a look-up is by that test
+-- a look-up by the derived `==` of hosts is one by the test of the definitions
 pub get-same_host : (rows : Rows) (host : Host) → get derived.ghosts.eq rows host ≡ get same_host rows host
 get-same_host rows host = ap (λ (eq : Host → Host → Bool). get eq rows host) (λ i a b. host_eq a b i)
 
@@ -39,7 +39,7 @@ in_row-push row index (suc n) =
     let read = slice_get-push row index n in
     grind (arith, common_steps)
 
--- the list of what a map may have
+-- the list of a host's row, empty where there is none
 abbrev pub items : Option (Vec ℕ) → List ℕ
 items row = option_map_or (λ r. r.items) row []
 
@@ -47,7 +47,7 @@ no-more : (b : Bool) → if◌then◌else◌ {A = List ℕ} b [] [] ≡ []
 no-more true = refl
 no-more false = refl
 
--- one row is put, and the others stay
+-- one host's row is put, and the others stay
 module _ (old new : Rows) (host : Host) (row : Vec ℕ) (puts : (q : Host) → get derived.ghosts.eq new q ≡ cond (derived.ghosts.eq host q) (Some row) (get derived.ghosts.eq old q)) where
   put : (q : Host) (b : Bool) → same_host host q ≡ b → get same_host new q ≡ cond b (Some row) (get same_host old q)
   put q b is =
@@ -66,7 +66,7 @@ module _ (old new : Rows) (host : Host) (row : Vec ℕ) (puts : (q : Host) → g
   pub row-same : row.items ≡ row_of old host → (q : Host) → row_of new q ≡ row_of old q ++ []
   row-same is q = row-more [] (is ∙ sym (append-nil (row_of old host))) q ∙ ap (λ (xs : List ℕ). row_of old q ++ xs) (no-more (same_host host q))
 
--- a call that a row takes in
+-- the call that goes into a row is found there, and any other as before
 either : (b : Bool) (index : ℕ) (x y : Option ℕ) → (b ≡ true → option_or x y ≡ None) → option_or (if b then Some index else x) y ≡ option_or (option_or x y) (if b then Some index else None)
 either true index x y fresh = sym (ap (λ (o : Option ℕ). option_or o (Some index)) (fresh refl))
 either false index x y fresh = sym (option_or-none (option_or x y))

@@ -1,4 +1,4 @@
--- What the first entries of a run call, told by the calls alone.
+-- The calls of the first entries of a run, kept without the entries.
 use Rattle.std.proofs.Common.{◌≡◌, ◌≢◌, ℕ, zero, suc, ◌+◌, ◌<◌, ◌≤◌, refl, sym, ◌∙◌, ap, arith, List, [], ◌∷◌, ◌++◌, length, length-append, get_or, slice_get, Option, Some, None, inl, inr}
 use Rattle.std.proofs.lemmas.Grind.{common_steps}
 use Rattle.std.proofs.lemmas.Bool.{cases_lt}
@@ -19,7 +19,7 @@ length-called calls (suc n) =
     let i = length-called calls n in
     omega arith
 
--- none is of that entry
+-- an entry of which no call is kept makes none
 called_absent : (calls : List MadeCall) (k : ℕ) → NoneOf calls k → called_by_entry calls k ≡ None
 called_absent [] k none = refl
 called_absent (c ∷ cs) k none =
@@ -27,7 +27,7 @@ called_absent (c ∷ cs) k none =
     let later = called_absent cs k (λ j d lt. none (suc j) d (omega arith)) in
     grind (arith, common_steps)
 
--- the search comes to the first call that is not of an entry before
+-- all calls before the place are of earlier entries, and those behind it are not
 abbrev pub AreBelow : List MadeCall → ℕ → ℕ → Type 0
 AreBelow calls i k = (j : ℕ) (d : MadeCall) → j < i → (get_or calls j d).entry < k
 
@@ -56,7 +56,7 @@ called_nowhere calls i k past below =
     let none : NoneOf calls k = λ j d lt same. (let is = below j d (omega arith) in omega arith) in
     called_absent calls k none
 
--- what is read from the list
+-- a read of the list of all entries gives the call of the entry
 called_within : (calls : List MadeCall) (n k : ℕ) → k < n → get_or (called_from calls n) k None ≡ called_by_entry calls k
 called_within calls zero k lt = absurd (omega arith)
 called_within calls (suc n) k lt =
@@ -78,7 +78,7 @@ called_read calls n k made =
     let past = λ (le : n ≤ k). called_absent calls k (later_none calls n k made le) in
     grind (arith, common_steps)
 
--- one entry more
+-- one entry more, without a call
 pub more_none : (calls : List MadeCall) (n : ℕ) → AreMade calls n → called_from calls (n + 1) ≡ called_from calls n ++ None ∷ []
 more_none calls n made =
     let one : n + 1 ≡ suc n = omega arith in

@@ -1,4 +1,4 @@
--- The index of the calls of a run that goes on by one entry.
+-- The index of calls, as the run goes on by one entry.
 use Rattle.std.proofs.Common.{◌≡◌, ℕ, Bool, true, false, cond, refl, sym, ◌∙◌, ap, List, [], ◌∷◌, ◌++◌, slice_get, Option, Some, None, is_some}
 use Rattle.std.specs.Option.{option_or}
 use Rattle.model.specs.declared.call.CallId.{CallId}
@@ -17,7 +17,7 @@ use Rattle.placement.specs.Standing.{made_by}
 abbrev call_in : Entry → CallId → Option (ℕ × Op)
 call_in e id = find_call (e ∷ []) id
 
--- what the longer run finds
+-- the run with one more entry finds what it found before, or the new call
 found_on : (b : Bool) (event : Event) (x y z : Option (ℕ × Op)) → y ≡ option_or x z → cond b (called_by event y) y ≡ option_or (cond b (called_by event x) x) z
 found_on true (Call node pid op) x y z h = refl
 found_on true (Deliver m) x y z h = h
@@ -53,7 +53,7 @@ pub not_found : {A : Type 0} (x : Option A) → is_some x ≡ false → x ≡ No
 not_found None h = refl
 not_found (Some x) h = absurd (cc)
 
--- what the index finds once it took a call in
+-- after a call is added the index finds that call too
 found-taken : (all : List Entry) (b : Bool) (x : Option ℕ) (w : Option (ℕ × Op)) (index : ℕ) (made : ℕ × Op) → call_at all x ≡ w → is_some x ≡ is_some w → made_by (slice_get all index) ≡ Some made → call_at all (option_or x (cond b (Some index) None)) ≡ option_or w (cond b (Some made) None)
 found-taken all true None w index made found known makes = makes ∙ ap (λ (o : Option (ℕ × Op)). option_or o (Some made)) found
 found-taken all false None w index made found known makes = ap (λ (o : Option (ℕ × Op)). option_or o None) found
@@ -80,7 +80,7 @@ module _ (all es : List Entry) (e : Entry) where
         known = λ id. before.known id ∙ ap is_some (same id);
       }
 
-  -- one that makes a call adds that
+  -- an entry that makes a call adds it to the index
   pub indexes_taken : (calls next : CallIndex) (id : CallId) (index node pid : ℕ) (op : Op) → slice_get all index ≡ Some e → e.call ≡ Some id → e.event ≡ Call node pid op → TakesIn calls id index next → Indexes all calls es → Indexes all next (es ++ e ∷ [])
   indexes_taken calls next id index node pid op there named event takes before =
       let makes : made_by (slice_get all index) ≡ Some (pid, op) = ap made_by there ∙ ap (λ (v : Event). called_by v None) event in

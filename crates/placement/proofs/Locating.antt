@@ -1,4 +1,4 @@
--- The index of the conflicts of a run that goes on by one entry.
+-- The index of conflicts, as the run goes on by one entry.
 use Rattle.std.proofs.Common.{◌≡◌, rules, ℕ, ◌+◌, ◌<◌, ◌≤◌, Bool, true, false, cond, if◌then◌else◌, ◌||◌, refl, sym, ◌∙◌, ap, arith, eqb, not, List, [], ◌∷◌, ◌++◌, length, length-append, take, get_or, position, nat_lt, Option, Some, None, MatchOption}
 use Rattle.std.specs.Prelude.{⊤}
 use Rattle.std.specs.List.{list_any, position_or_len}
@@ -28,11 +28,11 @@ use Rattle.placement.proofs.Index.{option_or-none}
 revoke_eq : (a b : RevokeId) → derived.ghosts.eq a b ≡ same_revoke a b
 revoke_eq a b = search rules
 
--- so a look-up is by that test
+-- a look-up by the derived `==` of revokes is one by the test of the definitions
 pub get-same_revoke : (conflicts : Conflicts) (r : RevokeId) → get derived.ghosts.eq conflicts r ≡ get same_revoke conflicts r
 get-same_revoke conflicts r = ap (λ (eq : RevokeId → RevokeId → Bool). get eq conflicts r) (λ i a b. revoke_eq a b i)
 
--- the first of some messages that tells of a conflict is noted
+-- the first of some messages that is a conflict with the revoke is noted
 abbrev pub Noted : Conflicts → ℕ → List Message → Conflicts → Type 0
 Noted old index ms new = (r : RevokeId) → get same_revoke new r ≡ option_or (get same_revoke old r) (if list_any (is_conflict r.file r.holder r.number) ms then Some index else None)
 
@@ -54,7 +54,7 @@ noted_more old mid new index i ms m lt is before notes r =
     ∙ (ap (λ (n : Message). option_or x (if list_any p (take i ms) || p n then Some index else None)) is
     ∙ ap (λ (b : Bool). option_or x (if b then Some index else None)) (sym (list_any_more p ms i m lt)))))
 
--- the first place at which a test passes, in a list that goes on by one
+-- the first place at which a test passes, in a list with one more element
 position_or_len-le : {A : Type 0} (p : A → Bool) (xs : List A) → position_or_len p xs ≤ length xs
 position_or_len-le p [] = omega arith
 position_or_len-le p (x ∷ xs) = by (p x) (position_or_len p xs) (position_or_len-le p xs)
@@ -71,7 +71,7 @@ placed-push n k m l false le place long = grind (arith, nat_tests)
 position-push : {A : Type 0} (p : A → Bool) (xs : List A) (y : A) → position p (xs ++ y ∷ []) ≡ option_or (position p xs) (if p y then Some (length xs) else None)
 position-push p xs y = placed-push (position_or_len p xs) (length xs) (position_or_len p (xs ++ y ∷ [])) (length (xs ++ y ∷ [])) (p y) (position_or_len-le p xs) (position_or_len_push p xs y) (length-append xs (y ∷ []))
 
--- all messages of an entry
+-- after all messages of an entry the index has its conflicts
 pub noted_all : (old new : Conflicts) (index i : ℕ) (ms : List Message) (e : Entry) → e.sends ≡ ms → length ms ≤ i → Noted old index (take i ms) new → (es : List Entry) → length es ≡ index → Locates old es → Locates new (es ++ e ∷ [])
 noted_all old new index i ms e sent all noted es long before r =
     let p = is_conflict r.file r.holder r.number in
@@ -92,7 +92,7 @@ located_before conflicts es located r index found = within es index (sym (locate
 pub located_none : (conflicts : Conflicts) → conflicts.entries ≡ [] → Locates conflicts []
 located_none conflicts none r = ap (λ (es : List (RevokeId × ℕ)). lookup (same_revoke r) es) none
 
--- what the index has of a revoke
+-- an entry that the index has for a revoke is one of the first n
 pub found_before : (conflicts : Conflicts) (n : ℕ) (r : RevokeId) (found : Option ℕ) → AreBefore conflicts n → found ≡ get derived.ghosts.eq conflicts r → MatchOption found ⊤ (λ index. index ≤ n)
 found_before conflicts n r None before is = tt
 found_before conflicts n r (Some index) before is = let lt = before r index (sym (get-same_revoke conflicts r) ∙ sym is) in omega arith

@@ -11,7 +11,7 @@ use Rattle.placement.specs.declared.slot.Slot.{Slot}
 use Rattle.placement.specs.Standing.{standing}
 use Rattle.placement.specs.Rests.{ArePlaces}
 
--- where a run's items were placed
+-- the items are the history of the run
 pub record IsPlaced (shape : ShapeFields) (es : List Entry) (h : List Item) : Type 0 where
   pub history : HasHistory shape es h
   pub at_places : EachAtItsPlace es h
@@ -22,7 +22,7 @@ is_placed shape es given h is run same made =
     let both = has_history shape es run.0 is run.1 in
     subst P (sym (made ∙ ap history_of same)) (record { history = both.0; at_places = both.1 })
 
--- where the items stand in the slots of a run
+-- the items in the slots of a run are its history
 pub in_places : (shape : ShapeFields) (es given : List Entry) (slots : List Slot) (stood : List (Option Item)) → IsShape shape → IsRun shape es → ArePlaces es slots → given ≡ es → stood ≡ standing given slots → IsPlaced shape es (items_in stood)
 in_places shape es given slots stood is run places same stands =
     is_placed shape es es (items_in stood) is run refl (ap items_in (stands ∙ (ap (λ (xs : List Entry). standing xs slots) same ∙ places.placed)))

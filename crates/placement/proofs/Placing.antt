@@ -1,4 +1,4 @@
--- The slots of a run that goes on by one entry.
+-- The slots of a run, as it goes on by one entry.
 use Rattle.std.proofs.Common.{◌≡◌, ℕ, ◌+◌, ◌<◌, ◌≤◌, refl, sym, ◌∙◌, ap, subst, arith, List, [], ◌∷◌, ◌++◌, length, length-append, take, get_or, slice_get, slice_set, Option, Some, None}
 use Rattle.std.specs.List.{cons_option, filter_map}
 use Rattle.std.proofs.Math.Seq.{set-append_seam}
@@ -52,7 +52,7 @@ module _ (es : List Entry) (slots : Slots) (e : Entry) (id : CallId) (reply : Re
   answer_unplaced : (wide : Slots) (found : Option ℕ) → wide ≡ slots ++ None ∷ [] → found ≡ slot_of es own event → found ≡ None → wide ≡ slots_after es slots e e.reply
   answer_unplaced wide found wider is none = wider ∙ sym (slots_filled None (sym none ∙ is))
 
--- one slot more
+-- the items of one slot more
 standing-push : (all : List Entry) (slots : List Slot) (s : Slot) → standing all (slots ++ s ∷ []) ≡ standing all slots ++ stands all s ∷ []
 standing-push all slots s = map-append (stands all) slots (s ∷ [])
 
@@ -87,7 +87,7 @@ answers_none all es slots wide e at k long there none at_is k_is wider =
     ∙ (ap (λ (n : ℕ). standing all slots ++ gone_at n e.incarnation e.event ∷ []) (at_is ∙ ap (λ (n : ℕ). n + 1) (sym long))
     ∙ ap (slots_after es (standing all slots) e) (sym none)))))
 
--- as many slots as entries
+-- one element more
 length-push : {A : Type 0} (xs : List A) (x : A) → length (xs ++ x ∷ []) ≡ length xs + 1
 length-push xs x = length-append xs (x ∷ [])
 
@@ -128,7 +128,7 @@ length-placing all past calls conflicts slots p = length-placed all past slots p
 pub placing_empty : (all : List Entry) (calls : CallIndex) (conflicts : Conflicts) (slots : List Slot) → ((id : CallId) → entry_of calls id ≡ None) → conflicts.entries ≡ [] → slots ≡ [] → Placing all [] calls conflicts slots
 placing_empty all calls conflicts slots none untold empty = record { indexed = indexes_start all calls none; located = located_none conflicts untold; placed = ap (standing all) empty }
 
--- one more of the entries
+-- one entry more of the run
 module _ (es : List Entry) (i : ℕ) (e : Entry) (calls : CallIndex) (conflicts : Conflicts) (slots : List Slot) (lt : i < length es) (p : Placing es (take i es) calls conflicts slots) where
   length-take : length (take i es) ≡ i
   length-take = length-take-le i es (omega arith)
@@ -153,7 +153,7 @@ module _ (es : List Entry) (i : ℕ) (e : Entry) (calls : CallIndex) (conflicts 
         placed = placed ∙ (ap (λ (s : Slots). slots_after past s e e.reply) p.placed ∙ sym (slots_of-push past e));
       })
 
--- all of them
+-- all entries of the run
 pub placing_whole : (es : List Entry) (i : ℕ) (calls : CallIndex) (conflicts : Conflicts) (slots : List Slot) → length es ≤ i → Placing es (take i es) calls conflicts slots → standing es slots ≡ slots_of es
 placing_whole es i calls conflicts slots all p = p.placed ∙ ap slots_of (take_all i es all)
 
@@ -165,7 +165,7 @@ items_in-standing all (s ∷ ss) = ap (cons_option (stands all s)) (items_in-sta
 pub items_all : (all : List Entry) (slots : List Slot) (i : ℕ) (items : List Item) → length slots ≤ i → items ≡ filter_map (stands all) (take i slots) → items ≡ items_in (standing all slots)
 items_all all slots i items past so_far = so_far ∙ (ap (filter_map (stands all)) (take_all i slots past) ∙ sym (items_in-standing all slots))
 
--- one slot more
+-- one slot more is read
 pub items_more : (all : List Entry) (slots : List Slot) (i : ℕ) (d : Slot) (items : List Item) (o : Option Item) → i < length slots → o ≡ stands all (get_or slots i d) → items ≡ filter_map (stands all) (take i slots) → items ++ cons_option o [] ≡ filter_map (stands all) (take (i + 1) slots)
 items_more all slots i d items o lt stood so_far =
     ap (λ (xs : List Item). xs ++ cons_option o []) so_far

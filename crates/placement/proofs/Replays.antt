@@ -1,4 +1,4 @@
--- A history that is replayed item by item.
+-- A history replayed, item by item.
 use Rattle.std.specs.Prelude.{◌↔◌, IsTrue}
 use Rattle.std.proofs.Common.{◌≡◌, ℕ, ◌+◌, ◌<◌, ◌≤◌, true, false, refl, sym, ◌∙◌, subst, List, ◌∷◌, length, drop, get_or, drop-cons, add-one}
 use Rattle.std.proofs.lemmas.List.{drop_all}
@@ -11,11 +11,11 @@ use Rattle.cluster_core.specs.declared.item.Item.{Item}
 use Rattle.cluster_core.specs.declared.item.Item.TheVariants.{Answered, Gone}
 use Rattle.cluster_core.specs.Histories.{caller, ItemStep, Legal, IsLegal}
 
--- from this table the items lead somewhere
+-- from this table the items lead to some table
 abbrev pub LegalFrom : Table → List Item → Type 0
 LegalFrom t h = (last : Table) × Legal t h last
 
--- the whole history is legal exactly where the rest is so from the table reached
+-- the whole history is legal exactly if the rest is legal from the table reached
 pub record Follows (version : Version) (h rest : List Item) (t : Table) : Type 0 where
   pub onward : LegalFrom t rest → IsLegal version h
   pub back : IsLegal version h → LegalFrom t rest
@@ -48,13 +48,13 @@ follows_more version h xs i t u x lt is f step =
     let P : List Item → Type 0 = λ rest. Follows version h rest t in
     one_more version h (drop (i + 1) xs) t u x (subst P (drop_read xs i x lt is) f) step
 
--- an item that leads nowhere
+-- an item that the table does not allow: the history is not legal
 pub follows_stuck : (version : Version) (h xs : List Item) (i : ℕ) (t : Table) (x : Item) → i < length xs → x ≡ get_or xs i x → Follows version h (drop i xs) t → ((new : Table) → ItemStep t x new → ⊥) → IsTrue false ↔ IsLegal version h
 follows_stuck version h xs i t x lt is f stuck =
     let P : List Item → Type 0 = λ rest. LegalFrom t rest in
     (λ no. absurd (false≢true no), λ all. let l = subst P (drop_read xs i x lt is) (f.back all) in absurd (stuck l.1.0 l.1.1))
 
--- all items led on
+-- after the last item the history is legal
 pub follows_whole : (version : Version) (h xs : List Item) (i : ℕ) (t : Table) → length xs ≤ i → Follows version h (drop i xs) t → IsTrue true ↔ IsLegal version h
 follows_whole version h xs i t all f =
     let P : List Item → Type 0 = λ rest. LegalFrom t rest in

@@ -1,4 +1,4 @@
--- What is left of a run that is told entry by entry.
+-- The rest of a run whose entries are taken out one by one.
 use Rattle.std.proofs.Common.{◌≡◌, ℕ, zero, suc, ◌+◌, ◌-◌, ◌<◌, ◌≤◌, refl, sym, ◌∙◌, ap, subst, arith, List, [], ◌∷◌, ◌++◌, length, length-append, map, reverse, get_or, slice_get, slice_set, Option, Some, None}
 use Rattle.std.proofs.lemmas.List.{length-reverse, get_or-reverse, reverse-append}
 use Rattle.std.proofs.Math.Seq.{get_or-append_seam}
@@ -21,7 +21,7 @@ ahead_set k [] i s all one = tt
 ahead_set k (d ∷ ds) zero s all one = (subst (λ (n : ℕ). IsAhead n s) (omega arith) one, all.1)
 ahead_set k (d ∷ ds) (suc i) s all one = (all.0, ahead_set (k + 1) ds i s all.1 (subst (λ (n : ℕ). IsAhead n s) (omega arith) one))
 
--- before any entry went
+-- before any entry was taken out a slot has its item
 stands_first : (es : List Entry) (s : Slot) → stands_from [] es s ≡ stands es s
 stands_first es Empty = refl
 stands_first es (Declared at entry) =
@@ -35,7 +35,7 @@ pub standing_first : (es : List Entry) (slots : List Slot) → map (stands_from 
 standing_first es [] = refl
 standing_first es (s ∷ ss) = ap (λ (o : Option Item). o ∷ map (stands_from [] es) ss) (stands_first es s) ∙ ap (λ (os : List (Option Item)). stands es s ∷ os) (standing_first es ss)
 
--- what the index finds among those that went and those that are left
+-- the entry behind those that were taken out is found among those that are left
 called_past : (made : List (Option (ℕ × Op))) (rest : List Entry) (k : ℕ) → called_at made rest (length made + k) ≡ made_by (slice_get rest k)
 called_past [] rest k =
     let none : 0 + k ≡ k = omega arith in
@@ -54,7 +54,7 @@ called_gone [] rest k d lt = absurd (omega arith)
 called_gone (m ∷ ms) rest zero d lt = refl
 called_gone (m ∷ ms) rest (suc k) d lt = called_gone ms rest k d (omega arith)
 
--- one entry goes
+-- one entry is taken out
 module _ (e : Entry) (rest : List Entry) where
   called_next : (made : List (Option (ℕ × Op))) (k : ℕ) → called_at made (e ∷ rest) k ≡ called_at (made ++ made_by (Some e) ∷ []) rest k
   called_next [] zero = refl
@@ -109,7 +109,7 @@ left_past es k le =
     let long = length-reverse es in
     slice_get_past (reverse es) k (omega arith)
 
--- the last is read, and goes
+-- the last element is read, and taken out
 pub last_is : {A : Type 0} (old new : List A) (x y : A) → old ≡ new ++ x ∷ [] → Some y ≡ slice_get old (length old - 1) → y ≡ x
 last_is {A} old new x y is at =
     let read = get_or_from_slice_get old (length old - 1) y y (sym at) in
@@ -123,7 +123,7 @@ reverse_last old new x is = ap reverse is ∙ reverse-append new (x ∷ [])
 abbrev pub rest_of : List (Option (ℕ × Op)) → List Entry → List Slot → RestFields
 rest_of made es slots = record { entries = reverse es; standing = map (stands_from made (reverse es)) (reverse slots) }
 
--- the first that is left goes
+-- the first entry that is left is taken out
 pub takes : (made grown : List (Option (ℕ × Op))) (es fewer : List Entry) (slots others : List Slot) (e : Entry) (s : Slot) (o : Option Item) → es ≡ fewer ++ e ∷ [] → slots ≡ others ++ s ∷ [] → AreAhead (length made) (reverse slots) → o ≡ stands_from made (reverse es) s → grown ≡ made ++ made_by (Some e) ∷ [] → Takes (rest_of made es slots) (Some (e, o)) (rest_of grown fewer others)
 takes made grown es fewer slots others e s o es_is slots_is ahead o_is grown_is =
     let left = reverse_last es fewer e es_is in

@@ -1,4 +1,4 @@
--- Positions that rise from each item to the next.
+-- Positions that rise from item to item.
 use Rattle.std.specs.Prelude.{◌↔◌, IsTrue}
 use Rattle.std.proofs.Common.{◌≡◌, true, false, refl, ℕ, zero, suc, ◌+◌, ◌-◌, ◌<◌, ◌≤◌, inl, inr, sym, subst, arith, List, length, get_or, slice_get, Some}
 use Rattle.std.proofs.lemmas.Option.{slice_get_within, slice_get-get_or, get_or_from_slice_get}
@@ -6,14 +6,14 @@ use Rattle.std.proofs.lemmas.Bool.{cases_lt, false≢true}
 use Rattle.cluster_core.specs.declared.item.Item.{Item}
 use Rattle.cluster_core.specs.Histories.{position_of, Rising}
 
--- of the first n items each stands after the one before it
+-- of the first n items each has a greater position than the one before it
 pub record RisesTo (h : List Item) (n : ℕ) : Type 0 where
   pub next : (k : ℕ) (a b : Item) → k + 1 < n → slice_get h k ≡ Some a → slice_get h (k + 1) ≡ Some b → position_of a < position_of b
 
 pub rises_one : (h : List Item) → RisesTo h 1
 rises_one h = record { next = λ k a b lt x y. absurd (omega arith) }
 
--- what stands at a place
+-- a read of the list gives the item at the place
 read_is : (h : List Item) (k : ℕ) (a x : Item) → slice_get h k ≡ Some a → x ≡ get_or h k x → a ≡ x
 read_is h k a x there is = sym (let read = get_or_from_slice_get h k a x there in cc)
 
@@ -33,7 +33,7 @@ rises_more h n x y least x_is y_is rise r = record {
   ];
 }
 
--- then all rise
+-- where each of all items has a greater position than the one before it, positions rise strictly
 pub rises_all : (h : List Item) (n : ℕ) → length h ≤ n → RisesTo h n → Rising h
 rises_all h n all r j zero a b lt x y = absurd (omega arith)
 rises_all h n all r j (suc m) a b lt x y =
@@ -50,7 +50,7 @@ rises_all h n all r j (suc m) a b lt x y =
           r.next m a b (omega arith) (subst Q same x) (subst P (omega arith) y)
     ]
 
--- where one does not, they don't
+-- where one item has no greater position than the one before it, positions don't rise strictly
 pub rises_not : (h : List Item) (n : ℕ) (x y : Item) → 1 ≤ n → n < length h → x ≡ get_or h (n - 1) x → y ≡ get_or h n y → position_of y ≤ position_of x → Rising h → ⊥
 rises_not h n x y least inside x_is y_is fall rising =
     let first : slice_get h (n - 1) ≡ Some (get_or h (n - 1) x) = slice_get-get_or h (n - 1) x (omega arith) in

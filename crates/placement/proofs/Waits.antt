@@ -1,4 +1,4 @@
--- Replies of calls that wait, and of those that do not.
+-- Replies to calls that wait, and to calls that don't.
 use Rattle.std.proofs.Common.{◌≡◌, ◌≢◌, ℕ, ℤ, Some, Ok, refl}
 use Rattle.model.specs.declared.lock_info.LockInfo.{LockInfo}
 use Rattle.model.specs.declared.mode.Mode.{Mode}
@@ -32,7 +32,7 @@ pub one_answer : (t : Table) (p : Process) (op : Op) (a b : Reply) (n m : Table)
 one_answer t p op Interrupted b n m goes none own h k = absurd (interrupted_one t p op b n m goes none own h k)
 one_answer t p op a b n m goes none own h k = replies_are_one t p op a b n m (λ e. cc) (none, own) h k
 
--- none but a set that does not wait is told of a lock that blocks it
+-- a reply `Again` answers only a set that does not wait
 pub only_sets_are_denied : (t : Table) (p : Process) (op : Op) (lock : LockInfo) → ((fd : ℕ) (kind : Kind) (mode : Mode) (start len : ℤ) → op ≢ Set fd kind mode start len) → NeverAnswers t p op (Again lock)
 only_sets_are_denied t p Spawn lock none = spawn_never t p lock
 only_sets_are_denied t p (Fork child) lock none = fork_never t p child lock
@@ -45,7 +45,7 @@ only_sets_are_denied t p (Wait fd kind mode start len) lock none = wait_never t 
 only_sets_are_denied t p (Unlock fd kind start len) lock none = unlock_never t p fd kind start len lock
 only_sets_are_denied t p (Query fd kind mode start len) lock none = query_never-again t p fd kind mode start len lock
 
--- none but a query is told of a lock that would block
+-- a reply `Blocked` answers only a query
 pub only_queries_are_blocked : (t : Table) (p : Process) (op : Op) (lock : LockInfo) → ((fd : ℕ) (kind : Kind) (mode : Mode) (start len : ℤ) → op ≢ Query fd kind mode start len) → NeverAnswers t p op (Blocked lock)
 only_queries_are_blocked t p Spawn lock none = spawn_never-blocked t p lock
 only_queries_are_blocked t p (Fork child) lock none = fork_never-blocked t p child lock

@@ -1,4 +1,4 @@
--- Indexes of calls, by their names.
+-- Indexes from the names of calls to the entries that make them.
 use Rattle.std.specs.Prelude.{◌≡◌, ℕ, zero, suc, if◌then◌else◌, List, [], slice_get, Option, Some, None}
 use Rattle.std.specs.Global.{Vec}
 use Rattle.std.specs.declared.hash.FoldHasher.{FoldHasher}
@@ -11,7 +11,7 @@ use Rattle.model.specs.Owners.{host_of_call, same_host}
 use Rattle.messages.specs.Messages.{same_call}
 use Rattle.placement.specs.declared.call_index.CallIndex.{CallIndex}
 
--- by a host: the indexes of the entries that make its calls, in the order of their numbers
+-- for each host: the indexes of the entries that make its calls, in the order of their numbers
 abbrev pub Rows : Type 0
 Rows = HashMap Host (Vec ℕ) (BuildHasherDefault FoldHasher)
 
@@ -19,15 +19,15 @@ Rows = HashMap Host (Vec ℕ) (BuildHasherDefault FoldHasher)
 abbrev pub row_of : Rows → Host → List ℕ
 row_of rows host = option_map_or (λ row. row.items) (get same_host rows host) []
 
--- what a row has for the call of that number; the first is number 1
+-- the entry that a row has for the call of that number; the first number is 1
 abbrev pub in_row : List ℕ → ℕ → Option ℕ
 in_row row zero = None
 in_row row (suc n) = slice_get row n
 
--- the index of the entry that makes the call
+-- the index of the entry that makes the call, if the call is known
 abbrev pub entry_of : CallIndex → CallId → Option ℕ
 entry_of calls id = option_or (in_row (row_of calls.rows (host_of_call id)) id.number) (get same_call calls.others id)
 
--- the index has what it had, and that call, if it has not that one yet
+-- the new index has all that the old one had, and the call, unless the old one had it
 abbrev pub TakesIn : CallIndex → CallId → ℕ → CallIndex → Type 0
 TakesIn old id index new = (other : CallId) → entry_of new other ≡ option_or (entry_of old other) (if same_call other id then Some index else None)

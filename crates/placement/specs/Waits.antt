@@ -1,4 +1,4 @@
--- Calls that wait, in a history that is replayed.
+-- Calls that wait, as a history is replayed.
 use Rattle.std.specs.Prelude.{◌≡◌, ◌≢◌}
 use Rattle.model.specs.declared.op.Op.{Op}
 use Rattle.model.specs.declared.op.Op.TheVariants.{Wait}
@@ -8,11 +8,11 @@ use Rattle.model.specs.declared.reply.Reply.TheVariants.{Interrupted}
 use Rattle.model.specs.Table.{Table}
 use Rattle.model.specs.Replay.{NeverAnswers, NamesNoLock}
 
--- the call is answered by an interrupt alone
+-- the table answers the call by an interrupt alone
 abbrev pub IsStuck : Table → Process → Op → Type 0
 IsStuck t p op = (reply : Reply) → NamesNoLock reply → Interrupted ≢ reply → NeverAnswers t p op reply
 
--- where a call that waits is answered by an interrupt, it could not be answered otherwise
+-- a call that waits is answered by an interrupt only where the table has no other answer
 abbrev pub GoesOn : Table → Process → Op → Reply → Type 0
 GoesOn t p (Wait fd kind mode start len) reply = reply ≡ Interrupted → IsStuck t p (Wait fd kind mode start len)
 GoesOn t p _ reply = Unit {0}

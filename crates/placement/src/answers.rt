@@ -1,4 +1,4 @@
-//! What a single machine's table may answer.
+//! The answers that a single machine's table may give to a call.
 ghost use Rattle.std.specs.Prelude.{◌≡◌, ◌≢◌, true, false, IsTrue, ◌↔◌, IfOk, IsOkAnd};
 ghost use Rattle.model.specs.declared.op.Op.TheVariants.{Set, Wait, Unlock, Query};
 ghost use Rattle.model.specs.declared.reply.Reply.TheVariants.{Interrupted};
@@ -20,15 +20,15 @@ use model::process::Process;
 use model::reply::Reply;
 use std::alloc::AllocError;
 
-// Whether both are one reply.
+// Whether both replies are equal.
 fn is_same(one: &Reply, other: &Reply) -> bool
     ensures { IsTrue result ↔ (one.now ≡ other.now) }
 {
     one == other
 }
 
-/// Whether the table may answer the call of the process so; where it may, it takes that step. Of
-/// several locks that block a call, the reply may name each.
+/// Whether the table may answer the process's call with this reply. If it may, the table takes that step. Where
+/// several locks block a call, the reply may name any of them.
 ///
 /// # Errors
 /// `AllocError` where a request for memory was refused.
@@ -52,7 +52,8 @@ pub(crate) fn take(
     }
 }
 
-// The step that is answered so, where the answer names no lock and is not that of an interrupt.
+// Whether the table gives this reply, which names no lock and is not that of an interrupt. If it does, it takes that
+// step.
 fn take_answer(
     table: &mut FcntlTable,
     process: Process,
@@ -71,7 +72,7 @@ fn take_answer(
     Ok(is_same(&answer, &reply))
 }
 
-// Whether a process that the operation names has a number that a process can have.
+// Whether each process that the operation names has a number that a process can have.
 fn is_possible(op: &Op) -> bool
     ensures { IsTrue result ↔ IsPossible op.now }
 {
@@ -81,7 +82,8 @@ fn is_possible(op: &Op) -> bool
     }
 }
 
-// Whether the set or the query passes its tests, and the lock is a region of another owner that blocks it.
+// Whether the operation is a set or a query that passes its tests, and the lock is a region of another owner that
+// blocks it.
 fn is_blocked(table: &FcntlTable, process: Process, op: Op, lock: &LockInfo) -> bool
     ensures { IsTrue result ↔ BlocksOp (table_of table.now) process op lock.now }
 {
@@ -110,7 +112,8 @@ fn is_blocked(table: &FcntlTable, process: Process, op: Op, lock: &LockInfo) -> 
     }
 }
 
-// Whether a call with this target passes its tests, and the lock is a region of another owner that blocks it.
+// Whether the target passes its tests, and the lock is a region of another owner that blocks a lock of that mode
+// there.
 fn is_blocked_at(
     table: &FcntlTable,
     target: Result<LockTarget, Reply>,
@@ -125,7 +128,7 @@ fn is_blocked_at(
     }
 }
 
-// Whether the call may be answered so: it waits, and passes its tests.
+// Whether the call may be answered by an interrupt: it waits, and passes its tests.
 fn may_interrupt(table: &FcntlTable, process: Process, op: Op) -> bool
     ensures may { result ≡ true → Step (table_of table.now) process op Interrupted (table_of table.now) }
     ensures never { result ≡ false → NeverAnswers (table_of table.now) process op Interrupted }
@@ -158,8 +161,8 @@ fn is_blocked_by(table: &FcntlTable, call: LockTarget, mode: Mode, lock: &LockIn
     table.has_region(call.file, lock)
 }
 
-// Answers a call of the process. A segment is tested before the open mode of its descriptor; where
-// locks of several owners block, one of them is named, and a call that waits is interrupted.
+// Answers the process's call. A segment is tested before the open mode of its descriptor. Where locks of several
+// owners block, the reply names one of them; a call that waits is then interrupted.
 fn step(table: &mut FcntlTable, process: Process, op: Op) -> Result<Reply, AllocError>
     requires { IsPossible op }
     ensures step { IfOk result (λ reply. Step (table_of table.old) process op reply (table_of table.new)) }
@@ -202,7 +205,7 @@ fn step(table: &mut FcntlTable, process: Process, op: Op) -> Result<Reply, Alloc
     }
 }
 
-// A lock on a segment.
+// Sets a lock of that mode on a segment.
 fn set(
     table: &mut FcntlTable,
     process: Process,
@@ -225,7 +228,7 @@ fn set(
     }
 }
 
-// A lock on a segment where none is in the way; else the wait goes on, until it is interrupted.
+// Sets a lock of that mode on a segment, if no lock blocks it. Else the wait goes on until it is interrupted.
 fn wait(
     table: &mut FcntlTable,
     process: Process,
@@ -249,7 +252,7 @@ fn wait(
     }
 }
 
-// No lock on a segment.
+// Unlocks a segment.
 fn unlock(
     table: &mut FcntlTable,
     process: Process,
@@ -267,7 +270,7 @@ fn unlock(
     }
 }
 
-// Whether a lock on a segment would be in the way of another owner's.
+// Answers whether a lock of another owner would block a lock of that mode on a segment.
 fn query(
     table: &FcntlTable,
     process: Process,

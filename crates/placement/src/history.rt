@@ -1,4 +1,4 @@
-//! Histories.
+//! Histories as values: items whose positions rise.
 ghost use Rattle.std.specs.Prelude.{◌≡◌, ◌↔◌, IfOk, IsOk, IsTrue};
 ghost use Rattle.cluster_core.specs.Histories.{position_of, Rising};
 
@@ -7,7 +7,7 @@ use messages::version::Version;
 use std::marker::Model;
 use thiserror::Error;
 
-/// The version of a cluster, and items in their order: the positions rise strictly.
+/// A history: the version of its cluster, and its items in order. The positions rise strictly.
 #[derive(Drop)]
 pub struct History {
     version: Version,
@@ -25,10 +25,10 @@ impl Model for History {
     ghost invariant = { λ h. Rising h.items.items };
 }
 
-/// The items are no history.
+/// The reason why a list of items is no history.
 #[derive(Clone, Copy, Debug, PartialEq, Eq, Error)]
 pub enum HistoryError {
-    /// An item doesn't stand after the one before it.
+    /// An item's position is not greater than that of the item before it.
     #[error("the positions don't rise")]
     NotRising,
 }
@@ -37,8 +37,7 @@ impl History {
     /// The history of these items, of a cluster of the version.
     ///
     /// # Errors
-    /// `NotRising` where an item's position is not greater than that of the one before it; the items
-    /// are dropped.
+    /// `NotRising` where an item's position is not greater than that of the item before it. The items are dropped.
     pub fn new(version: Version, items: Vec<Item>) -> Result<History, HistoryError>
         ensures history { IfOk result (λ history. history ≡ record { version = version; items = items.items }) }
         ensures rising { IsOk result ↔ Rising items.items }
@@ -49,7 +48,7 @@ impl History {
         Ok(History { version, items })
     }
 
-    // The history of items that rise.
+    // The history of items whose positions rise.
     pub(crate) fn of_rising(version: Version, items: Vec<Item>) -> History
         requires { Rising items.items }
         ensures { result ≡ record { version = version; items = items.items } }
@@ -64,7 +63,7 @@ impl History {
         self.version
     }
 
-    /// The items, the earliest first.
+    /// The items, in order of their positions.
     pub fn items(&self) -> &[Item]
         ensures value { result.now ≡ self.now.items }
         ensures rising { Rising self.now.items }
@@ -73,7 +72,7 @@ impl History {
     }
 }
 
-// The position of an item.
+// The position of the item.
 fn position(item: &Item) -> u32
     ensures { result ≡ position_of item.now }
 {
@@ -83,7 +82,7 @@ fn position(item: &Item) -> u32
     }
 }
 
-// Whether each item's position is greater than that of the one before it.
+// Whether each item's position is greater than that of the item before it.
 fn is_rising(items: &[Item]) -> bool
     ensures { IsTrue result ↔ Rising items.now }
 {

@@ -1,4 +1,5 @@
-//! Whether a single machine's table allows a history.
+//! The test whether a single machine's table allows a history. A function here that gives a `Result` answers
+//! `AllocError` where a request for memory was refused.
 ghost use Rattle.std.specs.Prelude.{◌≡◌, true, false, ◌↔◌, IsTrue, IfOk, MatchOption};
 ghost use Rattle.model.specs.Limits.{IsProcess};
 ghost use Rattle.model.specs.Table.{Table};
@@ -14,12 +15,9 @@ use model::limits::MOST_PROCESSES;
 use model::process::Process;
 use std::alloc::{AllocError, Global};
 
-/// Whether a single machine's table, empty at first and with the limit of regions of the history's
-/// version, may answer each call of the history as it is answered there, item by item (POSIX.1-2017
-/// `fcntl()`, `open()`, `_exit()`).
-///
-/// # Errors
-/// `AllocError` where a request for memory was refused.
+/// Whether a single machine's table may answer each call of the history with the reply that stands there, item by
+/// item. The table is empty at first, and has the limit of regions of the history's version (POSIX.1-2017 `fcntl()`,
+/// `open()`, `_exit()`).
 pub fn legal(alloc: Global, history: &History) -> Result<bool, AllocError>
     ensures { IfOk result (λ yes. IsTrue yes ↔ IsLegal history.now.version history.now.items) }
 {
@@ -32,10 +30,7 @@ pub fn legal(alloc: Global, history: &History) -> Result<bool, AllocError>
     Ok(true)
 }
 
-/// The item leads the table on, if it may.
-///
-/// # Errors
-/// `AllocError` where a request for memory was refused.
+/// Makes the item's step in the table, if the table allows it. Answers whether it does.
 pub fn follow(table: &mut FcntlTable, item: &Item) -> Result<bool, AllocError>
     ensures leads { IfOk result (λ yes. yes ≡ true → ItemStep (table_of table.old) item.now (table_of table.new)) }
     ensures stuck { IfOk result (λ yes. yes ≡ false → (new : Table) → ItemStep (table_of table.old) item.now new → ⊥) }
@@ -62,7 +57,7 @@ pub fn follow(table: &mut FcntlTable, item: &Item) -> Result<bool, AllocError>
     }
 }
 
-// The process that makes the call, if a node can have one of that number.
+// The process that makes the call, if a node can have a process of that number.
 fn caller(id: CallId, pid: u16) -> Option<Process>
     ensures { MatchOption result (IsProcess (caller id pid) → ⊥) (λ process. (process ≡ caller id pid) × IsProcess process) }
 {

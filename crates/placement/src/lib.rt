@@ -1,4 +1,5 @@
-//! Runs beside one table: the history of a run, and whether a single machine's table allows a history.
+//! The history of a run, as a value, and the test whether a single machine's table allows a history. It knows nothing
+//! of how nodes and servers come to their replies, of files of the operating system, of printed text or of threads.
 #![tactic(auto)]
 
 mod answers;

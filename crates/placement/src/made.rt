@@ -1,4 +1,4 @@
-//! What entries that are gone call.
+//! The calls that entries of a run made, kept after the entries themselves are gone.
 ghost use Rattle.std.specs.Prelude.{◌≡◌, ◌<◌, ◌++◌, ◌∷◌, [], length, slice_index_or, None, OnOk, OnErr};
 ghost use Rattle.std.specs.List.Sorted.{IsNonDecreasingBy};
 ghost use Rattle.cluster_core.specs.World.{journal_limit};
@@ -9,12 +9,12 @@ use model::op::Op;
 use std::alloc::{AllocError, Global};
 use std::marker::Model;
 
-/// What the first entries of a run call, if they make a call. Only those that make one take memory.
+/// The calls of the first entries of a run. Only an entry that makes a call takes memory here.
 #[derive(Drop)]
 pub(crate) struct Made {
     // The calls, in the order of the entries that make them.
     calls: Vec<MadeCall>,
-    // How many entries these are.
+    // The number of entries, with or without a call.
     entries: u32,
 }
 
@@ -31,7 +31,7 @@ impl Model for Made {
 }
 
 impl Made {
-    // No entries.
+    // The calls of no entries.
     pub(crate) fn new(alloc: Global) -> Made
         ensures { result ≡ [] }
     {
@@ -41,21 +41,21 @@ impl Made {
         }
     }
 
-    // How many entries these are.
+    // The number of entries, with or without a call.
     pub(crate) fn len(&self) -> usize
         ensures { result ≡ length self.now }
     {
         self.entries as usize
     }
 
-    // What the entry with that index calls.
+    // The process and the operation of the call that the entry with that index makes, if it makes one.
     pub(crate) fn get(&self, index: usize) -> Option<(u16, Op)>
         ensures { result ≡ slice_index_or self.now index None }
     {
         called_by_entry(self.calls.as_slice(), index)
     }
 
-    // One entry more, and what it calls.
+    // Adds one entry, with the process and the operation of its call, if it makes one.
     pub(crate) fn push(&mut self, called: Option<(u16, Op)>) -> Result<(), AllocError>
         requires { length self.old < journal_limit }
         ensures more { OnOk result (self.new ≡ self.old ++ called ∷ []) }
@@ -73,7 +73,7 @@ impl Made {
     }
 }
 
-// What the entry with that index calls. It halves what is left at each step.
+// The process and the operation of the call that the entry with that index makes, if it makes one. A binary search.
 fn called_by_entry(calls: &[MadeCall], index: usize) -> Option<(u16, Op)>
     requires { IsNonDecreasingBy (λ call. call.entry) calls.now }
     ensures { result ≡ called_by_entry calls.now index }

@@ -1,7 +1,7 @@
-//! A call that an entry makes.
+//! A call of a run, as it is kept after its entry is gone.
 use model::op::Op;
 
-/// A call that is made at the entry with an index (from 0), in 32 bytes: by which process, and what it asks for.
+/// A call, in 32 bytes: the index of the entry that makes it, from 0, the process and the operation.
 #[derive(Clone, Copy)]
 pub(crate) struct MadeCall {
     pub(crate) entry: u32,

@@ -1,4 +1,4 @@
-//! The history of a run.
+//! The one history of a run.
 ghost use Rattle.std.specs.Prelude.{ℕ, ◌≡◌, ◌≤◌, ◌<◌, ⊤, List, ◌++◌, ◌∷◌, [], length, slice_get, Some, IfOk, OnOk, MatchOption};
 ghost use Rattle.model.specs.declared.call.CallId.{CallId};
 ghost use Rattle.model.specs.declared.reply.Reply.{Reply};
@@ -24,14 +24,13 @@ use model::call::CallId;
 use std::alloc::{AllocError, Global};
 use std::collections::HashMap;
 
-// By the name of a revoke: the index of the first entry that tells of a lock in its way.
+// For each revoke, by its name: the index of the first entry that sends a conflict with it.
 type Conflicts = HashMap<RevokeId, usize>;
 
-/// The one history of the journal's run: each answered call at its place, each declared failure at its
-/// declaration, and nothing else. A call
-/// that a server denied stands at the entry at which the holder of the lock first did the revoke that
-/// the denial names, every other call at the entry that answers it. A single machine's table allows
-/// it from the first item to the last, and ends as what the live nodes hold.
+/// The one history of the journal's run: each answered call at its place, each declared failure at its declaration,
+/// and nothing else. A call that a server denied stands at the entry at which the holder of the lock first did the
+/// revoke that the denial names, every other call at the entry that answers it. A single machine's table allows the
+/// history from the first item to the last, and ends with what the live nodes hold.
 ///
 /// # Errors
 /// `AllocError` where a request for memory was refused.
@@ -40,7 +39,7 @@ pub fn placed(alloc: Global, journal: &Journal) -> Result<History, AllocError>
     ensures history { IfOk result (λ history. HasHistory journal.now.shape journal.now.entries history.items) }
     ensures at_places { IfOk result (λ history. EachAtItsPlace journal.now.entries history.items) }
 
-    // Tokens of two nodes don't conflict after the run, and locks are covered by tokens.
+    // After the run tokens of two nodes don't conflict, and locks are covered by tokens.
     ensures safe { LeadsToSafe journal.now.shape journal.now.entries }
 {
     let version = journal.shape().version();
@@ -48,7 +47,7 @@ pub fn placed(alloc: Global, journal: &Journal) -> Result<History, AllocError>
     Ok(History::of_rising(version, items))
 }
 
-// The items of the history that the entries make.
+// The items of the history of these entries.
 fn items_of(alloc: Global, entries: &[Entry]) -> Result<Vec<Item>, AllocError>
     requires { length entries.now ≤ journal_limit }
     ensures { IfOk result (λ items. items.items ≡ history_of entries.now) }
@@ -57,7 +56,7 @@ fn items_of(alloc: Global, entries: &[Entry]) -> Result<Vec<Item>, AllocError>
     items_in(alloc, entries, slots.as_slice())
 }
 
-// The slots of the history, one for each entry, in one pass over them.
+// The slots of the history, one for each entry, made in one pass over the entries.
 pub(crate) fn slots_of(alloc: Global, entries: &[Entry]) -> Result<Vec<Slot>, AllocError>
     requires { length entries.now ≤ journal_limit }
     ensures placed { IfOk result (λ slots. standing entries.now slots.items ≡ slots_of entries.now) }
@@ -74,8 +73,8 @@ pub(crate) fn slots_of(alloc: Global, entries: &[Entry]) -> Result<Vec<Slot>, Al
     Ok(slots)
 }
 
-// Takes the entry into the index: its call, where it makes one and none of that name came before.
-// `index` entries came before it.
+// Adds the call that the entry makes to the index, if it makes one and the index has none of that name. `index`
+// entries came before it.
 fn note_call(
     alloc: Global,
     calls: &mut CallIndex,
@@ -94,8 +93,8 @@ fn note_call(
     calls.note(alloc, id, index as u32)
 }
 
-// Takes the entry into the index: each conflict that it tells of, where none of that name came before.
-// `index` entries came before it.
+// Adds each conflict that the entry sends to the index, if the index has none of that name. `index` entries came
+// before it.
 fn note_conflicts(conflicts: &mut Conflicts, index: usize, entry: &Entry) -> Result<(), AllocError>
     ensures { OnOk result ((es : List Entry) → length es ≡ index → Locates conflicts.old es → Locates conflicts.new (es ++ entry.now ∷ [])) }
 {
@@ -105,7 +104,8 @@ fn note_conflicts(conflicts: &mut Conflicts, index: usize, entry: &Entry) -> Res
     Ok(())
 }
 
-// Takes a message into the index, which the entry with that index sends.
+// Adds the message to the index, if it is a conflict and the index has none of that name. The entry with that index
+// sends it.
 fn note_conflict(
     conflicts: &mut Conflicts,
     index: usize,
@@ -133,8 +133,8 @@ fn note_conflict(
     Ok(())
 }
 
-// One slot more, for an entry that comes after those of `conflicts`. Where it answers a call of
-// `calls`, that call goes to its place.
+// Appends the slot of an entry that comes after those of `conflicts`. If the entry answers a call of `calls`, the
+// call goes to its place.
 fn answer(
     slots: &mut Vec<Slot>,
     calls: &CallIndex,
@@ -161,8 +161,8 @@ fn answer(
     Ok(())
 }
 
-// The slot for the call that an entry with this event answers: that of the first entry that tells of
-// the conflict where the event delivers a denial, else the entry's own.
+// The slot for the call that an entry with this event answers: a denied call stands at the first entry that sent the
+// conflict, any other at its reply.
 fn slot_of(conflicts: &Conflicts, own: usize, event: &Event) -> Option<usize>
     requires { AreBefore conflicts.now own }
     ensures within { MatchOption result ⊤ (λ index. index ≤ own) }
@@ -203,7 +203,7 @@ fn slot_at(calls: &CallIndex, position: u32, id: CallId, reply: u32) -> Slot
     }
 }
 
-// What stands in the slots, in their order.
+// The items in the slots, in order.
 fn items_in(alloc: Global, entries: &[Entry], slots: &[Slot]) -> Result<Vec<Item>, AllocError>
     ensures { IfOk result (λ items. items.items ≡ items_in (standing entries.now slots.now)) }
 {

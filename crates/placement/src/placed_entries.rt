@@ -1,4 +1,4 @@
-//! Entries of a run, each with what stands there in its history.
+//! The entries of a run, taken out one by one, each with the item that stands there in the history.
 ghost use Rattle.std.specs.Prelude.{◌≡◌, ◌<◌, ◌≤◌, ◌-◌, reverse as reversed, length, slice_get, option_copied, IfOk, OnErr};
 ghost use Rattle.cluster_core.specs.World.{journal_limit};
 ghost use Rattle.placement.specs.Standing.{made_by, standing};
@@ -12,16 +12,16 @@ use model::op::Op;
 use std::alloc::{AllocError, Global};
 use std::marker::Model;
 
-// After so many entries the memory of those that went is given back.
+// The memory of entries that were taken out is given back after this many.
 const ENTRIES_AT_ONCE: usize = 16_384;
 
-/// The entries of a run from one on, each with the item that stands there in the history, if one does. What was
-/// taken out takes less memory: of the entries only the calls that they make are kept, each in 32 bytes.
+/// The entries of a run that are left, each with the item that stands there in the history, if one does. An entry
+/// that was taken out needs less memory: only the call that it makes is kept, in 32 bytes.
 #[derive(Drop)]
 pub struct PlacedEntries {
-    // What the entries that are gone call, the first of them first.
+    // The calls of the entries that were taken out, in their order.
     made: Made,
-    // Those that are left, and their slots, the last of them first.
+    // The entries that are left and their slots, the last of them first.
     entries: Vec<Entry>,
     slots: Vec<Slot>,
 }
@@ -38,7 +38,7 @@ impl Model for PlacedEntries {
 }
 
 impl PlacedEntries {
-    // All entries of a run, with its slots.
+    // All entries of a run, with their slots.
     pub(crate) fn new(alloc: Global, entries: Vec<Entry>, slots: Vec<Slot>) -> PlacedEntries
         requires ahead { AreAhead 0 slots.items }
         requires each { length slots.items ≡ length entries.items }
@@ -56,10 +56,10 @@ impl PlacedEntries {
         }
     }
 
-    /// Takes the first entry out, with the item that stands there, if one does; none where no entry is left.
+    /// Takes the first entry out, with the item that stands there, if one does; `None` where no entry is left.
     ///
     /// # Errors
-    /// `AllocError` where a request for memory was refused. Then nothing was taken out.
+    /// `AllocError` where a request for memory was refused. Nothing was taken out then.
     pub fn next(&mut self) -> Result<Option<(Entry, Option<Item>)>, AllocError>
         ensures takes { IfOk result (λ first. Takes self.old first self.new) }
         ensures unchanged { OnErr result (self.new ≡ self.old) }
@@ -78,7 +78,7 @@ impl PlacedEntries {
     }
 }
 
-// Gives back the memory of what went, where so much went that it is worth it.
+// Gives back the memory of what was taken out, if it is enough.
 fn give_back<T>(left: &mut Vec<T>)
     ensures { left.new.items ≡ left.old.items }
 {
@@ -87,7 +87,7 @@ fn give_back<T>(left: &mut Vec<T>)
     }
 }
 
-// What stands in the slot of the first entry that is left, if anything does.
+// The item in the slot of the first entry that is left, if one stands there.
 fn item_at(made: &Made, entries: &[Entry], slot: Slot) -> Option<Item>
     requires { IsAhead (length made.now) slot }
     ensures { result ≡ stands_from made.now (reversed entries.now) slot }
@@ -112,7 +112,7 @@ fn item_at(made: &Made, entries: &[Entry], slot: Slot) -> Option<Item>
     }
 }
 
-// What the entry with that index calls.
+// The process and the operation of the call that the entry with that index makes, if it makes one.
 fn called_at(made: &Made, entries: &[Entry], index: usize) -> Option<(u16, Op)>
     ensures { result ≡ called_at made.now (reversed entries.now) index }
 {

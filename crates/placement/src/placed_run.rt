@@ -1,4 +1,4 @@
-//! Runs whose calls have their places.
+//! A run whose calls have their places in the history.
 ghost use Rattle.std.specs.Prelude.{◌≡◌, IfOk};
 ghost use Rattle.cluster_core.specs.Histories.{HasHistory, EachAtItsPlace};
 ghost use Rattle.cluster_core.specs.Placement.{items_in, slots_of};
@@ -10,8 +10,8 @@ use cluster_core::journal::Journal;
 use std::alloc::{AllocError, Global};
 use std::marker::Model;
 
-/// The journal of a run, with the place of each of its calls in the one history: of each entry it is known
-/// what stands there, in 16 bytes, and the items are made when they are asked for.
+/// The journal of a run, with the place of each of its calls in the one history. A slot of 16 bytes for each entry
+/// says what stands there; the item is made when it is asked for.
 #[derive(Drop)]
 pub struct PlacedRun {
     journal: Journal,
@@ -30,10 +30,10 @@ impl Model for PlacedRun {
 }
 
 impl PlacedRun {
-    /// The run of a journal.
+    /// The placed run of a journal.
     ///
     /// # Errors
-    /// `AllocError` where a request for memory was refused; the journal is dropped.
+    /// `AllocError` where a request for memory was refused. The journal is dropped.
     pub fn new(alloc: Global, journal: Journal) -> Result<PlacedRun, AllocError>
         ensures { IfOk result (λ run. run ≡ journal) }
     {
@@ -47,15 +47,15 @@ impl PlacedRun {
         &self.journal
     }
 
-    /// Its entries, each with the item that stands there in the history, if one does: that of `placed`. A
-    /// single machine's table allows the items from the first to the last, and ends as what the live nodes hold.
+    /// The entries of the run, each with the item that stands there in the history, if one does, as in `placed`. A
+    /// single machine's table allows the items from the first to the last, and ends with what the live nodes hold.
     pub fn into_entries(self, alloc: Global) -> PlacedEntries
         ensures entries { result.entries ≡ self.entries }
         ensures standing { result.standing ≡ slots_of self.entries }
         ensures history { HasHistory self.shape self.entries (items_in result.standing) }
         ensures at_places { EachAtItsPlace self.entries (items_in result.standing) }
     {
-        let _ = self.journal.entries(); // tells the proof that they are a run
+        let _ = self.journal.entries(); // tells the proof that the entries are a run
         PlacedEntries::new(alloc, self.journal.into_entries(), self.slots)
     }
 }

@@ -1,10 +1,10 @@
-//! Names of revokes.
+//! The name of a revoke.
 use messages::command_number::CommandNumber;
 use messages::file_number::FileNumber;
 use model::host::Host;
 
-/// A revoke, by its file, its number among the commands of that file's token server to the holder
-/// (from 1), and the holder, the node whose token it takes back.
+/// The name of a revoke: its file, its number among the commands of that file's token server to the holder (from 1),
+/// and the holder, the node whose token it takes back.
 #[derive(Clone, Copy, Debug, PartialEq, Eq, Hash)]
 pub(crate) struct RevokeId {
     pub(crate) file: FileNumber,

@@ -1,4 +1,4 @@
-//! What stands at an entry of a run.
+//! A slot of a history: what stands at an entry of a run.
 ghost use Rattle.std.specs.Prelude.{◌≡◌};
 ghost use Rattle.cluster_core.specs.Calls.{called_by};
 ghost use Rattle.cluster_core.specs.Placement.{gone_at};
@@ -9,9 +9,8 @@ use messages::entry::Entry;
 use messages::event::Event;
 use model::op::Op;
 
-/// What stands at an entry, told by indices of entries (from 0) and a position (from 1): nothing; the
-/// failure of a node, where an entry declares one; or the call that one entry makes and another
-/// answers.
+/// What stands at an entry: nothing; the failure of a node, which an entry declares; or a call, which one entry makes
+/// and another answers. Entries are named by their indexes, from 0, and the position counts from 1.
 #[derive(Clone, Copy)]
 pub(crate) enum Slot {
     Empty,
@@ -27,7 +26,7 @@ pub(crate) enum Slot {
 }
 
 impl Slot {
-    /// The item that stands there, if one does.
+    /// The item in the slot, if one stands there.
     pub(crate) fn item(&self, entries: &[Entry]) -> Option<Item>
         ensures { result ≡ stands entries.now self.now }
     {
@@ -48,7 +47,7 @@ impl Slot {
     }
 }
 
-// The failure of a node that the entry at that position declares.
+// The failure of a node that the entry, at that position, declares, if it declares one.
 pub(crate) fn gone_at(position: u32, entry: &Entry) -> Option<Item>
     ensures { result ≡ gone_at position entry.now.incarnation entry.now.event }
 {
@@ -62,7 +61,7 @@ pub(crate) fn gone_at(position: u32, entry: &Entry) -> Option<Item>
     })
 }
 
-// The process that makes a call at the entry, and what it asks for.
+// The process and the operation of the call that the entry makes, if it makes one.
 pub(crate) fn made_by(entry: &Entry) -> Option<(u16, Op)>
     ensures { result ≡ called_by entry.now.event None }
 {
@@ -72,7 +71,7 @@ pub(crate) fn made_by(entry: &Entry) -> Option<(u16, Op)>
     Some((*pid, *op))
 }
 
-// The item at that position of the call that the entry answers, by a process that asks for this.
+// The item at that position of the call that the entry answers, with this process and operation.
 pub(crate) fn answered_at(position: u32, made: (u16, Op), entry: &Entry) -> Option<Item>
     ensures { result ≡ answered_so position (Some made) entry.now.reply }
 {

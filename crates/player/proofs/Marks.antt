@@ -1,4 +1,4 @@
--- Marks of settled messages.
+-- The marks of settled messages.
 use Rattle.std.specs.Prelude.{◌≡◌, ℕ, zero, suc, ◌+◌, ◌<◌, ◌⊎◌, ◌==◌, ◌||◌, nat_lt, Bool, true, false, List, [], ◌∷◌, ◌++◌, length, slice_index_or, slice_set, refl}
 use Rattle.std.proofs.Common.{arith, ap, sym, ◌∙◌, inl, inr}
 use Rattle.std.proofs.lemmas.Bool.{cases_eq, cases_lt, eq-eqb, ne_eqb, lt-ltb, le-ltb}
@@ -17,7 +17,7 @@ or_third true false c = refl
 or_third false true c = refl
 or_third false false c = refl
 
--- at first nothing is settled
+-- a run that begins has no settled message
 pub settled-none : (s : SettledParts) → s.cursor ≡ 0 → s.marks ≡ [] → settled_in s ≡ (λ index. false)
 unfolding settled_in
 settled-none s at_start none = λ i index. (ap (λ (c : ℕ). nat_lt index c || slice_index_or s.marks index false) at_start ∙ (ap (λ (ms : List Bool). nat_lt index 0 || slice_index_or ms index false) none ∙ nothing index)) i
@@ -25,12 +25,12 @@ settled-none s at_start none = λ i index. (ap (λ (c : ℕ). nat_lt index c || 
     nothing : (index : ℕ) → (nat_lt index 0 || slice_index_or [] index false) ≡ false
     nothing index = ap (λ (b : Bool). b || false) (le-ltb index 0 (omega arith))
 
--- the first messages that were sent are settled
+-- a cursor behind the first messages settles them
 pub settled-first : (s : SettledParts) (count : ℕ) → s.cursor ≡ count → s.marks ≡ [] → settled_in s ≡ (λ index. nat_lt index count)
 unfolding settled_in
 settled-first s count begins none = λ i index. (ap (λ (c : ℕ). nat_lt index c || slice_index_or s.marks index false) begins ∙ (ap (λ (ms : List Bool). nat_lt index count || slice_index_or ms index false) none ∙ or-false (nat_lt index count))) i
 
--- a mark that is not set changes nothing
+-- a mark that isn't set changes nothing
 mark-none : (marks : List Bool) (index : ℕ) → slice_index_or (marks ++ false ∷ []) index false ≡ slice_index_or marks index false
 mark-none [] zero = refl
 mark-none [] (suc index) = refl
@@ -84,7 +84,7 @@ settled-again s index marked = λ i other. again other (cases_eq other index) i
         ∙ ap (λ (b : Bool). nat_lt other s.cursor || b) (sym (ap (λ (k : ℕ). slice_index_or s.marks k false) is ∙ marked)))
     again other (inr ne) = ap (λ (b : Bool). b || settled_in s other) (ne_eqb other index ne)
 
--- at a cursor without a mark stands the least message that is not settled
+-- a cursor without a mark stands at the first message that isn't settled
 pub settled-least : (s : SettledParts) → slice_index_or s.marks s.cursor false ≡ false → IsLeastUnsettled (settled_in s) s.cursor
 unfolding settled_in
 settled-least s unmarked = record {

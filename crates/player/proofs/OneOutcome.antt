@@ -1,4 +1,4 @@
--- A script comes to one thing at most.
+-- A script has one outcome at most.
 use Rattle.std.proofs.Common.{◌≡◌, ℕ, Bool, inl, inr, arith, sym, ◌∙◌, ap, subst, List, [], ◌∷◌}
 use Rattle.std.proofs.lemmas.Bool.{cases_lt, false≢true}
 use Rattle.std.proofs.lemmas.Option.{slice_get_within, none-some, same_Some}
@@ -41,14 +41,14 @@ least_one settled i j a b = elim (cases_lt i j) [
   ]
 ]
 
--- the next message is one
+-- a run has one next message at most
 next_one : (p : Progress) (i j : ℕ) (m n : Message) → IsNextMessage p i m → IsNextMessage p j n → (i ≡ j) × (m ≡ n)
 next_one p i j m n a b =
     let same = least_one p.settled i j a.least b.least in
     let P : ℕ → Type 0 = λ k. slice_get p.world.sent k ≡ Some n in
     (same, some_one (slice_get p.world.sent i) m n a.sent (subst P (sym same) b.sent))
 
--- there is no next message where every message is settled
+-- a run in which each message is settled has no next message
 settled_next : (p : Progress) (i : ℕ) (m : Message) → IsSettled p → IsNextMessage p i m → ⊥
 settled_next p i m settled is = false≢true (sym is.least.unsettled ∙ settled i (slice_get_within p.world.sent i m is.sent))
 
@@ -59,7 +59,7 @@ delivers_one line p q s m n a b =
     let Q : ℕ → Type 0 = λ k. Passes line (settling k p) (kept_next p.world (event.Deliver m)) s in
     passes_one line (settling a.0 p) q s (kept_next p.world (event.Deliver m)) a.2 (subst Q (sym same.0) (subst P (sym same.1) b.2))
 
--- where nothing is left to deliver, nothing is delivered
+-- a run in which each message is settled delivers none
 none_left : (line : ℕ) (p : Progress) (q mid : End) (m : Message) → q ≡ Some p → IfSome q IsSettled → Delivers line m p mid → ⊥
 none_left line p q mid m is settled delivers =
     let P : End → Type 0 = λ x. IfSome x IsSettled in
@@ -90,7 +90,7 @@ does_one line (FailServer file) p q s a b = ends_one line p q s (kept_next p.wor
 does_one line (StartServer file) p q s a b = ends_one line p q s (kept_next p.world (event.StartServer file)) a b
 does_one line Settle p q s a b = settles_one line (Some p) q s a.0 b.0 a.1 a.2 b.1 b.2
 
--- the lines are run in order, from an end
+-- the lines, run in order from one end, come to another
 abbrev Runs : End → List LineFields → End → Type 0
 Runs = InTurn (λ (l : LineFields). Does l.number l.command)
 

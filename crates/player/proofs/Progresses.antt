@@ -1,4 +1,4 @@
--- Runs of scripts lead from world to world.
+-- The entries of a run lead from its first world to its last.
 use Rattle.std.proofs.Common.{◌≡◌, ℕ, zero, suc, ◌<◌, arith, Bool, true, false, if◌then◌else◌, Option, Some, None, refl, sym, subst, List, [], ◌∷◌, ◌++◌, length, reverse}
 use Rattle.std.specs.Prelude.{nat_le, nat_lt, slice_get, IfSome}
 use Rattle.std.specs.declared.result.Result.{Result}
@@ -21,11 +21,11 @@ use Rattle.lockscript.specs.declared.script_line.Command.TheVariants.{Call, Deli
 use Rattle.lockscript.specs.Scripts.{LineFields}
 use Rattle.player.specs.Progress.{Progress, End, after_entry, after_refusal, index_of, lost, settling, Comes, Ends, Happens, InTurn, Passes, IsLeastUnsettled, IsNextMessage, Delivers, Does, RunsTo}
 
--- the entries so far lead from a world to the world so far
+-- the entries of a run lead from its first world to its world so far
 abbrev pub LeadsFrom : WorldState → Progress → Type 0
 LeadsFrom w p = Leads w p.entries p.world
 
--- where a script comes to an end that is a progress, its entries lead there
+-- if a run comes to a progress, its entries lead there
 abbrev pub EndLeads : WorldState → End → Type 0
 EndLeads w end = IfSome end (LeadsFrom w)
 
@@ -52,7 +52,7 @@ passes_leads w line ev p end r is leads passes = ends_leads w line ev p end r is
 delivers_leads : (w : WorldState) (line : ℕ) (m : Message) (p : Progress) (end : End) → LeadsFrom w p → Delivers line m p end → EndLeads w end
 delivers_leads w line m p end leads delivers = passes_leads w line (event.Deliver m) (settling delivers.0 p) end (kept_next p.world (event.Deliver m)) refl leads delivers.2
 
--- what each keeps, all keep, one after the other
+-- a statement that each step keeps is kept by all steps in turn
 turns_lead : {A : Type 0} (Is : A → Progress → End → Type 0) (w : WorldState) → ((x : A) (p : Progress) (end : End) → LeadsFrom w p → Is x p end → EndLeads w end) → (from : End) (xs : List A) (end : End) → EndLeads w from → InTurn Is from xs end → EndLeads w end
 turns_lead Is w each None xs end leads is = end_leads w None end is leads
 turns_lead Is w each (Some p) [] end leads is = end_leads w (Some p) end is leads
@@ -88,22 +88,22 @@ does_leads w line (FailServer file) p end leads does = happens_leads w line (eve
 does_leads w line (StartServer file) p end leads does = happens_leads w line (event.StartServer file) p end leads does
 does_leads w line Settle p end leads does = turns_lead (Delivers line) w (delivers_leads w line) (Some p) does.0 end leads does.1
 
--- the entries that lines make lead on
+-- the entries that the lines make lead on from the world before them
 pub lines_lead : (w : WorldState) (from : Progress) (ls : List LineFields) (q : Progress) → LeadsFrom w from → RunsTo from ls (Some q) → LeadsFrom w q
 lines_lead w from ls q leads runs = turns_lead (λ (l : LineFields). Does l.number l.command) w (λ l. does_leads w l.number l.command) (Some from) ls (Some q) leads runs
 
--- what comes in turn after others
+-- things that are done after other ones
 pub turns_append : {A : Type 0} (Is : A → Progress → End → Type 0) (from mid end : End) (xs ys : List A) → InTurn Is from xs mid → InTurn Is mid ys end → InTurn Is from (xs ++ ys) end
 turns_append Is None mid end xs ys is more = let P : End → Type 0 = λ x. InTurn Is x ys end in subst P is more
 turns_append Is (Some p) mid end [] ys is more = let P : End → Type 0 = λ x. InTurn Is x ys end in subst P is more
 turns_append Is (Some p) mid end (x ∷ xs) ys turns more = (turns.0, turns.1, turns_append Is turns.0 mid end xs ys turns.2 more)
 
--- where nothing more comes, the end stays
+-- an end stays where nothing more is done
 turns_none : {A : Type 0} (Is : A → Progress → End → Type 0) (end : End) → InTurn Is end [] end
 turns_none Is None = refl
 turns_none Is (Some p) = refl
 
--- one more, at which it may end
+-- one more thing is done, with which the run may end
 pub turns_push : {A : Type 0} (Is : A → Progress → End → Type 0) (from : End) (mid : Progress) (end : End) (xs : List A) (x : A) → InTurn Is from xs (Some mid) → Is x mid end → InTurn Is from (xs ++ x ∷ []) end
 turns_push Is from mid end xs x turns is = turns_append Is from (Some mid) end xs (x ∷ []) turns (end, is, turns_none Is end)
 
@@ -113,7 +113,7 @@ settles_push line p q s end ms m turns same delivers =
     let P : Progress → Type 0 = λ x. Delivers line m x end in
     turns_push (Delivers line) (Some p) q end ms m turns (subst P same delivers)
 
--- the least message that is not settled, of those that were sent
+-- the message at an index below the number of messages that were sent
 sent_there : (ms : List Message) (index : ℕ) → index < length ms → (m : Message) × (slice_get ms index ≡ Some m)
 sent_there [] index lt = absurd (omega arith)
 sent_there (m ∷ ms) zero lt = (m, refl)
@@ -124,21 +124,21 @@ next_there p index least lt =
     let there = sent_there p.world.sent index lt in
     (there.0, record { least = least; sent = there.1 })
 
--- a line that is done, before those that are left, of which the last comes first
+-- a line that is done, in front of the remaining lines, which are stored in reverse order
 pub runs_first : (p q : Progress) (left ls : List LineFields) (l : LineFields) (end : End) → ls ≡ left ++ l ∷ [] → Does l.number l.command p (Some q) → RunsTo q (reverse left) end → RunsTo p (reverse ls) end
 runs_first p q left ls l end is does rest =
     let P : List LineFields → Type 0 = λ ks. RunsTo p (reverse ks) end in
     let Q : List LineFields → Type 0 = λ ks. RunsTo p ks end in
     subst P (sym is) (subst Q (sym (reverse-append left (l ∷ []))) (Some q, does, rest))
 
--- such a line finds the journal full
+-- a line finds the journal full, and so the lines from it on
 pub fills : (p : Progress) (left ls : List LineFields) (l : LineFields) → ls ≡ left ++ l ∷ [] → Does l.number l.command p None → RunsTo p (reverse ls) None
 fills p left ls l is full =
     let P : List LineFields → Type 0 = λ ks. RunsTo p (reverse ks) None in
     let Q : List LineFields → Type 0 = λ ks. RunsTo p ks None in
     subst P (sym is) (subst Q (sym (reverse-append left (l ∷ []))) (None, full, refl))
 
--- where no line is left, they all come to this
+-- where no line is left, the lines come to this
 pub runs_out : (p : Progress) (ls : List LineFields) → length ls ≡ 0 → RunsTo p (reverse ls) (Some p)
 runs_out p [] none = refl
 runs_out p (l ∷ ls) none = absurd (cc)

@@ -1,13 +1,13 @@
--- What holds of every script.
+-- Laws of every script.
 use Rattle.std.specs.Prelude.{◌≡◌, List}
 use Rattle.messages.specs.Shapes.{ShapeFields}
 use Rattle.lockscript.specs.Scripts.{LineFields}
 use Rattle.player.specs.Played.{PlayedState, ComesTo, FillsJournal}
 
--- a script comes to one thing at most
+-- a script has one outcome at most
 abbrev pub ComesToOne : Type 0
 ComesToOne = (shape : ShapeFields) (lines : List LineFields) (one other : PlayedState) → ComesTo shape lines one → ComesTo shape lines other → one ≡ other
 
--- and to nothing where it fills the journal
+-- a script that fills the journal has no outcome
 abbrev pub FullComesToNothing : Type 0
 FullComesToNothing = (shape : ShapeFields) (lines : List LineFields) (played : PlayedState) → FillsJournal shape lines → ComesTo shape lines played → ⊥

@@ -1,4 +1,4 @@
--- A run of a script as plain data, and what it stands for.
+-- A run of a script as the code stores it, and what that stands for.
 use Rattle.std.specs.Prelude.{List}
 use Rattle.cluster_core.specs.Journals.{JournalFields, RunFields}
 use Rattle.cluster_core.specs.Parts.{WorldParts, world_state}

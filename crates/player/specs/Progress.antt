@@ -16,7 +16,7 @@ use Rattle.lockscript.specs.declared.script_line.Command.{Command}
 use Rattle.lockscript.specs.declared.script_line.Command.TheVariants.{Call, Deliver, Lose, Settle, Interrupt, Retry, Resend, Declare, Restart, Learn, FailServer, StartServer}
 use Rattle.lockscript.specs.Scripts.{LineFields}
 
--- how far a script came: the entries, the world that they led to, which messages are settled, each by its index in the order of sending, and the refused lines, each by its number with the number of its refusal
+-- how far a run came: its entries, its world, the settled messages (by index in order of sending), and the refused lines with the numbers of refusals
 pub record Progress : Type 0 where
   pub entries : List Entry
   pub world : WorldState
@@ -26,78 +26,78 @@ pub record Progress : Type 0 where
 abbrev pub first_progress : ShapeFields → Progress
 first_progress shape = record { entries = []; world = first_world shape; settled = λ index. false; refused = [] }
 
--- behind these entries, which led to this world: every message that was sent is settled, and no line was refused
+-- a run behind these entries, which led to this world: each message that was sent is settled, and no line was refused
 abbrev pub progress_after : List Entry → WorldState → Progress
 progress_after entries world = record { entries = entries; world = world; settled = λ index. nat_lt index (length world.sent); refused = [] }
 
--- the event made this entry and led to this world
+-- the run after an event happened, which made this entry and led to this world
 abbrev pub after_entry : Progress → WorldState × Entry → Progress
 after_entry p made = record p { entries = p.entries ++ made.1 ∷ []; world = made.0 }
 
--- the event of the line was refused
+-- the run after an event of the line was refused
 abbrev pub after_refusal : Progress → ℕ → Refused → Progress
 after_refusal p line refusal = record p { refused = p.refused ++ record { line = line; code = number_of refusal } ∷ [] }
 
--- how far a script comes by something that it does, and nothing where the journal has no room for an event of it
+-- where a run comes to: a progress, or nothing if the journal has no room for an event
 abbrev pub End : Type 0
 End = Option Progress
 
--- an accepted event changes the world, and its entry comes last; a refused one leaves the world, and its line is listed; a full journal ends the run, and a lack of memory is no end
+-- an event that is accepted adds its entry; a refused one is listed with its line; a full journal ends the run; a lack of memory is no end
 abbrev pub Ends : ℕ → Progress → Result (WorldState × Entry) Refused → End → Type 0
 Ends line p (Ok made) end = end ≡ Some (after_entry p made)
 Ends line p (Err NoMemory) end = ⊥
 Ends line p (Err JournalFull) end = end ≡ None
 Ends line p (Err refusal) end = end ≡ Some (after_refusal p line refusal)
 
--- an event of a line
+-- the event of a line happens, or is refused
 abbrev pub Happens : ℕ → Event → Progress → End → Type 0
 Happens line event p end = Ends line p (kept_next p.world event) end
 
--- one after the other is done, the next by what came of those before it, until the journal is full
+-- things are done one after another, each from where the one before it came to, until the journal is full
 abbrev pub InTurn : {A : Type 0} → (A → Progress → End → Type 0) → End → List A → End → Type 0
 InTurn Is None xs end = end ≡ None
 InTurn Is (Some p) [] end = end ≡ Some p
 InTurn Is (Some p) (x ∷ xs) end = (mid : End) × Is x p mid × InTurn Is mid xs end
 
--- one more message is settled
+-- the settled messages after one more is settled
 abbrev pub with_settled : (ℕ → Bool) → ℕ → ℕ → Bool
 with_settled settled index = λ other. (other == index) || settled other
 
 abbrev pub settling : ℕ → Progress → Progress
 settling index p = record p { settled = with_settled p.settled index }
 
--- the message is not settled, and every one before it is
+-- the message with this index isn't settled, and each message before it is
 pub record IsLeastUnsettled (settled : ℕ → Bool) (index : ℕ) : Type 0 where
   pub unsettled : settled index ≡ false
   pub before : (other : ℕ) → other < index → settled other ≡ true
 
--- the earliest message that was sent and is not settled
+-- the message m, with this index, is the earliest that was sent and isn't settled
 pub record IsNextMessage (p : Progress) (index : ℕ) (m : Message) : Type 0 where
   pub least : IsLeastUnsettled p.settled index
   pub sent : slice_get p.world.sent index ≡ Some m
 
--- a message that is settled ends so: where its node or its server was declared failed it is passed over and nothing is listed, else as an event of the line
+-- a settled message whose node or server was declared failed is passed over without a listing; any other delivery ends as an event of the line
 abbrev pub Passes : ℕ → Progress → Result (WorldState × Entry) Refused → End → Type 0
 Passes line p (Err Fenced) end = end ≡ Some p
 Passes line p made end = Ends line p made end
 
--- that message is settled: it is delivered, or passed over where its delivery is refused
+-- the message m, the next one, is settled: it is delivered, or passed over if its delivery is refused
 abbrev pub Delivers : ℕ → Message → Progress → End → Type 0
 Delivers line m p end = (index : ℕ) × IsNextMessage p index m × Passes line (settling index p) (kept_next p.world (event.Deliver m)) end
 
--- every message that was sent is settled
+-- each message that was sent is settled
 abbrev pub IsSettled : Progress → Type 0
 IsSettled p = (index : ℕ) → index < length p.world.sent → p.settled index ≡ true
 
--- messages are settled, one after the other, until none is left, also of those that are sent meanwhile, or the journal is full
+-- messages are settled one after another, also ones that are sent meanwhile, until none is left or the journal is full
 abbrev pub Settles : ℕ → Progress → End → Type 0
 Settles line p end = (ms : List Message) × InTurn (Delivers line) (Some p) ms end × IfSome end IsSettled
 
--- where the message of this number stands in the order of sending
+-- the index of the message with this number, in the order of sending
 abbrev pub index_of : ℕ → ℕ
 index_of number = number - 1
 
--- a delivery that a line names settles the message, unless it is refused
+-- a delivery that a line names settles its message, unless it is refused
 abbrev pub after_delivery : ℕ → Progress → Result (WorldState × Entry) Refused → Progress
 after_delivery index p (Ok made) = settling index p
 after_delivery index p (Err refusal) = p
@@ -105,7 +105,7 @@ after_delivery index p (Err refusal) = p
 abbrev pub Comes : ℕ → ℕ → Progress → Result (WorldState × Entry) Refused → End → Type 0
 Comes line index p made end = Ends line (after_delivery index p made) made end
 
--- a message that was sent is lost: it is settled, and nothing happens; else the line is listed
+-- a message that was sent is lost: it is settled and no event happens; if it wasn't sent the line is listed
 abbrev pub lost : ℕ → ℕ → Progress → Progress
 lost line index p = if nat_lt index (length p.world.sent) then settling index p else after_refusal p line Stranger
 

@@ -1,7 +1,7 @@
--- Which messages are settled, as plain data, and what it stands for.
+-- The settled messages of a run as the code stores them, and what that stands for.
 use Rattle.std.specs.Prelude.{ℕ, ◌||◌, nat_lt, Bool, false, List, slice_index_or}
 
--- every message before the cursor is settled, and each with a mark
+-- each message before the cursor is settled, and each one with a mark
 pub record SettledParts : Type 0 where
   pub cursor : ℕ
   pub marks : List Bool

@@ -1,4 +1,6 @@
-//! Playing the lines of scripts, one after the other, and what comes of them.
+//! Runs the lines of scripts one after another on a cluster in one process, and gives the journal,
+//! the last world and the refused lines. This crate knows nothing of files on a disk, of texts that
+//! are printed, of time, or of threads.
 #![tactic(auto)]
 
 pub mod laws;

@@ -1,4 +1,4 @@
-//! Running scripts.
+//! Runs whole scripts, from the beginning or behind a journal.
 ghost use Rattle.std.specs.Prelude.{◌≡◌, None, IfErr, IfOk};
 ghost use Rattle.cluster_core.specs.Histories.{HasOneHistory};
 ghost use Rattle.cluster_core.specs.Parts.{world_state};
@@ -21,23 +21,24 @@ use lockscript::script_line::ScriptLine;
 use messages::shape::Shape;
 use std::alloc::Global;
 
-/// Runs the lines of a script in order. A line whose event is refused, but for want of memory or of
-/// room in the journal, is listed and the run goes on. Of each line that is done the watcher is told.
+/// Runs the lines of a script in order. A line whose event is refused is listed, and the run goes
+/// on, unless the journal is full or a request for memory was refused. Each line that is done is
+/// reported to the watcher.
 ///
 /// # Errors
 /// `JournalFull` where the run needs more entries than a journal may have; `NoMemory` where a
 /// request for memory was refused.
 pub fn play<W: Watcher>(alloc: Global, script: Script, watcher: &mut W) -> Result<Played, PlayError>
-    // It is what the lines come to, one after the other.
+    // The result is what the lines come to, in order.
     ensures played { IfOk result (λ played. ComesTo script.shape script.lines (state_of played)) }
 
-    // One table explains every reply, and ends as what the nodes hold.
+    // One table explains each reply, and ends as what the nodes hold.
     ensures history { IfOk result (λ played. HasOneHistory script.shape played.journal.entries) }
 
-    // Tokens of two nodes don't conflict at the end, and locks are covered by tokens.
+    // At the end tokens of two nodes don't conflict, and tokens cover the locks.
     ensures safe { IfOk result (λ played. IsSafe (world_state played.world)) }
 
-    // Else some line needs an entry for which there is no room.
+    // If the journal is full, some line needs an entry for which it has no room.
     ensures full { IfErr result (λ error. error ≡ JournalFull → FillsJournal script.shape script.lines) }
 {
     let shape = script.shape();
@@ -45,11 +46,12 @@ pub fn play<W: Watcher>(alloc: Global, script: Script, watcher: &mut W) -> Resul
     play_lines(alloc, shape, player, script.into_lines(), watcher)
 }
 
-/// Runs the lines of a script as `play` does, behind the run of a journal of the same shape, which is of
-/// version 2: messages are counted on, those of the journal are settled, and the whole run comes of it.
+/// Runs the lines of a script as `play` does, behind the run of a journal of the same shape, which
+/// is of version 2. Messages are numbered on from those of the journal, which all count as settled.
+/// The result has the whole run.
 ///
 /// # Errors
-/// As at `play`.
+/// The errors of `play`, in the same cases.
 pub fn play_after<W: Watcher>(
     alloc: Global,
     script: Script,
@@ -59,7 +61,7 @@ pub fn play_after<W: Watcher>(
     requires same_shape { script.shape ≡ journal.shape }
     requires new { journal.shape.version ≡ Second }
 
-    // It is what the lines come to behind the run of the journal, one after the other.
+    // The result is what the lines come to, in order, behind the run of the journal.
     ensures played { IfOk result (λ played. GoesOnTo journal script.lines (state_of played)) }
     ensures history { IfOk result (λ played. HasOneHistory journal.shape played.journal.entries) }
     ensures safe { IfOk result (λ played. IsSafe (world_state played.world)) }
@@ -70,10 +72,11 @@ pub fn play_after<W: Watcher>(
     play_lines(alloc, shape, player, script.into_lines(), watcher)
 }
 
-// So many lines go at once.
+// The memory of the lines is given back each time that many of them are done.
 const LINES_AT_ONCE: usize = 16_384;
 
-// Runs the lines in order from where the player stands, in a cluster of this shape. Lines that are done go.
+// Runs the lines in order, from where the player stands, in a cluster of this shape. Lines that are
+// done are dropped.
 fn play_lines<W: Watcher>(
     alloc: Global,
     shape: Shape,

@@ -1,4 +1,4 @@
-//! What came of a script.
+//! The outcome of a script: a journal, the last world, and the refused lines.
 ghost use Rattle.std.specs.Prelude.{◌≡◌};
 ghost use Rattle.cluster_core.specs.Parts.{world_state};
 ghost use Rattle.cluster_core.specs.Runs.{Leads};
@@ -11,8 +11,8 @@ use cluster_core::world::World;
 use lockscript::refused_line::RefusedLine;
 use std::marker::Model;
 
-/// What came of a script: the journal of its run, the world to which its entries lead, and the lines
-/// that were refused, each by its number, from 1, with the number of the refusal, in order.
+/// The outcome of a script: the journal of its run; the world to which the journal's entries lead;
+/// and the refused lines in order, each by its number, from 1, with the number of its refusal.
 #[derive(Drop)]
 pub struct Played {
     journal: Journal,
@@ -44,14 +44,15 @@ impl Played {
         }
     }
 
-    /// What happened, entry by entry.
+    /// The journal of the run.
     pub fn journal(&self) -> &Journal
         ensures { result.now ≡ self.now.journal }
     {
         &self.journal
     }
 
-    /// The world at the end: tokens of two nodes don't conflict, and locks are covered by tokens.
+    /// The world at the end of the run: tokens of two nodes don't conflict, and tokens cover the
+    /// locks.
     pub fn world(&self) -> &World
         ensures value { result.now ≡ self.now.world }
         ensures leads { Leads (first_world self.now.journal.shape) self.now.journal.entries (world_state self.now.world) }
@@ -60,14 +61,14 @@ impl Played {
         &self.world
     }
 
-    /// The lines that were refused, each by its number, from 1, with the number of the refusal.
+    /// The refused lines in order, each by its number, from 1, with the number of its refusal.
     pub fn refused(&self) -> &[RefusedLine]
         ensures { result.now ≡ self.now.refused }
     {
         self.refused.as_slice()
     }
 
-    /// What happened, the world at the end, and the lines that were refused.
+    /// The journal of the run, the world at its end, and the refused lines.
     pub fn into_parts(self) -> (Journal, World, Vec<RefusedLine>)
         ensures journal { result.0 ≡ self.journal }
         ensures world { result.1 ≡ self.world }

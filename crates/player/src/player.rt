@@ -1,4 +1,4 @@
-//! The run of a script, line by line.
+//! Runs a script line by line.
 ghost use Rattle.std.specs.Prelude.{◌≡◌, ◌+◌, ◌<◌, ◌≤◌, true, false, Err, Some, None, IfErr, IfOk, OnOk};
 ghost use Rattle.cluster_core.specs.Histories.{HasOneHistory};
 ghost use Rattle.cluster_core.specs.Parts.{world_state};
@@ -24,8 +24,8 @@ use messages::shape::Shape;
 use std::alloc::Global;
 use std::marker::Model;
 
-/// What came of the lines so far: the world, the entries that led to it, the messages that are
-/// settled, and the lines that were refused.
+/// A script that is run so far: the world, the entries that led to it, the messages that are
+/// settled (delivered, lost or passed over), and the lines that were refused.
 #[derive(Drop)]
 pub struct Player {
     run: Run,
@@ -42,7 +42,7 @@ impl Model for Player {
 }
 
 impl Player {
-    /// A cluster of this shape that begins, before any line.
+    /// The player of a cluster of this shape that begins, before any line.
     ///
     /// # Errors
     /// `NoMemory` where a request for memory was refused.
@@ -57,7 +57,8 @@ impl Player {
         })
     }
 
-    /// The run of a journal, before any line: its messages are all settled.
+    /// The player behind the run of a journal, before any line: all messages of the journal are
+    /// settled.
     ///
     /// # Errors
     /// `NoMemory` where a request for memory was refused.
@@ -82,20 +83,21 @@ impl Player {
         &self.run
     }
 
-    /// The lines that were refused so far, each by its number with the number of the refusal, in order.
+    /// The lines that were refused so far in order, each by its number with the number of its
+    /// refusal.
     pub fn refused(&self) -> &[RefusedLine]
         ensures { result.now ≡ self.now.refused }
     {
         self.refused.as_slice()
     }
 
-    /// Does what the line asks for. A line whose event is refused, but for want of memory or of room in
-    /// the journal, is listed. After an error the player may stand in the middle of the line, and is of no
-    /// more use.
+    /// Runs a line. A line whose event is refused is listed, unless the journal is full or a
+    /// request for memory was refused. After an error the player may stand in the middle of the
+    /// line, and can't be used any more.
     ///
     /// # Errors
-    /// `JournalFull` where the line needs more entries than a journal may have; `NoMemory` where a request
-    /// for memory was refused.
+    /// `JournalFull` where the line needs more entries than a journal may have; `NoMemory` where a
+    /// request for memory was refused.
     pub fn take(&mut self, alloc: Global, line: &ScriptLine) -> Result<(), PlayError>
         ensures ok { OnOk result (Does line.now.number line.now.command (progress self.old) (Some (progress self.new))) }
         ensures full { IfErr result (λ error. error ≡ JournalFull → Does line.now.number line.now.command (progress self.old) None) }
@@ -103,10 +105,10 @@ impl Player {
         self.carry_out(alloc, line.number(), line.command())
     }
 
-    /// Does what a line of this number asks for that has this command, as `take` does.
+    /// Runs a line with this number and this command, as `take` does.
     ///
     /// # Errors
-    /// As at `take`.
+    /// The errors of `take`, in the same cases.
     pub fn carry_out(
         &mut self,
         alloc: Global,
@@ -149,7 +151,8 @@ impl Player {
         }
     }
 
-    // One event of a line. One that is refused leaves the world as it was, and its line is listed.
+    // Lets one event of a line happen. If the event is refused the world stays as it was, and the
+    // line is listed.
     fn step(&mut self, alloc: Global, line: u32, event: Event) -> Result<(), PlayError>
         ensures ok { OnOk result (Happens line event (progress self.old) (Some (progress self.new))) }
         ensures full { IfErr result (λ error. error ≡ JournalFull → Happens line event (progress self.old) None) }
@@ -178,7 +181,7 @@ impl Player {
         }
     }
 
-    // Delivers the message of this number, which settles it unless its delivery is refused.
+    // Delivers the message with this number, which is settled then, unless its delivery is refused.
     fn deliver(&mut self, alloc: Global, line: u32, number: u32) -> Result<(), PlayError>
         ensures ok { OnOk result (Does line (Command.Deliver number) (progress self.old) (Some (progress self.new))) }
         ensures full { IfErr result (λ error. error ≡ JournalFull → Does line (Command.Deliver number) (progress self.old) None) }
@@ -191,7 +194,7 @@ impl Player {
         Ok(())
     }
 
-    // Loses the message of this number: it is settled, and nothing happens.
+    // Loses the message with this number: it is settled, and no event happens.
     fn lose(&mut self, line: u32, number: u32) -> Result<(), PlayError>
         ensures ok { OnOk result (Does line (Command.Lose number) (progress self.old) (Some (progress self.new))) }
         ensures err { IfErr result (λ error. error ≡ NoMemory) }
@@ -205,7 +208,8 @@ impl Player {
         Ok(())
     }
 
-    // Moves the cursor to the earliest message that is not settled: whether there is one.
+    // Moves the cursor to the earliest message that isn't settled. The result is whether there is
+    // one.
     #[tactic(auto, using(crate::proofs::Progresses::next_there))]
     fn has_next(&mut self) -> bool
         ensures same { progress self.new ≡ progress self.old }
@@ -218,8 +222,8 @@ impl Player {
         self.settled.cursor() < self.run.world().sent().len()
     }
 
-    // Delivers the message at the cursor, or passes over it where its delivery is refused: silently
-    // where its node or its server was declared failed.
+    // Settles the message at the cursor: delivers it, or passes over it if its delivery is refused.
+    // The refusal is listed, unless the message's node or server was declared failed.
     fn deliver_next(&mut self, alloc: Global, line: u32) -> Result<(), PlayError>
         requires next_one { (m : Message) × IsNextMessage (progress self.old) self.old.settled.cursor m }
         requires room { self.old.settled.cursor < usize.MAX }
@@ -237,7 +241,7 @@ impl Player {
         Ok(())
     }
 
-    // Delivers messages in the order in which they were sent, also those that are sent meanwhile,
+    // Settles messages in the order in which they were sent, also ones that are sent meanwhile,
     // until none is left.
     fn settle(&mut self, alloc: Global, line: u32) -> Result<(), PlayError>
         ensures ok { OnOk result (Settles line (progress self.old) (Some (progress self.new))) }
@@ -249,7 +253,7 @@ impl Player {
         Ok(())
     }
 
-    /// What came of all lines, on a cluster of this shape.
+    /// The outcome of all lines, on a cluster of this shape.
     pub fn finish(self, shape: Shape) -> Played
         requires { Leads (first_world shape) self.run.entries (progress self).world }
         ensures value { state_of result ≡ played_of shape (progress self) }

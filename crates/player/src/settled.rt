@@ -1,4 +1,4 @@
-//! Which messages are settled.
+//! Which messages of a run are settled: delivered, lost or passed over.
 ghost use Rattle.std.specs.Prelude.{◌≡◌, ◌≤◌, ◌<◌, ◌+◌, false, nat_lt, true, length, slice_index_or, slice_set, OnOk};
 ghost use Rattle.player.specs.Progress.{with_settled, IsLeastUnsettled};
 ghost use Rattle.player.specs.Settled.{settled_in};
@@ -6,8 +6,8 @@ ghost use Rattle.player.specs.Settled.{settled_in};
 use std::alloc::{AllocError, Global};
 use std::marker::Model;
 
-/// The messages that are settled, each by its index in the order of sending: all before the cursor,
-/// and those with a mark.
+/// The settled messages of a run, each by its index in the order of sending, from 0: all messages
+/// before the cursor, and the marked ones.
 #[derive(Drop)]
 pub(crate) struct Settled {
     cursor: usize,
@@ -23,7 +23,7 @@ impl Model for Settled {
 }
 
 impl Settled {
-    /// No message is settled.
+    /// The settled messages of a run that begins: none.
     pub(crate) fn new(alloc: Global) -> Settled
         ensures { settled_in result ≡ (λ index. false) }
     {
@@ -33,7 +33,7 @@ impl Settled {
         }
     }
 
-    /// So many messages are settled, the first that were sent.
+    /// The settled messages of a run of which the first `count` are settled.
     pub(crate) fn first(alloc: Global, count: usize) -> Settled
         ensures { settled_in result ≡ (λ index. nat_lt index count) }
     {
@@ -43,7 +43,7 @@ impl Settled {
         }
     }
 
-    // Whether the message at the cursor has a mark.
+    // Whether the message at the cursor is marked.
     fn is_marked(&self) -> bool
         ensures value { result ≡ slice_index_or self.now.marks self.now.cursor false }
         ensures room { result ≡ true → self.now.cursor < usize.MAX }
@@ -54,7 +54,7 @@ impl Settled {
         }
     }
 
-    /// Moves the cursor to the least message that is not settled.
+    /// Moves the cursor to the first message that isn't settled.
     pub(crate) fn advance(&mut self)
         ensures same { settled_in self.new ≡ settled_in self.old }
         ensures least { IsLeastUnsettled (settled_in self.new) self.new.cursor }
@@ -72,7 +72,7 @@ impl Settled {
         self.cursor
     }
 
-    /// The message at the cursor is settled from now on.
+    /// Settles the message at the cursor, and moves the cursor to the next one.
     pub(crate) fn pass(&mut self)
         requires { self.old.cursor < usize.MAX }
         ensures value { settled_in self.new ≡ with_settled (settled_in self.old) self.old.cursor }
@@ -81,7 +81,7 @@ impl Settled {
         self.cursor += 1;
     }
 
-    /// The message of this index is settled from now on.
+    /// Settles the message with this index.
     pub(crate) fn settle(&mut self, index: usize) -> Result<(), AllocError>
         ensures { OnOk result (settled_in self.new ≡ with_settled (settled_in self.old) index) }
     {
@@ -93,7 +93,7 @@ impl Settled {
     }
 }
 
-// Sets the mark of an index.
+// Marks the message with this index.
 fn mark(marks: &mut Vec<bool>, index: usize)
     requires { index < length marks.old.items }
     ensures { marks.new.items ≡ slice_set marks.old.items index true }

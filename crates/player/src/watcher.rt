@@ -1,13 +1,14 @@
-//! How far long work is.
+//! Reports on the progress of long work.
 
-/// Who is told how far long work is.
+/// A receiver of reports on the progress of long work.
 pub trait Watcher {
-    /// Work of such parts begins, and of how many, where that is known.
+    /// Reports that work begins, in what parts it goes, and how many there are, where that is
+    /// known.
     fn begin(&mut self, parts: &'static str, count: Option<u64>);
 
-    /// One part more is done.
+    /// Reports that one more part is done.
     fn pass(&mut self);
 
-    /// The work is over, or given up.
+    /// Reports that the work is over, or given up.
     fn end(&mut self);
 }

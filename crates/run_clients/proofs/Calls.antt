@@ -1,4 +1,4 @@
--- Calls of processes: what they do leads from the locks before to those after, and no lock outlives its descriptors.
+-- Calls of processes: their deeds lead from the locks before to those after, and no lock outlives its descriptors.
 use Rattle.std.proofs.Common.{◌≡◌, ℕ, ◌<◌, Bool, true, false, if◌then◌else◌, ◌&&◌, ◌==◌, inl, inr, refl, sym, ◌∙◌, ap, subst, arith, ℤ, nat_le, nat_lt, Option, Some, None, Result, Ok, Err}
 use Rattle.std.proofs.lemmas.Bool.{and_parts, and_from, eqb-true, eq-eqb, cases_Bool, both_ways}
 use Rattle.std.proofs.lemmas.Bool.Decides.{nat_tests}
@@ -66,7 +66,7 @@ module _ (t u : Table) (p : Process) (a : IsAnchored t p.node p.incarnation) whe
   step_leads (Unlock fd kind start len) reply h = unlock_tested t u reply (target t p None fd kind start len) h
   step_leads (Query fd kind mode start len) reply h = query_tested t u mode reply (target t p None fd kind start len) h
 
--- each descriptor stays
+-- each descriptor that there was stays
 abbrev Extends : Processes → Result (Processes × Reply) Reply → Type 0
 Extends ps (Err refusal) = Unit {0}
 Extends ps (Ok x) = (q fd : ℕ) (o : Opened) → ps.opened q fd ≡ Some o → x.0.opened q fd ≡ Some o
@@ -121,14 +121,14 @@ module _ (t : Table) (p : Process) (host : IsHost p.node p.incarnation) (a : Are
       (λ pid fd o opened. own.descriptions pid fd o (ap (λ (y : Processes). y.opened pid fd) on_its ∙ (ap (λ (y : Processes). y.opened pid fd) (sym on_v) ∙ opened)))
       (subst (λ (y : Processes). AreAnchoredOn y t.locks p.node p.incarnation) (sym on_v) anchored_v))
 
-  -- a process that begins had no descriptor
+  -- a process that begins had no descriptor, so all others stay
   begins_stay : (child : ℕ) (fds : ℕ → Option Opened) → ps.runs child ≡ false → (q fd : ℕ) (o : Opened) → ps.opened q fd ≡ Some o → (with_process ps child true fds).opened q fd ≡ Some o
   begins_stay child fds idle q fd o h = elim (cases_Bool (q == child)) [
     | inl same ↦ absurd (both_ways (ps.runs child) idle (ap ps.runs (sym (eqb-true q child same)) ∙ (anchored.descriptors q fd o h).0))
     | inr other ↦ rw other h
   ]
 
-  -- a descriptor that opens was none
+  -- a descriptor that opens was not open, so all others stay
   opens_stay : (fd : ℕ) (x : Opened) → ps.opened p.pid fd ≡ None → (q k : ℕ) (o : Opened) → ps.opened q k ≡ Some o → (with_descriptor ps p.pid fd (Some x)).opened q k ≡ Some o
   opens_stay fd x free q k o h = elim (cases_Bool ((q == p.pid) && (k == fd))) [
     | inl same ↦
@@ -178,7 +178,7 @@ module _ (t : Table) (p : Process) (host : IsHost p.node p.incarnation) (a : Are
     | true ↦ elim (ps.opened p.pid fd) as (λ x. Extends ps (again_on ps p.pid x)) [ Some o ↦ lowest_stays o | None ↦ tt ]
   ]
 
-  -- what a lock call is about is its node's
+  -- the target of a lock call is of the caller's node
   target_owner : (need : Option Mode) (fd : ℕ) (kind : Kind) (start len : ℤ) (c : LockTarget) → target t p need fd kind start len ≡ Ok c → (c.owner.node ≡ p.node) × (c.owner.incarnation ≡ p.incarnation)
   target_owner need fd kind start len c h =
       let runs = if_then (is_running t p) (target_at p need kind (descriptor t p fd) (seg start len)) c NoProcess h in
@@ -189,7 +189,7 @@ module _ (t : Table) (p : Process) (host : IsHost p.node p.incarnation) (a : Are
       of_kind OfProcess o = (refl, refl)
       of_kind OfDescription o = (refl, refl)
 
-  -- bytes are locked or freed
+  -- a lock call locks or frees bytes of its target
   locked_keeps : (need : Option Mode) (fd : ℕ) (kind : Kind) (start len : ℤ) (c : LockTarget) (mode : Option Mode) → target t p need fd kind start len ≡ Ok c → AreAnchored (locked t c mode)
   locked_keeps need fd kind start len c mode found =
       let hangs = target_hangs t p need fd kind start len c found in
@@ -220,7 +220,7 @@ module _ (t : Table) (p : Process) (host : IsHost p.node p.incarnation) (a : Are
         | inr other ↦ rw other refl
       ]
 
-  -- so a lock call leaves the table or locks bytes
+  -- a lock call leaves the table, or locks or frees bytes of its target
   chosen_keeps : (u : Table) (need : Option Mode) (fd : ℕ) (kind : Kind) (start len : ℤ) (c : LockTarget) (mode : Option Mode) (reply : Reply) (b : Bool) → target t p need fd kind start len ≡ Ok c → Is (sets t c mode b) reply u → AreAnchored u
   chosen_keeps u need fd kind start len c mode reply true found h = subst AreAnchored (sym h.1) (locked_keeps need fd kind start len c mode found)
   chosen_keeps u need fd kind start len c mode reply false found h = subst AreAnchored (sym h.1) a

@@ -1,4 +1,4 @@
--- Descriptors that are closed, processes that exit: what they do leads from the locks before to those after.
+-- Closes of descriptors and exits of processes: their deeds lead from the locks before to those after.
 use Rattle.std.proofs.Common.{◌≡◌, ℕ, zero, suc, Bool, true, false, if◌then◌else◌, ◌&&◌, ◌==◌, refl, sym, ◌∙◌, ap, subst, List, [], ◌∷◌, ◌++◌, Option, Some, None}
 use Rattle.std.proofs.lemmas.Bool.{eq-eqb, both_ways}
 use Rattle.intervals.specs.Bytes.{nothing}
@@ -18,7 +18,7 @@ use Rattle.run_clients.specs.Deeds.{DeedsLead, drop, drop_description, closing, 
 use Rattle.run_clients.specs.declared.deed.Deed.{Deed}
 use Rattle.run_clients.proofs.Kept.{closed_below-zero, closed_below-suc, exited_to-zero, exited_to-suc}
 
--- deeds that lead on from where others led
+-- deeds that lead on from where others led, lead on from where those began
 pub leads_then : (a b c : Locks) (ds es : List Deed) → DeedsLead a ds b → DeedsLead b es c → DeedsLead a (ds ++ es) c
 leads_then a b c [] es one two = subst (λ (h : Locks). DeedsLead h es c) (sym one) two
 leads_then a b c (d ∷ ds) es one two = (one.0, one.1, leads_then one.0 b c ds es one.2 two)
@@ -53,7 +53,7 @@ module _ (t : Table) (p : Process) (fd : ℕ) (o : Opened) (a : IsAnchored t p.n
   dropped file owner b false false files its = refl
   dropped file owner b false true files its = none_elsewhere file owner b files its
 
-  -- so the last close drops in its file all that it drops
+  -- the last close of a description drops all locks that the description has
   all_dropped : without_owner mid.locks o.file (description_owner p o.description) ≡ last.locks
   all_dropped = λ j file owner b. dropped file owner b (o.file == file) (same_owner (description_owner p o.description) owner) refl refl j
 
@@ -98,7 +98,7 @@ pub record LedTo (n i : ℕ) (old : Locks) (deeds : List Deed) (new : Table) : T
   pub leads : DeedsLead old deeds new.locks
 
 module _ (n i : ℕ) where
-  -- and one more step did
+  -- deeds with those of one more step lead on
   more : (old : Locks) (ds es : List Deed) (mid new : Table) → LedTo n i old ds mid → IsAnchored new n i → DeedsLead mid.locks es new.locks → LedTo n i old (ds ++ es) new
   more old ds es mid new before anchored leads = record { anchored = anchored; leads = leads_then old mid.locks new.locks ds es before.leads leads }
 

@@ -10,7 +10,7 @@ use Rattle.run_clients.specs.Seen.{indexes_from}
 use Rattle.run_clients.proofs.FileViews.{LeadAlone}
 use Rattle.run_clients.proofs.Timing.{ArePlaced, one_placed, placed_in_time}
 
--- which indexes stand where
+-- the index at a place of a row of indexes
 index_at : (from n k i : ℕ) → slice_get (indexes_from from n) k ≡ Some i → (i ≡ from + k) × (k < n)
 index_at from zero k i h = absurd (none-some i h)
 index_at from (suc n) zero i h = let e = same_Some from i h in (sym e ∙ omega arith, omega arith)
@@ -25,7 +25,7 @@ stands_at from zero k lt = absurd (omega arith)
 stands_at from (suc n) zero lt = ap Some (omega arith)
 stands_at from (suc n) (suc k) lt = stands_at (from + 1) n k (omega arith) ∙ ap Some (omega arith)
 
--- what stands in the front
+-- the first part of two lists has the elements of the first
 in_front : (cs os : List ClientCall) (k : ℕ) (c : ClientCall) → k < length cs → slice_get (cs ++ os) k ≡ Some c → slice_get cs k ≡ Some c
 in_front [] os k c lt h = absurd (omega arith)
 in_front (x ∷ cs) os zero c lt h = h
@@ -78,7 +78,7 @@ module _ (cs os : List ClientCall) (last : Locks) (leads : LeadAlone no_locks cs
       let is = at.0 in
       (omega arith, at.1)
 
-  -- the call that stands at a place
+  -- the call at a place of the order
   stands_there : (k : ℕ) (c : ClientCall) → IsAt all order k c → slice_get cs k ≡ Some c
   stands_there k c is =
       let at = its_place k is.index is.at in

@@ -25,7 +25,7 @@ abbrev pub CallsLead : Locks → List FileCall → Locks → Type 0
 CallsLead old [] new = old ≡ new
 CallsLead old (s ∷ ss) new = (mid : Locks) × ActStep s.file old s.owner s.act mid × CallsLead mid ss new
 
--- so do calls about one file
+-- calls about one file, one after the other, lead from the old locks to the new ones
 abbrev pub LeadAlone : Locks → List ClientCall → Locks → Type 0
 LeadAlone old [] new = old ≡ new
 LeadAlone old (c ∷ cs) new = (mid : Locks) × ActStep the_file old c.owner c.act mid × LeadAlone mid cs new
@@ -67,11 +67,11 @@ chosen_so x y z s bytes old here same =
 replaced : (h : Locks) (file : ℕ) (owner : Owner) (bytes : Bytes) → alone file (replace h file owner bytes) ≡ replace (alone file h) the_file owner bytes
 replaced h file owner bytes = λ j f o. chosen_so (f == the_file) (file == file) (the_file == f) (same_owner owner o) bytes (h file o) (eq-eqb file file refl) (mirrored the_file f) j
 
--- a change of another file's
+-- a change of another file's locks leaves those of the file
 stays : (h : Locks) (file other : ℕ) (owner : Owner) (bytes : Bytes) → (other == file) ≡ false → alone file (replace h other owner bytes) ≡ alone file h
 stays h file other owner bytes apart = λ j f o. ap (λ (v : Bool). let found : Bytes = if f == the_file then (if v && same_owner owner o then bytes else h file o) else nothing in found) apart j
 
--- the same act of the file
+-- an act on the file is the same act on its locks alone
 same_act : (file : ℕ) (old new : Locks) (owner : Owner) (act : Act) → ActStep file old owner act new → ActStep the_file (alone file old) owner act (alone file new)
 same_act file old new owner (Takes mode span) h = (h.0, ap (alone file) h.1 ∙ replaced old file owner (put (old file owner) span (Some mode)))
 same_act file old new owner (IsDenied mode span told) h = (record { lock = h.0.lock; blocks = h.0.blocks; named = h.0.named }, ap (alone file) h.1)
@@ -79,7 +79,7 @@ same_act file old new owner (IsFree mode span) h = (h.0, ap (alone file) h.1)
 same_act file old new owner (Frees span) h = ap (alone file) h ∙ replaced old file owner (put (old file owner) span None)
 same_act file old new owner Drops h = ap (alone file) h ∙ replaced old file owner nothing
 
--- an act in another file
+-- an act on another file leaves the locks of the file
 other_act : (file other : ℕ) (old new : Locks) (owner : Owner) (act : Act) → (other == file) ≡ false → ActStep other old owner act new → alone file new ≡ alone file old
 other_act file other old new owner (Takes mode span) apart h = ap (alone file) h.1 ∙ stays old file other owner (put (old other owner) span (Some mode)) apart
 other_act file other old new owner (IsDenied mode span told) apart h = ap (alone file) h.1
@@ -87,7 +87,7 @@ other_act file other old new owner (IsFree mode span) apart h = ap (alone file) 
 other_act file other old new owner (Frees span) apart h = ap (alone file) h ∙ stays old file other owner (put (old other owner) span None) apart
 other_act file other old new owner Drops apart h = ap (alone file) h ∙ stays old file other owner nothing apart
 
--- so the calls about the file lead on alone
+-- the calls about the file lead on its locks alone
 module _ (file : ℕ) where
   pub lead_alone : (old new : Locks) (ss : List FileCall) → CallsLead old ss new → LeadAlone (alone file old) (calls_about file ss) (alone file new)
   lead_alone old new [] h = ap (alone file) h

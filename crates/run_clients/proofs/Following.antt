@@ -34,7 +34,7 @@ module _ (t : Table) (p : Process) where
   runs_exiting true h = refl
   runs_exiting false h = absurd (cc)
 
-  -- so does that of an exit
+  -- the process of an exit that is done runs
   pub exit_runs : (next : Table) → Is (after_exit t p) Done next → is_running t p ≡ true
   exit_runs next h = runs_exiting (is_running t p) h.0
 

@@ -1,4 +1,4 @@
--- A history that is followed item by item, and what was seen so far.
+-- A history that is followed item by item, with the calls seen so far.
 use Rattle.std.proofs.Common.{◌≡◌, ℕ, ◌+◌, ◌<◌, ◌≤◌, refl, sym, ◌∙◌, ap, subst, List, [], ◌∷◌, ◌++◌, append-nil, append_assoc, length, drop, get_or, drop-cons, add-one}
 use Rattle.std.specs.Prelude.{map}
 use Rattle.std.specs.List.{AllByRecursion}
@@ -14,14 +14,14 @@ use Rattle.run_clients.specs.declared.file_call.FileCall.{FileCall}
 use Rattle.run_clients.specs.Times.{IsTimed}
 use Rattle.run_clients.specs.Seen.{op_of, item_deeds, call_of, AreSeen, HasOpened, IsOpenCall}
 
--- what was seen so far, and what will be from this table on, is all that is seen from the first
+-- the calls seen so far, and those that will be seen from this table on, are all that are seen from the first
 abbrev pub SeenSoFar : List Entry → Table → List Item → Table → List Item → List FileCall → Type 0
 SeenSoFar es first items t rest seen = (more : List FileCall) (last : Table) → AreSeen es t rest more last → AreSeen es first items (seen ++ more) last
 
 first_is_next : (items : List Item) (k : ℕ) (i : Item) → k < length items → i ≡ get_or items k i → drop k items ≡ i ∷ drop (k + 1) items
 first_is_next items k i lt is = drop-cons items k i lt ∙ rw (← is, add-one) refl
 
--- the item that comes next may follow
+-- the table allows the item that comes next
 pub may_follow : (version : Version) (items : List Item) (k : ℕ) (i : Item) (t : Table) → k < length items → i ≡ get_or items k i → IsLegal version items → Follows version items (drop k items) t → (next : Table) × ItemStep t i next
 may_follow version items k i t lt is legal follows =
     let P : List Item → Type 0 = λ rest. Follows version items rest t in

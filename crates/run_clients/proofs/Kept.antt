@@ -1,4 +1,4 @@
--- What keeps it so that no lock outlives its descriptors.
+-- The steps that keep it so that no lock outlives its descriptors.
 use Rattle.std.proofs.Common.{◌≡◌, ℕ, zero, suc, true, false, if◌then◌else◌, ◌&&◌, ◌==◌, inl, inr, refl, sym, ◌∙◌, ap, subst, Option, Some, None}
 use Rattle.std.proofs.lemmas.Bool.{and_parts, eqb-true, cases_Bool, false≢true}
 use Rattle.std.proofs.lemmas.Option.{none-some}
@@ -15,7 +15,7 @@ use Rattle.model.proofs.Hanging.{anchored_none, itself}
 use Rattle.model.proofs.Anchors.{Leaves, closed_leaves, exits, gone_is, without_host}
 use Rattle.run_clients.specs.Anchored.{AreAnchored}
 
--- a step of a node keeps what others have
+-- a step of a node keeps the processes and locks of other nodes
 pub record KeepsOthers (n i : ℕ) (t u : Table) : Type 0 where
   pub others : (m k : ℕ) → ((m == n) && (k == i)) ≡ false → u.on m k ≡ t.on m k
   pub their_locks : (file : ℕ) (owner : Owner) → ((owner.node == n) && (owner.incarnation == i)) ≡ false → u.locks file owner ≡ t.locks file owner
@@ -32,7 +32,7 @@ keeps_then n i t u v a b = record {
 leaves_keep : (n i : ℕ) (t u : Table) → Leaves n i t u → KeepsOthers n i t u
 leaves_keep n i t u l = record { others = l.others; their_locks = l.their_locks }
 
--- what others have stays anchored
+-- other nodes' locks hang on their descriptors after the step
 others_anchored : (n i : ℕ) (t u : Table) → KeepsOthers n i t u → (m k : ℕ) → ((m == n) && (k == i)) ≡ false → IsAnchored t m k → IsAnchored u m k
 others_anchored n i t u keeps m k other a =
     let locked : AreAnchoredOn (t.on m k) u.locks m k = record {
@@ -45,7 +45,7 @@ others_anchored n i t u keeps m k other a =
     } in
     subst (λ (ps : Processes). AreAnchoredOn ps u.locks m k) (sym (keeps.others m k other)) locked
 
--- so the step keeps it for all nodes, where it keeps it for its own
+-- no lock of any node outlives its descriptors after the step, where none of its own node does
 pub step_keeps : (n i : ℕ) (t u : Table) → AreAnchored t → KeepsOthers n i t u → ((pid : ℕ) → (u.on n i).runs pid ≡ true → IsHost n i) → ((pid fd : ℕ) (o : Opened) → (u.on n i).opened pid fd ≡ Some o → IsNumber most_descriptions o.description) → IsAnchored u n i → AreAnchored u
 step_keeps n i t u a keeps host numbered own = record {
   descriptions = λ m k pid fd o opened. elim (cases_Bool ((m == n) && (k == i))) [
@@ -70,7 +70,7 @@ step_keeps n i t u a keeps host numbered own = record {
   ];
 }
 
--- at first nothing runs
+-- in the empty table nothing runs, and no lock outlives its descriptors
 pub empty_anchored : (limit : ℕ) → AreAnchored (empty_table limit)
 empty_anchored limit = record {
   hosts = λ n i pid runs. absurd (false≢true runs);

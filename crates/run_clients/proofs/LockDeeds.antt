@@ -1,4 +1,4 @@
--- Lock calls: what they do leads from the locks before to those after.
+-- Lock calls: their deeds lead from the locks before to those after.
 use Rattle.std.proofs.Common.{◌≡◌, Bool, true, false, if◌then◌else◌, refl, sym, ap, subst, nat_le, Option, Some, None, Result, Ok, Err}
 use Rattle.model.specs.declared.lock_info.LockInfo.{LockInfo}
 use Rattle.model.specs.declared.mode.Mode.{Mode}
@@ -10,11 +10,11 @@ use Rattle.model.specs.Step.{Is, Unblocked, AfterTests, SetStep, WaitStep, Query
 use Rattle.client_history.specs.Acts.{IsBlocked}
 use Rattle.run_clients.specs.Deeds.{DeedsLead, listed, locking, unlocking, asking}
 
--- a call that leaves the table as it was does nothing
+-- a call that leaves the table leaves the locks
 pub same_locks : (t u : Table) → u ≡ t → t.locks ≡ u.locks
 same_locks t u same = ap (λ (x : Table). x.locks) (sym same)
 
--- the reply tells what was set
+-- the answer of a call that sets bytes, or is refused for want of regions
 abbrev pub sets : Table → LockTarget → Option Mode → Bool → Table × Reply
 sets t c mode b = if b then (locked t c mode, Done) else (t, NoLocks)
 
@@ -26,7 +26,7 @@ pub refused_sets : (t u : Table) (c : LockTarget) (mode : Option Mode) (b : Bool
 refused_sets t u c mode true h = absurd (let e = h.0 in cc)
 refused_sets t u c mode false h = h.1
 
--- a lock that is told is in the way
+-- a lock that is named blocks, and all that is told applies to it
 is_told : (t : Table) (c : LockTarget) (mode : Mode) (lock : LockInfo) → Blocks (t.locks c.file) c.owner c.span mode lock → IsBlocked t.locks c.file c.owner c.span mode (record { mode = Some lock.mode; span = Some lock.span; owner = Some lock.owner })
 is_told t c mode lock blocks = record { lock = lock; blocks = blocks; named = record { mode = refl; span = refl; owner = refl } }
 

@@ -1,4 +1,4 @@
--- What a lookup of descriptors finds.
+-- Lookups of descriptors in a table.
 use Rattle.std.proofs.Common.{◌≡◌, ℕ, ◌+◌, ◌<◌, ◌≤◌, Bool, true, false, ◌||◌, refl, sym, ◌∙◌, ap, arith, Option, Some, None}
 use Rattle.std.proofs.lemmas.Bool.{both_ways}
 use Rattle.intervals.specs.Search.{some_passes}

@@ -1,4 +1,4 @@
--- Positions of calls that are taken down entry by entry.
+-- The positions of calls, noted entry by entry.
 use Rattle.std.proofs.Common.{◌≡◌, ℕ, ◌+◌, ◌≤◌, Bool, true, false, if◌then◌else◌, inl, inr, refl, sym, ◌∙◌, ap, subst, arith, List, [], ◌++◌, length, slice_get, Option, Some, None}
 use Rattle.std.specs.Prelude.{IsSome, is_some, map}
 use Rattle.std.specs.List.{AllByRecursion}
@@ -29,7 +29,7 @@ use Rattle.run_clients.proofs.Runs.{within}
 use Rattle.run_clients.specs.declared.times.Times.{Times}
 use Rattle.run_clients.specs.Times.{IsTimed, Positions, position_of_call, Notes, IsMade, IsAnswered, AreFound, AreTimes, IsKnown, IsKept}
 
--- one entry is at a position
+-- a list has one entry at a position
 one_entry : (es : List Entry) (at : ℕ) (e d : Entry) → EntryAt es at e → EntryAt es at d → e ≡ d
 one_entry es at e d one two =
     let here = one.1 in
@@ -66,7 +66,7 @@ module _ (IsSo : CallId → ℕ → Type 0) (old : Positions) (before at : ℕ) 
     ];
   }
 
--- no call and no reply is known at first
+-- before the first entry no call and no reply is noted
 pub none_found : (IsSo : CallId → ℕ → Type 0) (kept : Positions) → kept.entries ≡ [] → ((id : CallId) (at : ℕ) → IsSo id at → 1 ≤ at) → AreFound IsSo kept 0
 none_found IsSo kept empty first = record {
   sound = λ id at there. absurd (none-some at (ap (λ (es : List (CallId × ℕ)). lookup (same_call id) es) (sym empty) ∙ there));
@@ -119,7 +119,7 @@ module _ (es : List Entry) (at : ℕ) (e : Entry) (there : EntryAt es at e) wher
       let same = one_entry es at is.1.replying e is.1.there there in
       none-some (x, is.0) (sym none ∙ (ap (λ (d : Entry). d.reply) (sym same) ∙ is.1.is_reply))
 
--- what an item of a history needs is known
+-- the positions that an item of a history needs are noted
 module _ (es : List Entry) (times : Times) (are : AreTimes es times (length es)) where
   place_within : (at : ℕ) (e : Entry) → EntryAt es at e → at ≤ length es
   place_within at e there = within es at e there

@@ -29,17 +29,17 @@ use Rattle.run_clients.proofs.FileViews.{CallsLead, alone, alone_at_first, deeds
 use Rattle.run_clients.proofs.Timing.{AllPlaced, item_placed, placed_about}
 use Rattle.run_clients.proofs.Explains.{IsUnanswered, explained_in_order}
 
--- what an item does leads from the locks before to those after
+-- the deeds of an item lead from the locks before to those after
 item_leads : (t u : Table) (i : Item) → AreAnchored t → ItemStep t i u → DeedsLead t.locks (item_deeds t i) u.locks
 item_leads t u (Answered at id pid op reply) a h = step_leads t u (caller id pid) (a.anchored id.node id.incarnation) op reply h.1
 item_leads t u (Gone at node incarnation) a h = subst (λ (x : Table). DeedsLead t.locks (exits_to t node incarnation most_processes) x.locks) (sym h) (exits_lead node incarnation t most_processes (a.anchored node incarnation)).leads
 
--- and no lock outlives its descriptors
+-- after an item no lock outlives its descriptors
 pub item_keeps : (t u : Table) (i : Item) → AreAnchored t → ItemStep t i u → AreAnchored u
 item_keeps t u (Answered at id pid op reply) a h = calls_keep_anchored t (caller id pid) h.0.host a u op reply h.0.pid_in h.1
 item_keeps t u (Gone at node incarnation) a h = subst AreAnchored (sym h) (gone_keeps t node incarnation a)
 
--- so the calls lead on
+-- the calls of a history lead from the locks before to those after
 seen_lead : (es : List Entry) (t last : Table) (is : List Item) (seen : List FileCall) → AreAnchored t → AreSeen es t is seen last → CallsLead t.locks seen last.locks
 seen_lead es t last [] seen a h = subst (λ (ss : List FileCall). CallsLead t.locks ss last.locks) (sym h.1) (ap (λ (x : Table). x.locks) h.0)
 seen_lead es t last (i ∷ is) seen a (next, begin, end, rest, step, timed, are, more) =
@@ -72,7 +72,7 @@ item_times es (Gone at node incarnation) begin end (declared, begins, ends) =
     let last = within es at declared.declaring declared.there in
     record { begins = omega arith; ends = omega arith; within = omega arith }
 
--- each item stands there or later
+-- each item stands at this position or later
 abbrev IsFrom : ℕ → List Item → Type 0
 IsFrom low is = (k : ℕ) (i : Item) → slice_get is k ≡ Some i → low ≤ position_of i
 
@@ -89,7 +89,7 @@ seen_placed es t last (i ∷ is) seen low most few from rising (next, begin, end
     subst (AllPlaced most low) (sym are)
     (item_placed most low at begin end (op_of i) (item_deeds t i) rest (from 0 i refl) times.begins times.ends (omega arith) (seen_placed es next last is rest at most few later rises more))
 
--- calls that have no reply
+-- calls without a reply about a file are without a reply
 unanswered_about : (es : List Entry) (last : Table) (file : ℕ) (ss : List FileCall) → AllByRecursion (IsOpenCall es last) ss → AllByRecursion IsUnanswered (calls_about file ss)
 unanswered_about es last file [] h = h
 unanswered_about es last file (s ∷ ss) h =
@@ -99,7 +99,7 @@ unanswered_about es last file (s ∷ ss) h =
       | false ↦ rest
     ]
 
--- so what the clients saw is explained
+-- what the clients of a run saw is explained
 pub seen_is_explained : (shape : ShapeFields) (es : List Entry) (seen : List FileCall) → length es ≤ journal_limit → IsSeen shape es seen → AreExplained seen
 seen_is_explained shape es seen few s file =
     let first = empty_table (most_regions shape.version) in
@@ -116,7 +116,7 @@ times_of : (es : List Entry) (i : Item) → IsPlaced (IsOpenAt es) es i → (beg
 times_of es (Answered at id pid op reply) placed = (placed.call_at, placed.reply_at, (placed.called, placed.replied, placed.after, placed.before))
 times_of es (Gone at node incarnation) placed = (at, at, (placed, refl, refl))
 
--- each legal history has its calls
+-- each legal history has the calls that its clients saw
 seen_of : (es : List Entry) (t last : Table) (is : List Item) → ((k : ℕ) (i : Item) → slice_get is k ≡ Some i → IsPlaced (IsOpenAt es) es i) → Legal t is last → (seen : List FileCall) × AreSeen es t is seen last
 seen_of es t last [] placed h = ([], (h, refl))
 seen_of es t last (i ∷ is) placed (next, step, more) =
@@ -124,7 +124,7 @@ seen_of es t last (i ∷ is) placed (next, step, more) =
     let rest = seen_of es next last is (λ k j there. placed (suc k) j there) more in
     (map (call_of (op_of i) times.0 (At times.1)) (item_deeds t i) ++ rest.0, (next, times.0, times.1, rest.0, step, times.2, refl, rest.1))
 
--- so each run is explained
+-- each run is explained
 pub run_is_explained : (shape : ShapeFields) (es : List Entry) → length es ≤ journal_limit → (h : List Item) → HasHistory shape es h → EachAtItsPlace es h → (seen : List FileCall) × IsSeen shape es seen × AreExplained seen
 run_is_explained shape es few h is_history at_places =
     let first = empty_table (most_regions shape.version) in

@@ -21,11 +21,11 @@ use Rattle.run_clients.specs.Deeds.{closing, closings_below, exit_deeds, exit_de
 use Rattle.run_clients.proofs.Kept.{closed_below-zero, closed_below-suc}
 use Rattle.run_clients.proofs.Drops.{closings-suc, exits_to-zero, exits_to-suc}
 
--- no deeds yet
+-- before the first descriptor there are no deeds
 pub none_at_first : (ds es : List Deed) → es ≡ [] → ds ≡ ds ++ es
 none_at_first ds es none = sym (ap (λ (xs : List Deed). ds ++ xs) none ∙ append-nil ds)
 
--- more of them
+-- the deeds of one more descriptor come last
 more_deeds : (old cur new ds bs cs : List Deed) → cur ≡ old ++ ds → new ≡ cur ++ bs → cs ≡ ds ++ bs → new ≡ old ++ cs
 more_deeds old cur new ds bs cs so_far added is = added ∙ (ap (λ (xs : List Deed). xs ++ bs) so_far ∙ (append_assoc old ds bs ∙ ap (λ (xs : List Deed). old ++ xs) (sym is)))
 
@@ -53,17 +53,17 @@ module _ (t : Table) (p : Process) where
   around_closed : (fd : ℕ) (o : Opened) → around (closed t p fd o) p ≡ fewer fd
   around_closed fd o = around_either fd o (is_open (around (mid fd o) p) o.description)
 
-  -- it runs as before
+  -- after the close of a descriptor the process runs as before
   pub runs_closed : (fd : ℕ) (x : Option Opened) → is_running (closed_if t p fd x) p ≡ is_running t p
   runs_closed fd None = refl
   runs_closed fd (Some o) = ap (λ (ps : Processes). ps.runs p.pid) (around_closed fd o)
 
-  -- and the descriptor is closed
+  -- after the close of a descriptor the process doesn't have it
   shut_at : (fd : ℕ) (x : Option Opened) → descriptor t p fd ≡ x → descriptor (closed_if t p fd x) p fd ≡ None
   shut_at fd None none = none
   shut_at fd (Some o) there = ap (λ (ps : Processes). ps.opened p.pid fd) (around_closed fd o) ∙ rw (itself p.pid fd) refl
 
--- none that was closed is open
+-- a descriptor that was closed stays closed
 stays_shut : (t : Table) (p : Process) (fd k : ℕ) (x : Option Opened) → descriptor t p fd ≡ None → descriptor (closed_if t p k x) p fd ≡ None
 stays_shut t p fd k x none = none_left (descriptor (closed_if t p k x) p fd) refl
   where
@@ -85,7 +85,7 @@ shut_none t p (suc k) fd lt =
       | inr other ↦ stays_shut u p fd k (descriptor u p k) (shut_none t p k fd (omega arith))
     ]
 
--- where none is open, closing them changes nothing
+-- where no descriptor is open, closing all changes nothing
 shut_again : (t : Table) (p : Process) (k : ℕ) → k ≤ most_descriptors → ((fd : ℕ) → fd < most_descriptors → descriptor t p fd ≡ None) → closed_below t p k ≡ t
 shut_again t p zero le none = closed_below-zero t p
 shut_again t p (suc k) le none =
@@ -131,6 +131,6 @@ exits_more t u n i pid old cur new first is so_far added =
     (added ∙ (ap (λ (x : Table). cur ++ exit_deeds_if x (record { node = n; incarnation = i; pid = pid })) is ∙ ap (λ (k : ℕ). cur ++ exit_deeds_if (exited_to t n i (pid - 1)) (record { node = n; incarnation = i; pid = k })) this))
     (ap (exits_to t n i) next ∙ exits_to-suc t n i (pid - 1))
 
--- a node that cannot be has no process that runs
+-- a node that can't exist has no process that runs
 pub no_host_idle : (t : Table) (n i : ℕ) → AreAnchored t → (IsHost n i → ⊥) → (pid : ℕ) → (t.on n i).runs pid ≡ false
 no_host_idle t n i a none pid = false_from_ne_true ((t.on n i).runs pid) (λ runs. none (a.hosts n i pid runs))

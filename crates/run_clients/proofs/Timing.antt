@@ -22,12 +22,12 @@ pub record IsPlaced (low at most : ℕ) (c : ClientCall) : Type 0 where
   pub goes_on : c.is_last ≡ false
   pub alone : c.follows ≡ None
 
--- so do the calls, from a place on, each no earlier than the one before
+-- the calls stand at places from this one on, each no earlier than the one before
 abbrev pub ArePlaced : ℕ → ℕ → List ClientCall → Type 0
 ArePlaced most low [] = ⊤
 ArePlaced most low (c ∷ cs) = (at : ℕ) × IsPlaced low at most c × ArePlaced most at cs
 
--- the same of calls about files
+-- the calls about files stand at places from this one on, each no earlier than the one before
 abbrev pub AllPlaced : ℕ → ℕ → List FileCall → Type 0
 AllPlaced most low [] = ⊤
 AllPlaced most low (s ∷ ss) = (at : ℕ) × IsPlaced low at most (client_call s) × AllPlaced most at ss
@@ -46,7 +46,7 @@ module _ (most : ℕ) where
   all_lower low below [] le h = h
   all_lower low below (s ∷ ss) le h = (h.0, lower low h.0 (client_call s) below le h.1, h.2)
 
-  -- those about a file
+  -- the calls about one file stand at places as well
   pub placed_about : (file low : ℕ) (ss : List FileCall) → AllPlaced most low ss → ArePlaced most low (calls_about file ss)
   placed_about file low [] h = h
   placed_about file low (s ∷ ss) h = elim (s.file == file) as (λ b. ArePlaced most low (cons_option (if b then Some (client_call s) else None) (calls_about file ss))) [
@@ -54,13 +54,13 @@ module _ (most : ℕ) where
     | false ↦ placed_lower h.0 low (calls_about file ss) h.1.low_at (placed_about file h.0 ss h.2)
   ]
 
-  -- all that an item does is done at its place
+  -- all deeds of an item stand at its place
   pub item_placed : (low at begin end : ℕ) (op : Op) (ds : List Deed) (ss : List FileCall) → low ≤ at → begin ≤ at → at ≤ end → end ≤ most → AllPlaced most at ss → AllPlaced most low (map (call_of op begin (At end)) ds ++ ss)
   item_placed low at begin end op [] ss up begins ends within h = all_lower at low ss up h
   item_placed low at begin end op (d ∷ ds) ss up begins ends within h =
       (at, record { end = end; ends = refl; low_at = up; begins = begins; at_end = ends; within = within; goes_on = refl; alone = refl }, item_placed at at begin end op ds ss (omega arith) begins ends within h)
 
-  -- each of them
+  -- each call stands at a place
   pub one_placed : (low : ℕ) (cs : List ClientCall) (k : ℕ) (c : ClientCall) → ArePlaced most low cs → slice_get cs k ≡ Some c → (at : ℕ) × IsPlaced low at most c
   one_placed low [] k c h there = absurd (none-some c there)
   one_placed low (x ∷ cs) zero c h there = subst (λ (y : ClientCall). (at : ℕ) × IsPlaced low at most y) (same_Some x c there) (h.0, h.1)
@@ -68,7 +68,7 @@ module _ (most : ℕ) where
       let one = one_placed h.0 cs k c h.2 there in
       (one.0, lower h.0 one.0 c low h.1.low_at one.1)
 
-  -- none of them ended before one that stands earlier began
+  -- no call ended before one that stands earlier began
   pub placed_in_time : (low : ℕ) (cs : List ClientCall) (j k : ℕ) (a b : ClientCall) → ArePlaced most low cs → j < k → slice_get cs j ≡ Some a → slice_get cs k ≡ Some b → EndsBefore b a.begin → ⊥
   placed_in_time low [] j k a b h lt at_j at_k ends = none-some a at_j
   placed_in_time low (x ∷ cs) zero zero a b h lt at_j at_k ends = omega arith

@@ -5,7 +5,7 @@ use Rattle.model.specs.Limits.{IsHost, IsNumber, most_descriptions}
 use Rattle.model.specs.Table.{Table}
 use Rattle.model.specs.Anchors.{IsAnchored}
 
--- processes run only on nodes that there can be, descriptions have numbers that they can have, and what any node has locked hangs on its descriptors
+-- processes run only on nodes that can exist, descriptions have possible numbers, and each lock of a node hangs on descriptors of the node
 pub record AreAnchored (t : Table) : Type 0 where
   pub hosts : (node incarnation pid : ℕ) → (t.on node incarnation).runs pid ≡ true → IsHost node incarnation
   pub descriptions : (node incarnation pid fd : ℕ) (o : Opened) → (t.on node incarnation).opened pid fd ≡ Some o → IsNumber most_descriptions o.description

@@ -1,4 +1,4 @@
--- What calls do to the locks of files, one after the other.
+-- The deeds of calls: what they do to the locks of files, one after the other.
 use Rattle.std.specs.Prelude.{◌≡◌, ℕ, zero, suc, if◌then◌else◌, List, [], ◌∷◌, ◌++◌, Option, Some, None, Result, Ok, Err}
 use Rattle.intervals.specs.Bytes.{Range}
 use Rattle.model.specs.declared.lock_info.LockInfo.{LockInfo}
@@ -19,35 +19,35 @@ use Rattle.client_history.specs.declared.act.Act.TheVariants.{Locks as Takes, Is
 use Rattle.client_history.specs.Acts.{ActStep}
 use Rattle.run_clients.specs.declared.deed.Deed.{Deed}
 
--- what a lock call with this target does
+-- the deed of a lock call with this target
 abbrev pub deed_of : LockTarget → Act → Deed
 deed_of c act = record { file = c.file; owner = c.owner; act = act }
 
--- the lock was in the way, all of which is told
+-- the act of a call that the lock blocked, where the client was told all of the lock
 abbrev pub denied : Mode → Range → LockInfo → Act
 denied mode span lock = IsDenied mode span (record { mode = Some lock.mode; span = Some lock.span; owner = Some lock.owner })
 
--- POSIX.1-2017 fcntl(), F_SETLK, F_SETLKW: a set or a wait that is answered so
+-- the deed of a set or a wait with this reply (POSIX.1-2017 fcntl(), F_SETLK, F_SETLKW)
 abbrev pub locking : Mode → Reply → Result LockTarget Reply → Option Deed
 locking mode reply (Err refusal) = None
 locking mode Done (Ok c) = Some (deed_of c (Takes mode c.span))
 locking mode (Again lock) (Ok c) = Some (deed_of c (denied mode c.span lock))
 locking mode _ (Ok c) = None
 
--- POSIX.1-2017 fcntl(), F_SETLK with F_UNLCK
+-- the deed of an unlock with this reply (POSIX.1-2017 fcntl(), F_SETLK with F_UNLCK)
 abbrev pub unlocking : Reply → Result LockTarget Reply → Option Deed
 unlocking reply (Err refusal) = None
 unlocking Done (Ok c) = Some (deed_of c (Frees c.span))
 unlocking _ (Ok c) = None
 
--- POSIX.1-2017 fcntl(), F_GETLK
+-- the deed of a query with this reply (POSIX.1-2017 fcntl(), F_GETLK)
 abbrev pub asking : Mode → Reply → Result LockTarget Reply → Option Deed
 asking mode reply (Err refusal) = None
 asking mode Free (Ok c) = Some (deed_of c (IsFree mode c.span))
 asking mode (Blocked lock) (Ok c) = Some (deed_of c (denied mode c.span lock))
 asking mode _ (Ok c) = None
 
--- what a lock call does that is answered so, where it passes its tests
+-- the deed of a lock call with this reply, if it passes its tests
 abbrev pub lock_deed : Table → Process → Op → Reply → Option Deed
 lock_deed t p (Set fd kind mode start len) reply = locking mode reply (target t p (Some mode) fd kind start len)
 lock_deed t p (Wait fd kind mode start len) reply = locking mode reply (target t p (Some mode) fd kind start len)
@@ -55,45 +55,45 @@ lock_deed t p (Unlock fd kind start len) reply = unlocking reply (target t p Non
 lock_deed t p (Query fd kind mode start len) reply = asking mode reply (target t p None fd kind start len)
 lock_deed t p _ reply = None
 
--- one more, if there is one
+-- the list of the deed, or the empty list
 abbrev pub listed : Option Deed → List Deed
 listed None = []
 listed (Some d) = d ∷ []
 
--- the owner loses what it has in the file
+-- the process loses all that it has in the file
 abbrev pub drop : ℕ → Process → Deed
 drop file p = record { file = file; owner = process_owner p; act = Drops }
 
 abbrev pub drop_description : ℕ → Process → ℕ → Deed
 drop_description file p d = record { file = file; owner = description_owner p d; act = Drops }
 
--- POSIX.1-2017 close(), fcntl(); Linux fcntl(2): the process loses its locks in the file, and so does the description, where the descriptor was its last
+-- a close: the process loses its locks in the file, as does the description, if that was its last descriptor (POSIX.1-2017 close(), fcntl(); Linux fcntl(2))
 abbrev pub closing : Table → Process → ℕ → Option Opened → List Deed
 closing t p fd None = []
 closing t p fd (Some o) = drop o.file p ∷ (if is_open (around (closed t p fd o) p) o.description then [] else drop_description o.file p o.description ∷ [])
 
--- the descriptors below n are closed, one after the other
+-- the descriptors below n of the process are closed, one after the other
 unfoldable pub closings_below : Table → Process → ℕ → List Deed
 closings_below t p zero = []
 closings_below t p (suc n) = closings_below t p n ++ closing (closed_below t p n) p n (descriptor (closed_below t p n) p n)
 
--- POSIX.1-2017 _exit(): each descriptor of the process is closed
+-- an exit: each descriptor of the process is closed (POSIX.1-2017 _exit())
 abbrev pub exit_deeds : Table → Process → List Deed
 exit_deeds t p = closings_below t p most_descriptors
 
 abbrev pub exit_deeds_if : Table → Process → List Deed
 exit_deeds_if t p = if is_running t p then exit_deeds t p else []
 
--- the processes of the node with numbers up to n exit, one after the other
+-- the processes of the node with numbers from 1 to n exit, one after the other
 unfoldable pub exits_to : Table → ℕ → ℕ → ℕ → List Deed
 exits_to t node incarnation zero = []
 exits_to t node incarnation (suc n) = exits_to t node incarnation n ++ exit_deeds_if (exited_to t node incarnation n) (record { node = node; incarnation = incarnation; pid = suc n })
 
--- the node fails: each of its processes exits
+-- a failed node: each of its processes exits
 abbrev pub gone_deeds : Table → ℕ → ℕ → List Deed
 gone_deeds t node incarnation = exits_to t node incarnation most_processes
 
--- what a call of the process does that is answered so
+-- the deeds of a call of the process with this reply
 abbrev pub call_deeds : Table → Process → Op → Reply → List Deed
 call_deeds t p (Close fd) Done = closing t p fd (descriptor t p fd)
 call_deeds t p Exit Done = exit_deeds t p

@@ -1,4 +1,4 @@
--- What a descriptor refers to, as it is looked up in a table.
+-- The references of descriptors, as they are looked up in a table.
 use Rattle.std.specs.Prelude.{ℕ, Bool, if◌then◌else◌, Option, Some, None}
 use Rattle.intervals.specs.Bytes.{whole}
 use Rattle.intervals.specs.Search.{some_passes}
@@ -9,7 +9,7 @@ use Rattle.model.specs.Owners.{description_owner}
 use Rattle.model.specs.Descriptors.{Processes, is_of}
 use Rattle.model.specs.Table.{Table, LockTarget, descriptor, is_running}
 
--- the file and the description, with every byte
+-- the file and the description of a descriptor, with every byte
 abbrev pub reference : Process → Option Opened → Option LockTarget
 reference p None = None
 reference p (Some o) = Some (record { file = o.file; owner = description_owner p o.description; span = whole })

@@ -1,4 +1,4 @@
--- What the clients of a run saw, and that one table of record locks explains it.
+-- The calls that the clients of a run saw, and that one table of record locks explains them.
 use Rattle.std.specs.Prelude.{◌≡◌, ℕ, zero, suc, ◌+◌, ◌==◌, ◌≤◌, length, false, if◌then◌else◌, List, [], ◌∷◌, ◌++◌, map, filter_map, Option, Some, None}
 use Rattle.std.specs.List.{AllByRecursion}
 use Rattle.model.specs.declared.call.CallId.{CallId}
@@ -24,12 +24,12 @@ use Rattle.run_clients.specs.declared.file_call.FileCall.{FileCall}
 use Rattle.run_clients.specs.Deeds.{call_deeds, gone_deeds, lock_deed}
 use Rattle.run_clients.specs.Times.{IsTimed}
 
--- what the process asked for; one of a node that fails exits
+-- the operation of an item; of a node that fails the exit of its processes
 abbrev pub op_of : Item → Op
 op_of (Answered at id pid op reply) = op
 op_of (Gone at node incarnation) = Exit
 
--- what an item does
+-- the deeds of an item
 abbrev pub item_deeds : Table → Item → List Deed
 item_deeds t (Answered at id pid op reply) = call_deeds t (caller id pid) op reply
 item_deeds t (Gone at node incarnation) = gone_deeds t node incarnation
@@ -38,7 +38,7 @@ item_deeds t (Gone at node incarnation) = gone_deeds t node incarnation
 abbrev pub call_of : Op → ℕ → Answer → Deed → FileCall
 call_of op begin end d = record { file = d.file; op = op; owner = d.owner; begin = begin; end = end; act = d.act }
 
--- the calls of the items, which lead from the one table to the other: of each what it did there, from its call to its reply
+-- the calls of the items, which lead from one table to another: for each item its deeds there, from its call to its reply
 abbrev pub AreSeen : List Entry → Table → List Item → List FileCall → Table → Type 0
 AreSeen es t [] seen last = (t ≡ last) × (seen ≡ [])
 AreSeen es t (i ∷ is) seen last =
@@ -48,7 +48,7 @@ AreSeen es t (i ∷ is) seen last =
     × (seen ≡ map (call_of (op_of i) begin (At end)) (item_deeds t i) ++ rest)
     × AreSeen es next is rest last
 
--- what a lock call does where it is answered after all, by the table in the end; the run has no reply to it
+-- a lock call that the run has no reply to, with the deed that it would have if it were answered in the last table
 pub record IsOpenCall (es : List Entry) (last : Table) (s : FileCall) : Type 0 where
   pub id : CallId
   pub pid : ℕ
@@ -58,11 +58,11 @@ pub record IsOpenCall (es : List Entry) (last : Table) (s : FileCall) : Type 0 w
   pub does : lock_deed last (caller id pid) s.op Done ≡ Some deed
   pub is : s ≡ call_of s.op s.begin Never deed
 
--- calls that are behind those before, each an open one
+-- open calls come behind the old ones
 abbrev pub HasOpened : List Entry → Table → List FileCall → List FileCall → Type 0
 HasOpened es last old new = (more : List FileCall) × (new ≡ old ++ more) × AllByRecursion (IsOpenCall es last) more
 
--- what the clients of a run saw: the calls of its history, in the order of that, and then calls that have no reply
+-- the calls that the clients of a run saw: those of its history, in its order, and behind them calls that have no reply
 pub record IsSeen (shape : ShapeFields) (es : List Entry) (seen : List FileCall) : Type 0 where
   pub history : List Item
   pub is_history : HasHistory shape es history
@@ -78,19 +78,19 @@ abbrev pub end_of : Answer → Option ℕ
 end_of (At position) = Some position
 end_of Never = None
 
--- the call as one about its file alone
+-- the call without its file
 abbrev pub client_call : FileCall → ClientCall
 client_call s = record { owner = s.owner; begin = s.begin; end = end_of s.end; act = s.act; is_last = false; follows = None }
 
--- the call, if it is one about the file
+-- the call, if it is about the file
 abbrev pub about : ℕ → FileCall → Option ClientCall
 about file s = if s.file == file then Some (client_call s) else None
 
--- those about the file, in their order
+-- the calls about the file, in their order
 abbrev pub calls_about : ℕ → List FileCall → List ClientCall
 calls_about file seen = filter_map (about file) seen
 
--- so many indexes, from one on
+-- that many indexes, from this one on
 abbrev pub indexes_from : ℕ → ℕ → List ℕ
 indexes_from from zero = []
 indexes_from from (suc n) = from ∷ indexes_from (from + 1) n
@@ -99,7 +99,7 @@ indexes_from from (suc n) = from ∷ indexes_from (from + 1) n
 abbrev pub AreExplained : List FileCall → Type 0
 AreExplained seen = (file : ℕ) → (count : ℕ) × IsExplainedBy always (calls_about file seen) (indexes_from 0 count)
 
--- one table of record locks explains what the clients of any run saw, which is no longer than a journal may be
+-- one table of record locks explains what the clients of any run saw, if the run is no longer than a journal may be
 abbrev pub EveryRunIsExplained : Type 0
 EveryRunIsExplained =
     (shape : ShapeFields) (es : List Entry) (w : WorldState)

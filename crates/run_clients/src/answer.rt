@@ -1,6 +1,6 @@
-//! Answers to calls.
+//! The time of the answer to a call.
 
-/// When a call was answered: at the entry at a position of the journal, from 1, or never.
+/// The time of the answer to a call: the position of an entry of the journal, from 1, or never.
 #[derive(Clone, Copy)]
 pub enum Answer {
     At(u64),

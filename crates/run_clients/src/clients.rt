@@ -1,4 +1,5 @@
-//! What the clients of a run saw.
+//! The calls that the clients of a run saw, with their acts on locks. A function here that gives a `Result` answers
+//! `AllocError` where a request for memory was refused.
 ghost use Rattle.std.specs.Prelude.{◌≡◌, ◌++◌, ◌∷◌, [], ◌+◌, ℕ, List, length, map, Some, IfOk, IfSome, OnOk};
 ghost use Rattle.std.specs.List.{AllByRecursion};
 ghost use Rattle.model.specs.Limits.{IsProcess};
@@ -24,17 +25,14 @@ use model::op::Op;
 use placement::placed::placed;
 use std::alloc::{AllocError, Global};
 
-/// What the clients of the journal's run saw: the calls of its history about files, in the order of that, each from
-/// the entry that makes it to the one that answers it. A set or a wait that is done gave its owner the bytes, an
-/// unlock took them, a denial and a query tell what was in the way. A close drops the locks of the process in the
-/// file, the last close of a description those of that; an exit closes each descriptor, and where a node fails each
-/// of its processes exits. Other calls, and those that are refused for another reason, are not among them. Behind
-/// them come lock calls that have no reply.
+/// The calls that the clients of the journal's run saw: those of its history about files, in the order of the
+/// history, each from the entry that makes it to the entry that answers it. A set or a wait that is done gave its
+/// owner the bytes, an unlock took them, a denial and a query name what blocked. A close drops the locks of the
+/// process in the file, and the last close of a description those of the description. An exit closes each descriptor,
+/// and where a node fails each of its processes exits. Other calls, and those that are refused for another reason,
+/// are left out. Behind them come lock calls that have no reply.
 ///
 /// One table of record locks explains the calls about each file, in the order in which they stand.
-///
-/// # Errors
-/// `AllocError`.
 pub fn clients_of(alloc: Global, journal: &Journal) -> Result<Vec<FileCall>, AllocError>
     ensures seen { IfOk result (λ seen. IsSeen journal.now.shape journal.now.entries seen.items) }
     ensures explained { IfOk result (λ seen. AreExplained seen.items) }
@@ -50,7 +48,7 @@ pub fn clients_of(alloc: Global, journal: &Journal) -> Result<Vec<FileCall>, All
     Ok(seen)
 }
 
-// The item leads the table on. Adds its calls.
+// Makes the step of the item in the table, and adds its calls.
 fn see(
     alloc: Global,
     table: &mut FcntlTable,
@@ -76,7 +74,7 @@ fn see(
     )
 }
 
-// What the process asked for; one of a node that fails exits.
+// The operation of the item; of a node that fails the exit of its processes.
 fn op_of(item: &Item) -> Op
     ensures { result ≡ op_of item.now }
 {
@@ -87,9 +85,6 @@ fn op_of(item: &Item) -> Op
 }
 
 /// Adds the deeds as calls of their owners.
-///
-/// # Errors
-/// `AllocError`.
 pub(crate) fn push_calls(
     seen: &mut Vec<FileCall>,
     op: Op,

@@ -1,4 +1,5 @@
-//! Descriptors that are closed, processes that exit and nodes that fail, with what that does to locks.
+//! The closes of descriptors, exits of processes and failures of nodes, with what they do to locks. A function here
+//! that gives a `Result` answers `AllocError` where a request for memory was refused.
 ghost use Rattle.std.specs.Prelude.{◌≡◌, ◌↔◌, ◌++◌, true, IsTrue, OnOk};
 ghost use Rattle.model.specs.Limits.{IsHost};
 ghost use Rattle.model.specs.Owners.{process_owner};
@@ -16,10 +17,7 @@ use model::owner::{Kind, Owner};
 use model::process::Process;
 use std::alloc::AllocError;
 
-/// Closes the descriptor of the process, which runs, if there is such a one.
-///
-/// # Errors
-/// `AllocError`.
+/// Closes the descriptor of the process, which runs, if the process has it.
 pub(crate) fn close(
     table: &mut FcntlTable,
     process: Process,
@@ -62,10 +60,7 @@ fn process_owner(process: Process) -> Owner
     }
 }
 
-/// Closes each descriptor of the process, which runs, and ends it.
-///
-/// # Errors
-/// `AllocError`.
+/// Closes each descriptor of the process, which runs, and ends the process.
 pub(crate) fn exit(
     table: &mut FcntlTable,
     process: Process,
@@ -84,9 +79,6 @@ pub(crate) fn exit(
 }
 
 /// Ends each process of the node in that incarnation.
-///
-/// # Errors
-/// `AllocError`.
 pub(crate) fn fail(
     table: &mut FcntlTable,
     node: u8,

@@ -1,8 +1,8 @@
-//! What a call does to locks.
+//! A deed: what a call does to the locks of a file.
 use client_history::act::Act;
 use model::owner::Owner;
 
-/// What was done to the locks of a file, and by which owner.
+/// The act on the locks of a file, and the owner that made it.
 #[derive(Clone, Copy)]
 pub(crate) struct Deed {
     pub(crate) file: u16,

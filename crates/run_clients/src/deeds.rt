@@ -1,4 +1,5 @@
-//! What lock calls do to locks.
+//! The deeds of lock calls. A function here that gives a `Result` answers `AllocError` where a request for memory was
+//! refused.
 ghost use Rattle.std.specs.Prelude.{◌≡◌, ◌++◌, ◌∷◌, [], OnOk};
 ghost use Rattle.fcntl_table.specs.Tables.{table_of};
 ghost use Rattle.run_clients.specs.Deeds.{asking, denied, listed, lock_deed, locking, unlocking};
@@ -16,11 +17,8 @@ use model::process::Process;
 use model::reply::Reply;
 use std::alloc::AllocError;
 
-/// Adds what a lock call that is answered so does to locks, if it does or tells something: none where the call is no lock
-/// call, or is refused by its tests.
-///
-/// # Errors
-/// `AllocError`.
+/// Adds the deed of a lock call with this reply, if it does or says something. There is none where the call is no
+/// lock call, or its tests refuse it.
 pub(crate) fn push_lock_deed(
     deeds: &mut Vec<Deed>,
     table: &FcntlTable,
@@ -81,7 +79,7 @@ pub(crate) fn push_lock_deed(
     }
 }
 
-// What a set or a wait in the mode does that is answered so.
+// Adds the deed of a set or a wait in the mode with this reply, if it has one.
 fn push_locking(
     deeds: &mut Vec<Deed>,
     mode: Mode,
@@ -101,7 +99,7 @@ fn push_locking(
     }
 }
 
-// What an unlock does that is answered so.
+// Adds the deed of an unlock with this reply, if it has one.
 fn push_unlocking(
     deeds: &mut Vec<Deed>,
     reply: &Reply,
@@ -119,7 +117,7 @@ fn push_unlocking(
     }
 }
 
-// What a query for the mode finds that is answered so.
+// Adds the deed of a query for the mode with this reply, if it has one.
 fn push_asking(
     deeds: &mut Vec<Deed>,
     mode: Mode,
@@ -139,7 +137,7 @@ fn push_asking(
     }
 }
 
-// Adds what the call with this target does.
+// Adds the act on the target as a deed.
 fn push(deeds: &mut Vec<Deed>, target: LockTarget, act: Act) -> Result<(), AllocError>
     ensures { OnOk result (deeds.new.items ≡ deeds.old.items ++ record { file = target.file; owner = target.owner; act = act } ∷ []) }
 {
@@ -151,7 +149,7 @@ fn push(deeds: &mut Vec<Deed>, target: LockTarget, act: Act) -> Result<(), Alloc
     Ok(())
 }
 
-// The lock was in the way, all of which is told.
+// The act of a call that the lock blocked, where the client was told all of the lock.
 fn denied(mode: Mode, span: Span, lock: LockInfo) -> Act
     ensures { result ≡ denied mode span lock }
 {

@@ -1,11 +1,11 @@
-//! Calls about files.
+//! A call about a file, as its client saw it.
 use crate::answer::Answer;
 use client_history::act::Act;
 use model::op::Op;
 use model::owner::Owner;
 
-/// A call about a file (1 to 256), as its client saw it: by which owner, what it did to the locks of the file, and what
-/// its process asked for. It was made at the entry at position `begin` of the journal, from 1, and answered at
+/// A call about a file (1 to 256), as its client saw it: its owner, its act on the locks of the file, and the
+/// operation of its process. It was made at the entry at position `begin` of the journal, from 1, and answered at
 /// `end`.
 #[derive(Clone, Copy)]
 pub struct FileCall {

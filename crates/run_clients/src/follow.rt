@@ -1,4 +1,5 @@
-//! A history that is followed item by item, with what its items do to locks.
+//! A history that is followed item by item, with the deeds of its items. A function here that gives a `Result`
+//! answers `AllocError` where a request for memory was refused.
 ghost use Rattle.std.specs.Prelude.{◌≡◌, ◌++◌, OnOk};
 ghost use Rattle.model.specs.Table.{Table};
 ghost use Rattle.model.specs.Limits.{IsProcess};
@@ -20,10 +21,7 @@ use model::reply::Reply;
 use placement::legal::follow;
 use std::alloc::AllocError;
 
-/// The item, which may follow, leads the table on. Adds what it does to locks.
-///
-/// # Errors
-/// `AllocError`.
+/// Makes the step of the item in the table, which allows it, and adds the item's deeds.
 pub(crate) fn take(
     table: &mut FcntlTable,
     item: &Item,
@@ -64,7 +62,7 @@ pub(crate) fn take(
     }
 }
 
-// The same of a call that is neither a close nor an exit that is done.
+// Makes the step of a call that is no close or exit which is done, and adds its deeds.
 fn take_call(
     table: &mut FcntlTable,
     item: &Item,

@@ -1,4 +1,6 @@
-//! What the clients of a run saw: their calls about each file, which one table of record locks explains.
+//! The histories that the clients of a run saw: their calls about each file, which one table of record locks
+//! explains. It knows nothing of how nodes and servers come to their replies, of files of the operating system or of
+//! threads.
 #![tactic(auto)]
 
 pub mod answer;

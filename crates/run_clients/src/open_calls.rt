@@ -1,4 +1,5 @@
-//! Lock calls that have no reply.
+//! The lock calls of a run that have no reply. A function here that gives a `Result` answers `AllocError` where a
+//! request for memory was refused.
 ghost use Rattle.std.specs.Prelude.{◌≡◌, ◌≤◌, List, length, IfSome, OnOk};
 ghost use Rattle.messages.specs.declared.entry.Entry.{Entry};
 ghost use Rattle.cluster_core.specs.World.{journal_limit};
@@ -21,11 +22,8 @@ use model::process::Process;
 use model::reply::Reply;
 use std::alloc::{AllocError, Global};
 
-/// Adds the lock calls of the entries that have no reply, each with what it does where it is answered after all, by the
-/// table in the end.
-///
-/// # Errors
-/// `AllocError`.
+/// Adds the lock calls of the entries that have no reply, each with the deed that it would have if it were answered
+/// in the last table.
 pub(crate) fn push_open_calls(
     alloc: Global,
     seen: &mut Vec<FileCall>,
@@ -43,7 +41,7 @@ pub(crate) fn push_open_calls(
     Ok(())
 }
 
-// Adds the lock call that the entry at the position makes, if it makes one and that has no reply.
+// Adds the lock call that the entry at the position makes, if it makes one and no entry replies to it.
 fn push_open_call(
     alloc: Global,
     seen: &mut Vec<FileCall>,
@@ -71,7 +69,7 @@ fn push_open_call(
     push_calls(seen, *op, position, Answer::Never, deeds.as_slice())
 }
 
-// The process that makes the call, if a node can have one of that number.
+// The process that makes the call, if a node can have a process of that number.
 fn process_of(id: CallId, pid: u16) -> Option<Process>
     ensures { IfSome result (λ process. process ≡ caller id pid) }
 {

@@ -1,4 +1,4 @@
-//! What descriptors refer to, in the table of a single machine.
+//! The references of descriptors, in the table of a single machine.
 ghost use Rattle.std.specs.Prelude.{◌≡◌, ℕ, true, Some};
 ghost use Rattle.model.specs.declared.opened.Opened.{Opened};
 ghost use Rattle.model.specs.Descriptors.{is_of, is_open};
@@ -13,8 +13,8 @@ use model::owner::Kind;
 use model::process::Process;
 use model::reply::Reply;
 
-/// What the descriptor of the process refers to: its file and the description, with every byte; none where the
-/// process doesn't run or has no such descriptor.
+/// The reference of the process's descriptor: its file and the description, with every byte. `None` where the process
+/// doesn't run or has no such descriptor.
 pub(crate) fn refers(table: &FcntlTable, process: Process, fd: u8) -> Option<LockTarget>
     ensures { result ≡ refers (table_of table.now) process fd }
 {

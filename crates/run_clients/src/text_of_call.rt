@@ -1,4 +1,4 @@
-//! The line of a call in a history of clients.
+//! The line of a call in a client history.
 use crate::answer::Answer;
 use crate::file_call::FileCall;
 use client_history::act::Act;
@@ -14,7 +14,7 @@ use texts::words::Named;
 /// Writes `call BEGIN END OWNER OP -> REPLY`, or, where no reply is known, `call BEGIN - OWNER OP`.
 ///
 /// # Errors
-/// `AllocError`.
+/// `AllocError` where a request for memory was refused.
 pub(crate) fn push_call(out: &mut String, call: &FileCall) -> Result<(), AllocError> {
     push_times(out, call.begin, call.end)?;
     push_client(out, &call.owner)?;
@@ -32,7 +32,7 @@ fn push_times(out: &mut String, begin: u64, end: Answer) -> Result<(), AllocErro
     }
 }
 
-// The owner as `N.I.pPID` or `N.I.dNUMBER`: an `@` would stand before the name of a machine.
+// Writes the owner as `N.I.pPID` or `N.I.dNUMBER`: an `@` would stand before the name of a machine.
 fn push_client(out: &mut String, owner: &Owner) -> Result<(), AllocError> {
     let Owner {
         node,
@@ -47,7 +47,7 @@ fn push_client(out: &mut String, owner: &Owner) -> Result<(), AllocError> {
     write!(out, "{node}.{incarnation}.{letter}{number}")
 }
 
-// What the owner asked for.
+// Writes the operation of the call.
 fn push_asked(out: &mut String, file: u16, op: &Op, act: &Act) -> Result<(), AllocError> {
     match act {
         Act::Locks { mode, span } | Act::IsDenied { mode, span, .. } | Act::IsFree { mode, span } =>
@@ -74,7 +74,7 @@ fn verb_of(op: &Op) -> &'static str {
     }
 }
 
-// What the owner was answered.
+// Writes the reply to the call.
 fn push_answer(out: &mut String, op: &Op, act: &Act) -> Result<(), AllocError> {
     match act {
         Act::Locks { .. } | Act::Frees { .. } | Act::Drops => out.push_str(" -> done"),
@@ -95,7 +95,7 @@ fn denial_of(op: &Op) -> &'static str {
     }
 }
 
-// The lock that is told, where all of it is.
+// Writes the lock that the reply names, if it names all of it.
 fn push_told(out: &mut String, told: &ToldLock) -> Result<(), AllocError> {
     let (Some(mode), Some(span), Some(owner)) = (told.mode, told.span, told.owner) else {
         return Ok(());

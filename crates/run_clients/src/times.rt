@@ -1,4 +1,4 @@
-//! When calls are made and answered.
+//! The times at which a run's calls are made and answered.
 ghost use Rattle.std.specs.Prelude.{◌≡◌, ◌≤◌, ◌+◌, ℕ, List, length, is_some, IfOk, OnOk};
 ghost use Rattle.messages.specs.declared.entry.Entry.{Entry};
 ghost use Rattle.cluster_core.specs.World.{journal_limit};
@@ -11,10 +11,10 @@ use model::call::CallId;
 use std::alloc::{AllocError, Global};
 use std::collections::HashMap;
 
-// By the name of a call: the position of an entry, from 1.
+// For each call, by its name: the position of an entry, from 1.
 type Positions = HashMap<CallId, u32>;
 
-/// Of each call of a run: the position of the entry that makes it, and of the one that answers it, if one does.
+/// For each call of a run: the position of the entry that makes it, and of the entry that answers it, if one does.
 #[derive(Drop)]
 pub(crate) struct Times {
     begins: Positions,
@@ -22,10 +22,10 @@ pub(crate) struct Times {
 }
 
 impl Times {
-    /// Those of the entries of a run.
+    /// The times of the calls of a run with these entries.
     ///
     /// # Errors
-    /// `AllocError`.
+    /// `AllocError` where a request for memory was refused.
     pub(crate) fn of(alloc: Global, entries: &[Entry]) -> Result<Times, AllocError>
         requires { length entries.now ≤ journal_limit }
         ensures { IfOk result (λ times. AreTimes entries.now times (length entries.now)) }
@@ -40,7 +40,7 @@ impl Times {
         Ok(times)
     }
 
-    // Takes in the entry at the position.
+    // Notes the entry at the position.
     fn note(&mut self, position: u32, entry: &Entry) -> Result<(), AllocError>
         ensures { OnOk result ((es : List Entry) (before : ℕ) → EntryAt es position entry.now → position ≡ before + 1 → AreTimes es self.old before → AreTimes es self.new position) }
     {
@@ -55,7 +55,7 @@ impl Times {
         position_of_call(&self.ends, id).is_some()
     }
 
-    /// When the call of the item was made, and when it was answered; all that a failed node does it does at the item.
+    /// The positions at which the item's call was made and answered; of a failed node both are that of the item.
     pub(crate) fn of_item(&self, item: &Item) -> (u32, u32)
         requires { IsKnown self.now item.now }
         ensures { IsKept self.now item.now result.0 result.1 }
@@ -74,7 +74,7 @@ impl Times {
     }
 }
 
-// Keeps the position of the call that the entry makes, if it makes one.
+// Notes the position of the call that the entry makes, if it makes one.
 fn note_call(positions: &mut Positions, position: u32, entry: &Entry) -> Result<(), AllocError>
     ensures { OnOk result ((es : List Entry) (before : ℕ) → EntryAt es position entry.now → position ≡ before + 1 → AreFound (IsMade es) positions.old before → AreFound (IsMade es) positions.new position) }
 {
@@ -84,7 +84,7 @@ fn note_call(positions: &mut Positions, position: u32, entry: &Entry) -> Result<
     }
 }
 
-// Keeps the position of the reply that the entry gives, if it gives one.
+// Notes the position of the reply that the entry gives, if it gives one.
 fn note_reply(positions: &mut Positions, position: u32, entry: &Entry) -> Result<(), AllocError>
     ensures { OnOk result ((es : List Entry) (before : ℕ) → EntryAt es position entry.now → position ≡ before + 1 → AreFound (IsAnswered es) positions.old before → AreFound (IsAnswered es) positions.new position) }
 {
@@ -94,14 +94,14 @@ fn note_reply(positions: &mut Positions, position: u32, entry: &Entry) -> Result
     }
 }
 
-// The position that is kept of the call, if one is.
+// The position that is noted for the call, if one is.
 fn position_of_call(positions: &Positions, id: CallId) -> Option<u32>
     ensures { result ≡ position_of_call positions.now id }
 {
     positions.get(&id).copied()
 }
 
-// Keeps the position of the call.
+// Notes the position of the call.
 fn note(positions: &mut Positions, id: CallId, position: u32) -> Result<(), AllocError>
     ensures { OnOk result (Notes positions.old id position positions.new) }
 {

@@ -1,4 +1,4 @@
--- No two numbers or words have one text.
+-- Two numbers, or two words, that have one text are equal.
 use Rattle.std.proofs.Common.{ℕ, ◌<◌, ◌^◌, refl, arith, rules, decimal, FitsSigned, w64}
 use Rattle.std.specs.Prelude.{⊤}
 use Rattle.std.specs.Fmt.{signed_decimal}

@@ -5,7 +5,7 @@ use Rattle.std.specs.Cmp.Lexicographic.{pointwise}
 use Rattle.texts.specs.Layout.{space}
 use Rattle.texts.specs.Reads.{IsOneField, Lacks, Reads, has_no_space}
 
--- what stands before the first space
+-- the bytes before the first space
 abbrev pub first_word : List ℕ → List ℕ
 first_word [] = []
 first_word (b ∷ bytes) = if eqb b space then [] else b ∷ first_word bytes
@@ -14,11 +14,11 @@ abbrev pub is_among : List (List ℕ) → List ℕ → Bool
 is_among [] word = false
 is_among (w ∷ words) word = if pointwise eqb word w then true else is_among words word
 
--- each text begins with one of the first words and has more fields, or is one of the second
+-- the text of a value begins with one of the words `with_fields` and has more fields, or is one of the words `alone`
 pub record BeginsWithWord {A : Type 0} (text : A → List ℕ) (Fits : A → Type 0) (with_fields alone : List (List ℕ)) : Type 0 where
   pub told : (x : A) → Fits x → (is_among with_fields (first_word (text x)) ≡ true) × (has_no_space (text x) ≡ false) ⊎ (is_among alone (text x) ≡ true) × (has_no_space (text x) ≡ true)
 
--- it is none of the words
+-- the word is none of the given words
 abbrev pub IsOther : List (List ℕ) → List ℕ → Type 0
 IsOther [] word = ⊤
 IsOther (w ∷ words) word = (word ≢ w) × IsOther words word
@@ -43,7 +43,7 @@ has_space-behind : (word rest : List ℕ) → has_no_space (word ++ space ∷ re
 has_space-behind [] rest = refl
 has_space-behind (b ∷ word) rest = grind (arith, has_space-behind word rest)
 
--- what has a space has a first field
+-- a text without a space is one field
 pub has_no_space-one : (bytes : List ℕ) → IsOneField bytes → has_no_space bytes ≡ true
 has_no_space-one [] one = refl
 has_no_space-one (b ∷ bytes) one =
@@ -55,7 +55,7 @@ has_no_space-one (b ∷ bytes) one =
     lacks-more b word first lacks zero lt = first
     lacks-more b word first lacks (suc i) lt = lacks i (omega (arith, lt))
 
--- a word of none of them writes nothing, whatever stands behind it
+-- a text that begins with none of the words is the text of no value, whatever stands behind its first field
 pub none-with : {A : Type 0} {text : A → List ℕ} {Fits : A → Type 0} {with_fields alone : List (List ℕ)} → BeginsWithWord text Fits with_fields alone
     → (word rest : List ℕ) → Lacks space word → IsOther with_fields word → Reads text Fits (word ++ space ∷ rest) None
 none-with {text = text} {with_fields = with_fields} begins word rest lacks other x fits e =
@@ -64,7 +64,7 @@ none-with {text = text} {with_fields = with_fields} begins word rest lacks other
       | inr (_, one) ↦ absurd (let two = sym (has_space-behind word rest) ∙ ap has_no_space e ∙ one in cc)
     ]
 
--- one field that is none of them writes nothing
+-- a text of one field that is none of the words is the text of no value
 pub none-alone : {A : Type 0} {text : A → List ℕ} {Fits : A → Type 0} {with_fields alone : List (List ℕ)} → BeginsWithWord text Fits with_fields alone
     → (word : List ℕ) → IsOneField word → IsOther alone word → Reads text Fits word None
 none-alone {alone = alone} begins word one other x fits e =

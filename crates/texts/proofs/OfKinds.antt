@@ -1,4 +1,4 @@
--- Values of a few kinds: what a text begins with tells of which kind its value is.
+-- Values of several kinds: the front of a text says of which kind its value is.
 use Rattle.std.proofs.Common.{◌≡◌, ◌≢◌, ℕ, false, true, eqb, List, [], ◌∷◌, ◌++◌, Option, Some, None, inl, inr, refl, sym, ap, subst, ◌∙◌, arith}
 use Rattle.std.specs.Prelude.{◌⊎◌}
 use Rattle.std.specs.List.{starts_with}
@@ -6,7 +6,7 @@ use Rattle.std.specs.Option.{IsSomeAnd, MatchOption, option_map}
 use Rattle.texts.specs.Reads.{Reads}
 use Rattle.texts.proofs.Pairs.{AreApart, cancel-front}
 
--- values of a kind are made of its fields, and their texts are its front and the fields' behind it; texts of other values have other fronts
+-- the values of a kind are made of its fields, and written as the kind's front and the fields; values of other kinds have other fronts
 pub record IsKind {A F : Type 0} (text : A → List ℕ) (Fits : A → Type 0) (front : List ℕ) (rest : F → List ℕ) (Fit : F → Type 0) (make : F → A) : Type 0 where
   pub fits : (f : F) → Fit f → Fits (make f)
   pub written : (f : F) → text (make f) ≡ front ++ rest f
@@ -19,7 +19,7 @@ starts-front (c ∷ front) bytes = grind (arith, starts-front front bytes)
 no-front : (front bytes text : List ℕ) → starts_with eqb text front ≡ false → front ++ bytes ≢ text
 no-front front bytes text other e = grind (arith, starts-front front bytes, other, e)
 
--- behind a kind's front its fields make a value, and nothing else does
+-- a text behind a kind's front is that of a value exactly if it is the text of the kind's fields
 pub reads-kind : {A F : Type 0} {text : A → List ℕ} {Fits : A → Type 0} {front : List ℕ} {rest : F → List ℕ} {Fit : F → Type 0} {make : F → A} → IsKind text Fits front rest Fit make
     → (bytes : List ℕ) (fields : Option F) → Reads rest Fit bytes fields → Reads text Fits (front ++ bytes) (option_map make fields)
 reads-kind {text = text} {front = front} {rest = rest} kind bytes None none = λ x fits e.
@@ -29,7 +29,7 @@ reads-kind {text = text} {front = front} {rest = rest} kind bytes None none = λ
     ]
 reads-kind {front = front} kind bytes (Some f) some = (kind.fits f some.0, ap (λ (r : List ℕ). front ++ r) some.1 ∙ sym (kind.written f))
 
--- the same of what is made of the fields by a function that makes such values
+-- a text behind a kind's front gives the value that a function makes of the fields, if the function makes the values of the kind
 pub reads-made : {A F : Type 0} {text : A → List ℕ} {Fits : A → Type 0} {front : List ℕ} {rest : F → List ℕ} {Fit : F → Type 0} {make : F → A} {Made : F → A → Type 0} → IsKind text Fits front rest Fit make
     → (bytes : List ℕ) (fields : Option F) (value : Option A) → Reads rest Fit bytes fields → MatchOption fields (value ≡ None) (λ f. IsSomeAnd value (Made f)) → ((f : F) (x : A) → Made f x → x ≡ make f)
     → Reads text Fits (front ++ bytes) value
@@ -38,7 +38,7 @@ reads-made kind bytes (Some f) None some cases makes = absurd cases
 reads-made {text = text} {Fits = Fits} {front = front} kind bytes (Some f) (Some x) some cases makes =
     subst (λ (y : _). Reads text Fits (front ++ bytes) (Some y)) (sym (makes f x cases)) (reads-kind kind bytes (Some f) some)
 
--- a value of the kind has its text for itself, where no fields of the kind share theirs
+-- a value of the kind shares its text with no other value, if no two of the kind's fields share a text
 pub apart-kind : {A F : Type 0} {text : A → List ℕ} {Fits : A → Type 0} {front : List ℕ} {rest : F → List ℕ} {Fit : F → Type 0} {make : F → A} → IsKind text Fits front rest Fit make → AreApart rest Fit
     → (f : F) → Fit f → (y : A) → Fits y → text (make f) ≡ text y → make f ≡ y
 apart-kind {text = text} {front = front} {rest = rest} {make = make} kind apart f f_fits y y_fits e =

@@ -1,4 +1,4 @@
--- Numbers are written in one field.
+-- Numbers are written as one field.
 use Rattle.std.proofs.Common.{◌≡◌, ℕ, ◌<◌, ◌≤◌, ◌^◌, true, List, [], ◌∷◌, ◌++◌, ℤ, pos, negsuc, suc, refl, arith, decimal, FitsSigned, w64}
 use Rattle.std.specs.Fmt.{signed_decimal}
 use Rattle.std.specs.Str.Parse.{AllDigits}
@@ -15,7 +15,7 @@ no_space-digits (d ∷ ds) digits =
 pub decimal_is_one_field : (n : ℕ) → n < 2 ^ 64 → has_no_space (decimal n) ≡ true
 decimal_is_one_field n small = no_space-digits (decimal n) (decimal_is_IsNumeral n small).0.1
 
--- also between limits
+-- a number between limits is written as one field
 pub bounded_is_one_field : (least most : ℕ) → most < 2 ^ 64 → (n : ℕ) → (least ≤ n) × (n ≤ most) → has_no_space (decimal n) ≡ true
 bounded_is_one_field least most small n served = decimal_is_one_field n (omega (arith, small, served.1))
 
@@ -23,7 +23,7 @@ pub signed_is_one_field : (z : ℤ) → FitsSigned w64 z → has_no_space (signe
 signed_is_one_field (pos n) fits = decimal_is_one_field n (omega (arith, fits))
 signed_is_one_field (negsuc n) fits = grind (arith, decimal_is_one_field (suc n) (omega (arith, fits)))
 
--- one text behind another
+-- two texts without a space have none together
 pub append_is_one_field : (x y : List ℕ) → has_no_space x ≡ true → has_no_space y ≡ true → has_no_space (x ++ y) ≡ true
 append_is_one_field [] y no_x no_y = no_y
 append_is_one_field (b ∷ x) y no_x no_y = grind (arith, no_x, append_is_one_field x y)

@@ -1,4 +1,4 @@
--- Numerals without what need not stand in front are what is written of their numbers.
+-- A numeral without a `+` or needless zeros in front is the decimal text of its number.
 use Rattle.std.proofs.Common.{◌≡◌, ◌≢◌, ◌∙◌, ℕ, ◌<◌, ◌^◌, List, [], ◌∷◌, ℤ, pos, negsuc, zero, suc, length, get_or, sym, ap, subst, refl, arith, decimal, Bool, true, false, cond, drop, neg_ℤ, ◌==◌, FitsSigned, w64}
 use Rattle.std.specs.Fmt.{signed_decimal}
 use Rattle.std.specs.Str.Parse.{IsNumeral, digits_value, signed_digits_value, without_leading_plus, without_leading_sign}
@@ -8,7 +8,7 @@ use Rattle.std.proofs.lemmas.Fmt.{decimal_is_IsNumeral, decimal_digit, decimal-d
 use Rattle.std.proofs.lemmas.Str.Parse.{digit_at, numerals_by_value, tells_digits, without_leading_plus_none}
 use Rattle.texts.specs.Reads.{IsPlain, IsPlainSigned}
 
--- a plain numeral is what is written of its number
+-- a plain numeral is the decimal text of its number
 pub plain_numeral : (bs : List ℕ) → IsPlain bs → IsNumeral 10 (without_leading_plus bs) → digits_value 10 (without_leading_plus bs) < 2 ^ 64 → decimal (digits_value 10 (without_leading_plus bs)) ≡ bs
 plain_numeral bs plain numeral small =
     let bare = without_leading_plus_none bs plain.0 in
@@ -16,7 +16,7 @@ plain_numeral bs plain numeral small =
     let fits : digits_value 10 bs < 2 ^ 64 = subst (λ ds. digits_value 10 ds < 2 ^ 64) bare small in
     ap (λ ds. decimal (digits_value 10 ds)) bare ∙ decimal-digits_value (numerals_by_value _ tells_digits) bs digits.1 digits.0 plain.1 fits
 
--- what is written of a number is plain
+-- the decimal text of a number is plain
 pub decimal_is_plain : (n : ℕ) → n < 2 ^ 64 → IsPlain (decimal n)
 decimal_is_plain zero small =
     let text = decimal_digit 0 (omega arith) in
@@ -34,7 +34,7 @@ behind_minus ds first digits (suc v) value fits =
     let text = decimal-digits_value (numerals_by_value _ tells_digits) ds digits.1 digits.0 (λ e. absurd (first e)) (omega (arith, value, fits.sfits)) in
     ap (λ bs. 45 ∷ bs) (ap decimal (sym value) ∙ text)
 
--- a plain numeral with a sign is what is written of its number
+-- a plain numeral with a sign is the decimal text of its number
 pub plain_signed_numeral : (bs : List ℕ) → IsPlainSigned bs → IsNumeral 10 (without_leading_sign bs) → FitsSigned w64 (signed_digits_value 10 bs) → signed_decimal (signed_digits_value 10 bs) ≡ bs
 plain_signed_numeral bs plain digits fits = by_sign bs (slice_index bs 0 == 45) refl plain digits fits
   where
@@ -51,7 +51,7 @@ plain_signed_numeral bs plain digits fits = by_sign bs (slice_index bs 0 == 45) 
         let value : signed_digits_value 10 (b ∷ ds) ≡ neg_ℤ (pos (digits_value 10 ds)) = ap (λ t. cond t (neg_ℤ (pos (digits_value 10 (without_leading_sign (b ∷ ds))))) (pos (digits_value 10 (without_leading_sign (b ∷ ds))))) is ∙ ap (λ xs. neg_ℤ (pos (digits_value 10 xs))) same in
         ap signed_decimal value ∙ behind_minus ds (plain.1 minus) (subst (IsNumeral 10) same digits) (digits_value 10 ds) refl (subst (FitsSigned w64) value fits) ∙ ap (λ x. x ∷ ds) (sym minus)
 
--- what is written of a number with a sign is plain so
+-- the decimal text of a number with a sign is plain
 pub signed_is_plain : (z : ℤ) → FitsSigned w64 z → IsPlainSigned (signed_decimal z)
 signed_is_plain (pos n) fits =
     let plain = decimal_is_plain n (omega (arith, fits.sfits)) in

@@ -1,4 +1,4 @@
--- Texts that are one field.
+-- Texts that are one field, and splits of texts at a byte.
 use Rattle.std.proofs.Common.{◌≡◌, ◌≢◌, ◌∙◌, ap, get_or, length, ℕ, zero, suc, ◌<◌, ◌≤◌, ◌^◌, ◌++◌, Option, Some, None, MatchOption, Bor, ℤ, pos, negsuc, true, not, List, [], ◌∷◌, refl, sym, arith, eqb, decimal, codes, FitsSigned, w64}
 use Rattle.std.specs.List.{list_all}
 use Rattle.std.specs.Fmt.{signed_decimal}
@@ -16,21 +16,21 @@ use Rattle.texts.specs.Words.{kind_text, mode_text}
 use Rattle.std.specs.Prelude.{⊤}
 use Rattle.texts.proofs.Pairs.{AreWords, heads, same-split, tails}
 
--- a byte by byte test
+-- a text lacks a byte if each of its bytes is tested not to be it
 pub lacks-tested : (c : ℕ) (bytes : List ℕ) → list_all (λ b. not (eqb b c)) bytes ≡ true → Lacks c bytes
 lacks-tested c [] test i lt = absurd (omega (arith, lt))
 lacks-tested c (b ∷ bytes) test zero lt = grind (arith, test)
 lacks-tested c (b ∷ bytes) test (suc i) lt = lacks-tested c bytes (grind (arith, test)) i (omega (arith, lt))
 
--- a word that is written out is one field
+-- a word whose bytes are tested not to be spaces is one field
 pub one-word : (word : List ℕ) → list_all (λ b. not (eqb b space)) word ≡ true → Lacks space word
 one-word word test = lacks-tested space word test
 
--- the first fields of one text are one
+-- one text has one first field
 pub first-word : (word front operands rest : List ℕ) → Lacks space word → list_all (λ b. not (eqb b space)) front ≡ true → word ++ space ∷ operands ≡ front ++ space ∷ rest → word ≡ front
 first-word word front operands rest lacks test e = (same-split space word front operands rest lacks (one-word front test) e).0
 
--- a text with a space is no word
+-- a text with a space is not a word without one
 pub not-one : (word operands front : List ℕ) → Lacks space word → list_all (λ b. not (eqb b space)) front ≡ true → word ++ space ∷ operands ≢ front
 not-one [] operands [] lacks test e = cc
 not-one [] operands (c ∷ front) lacks test e = one-word (c ∷ front) test 0 (omega arith) (sym (heads space c operands front e))
@@ -38,7 +38,7 @@ not-one (b ∷ word) operands [] lacks test e = cc
 not-one (b ∷ word) operands (c ∷ front) lacks test e =
     not-one word operands front (λ i lt. lacks (suc i) (omega (arith, lt))) (grind (arith, test)) (tails b c (word ++ space ∷ operands) front e)
 
--- a byte that is no digit
+-- the decimal text of a number lacks each byte that is no digit
 pub decimal-lacks : (c : ℕ) → ((d : ℕ) → 48 ≤ d → d ≤ 57 → d ≢ c) → (n : ℕ) → n < 2 ^ 64 → Lacks c (decimal n)
 decimal-lacks c apart n small i lt =
     let digit = digit_at (decimal n) i (decimal_is_IsNumeral n small).0.1 lt in
@@ -52,7 +52,7 @@ Lacks-signed_decimal (pos n) fits i lt = Lacks-decimal n (omega (arith, fits)) i
 Lacks-signed_decimal (negsuc n) fits zero lt = λ e. omega (arith, e)
 Lacks-signed_decimal (negsuc n) fits (suc i) lt = Lacks-decimal (suc n) (omega (arith, fits)) i (omega (arith, lt))
 
--- what a split at the first of a byte gives
+-- a split of a text at the first place of a byte
 pub split-first : (c : ℕ) → c < 128 → (bs : List ℕ) (r : Option (Bor (List ℕ) × Bor (List ℕ))) → IsSplitOnceResult c bs r
     → MatchOption r ((word rest : List ℕ) → Lacks c word → bs ≢ word ++ c ∷ rest) (λ x. Lacks c x.0.now × (bs ≡ x.0.now ++ c ∷ x.1.now))
 split-first c ascii bs None split = λ word rest lacks e. split_after c bs word rest None split (omega (arith, ascii)) e lacks
@@ -60,13 +60,13 @@ split-first c ascii bs (Some x) split =
     let parts = split_parts c bs (Some x) split (omega (arith, ascii)) in
     (parts.1, parts.0)
 
--- a text that lacks a byte is not parted by it
+-- a text that lacks a byte has no first part before it
 pub not-parted : (c : ℕ) (bs word rest : List ℕ) → Lacks c bs → bs ≢ word ++ c ∷ rest
 not-parted c bs word rest lacks e =
     let at : length word < length bs = omega (arith, ap length e, length-append word (c ∷ rest)) in
     lacks (length word) at (ap (λ (b : List ℕ). get_or b (length word) 0) e ∙ get_or-append_seam word c rest 0)
 
--- what a split at the first space gives
+-- a split of a text at the first space
 pub split-first_field : (bs : List ℕ) (r : Option (Bor (List ℕ) × Bor (List ℕ)))
     → MatchOption r (Lacks space bs) (λ x. Lacks space x.0.now × (bs ≡ x.0.now ++ space ∷ x.1.now))
     → MatchOption r ((word rest : List ℕ) → Lacks space word → bs ≢ word ++ space ∷ rest) (λ x. Lacks space x.0.now × (bs ≡ x.0.now ++ space ∷ x.1.now))

@@ -1,4 +1,4 @@
--- Numbers within limits, of a type that has some of them.
+-- Numbers within limits that a type can hold.
 use Rattle.std.proofs.Common.{◌≡◌, ℕ, ◌<◌, ◌≤◌, ◌^◌, min, true, List, Option, Some, None, MatchOption, sym, ap, ◌∙◌, arith, decimal}
 use Rattle.std.proofs.lemmas.Fmt.{decimal_injective}
 use Rattle.texts.specs.Reads.{IsWithin, Reads, has_no_space}

@@ -1,4 +1,4 @@
--- Words that name one of a few things.
+-- The words for modes, access modes, kinds of owners, policies and levels.
 use Rattle.std.specs.Prelude.{ℕ, List, codes}
 use Rattle.model.specs.declared.mode.Mode.{Mode}
 use Rattle.model.specs.declared.mode.Mode.TheVariants.{Read, Write}

@@ -1,4 +1,4 @@
-//! Words of clusters.
+//! The words for policies and for levels of tokens.
 ghost use Rattle.std.specs.Prelude.{true};
 ghost use Rattle.texts.specs.Words.{level_text, policy_text};
 
@@ -6,7 +6,7 @@ use crate::words::{Named, value_of, word_of};
 use model::level::Level;
 use model::policy::Policy;
 
-/// `wide` or `exact`.
+/// A policy is written as `wide` or `exact`.
 impl Named for Policy {
     ghost word_of = { policy_text };
 
@@ -21,7 +21,7 @@ impl Named for Policy {
     fn are_words() {}
 }
 
-/// `shared` or `exclusive`.
+/// A level is written as `shared` or `exclusive`.
 impl Named for Level {
     ghost word_of = { level_text };
 

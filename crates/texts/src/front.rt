@@ -1,4 +1,4 @@
-//! Values behind words that are always the same.
+//! Values that are written behind a fixed text.
 ghost use Rattle.std.specs.Prelude.{◌≡◌, ℕ, List};
 ghost use Rattle.texts.specs.Reads.{after_text};
 
@@ -6,7 +6,7 @@ use crate::text::{Text, after};
 use std::alloc::AllocError;
 use std::marker::PhantomData;
 
-/// What a text begins with.
+/// A fixed text that stands in front of values, by a type.
 pub trait Front {
     ghost front: { List ℕ };
 
@@ -14,7 +14,7 @@ pub trait Front {
         ensures { result.now ≡ front };
 }
 
-/// What `B` writes, behind a front.
+/// The values of `B`, written behind the fixed text of `F`.
 pub struct After<F, B> {
     of: PhantomData<(F, B)>,
 }

@@ -1,4 +1,6 @@
-//! Numbers in texts.
+//! Numbers in texts: decimal, without leading zeros and without a leading `+`.
+//!
+//! Each function here that can fail errs with `AllocError`, where a request for memory was refused.
 ghost use Rattle.std.specs.Prelude.{◌≡◌, ◌<◌, ◌++◌, ◌^◌, min, decimal, string_bytes, FitsSigned, MatchBool, OnOk};
 ghost use Rattle.std.specs.Fmt.{signed_decimal};
 ghost use Rattle.std.specs.Int.{w64};
@@ -21,7 +23,7 @@ fn is_plain(word: &str) -> bool
     }
 }
 
-// The number that the word writes: decimal, without leading zeros and without a leading `+`.
+// The number whose decimal text the word is, without leading zeros and without a leading `+`.
 fn natural_of(word: &str) -> Option<u64>
     ensures { Reads decimal (λ n. n < 2 ^ 64) word.now result }
 {
@@ -31,7 +33,7 @@ fn natural_of(word: &str) -> Option<u64>
     }
 }
 
-/// The number from `least` to `most` that the word writes: decimal, without leading zeros and
+/// The number from `least` to `most` whose decimal text the word is, without leading zeros and
 /// without a leading `+`.
 pub fn number_of(word: &str, least: u64, most: u64) -> Option<u64>
     ensures { Reads decimal (IsWithin least most) word.now result }
@@ -50,7 +52,8 @@ pub fn number_of(word: &str, least: u64, most: u64) -> Option<u64>
     }
 }
 
-// Whether the word is plain and, where it begins with a `-`, has no zero right behind that.
+// Whether the word has no `+` in front, no zero in front of other digits, and no zero right behind
+// a leading `-`.
 fn is_plain_signed(word: &str) -> bool
     ensures { MatchBool result (IsPlainSigned word.now) (IsPlainSigned word.now → ⊥) }
 {
@@ -60,8 +63,8 @@ fn is_plain_signed(word: &str) -> bool
     }
 }
 
-/// The offset that the word writes: decimal, without leading zeros, without a leading `+`, with a
-/// leading `-` where it is negative.
+/// The offset whose decimal text the word is, without leading zeros, without a leading `+`, and
+/// with a leading `-` where it is negative; `-0` is no offset.
 pub fn offset_of(word: &str) -> Option<i64>
     ensures { Reads signed_decimal (FitsSigned w64) word.now result }
 {
@@ -77,17 +80,14 @@ pub fn offset_of(word: &str) -> Option<i64>
     }
 }
 
-/// Writes a number in decimal, as `{}` does.
-///
-/// # Errors
-/// `AllocError` where a request for memory was refused.
+/// Adds the decimal text of a number, as `{}` writes it.
 pub fn push_number<N: Integer>(out: &mut String, number: N) -> Result<(), AllocError>
     ensures { OnOk result (string_bytes out.new ≡ string_bytes out.old ++ N.text number) }
 {
     out.push_str(Buffer::new().format(number))
 }
 
-/// A number from `LEAST` to `MOST`, of those that the type has.
+/// A number from `LEAST` to `MOST`, as far as the type `T` goes.
 pub struct Within<T, const LEAST: u64, const MOST: u64> {
     of: PhantomData<T>,
 }

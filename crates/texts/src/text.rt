@@ -1,4 +1,4 @@
-//! Ways to write values.
+//! Types as ways to write values, and functions that split texts into fields.
 ghost use Rattle.std.specs.Prelude.{◌≡◌, ◌≢◌, ◌<◌, ◌++◌, ◌∷◌, ℕ, List, MatchOption, OnOk, string_bytes, true};
 ghost use Rattle.texts.specs.Layout.{space};
 ghost use Rattle.texts.specs.Reads.{Both, Lacks, Reads, has_no_space, pair_text};
@@ -6,35 +6,35 @@ ghost use Rattle.texts.specs.Reads.{Both, Lacks, Reads, has_no_space, pair_text}
 use memchr::memchr;
 use std::alloc::AllocError;
 
-/// A way to write values: a field of a line, or several.
+/// A way to write values: as one field of a line, or as several.
 pub trait Text {
-    /// What it writes.
+    /// The type of the values.
     type Value: Drop;
 
     /// The text of a value.
     ghost text_of: { Self.Value → List ℕ };
 
-    /// The value is within its limits.
+    /// The condition that a value is within the limits in which it can be written.
     ghost is_served: { Self.Value → Type 0 };
 
-    /// The value within its limits that the text writes.
+    /// The value within the limits whose text this is, if there is one.
     fn read(text: &str) -> Option<Self::Value>
         ensures { Reads text_of is_served text.now result };
 
-    /// Writes the value.
+    /// Adds the text of the value.
     fn write(value: &Self::Value, out: &mut String) -> Result<(), AllocError>
         ensures { OnOk result (string_bytes out.new ≡ string_bytes out.old ++ text_of value.now) };
 }
 
-/// A way to write values in one field.
+/// A way to write values as one field.
 pub trait Word: Text {
-    /// No text of a value has a space: a law of the type, said by a function that does nothing.
+    /// The law of the type that no text of a value has a space; the function does nothing.
     fn is_one_field()
         ensures { (value : Self.Value) → Self.is_served value → has_no_space (Self.text_of value) ≡ true };
 }
 
-/// What stands before the first of this ASCII character in a text, and behind it. Of short fields `memchr` finds
-/// the end faster than `split_once`.
+/// The text before the first `mark`, an ASCII character, and the text behind it. For short fields
+/// `memchr` is faster than `split_once`.
 pub fn split_at_first(text: &str, mark: u8) -> Option<(&str, &str)>
     requires { mark < 128 }
     ensures { MatchOption result (Lacks mark text.now)
@@ -44,7 +44,7 @@ pub fn split_at_first(text: &str, mark: u8) -> Option<(&str, &str)>
     Some((&text[..at], &text[at + 1..]))
 }
 
-/// The first field of a text, and what stands after the space behind it.
+/// The first field of a text, and the text behind the space after it.
 pub fn split_field(text: &str) -> Option<(&str, &str)>
     ensures { MatchOption result
         ((word rest : List ℕ) → Lacks space word → text.now ≢ word ++ space ∷ rest)
@@ -53,14 +53,14 @@ pub fn split_field(text: &str) -> Option<(&str, &str)>
     split_at_first(text, b' ')
 }
 
-/// What stands behind the front of a text.
+/// The text behind `front`, if `text` begins with it.
 pub fn after<'a>(text: &'a str, front: &str) -> Option<&'a str>
     ensures { MatchOption result ((rest : List ℕ) → text.entry.now ≢ front.now ++ rest) (λ rest. text.entry.now ≡ front.now ++ rest.now) }
 {
     text.strip_prefix(front)
 }
 
-/// A field, a space, and what stands behind it.
+/// A pair is written as a field, a space, and the text of the second value.
 impl<A: Word, B: Text> Text for (A, B) {
     type Value = (A::Value, B::Value);
 

@@ -1,9 +1,9 @@
-//! Unsigned numbers of each width.
+//! The unsigned number types of each width.
 ghost use Rattle.std.specs.Prelude.{◌≡◌, ℕ, ◌<◌, ◌≤◌, MatchOption};
 
-/// An unsigned number of some width.
+/// A type of unsigned numbers of some width.
 pub trait Unsigned: Copy + Drop {
-    /// Which number a value is.
+    /// The number that a value is.
     ghost number: { Self → ℕ };
 
     /// The greatest number of the type.
@@ -13,7 +13,7 @@ pub trait Unsigned: Copy + Drop {
     fn of(natural: u64) -> Option<Self>
         ensures { MatchOption result (greatest < natural) (λ value. (number value ≡ natural) × (natural ≤ greatest)) };
 
-    /// Which number the value is.
+    /// The number that the value is.
     fn number(self) -> u64
         ensures { result ≡ number self };
 }

@@ -1,4 +1,5 @@
-//! Words that name one of a few things; those of lock calls.
+//! Words for the values of small types, and the ones of lock calls: kinds of owners, access modes
+//! and lock modes.
 ghost use Rattle.std.specs.Prelude.{◌≡◌, ℕ, List, true, ⊤};
 ghost use Rattle.texts.specs.Reads.{Reads, has_no_space};
 ghost use Rattle.texts.specs.Words.{access_text, kind_text, mode_text};
@@ -9,12 +10,12 @@ use model::mode::Mode;
 use model::owner::Kind;
 use std::alloc::AllocError;
 
-/// Values that have a word each, by which they are written.
+/// Types whose values are each written as a word.
 pub trait Named: Copy + Drop {
     /// The word for a value.
     ghost word_of: { Self → List ℕ };
 
-    /// The value that the word names.
+    /// The value that the word names, if there is one.
     fn of_word(word: &str) -> Option<Self>
         ensures { Reads word_of (λ _. ⊤) word.now result };
 
@@ -22,12 +23,12 @@ pub trait Named: Copy + Drop {
     fn word(self) -> &'static str
         ensures { result.now ≡ word_of self };
 
-    /// No word has a space: a law of the type, said by a function that does nothing.
+    /// The law of the type that no word has a space; the function does nothing.
     fn are_words()
         ensures { (value : Self) → has_no_space (Self.word_of value) ≡ true };
 }
 
-/// The word for a value.
+/// A value is written as its word.
 impl<T: Named> Text for T {
     type Value = T;
 
@@ -50,7 +51,8 @@ impl<T: Named> Word for T {
     }
 }
 
-/// The one of these values, of all that the type has, whose word this is: `value_of!(word, Mode::Read, Mode::Write)`.
+/// Gives the one of these values whose word this is: `value_of!(word, Mode::Read, Mode::Write)`.
+/// All values of the type have to be listed.
 macro_rules! value_of {
     ($word:ident, $($value:expr),+) => {{
         $(if $word == $value.word() {
@@ -60,7 +62,8 @@ macro_rules! value_of {
     }};
 }
 
-/// The word for the value, which is one of these: `word_of!(mode, Mode::Read => "read", Mode::Write => "write")`.
+/// Gives the word for a value, by cases:
+/// `word_of!(mode, Mode::Read => "read", Mode::Write => "write")`.
 macro_rules! word_of {
     ($named:expr, $($value:pat => $word:literal),+) => {
         match $named {
@@ -72,7 +75,7 @@ macro_rules! word_of {
 pub(crate) use value_of;
 pub(crate) use word_of;
 
-/// `proc` or `desc`.
+/// The kind of an owner is written as `proc` or `desc`.
 impl Named for Kind {
     ghost word_of = { kind_text };
 
@@ -87,7 +90,7 @@ impl Named for Kind {
     fn are_words() {}
 }
 
-/// `r`, `w` or `rw`.
+/// An access mode is written as `r`, `w` or `rw`.
 impl Named for Access {
     ghost word_of = { access_text };
 
@@ -102,7 +105,7 @@ impl Named for Access {
     fn are_words() {}
 }
 
-/// `read` or `write`.
+/// A lock mode is written as `read` or `write`.
 impl Named for Mode {
     ghost word_of = { mode_text };
 

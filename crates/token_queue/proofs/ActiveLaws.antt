@@ -1,4 +1,4 @@
--- Requests that are served, and the nodes whose rows they wait for.
+-- Active requests, and the nodes whose rows they wait for.
 use Rattle.std.specs.Prelude.{◌≡◌, ℕ, zero, suc, ◌+◌, ◌<◌, ◌≤◌, Bool, true, false, cond, not, ◌||◌, List, [], ◌∷◌, ◌++◌, length, All, filter, slice_get, slice_set, slice_index_or, find, Option, Some}
 use Rattle.std.specs.List.{list_any, count_by, remove}
 use Rattle.std.specs.Option.{option_map}
@@ -13,7 +13,7 @@ use Rattle.token_queue.specs.declared.token_request.TokenRequest.{TokenRequest}
 use Rattle.token_queue.specs.Requests.{is_of_call}
 use Rattle.token_queue.specs.Actives.{requests_of, waiting_for}
 
--- the request of a call, among those that are served
+-- the request of the call that a search of the entries finds is the one that a search of the requests finds
 pub find-held : (call : CallId) (held : List Held) → option_map (λ h. h.request) (find (λ h. is_of_call call h.request) held) ≡ find (is_of_call call) (requests_of held)
 find-held call [] = refl
 find-held call (h ∷ held) = by (is_of_call call h.request) (find-held call held)
@@ -29,7 +29,7 @@ pub found-held : (call : CallId) (o : Option Held) (these held : List Held) → 
 found-held call o these held is same =
     ap (option_map (λ (h : Held). h.request)) (is ∙ ap (find (λ (h : Held). is_of_call call h.request)) same) ∙ find-held call held
 
--- one more request that waits for another row
+-- after i + 1 nodes, entry i waits for the row of node i as well
 pub waiting_for-more : (ats : List ℕ) (held : List Held) (i d : ℕ) (h : Held) → i < length ats → i < length held → slice_get held i ≡ Some h → waiting_for (take (i + 1) ats) held ≡ slice_set (waiting_for (take i ats) held) i (record { request = h.request; at = slice_index_or ats i d })
 waiting_for-more [] held i d h few within there = absurd (omega arith)
 waiting_for-more (a ∷ ats) [] i d h few within there = absurd (omega arith)
@@ -60,7 +60,7 @@ waiting_for-length [] held = refl
 waiting_for-length (a ∷ ats) [] = refl
 waiting_for-length (a ∷ ats) (x ∷ held) = ap suc (waiting_for-length ats held)
 
--- the same requests so far
+-- two lists that agree up to i and at i agree up to i + 1
 pub same-more : (xs ys : List TokenRequest) (i : ℕ) (x : TokenRequest) → slice_get xs i ≡ Some x → slice_get ys i ≡ Some x → take i xs ≡ take i ys → take (i + 1) xs ≡ take (i + 1) ys
 same-more xs ys i x here there same =
     take_at xs i x here ∙ ap (λ (zs : List TokenRequest). zs ++ x ∷ []) same ∙ sym (take_at ys i x there)
@@ -78,7 +78,7 @@ request-same one other i x y here there same =
     let both : Some x.request ≡ Some y.request = sym (request-at one i x here) ∙ ap (λ (rs : List TokenRequest). slice_get rs i) same ∙ request-at other i y there in
     cc
 
--- whether one of those that are served is of the call
+-- a search of the entries finds the call exactly if a search of the requests does
 pub any-held : (call : CallId) (held : List Held) → list_any (λ h. is_of_call call h.request) held ≡ list_any (is_of_call call) (requests_of held)
 any-held call [] = refl
 any-held call (h ∷ held) = ap (λ (b : Bool). is_of_call call h.request || b) (any-held call held)
@@ -89,13 +89,13 @@ filter-all keep (h ∷ held) all =
     ap (λ (b : Bool). cond b (h ∷ filter keep held) (filter keep held)) (All-head (λ x. keep x ≡ true) h held all)
     ∙ ap (λ (hs : List Held). h ∷ hs) (filter-all keep held (All-tail (λ x. keep x ≡ true) h held all))
 
--- one more that is kept
+-- all entries before i are kept and so is entry i, then all before i + 1 are
 pub kept-next : (keep : Held → Bool) (held : List Held) (i : ℕ) (h : Held) → slice_get held i ≡ Some h → keep h ≡ true → All (λ x. keep x ≡ true) (take i held) → All (λ x. keep x ≡ true) (take (i + 1) held)
 kept-next keep held i h there on all =
     let next : take (i + 1) held ≡ take i held ++ h ∷ [] = take_more held i h (slice_get_within held i h there) ∙ ap (λ (x : Held). take i held ++ x ∷ []) (get_or_from_slice_get held i h h there) in
     subst (All (λ x. keep x ≡ true)) (sym next) (All-push (λ x. keep x ≡ true) (take i held) h all on)
 
--- how many of the requests are of the call
+-- the number of the requests of the call
 abbrev how_many : CallId → List Held → ℕ
 how_many call held = count_by (is_of_call call) (requests_of held)
 
@@ -119,7 +119,7 @@ none-of call (x ∷ held) none = by (is_of_call call x.request) refl (λ few. no
         let counted : how_many call (x ∷ held) ≡ 0 + how_many call held = count-is call x held false is in
         without-first call x held false is ∙ ap (λ (hs : List Held). x ∷ hs) (rest (omega (arith, none, counted)))
 
--- one that is there is counted
+-- a request of the call that is in the list is counted
 some-of : (call : CallId) (held : List Held) (i : ℕ) (h : Held) → slice_get held i ≡ Some h → is_of_call call h.request ≡ true → 1 ≤ how_many call held
 some-of call [] i h there is = absurd (none-some h there)
 some-of call (x ∷ held) zero h there is =
@@ -130,7 +130,7 @@ some-of call (x ∷ held) (suc i) h there is =
     let counted : how_many call (x ∷ held) ≡ cond (is_of_call call x.request) 1 0 + how_many call held = count-is call x held (is_of_call call x.request) refl in
     omega (arith, behind, counted)
 
--- where one at most is of the call, the others are those without it
+-- where one request at most is of the call, removing it leaves the requests of other calls
 pub filter-one : (call : CallId) (held : List Held) (i : ℕ) (h : Held) → slice_get held i ≡ Some h → is_of_call call h.request ≡ true → count_by (is_of_call call) (requests_of held) ≤ 1 → remove held i ≡ filter (λ x. not (is_of_call call x.request)) held
 filter-one call [] i h there is few = absurd (none-some h there)
 filter-one call (x ∷ held) zero h there is few =

@@ -15,17 +15,17 @@ call_eq a b = search rules
 pub eq-same_call : derived.ghosts.eq ≡ same_call
 eq-same_call i a b = call_eq a b i
 
--- the test says that two calls are one
+-- where the test passes, two calls are equal
 pub same_call-true : (a b : CallId) → same_call a b ≡ true → a ≡ b
 same_call-true a b h = grind (arith, common_steps)
 
 pub same_call-refl : (a : CallId) → same_call a a ≡ true
 same_call-refl a = grind (arith, common_steps)
 
--- calls that the test tells apart are two
+-- where the test fails, two calls are not equal
 pub same_call-apart : (a b : CallId) (P : Type 0) → same_call a b ≡ false → a ≡ b → P
 same_call-apart a b P apart same = absurd (both_ways (same_call a b) apart (subst (λ (c : CallId). same_call a c ≡ true) same (same_call-refl a)))
 
--- the order of two calls does not matter
+-- the test of two calls is symmetric
 pub same_call-symm : (a b : CallId) → same_call a b ≡ same_call b a
 same_call-symm a b = λ i. nat_eq_equiv.symm a.node b.node i && (nat_eq_equiv.symm a.incarnation b.incarnation i && nat_eq_equiv.symm a.number b.number i)

@@ -7,7 +7,7 @@ use Rattle.token_queue.specs.Requests.{is_of_call, AreOfDistinctCalls}
 use Rattle.token_queue.proofs.CallLaws.{same_call-symm}
 
 module _ (test : TokenRequest → Bool) where
-  -- the first does not pass where none is found
+  -- where no request passes the test, the first doesn't
   pub none-here : (r : TokenRequest) (rs : List TokenRequest) → find test (r ∷ rs) ≡ None → test r ≡ false
   none-here r rs none = by (test r) refl
     where
@@ -15,14 +15,14 @@ module _ (test : TokenRequest → Bool) where
       by true is = absurd (none-some r (sym none ∙ ap (λ (b : Bool). cond b (Some r) (find test rs)) is))
       by false is = is
 
-  -- and among the others none is found
+  -- where no request passes the test, none behind the first does
   pub none-after : (r : TokenRequest) (rs : List TokenRequest) → find test (r ∷ rs) ≡ None → find test rs ≡ None
   none-after r rs none = sym (ap (λ (b : Bool). cond b (Some r) (find test rs)) (none-here r rs none)) ∙ none
 
   pub none-cons : (r : TokenRequest) (rs : List TokenRequest) → test r ≡ false → find test rs ≡ None → find test (r ∷ rs) ≡ None
   none-cons r rs fails none = ap (λ (b : Bool). cond b (Some r) (find test rs)) fails ∙ none
 
-  -- none is found in two lists, one after the other, where none is in either
+  -- where no request of either list passes the test, none of both together does
   pub none-append : (rs more : List TokenRequest) → find test rs ≡ None → find test more ≡ None → find test (rs ++ more) ≡ None
   none-append [] more none later = later
   none-append (r ∷ rs) more none later = none-cons r (rs ++ more) (none-here r rs none) (none-append rs more (none-after r rs none) later)
@@ -35,7 +35,7 @@ module _ (test : TokenRequest → Bool) where
   none-right [] more none = none
   none-right (r ∷ rs) more none = none-right rs more (none-after r (rs ++ more) none)
 
-  -- nor where some of them went
+  -- where no request passes the test, none of those that a filter keeps does
   pub none-filter : (keep : TokenRequest → Bool) (rs : List TokenRequest) → find test rs ≡ None → find test (filter keep rs) ≡ None
   none-filter keep [] none = refl
   none-filter keep (r ∷ rs) none = by (keep r) (none-filter keep rs (none-after r rs none))
@@ -44,7 +44,7 @@ module _ (test : TokenRequest → Bool) where
       by true rest = none-cons r (filter keep rs) (none-here r rs none) rest
       by false rest = rest
 
-  -- nor where those that pass went
+  -- after a filter by the test, no request passes it
   pub none-dropped : (rs : List TokenRequest) → find test (filter (λ r. not (test r)) rs) ≡ None
   none-dropped [] = refl
   none-dropped (r ∷ rs) = by (test r) refl (none-dropped rs)
@@ -53,16 +53,16 @@ module _ (test : TokenRequest → Bool) where
       by true is rest = rest
       by false is rest = none-cons r (filter (λ q. not (test q)) rs) is rest
 
--- a request of another call
+-- a request of another call: the order of the two doesn't matter
 pub apart-symm : (q r : TokenRequest) → is_of_call q.call r ≡ false → is_of_call r.call q ≡ false
 apart-symm q r apart = same_call-symm q.call r.call ∙ apart
 
--- the first ones of requests of distinct calls
+-- where requests are of distinct calls, so are the first of them
 pub distinct-left : (rs more : List TokenRequest) → AreOfDistinctCalls (rs ++ more) → AreOfDistinctCalls rs
 distinct-left [] more distinct = tt
 distinct-left (r ∷ rs) more distinct = (none-left (is_of_call r.call) rs more distinct.0, distinct-left rs more distinct.1)
 
--- and the others
+-- where requests are of distinct calls, so are the last of them
 pub distinct-right : (rs more : List TokenRequest) → AreOfDistinctCalls (rs ++ more) → AreOfDistinctCalls more
 distinct-right [] more distinct = distinct
 distinct-right (r ∷ rs) more distinct = distinct-right rs more distinct.1
@@ -72,7 +72,7 @@ distinct-drop zero rs distinct = distinct
 distinct-drop (suc n) [] distinct = tt
 distinct-drop (suc n) (r ∷ rs) distinct = distinct-drop n rs distinct.1
 
--- those that stay
+-- where requests are of distinct calls, so are those that a filter keeps
 pub distinct-filter : (keep : TokenRequest → Bool) (rs : List TokenRequest) → AreOfDistinctCalls rs → AreOfDistinctCalls (filter keep rs)
 distinct-filter keep [] distinct = tt
 distinct-filter keep (r ∷ rs) distinct = by (keep r) (distinct-filter keep rs distinct.1)
@@ -81,7 +81,7 @@ distinct-filter keep (r ∷ rs) distinct = by (keep r) (distinct-filter keep rs 
     by true rest = (none-filter (is_of_call r.call) keep rs distinct.0, rest)
     by false rest = rest
 
--- one more request, of a new call, at any place
+-- requests stay of distinct calls where one of a new call comes among them
 pub distinct-insert : (rs : List TokenRequest) (r : TokenRequest) (more : List TokenRequest) → AreOfDistinctCalls (rs ++ more) → find (is_of_call r.call) (rs ++ more) ≡ None → AreOfDistinctCalls (rs ++ r ∷ more)
 distinct-insert [] r more distinct new = (new, distinct)
 distinct-insert (q ∷ rs) r more distinct new = (
@@ -90,7 +90,7 @@ distinct-insert (q ∷ rs) r more distinct new = (
   distinct-insert rs r more distinct.1 (none-after (is_of_call r.call) q (rs ++ more) new),
 )
 
--- one more request, of a new call, comes last
+-- requests stay of distinct calls where one of a new call comes last
 pub distinct-push : (rs : List TokenRequest) (r : TokenRequest) → AreOfDistinctCalls rs → find (is_of_call r.call) rs ≡ None → AreOfDistinctCalls (rs ++ r ∷ [])
 distinct-push [] r distinct new = (refl, tt)
 distinct-push (q ∷ rs) r distinct new = (
@@ -98,7 +98,7 @@ distinct-push (q ∷ rs) r distinct new = (
   distinct-push rs r distinct.1 (none-after (is_of_call r.call) q rs new),
 )
 
--- the requests of both lists may change places
+-- requests stay of distinct calls where two parts change places
 pub distinct-swap : (rs more : List TokenRequest) → AreOfDistinctCalls (rs ++ more) → AreOfDistinctCalls (more ++ rs)
 distinct-swap [] [] distinct = tt
 distinct-swap [] (q ∷ more) distinct = (none-append (is_of_call q.call) more [] distinct.0 refl, distinct-swap [] more distinct.1)

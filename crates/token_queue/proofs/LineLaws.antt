@@ -14,7 +14,7 @@ use Rattle.token_queue.proofs.CallLaws.{same_call-true, same_call-refl, same_cal
 use Rattle.token_queue.proofs.SlotLaws.{requests_in-append, requests_in-unless}
 use Rattle.token_queue.proofs.WalkLaws.{requests_in-more}
 
--- it stays the front where a request comes last
+-- the front stays the front where a request comes last
 pub IsFront-push : (slots : List (Option TokenRequest)) (front : ℕ) (r : TokenRequest) → IsFront slots front → IsFront (slots ++ Some r ∷ []) front
 IsFront-push slots front r is = record {
   within = omega (arith, is.within, length_push slots (Some r));
@@ -25,7 +25,7 @@ IsFront-push slots front r is = record {
       (cases_lt front (length slots));
 }
 
--- no request is before it where some go
+-- no request is before the front after some requests went
 pub rest-unless : (drops : TokenRequest → Bool) (slots : List (Option TokenRequest)) (front : ℕ) → requests_in (drop front slots) ≡ requests_in slots
     → requests_in (drop front (map (unless drops) slots)) ≡ requests_in (map (unless drops) slots)
 rest-unless drops slots front rest =
@@ -42,18 +42,18 @@ filter-none call (r ∷ rs) none = by (is_of_call call r) refl (filter-none call
         let later : find (is_of_call call) rs ≡ None = sym (ap (λ (b : Bool). cond b (Some r) (find (is_of_call call) rs)) is) ∙ none in
         ap (λ (b : Bool). cond (not b) (r ∷ filter (λ q. not (is_of_call call q)) rs) (filter (λ q. not (is_of_call call q)) rs)) is ∙ ap (λ qs. r ∷ qs) (rest later)
 
--- without the request of the first one's call, the others are left
+-- dropping the request of the first one's call leaves the requests behind the first
 pub filter-first : (rs : List TokenRequest) (r : TokenRequest) → slice_get rs 0 ≡ Some r → AreOfDistinctCalls rs → filter (λ q. not (is_of_call r.call q)) rs ≡ drop 1 rs
 filter-first [] r at distinct = absurd (none-some r at)
 filter-first (q ∷ rs) r at distinct = subst (λ (p : TokenRequest). filter (λ x. not (is_of_call p.call x)) (q ∷ rs) ≡ rs) (same_Some q r at)
     (ap (λ (b : Bool). cond (not b) (q ∷ filter (λ x. not (is_of_call q.call x)) rs) (filter (λ x. not (is_of_call q.call x)) rs)) (same_call-refl q.call) ∙ filter-none q.call rs distinct.0)
 
--- where there is no first, there is none
+-- a line without a first request is empty
 pub none-first : (rs : List TokenRequest) → slice_get rs 0 ≡ None → rs ≡ []
 none-first [] none = refl
 none-first (r ∷ rs) none = absurd (none-some r (sym none))
 
--- what passes is found
+-- a request that passes the test is found, wherever it stands
 find-later : (test : TokenRequest → Bool) (rs : List TokenRequest) (r : TokenRequest) (more : List TokenRequest) → test r ≡ true → find test (rs ++ r ∷ more) ≡ None → ⊥
 find-later test [] r more passes none = none-some r (sym none ∙ ap (λ (b : Bool). cond b (Some r) (find test more)) passes)
 find-later test (q ∷ rs) r more passes none = by (test q) refl (find-later test rs r more passes)
@@ -62,7 +62,7 @@ find-later test (q ∷ rs) r more passes none = by (test q) refl (find-later tes
     by true is later = none-some q (sym none ∙ ap (λ (b : Bool). cond b (Some q) (find test (rs ++ r ∷ more))) is)
     by false is later = later (sym (ap (λ (b : Bool). cond b (Some q) (find test (rs ++ r ∷ more))) is) ∙ none)
 
--- of requests of distinct calls none is of the call of a later one
+-- where requests are of distinct calls, none is of the call of a later one
 pub distinct-before : (rs : List TokenRequest) (r : TokenRequest) (more : List TokenRequest) → AreOfDistinctCalls (rs ++ r ∷ more) → find (is_of_call r.call) rs ≡ None
 distinct-before [] r more distinct = refl
 distinct-before (q ∷ rs) r more distinct = by (same_call q.call r.call) refl (distinct-before rs r more distinct.1)
@@ -112,12 +112,12 @@ not-of_call node incarnation q r gone stays = by (same_call r.call q.call) refl
     by true is = absurd (both_ways (not (is_up_to node incarnation r)) (ap (λ (c : CallId). not ((c.node == node) && nat_le c.incarnation incarnation)) (same_call-true r.call q.call is) ∙ ap not gone) stays)
     by false is = refl
 
--- no request is before the front
+-- where no request is lost by a drop up to the front, the slots before the front hold none
 pub none-before : (slots : List (Option TokenRequest)) (front : ℕ) → requests_in (drop front slots) ≡ requests_in slots → requests_in (take front slots) ≡ []
 none-before slots front rest = append_cancel_right (requests_in (take front slots)) [] (requests_in (drop front slots))
     (sym (requests_in-append (take front slots) (drop front slots)) ∙ ap requests_in (take-append-drop front slots) ∙ sym rest)
 
--- the front after a walk over empty slots
+-- a walk over empty slots from the old front ends at the new one
 pub IsFront-from : (slots : List (Option TokenRequest)) (from front : ℕ) → requests_in (drop from slots) ≡ requests_in slots → front ≤ length slots → requests_in (drop front slots) ≡ requests_in (drop from slots)
     → (front < length slots → is_some (request_at slots front) ≡ true) → IsFront slots front
 IsFront-from slots from front old within rest holds = record { within = within; rest = rest ∙ old; holds = holds }
@@ -136,14 +136,14 @@ module _ (node incarnation : ℕ) where
   abbrev pub stays : TokenRequest → Bool
   stays r = not (is_up_to node incarnation r)
 
-  -- a request goes, by its call: those that stay are the same
+  -- dropping one request that goes, by its call, leaves the requests that stay
   pub stays-kept : (slots : List (Option TokenRequest)) (r : TokenRequest) → is_up_to node incarnation r ≡ true
       → filter stays (requests_in (map (unless (is_of_call r.call)) slots)) ≡ filter stays (requests_in slots)
   stays-kept slots r goes =
       ap (filter stays) (requests_in-unless (is_of_call r.call) slots)
       ∙ filter-after stays (λ q. not (is_of_call r.call q)) (λ q kept. not-of_call node incarnation r q goes kept) (requests_in slots)
 
-  -- and one slot more has none that goes
+  -- once a request that goes is dropped, no slot up to its place holds one that goes
   pub gone-taken : (slots : List (Option TokenRequest)) (place : ℕ) (r : TokenRequest) → place < length slots → request_at slots place ≡ Some r
       → filter stays (requests_in (take place slots)) ≡ requests_in (take place slots)
       → filter stays (requests_in (take (place + 1) (map (unless (is_of_call r.call)) slots))) ≡ requests_in (take (place + 1) (map (unless (is_of_call r.call)) slots))
@@ -158,14 +158,14 @@ module _ (node incarnation : ℕ) where
           ∙ ap (λ (b : Bool). filter (λ q. not (is_of_call r.call q)) (requests_in (take place slots)) ++ cond (not b) (r ∷ []) []) (same_call-refl r.call)
           ∙ append-nil (filter (λ q. not (is_of_call r.call q)) (requests_in (take place slots)))
 
-  -- and one slot more, where its request stays or there is none
+  -- a slot that is empty or whose request stays adds none that goes
   pub gone-kept : (slots : List (Option TokenRequest)) (place : ℕ) → place < length slots → filter stays (requests_in (request_at slots place ∷ [])) ≡ requests_in (request_at slots place ∷ [])
       → filter stays (requests_in (take place slots)) ≡ requests_in (take place slots) → filter stays (requests_in (take (place + 1) slots)) ≡ requests_in (take (place + 1) slots)
   gone-kept slots place low here gone =
       ap (filter stays) (requests_in-more slots place low) ∙ filter-append stays (requests_in (take place slots)) (requests_in (request_at slots place ∷ []))
       ∙ (λ i. gone i ++ here i) ∙ sym (requests_in-more slots place low)
 
-  -- that is so at first, since no request is before the front
+  -- before the walk, no slot before the front holds a request that goes
   pub IsForgotten-start : (old : LineParts) (now : SlotParts) (front : ℕ) → IsFront now.slots front → ◌≡◌ {A = LineParts} (record { requests = requests_in now.slots; room = now.room }) old
       → IsForgotten node incarnation old (length now.slots) now front front
   IsForgotten-start old now front is view = record {
@@ -178,7 +178,7 @@ module _ (node incarnation : ℕ) where
   }
 
   module _ (old : LineParts) (count : ℕ) (now : SlotParts) (front place : ℕ) (low : place < count) (so_far : IsForgotten node incarnation old count now front place) where
-    -- a request goes
+    -- the invariant of the walk holds after a request that goes is dropped
     pub IsForgotten-taken : (r : TokenRequest) (next : SlotParts) → request_at now.slots place ≡ Some r → is_up_to node incarnation r ≡ true → next.slots ≡ map (unless (is_of_call r.call)) now.slots → next.room ≡ now.room
         → IsForgotten node incarnation old count next front (place + 1)
     IsForgotten-taken r next at goes slots room = record {
@@ -191,7 +191,7 @@ module _ (node incarnation : ℕ) where
           (gone-taken now.slots place r (omega (arith, so_far.slot_count)) at so_far.gone);
     }
 
-    -- a request stays
+    -- the invariant of the walk holds past a request that stays
     pub IsForgotten-stays : (r : TokenRequest) → request_at now.slots place ≡ Some r → is_up_to node incarnation r ≡ false → IsForgotten node incarnation old count now front (place + 1)
     IsForgotten-stays r at new = record {
       slot_count = so_far.slot_count;
@@ -203,7 +203,7 @@ module _ (node incarnation : ℕ) where
           (subst (λ (slot : Option TokenRequest). filter stays (requests_in (slot ∷ [])) ≡ requests_in (slot ∷ [])) (sym at) (ap (λ (b : Bool). cond (not b) (r ∷ []) []) new)) so_far.gone;
     }
 
-    -- a slot is empty
+    -- the invariant of the walk holds past an empty slot
     pub IsForgotten-none : request_at now.slots place ≡ None → IsForgotten node incarnation old count now front (place + 1)
     IsForgotten-none at = record {
       slot_count = so_far.slot_count;

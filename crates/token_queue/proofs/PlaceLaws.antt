@@ -14,11 +14,11 @@ use Rattle.token_queue.specs.Places.{request_at, call_at, ArePlaced}
 use Rattle.token_queue.proofs.CallLaws.{eq-same_call, same_call-true, same_call-apart}
 use Rattle.token_queue.proofs.SlotLaws.{requests_in-append, HasNone, AreApart, find-placed, length-cleared}
 
--- a look-up by the derived `==`
+-- a look-up by the derived `==` is a look-up by the test of the definitions
 pub get-same_call : {S : Type 0} (m : IndexMap CallId ℕ S) (call : CallId) → get derived.ghosts.eq m call ≡ get same_call m call
 get-same_call m call = ap (λ (eq : CallId → CallId → Bool). get eq m call) eq-same_call
 
--- and a change
+-- a change by the derived `==` is a change by the test of the definitions
 pub updates-same_call : {S : Type 0} (m n : IndexMap CallId ℕ S) (key : CallId) (w : Option ℕ)
     → ((q : CallId) → get derived.ghosts.eq n q ≡ cond (derived.ghosts.eq key q) w (get derived.ghosts.eq m q)) → (q : CallId) → get same_call n q ≡ cond (same_call key q) w (get same_call m q)
 updates-same_call m n key w updates q = subst (λ (eq : CallId → CallId → Bool). get eq n q ≡ cond (eq key q) w (get eq m q)) eq-same_call (updates q)
@@ -43,7 +43,7 @@ module _ {S : Type 0} (slots : List (Option TokenRequest)) (m : IndexMap CallId 
   pub HasNone-placed : (call : CallId) → get same_call m call ≡ None → HasNone call slots
   HasNone-placed call none place at = none-some place (sym none ∙ placed.found call place at)
 
-  -- and the other way round
+  -- a call that has no request has no place
   pub HasNone-found : (call : CallId) → find (is_of_call call) (requests_in slots) ≡ None → HasNone call slots
   HasNone-found call none place at = none-some call (ap (option_map (λ r. r.call)) (sym none ∙ find-placed call slots place AreApart-placed at) ∙ at)
 
@@ -55,7 +55,7 @@ module _ {S : Type 0} (slots : List (Option TokenRequest)) (m : IndexMap CallId 
       by (Some place) e = absurd (HasNone-found call none place (placed.held call place e))
 
   module _ (n : IndexMap CallId ℕ S) where
-    -- a request comes last
+    -- the index fits after a request comes last
     pub ArePlaced-push : (r : TokenRequest) → find (is_of_call r.call) (requests_in slots) ≡ None
         → ((q : CallId) → get same_call n q ≡ cond (same_call r.call q) (Some (length slots)) (get same_call m q)) → index_map_len n ≡ index_map_len m + 1 → ArePlaced (slots ++ Some r ∷ []) n
     ArePlaced-push r none updates len = record { found = found; held = held; counted = counted }
@@ -99,7 +99,7 @@ module _ {S : Type 0} (slots : List (Option TokenRequest)) (m : IndexMap CallId 
         counted : index_map_len n ≡ length (requests_in new_slots)
         counted = let e : length (requests_in new_slots) ≡ length (requests_in slots) + 1 = ap length (requests_in-append slots (Some r ∷ [])) ∙ length_push (requests_in slots) r in omega (arith, placed.counted, len)
 
-    -- a slot is emptied
+    -- the index fits after a slot is emptied
     pub ArePlaced-clear : (gone : CallId) (hole : ℕ) → get same_call m gone ≡ Some hole
         → ((q : CallId) → get same_call n q ≡ cond (same_call gone q) None (get same_call m q)) → index_map_len n + 1 ≡ index_map_len m → ArePlaced (set slots hole None) n
     ArePlaced-clear gone hole had updates len = record { found = found; held = held; counted = counted }

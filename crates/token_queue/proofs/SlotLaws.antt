@@ -9,13 +9,13 @@ use Rattle.token_queue.specs.Requests.{is_of_call, requests_in, AreOfDistinctCal
 use Rattle.token_queue.specs.Places.{request_at, call_at, unless}
 use Rattle.token_queue.proofs.CallLaws.{same_call-true, same_call-refl}
 
--- the requests in two lists of slots, one after the other
+-- the requests in two lists of slots together are those of the first and then those of the second
 pub requests_in-append : (a b : List (Option TokenRequest)) → requests_in (a ++ b) ≡ requests_in a ++ requests_in b
 requests_in-append [] b = refl
 requests_in-append (None ∷ a) b = requests_in-append a b
 requests_in-append (Some r ∷ a) b = ap (λ rs. r ∷ rs) (requests_in-append a b)
 
--- the requests that stay where those that pass the test go
+-- emptying slots by a test leaves the requests that a filter by the test keeps
 pub requests_in-unless : (drops : TokenRequest → Bool) (slots : List (Option TokenRequest)) → requests_in (map (unless drops) slots) ≡ filter (λ r. not (drops r)) (requests_in slots)
 requests_in-unless drops [] = refl
 requests_in-unless drops (None ∷ slots) = requests_in-unless drops slots
@@ -37,7 +37,7 @@ AreApart slots = (i j : ℕ) (call : CallId) → call_at slots i ≡ Some call �
 AreApart-rest : (slot : Option TokenRequest) (slots : List (Option TokenRequest)) → AreApart (slot ∷ slots) → AreApart slots
 AreApart-rest slot slots apart i j call p q = let e : suc i ≡ suc j = apart (suc i) (suc j) call p q in omega arith
 
--- the first slot's call is in no later one
+-- no later slot holds a request of the first slot's call
 HasNone-rest : (r : TokenRequest) (slots : List (Option TokenRequest)) → AreApart (Some r ∷ slots) → HasNone r.call slots
 HasNone-rest r slots apart place p = let e : 0 ≡ suc place = apart 0 (suc place) r.call refl p in omega arith
 
@@ -50,13 +50,13 @@ find-none call (Some r ∷ slots) none = by (same_call r.call call) refl (find-n
     by true is rest = absurd (none 0 (ap Some (same_call-true r.call call is)))
     by false is rest = ap (λ (b : Bool). cond b (Some r) (find (is_of_call call) (requests_in slots))) is ∙ rest
 
--- the requests are of distinct calls
+-- where no two slots hold requests of one call, the requests are of distinct calls
 pub distinct : (slots : List (Option TokenRequest)) → AreApart slots → AreOfDistinctCalls (requests_in slots)
 distinct [] apart = tt
 distinct (None ∷ slots) apart = distinct slots (AreApart-rest None slots apart)
 distinct (Some r ∷ slots) apart = (find-none r.call slots (HasNone-rest r slots apart), distinct slots (AreApart-rest (Some r) slots apart))
 
--- the call's request is the one in the slot that holds one of it
+-- the request of the call is the one in the slot that holds a request of the call
 pub find-placed : (call : CallId) (slots : List (Option TokenRequest)) (place : ℕ) → AreApart slots → call_at slots place ≡ Some call → find (is_of_call call) (requests_in slots) ≡ request_at slots place
 find-placed call [] place apart at = absurd (none-some call at)
 find-placed call (None ∷ slots) zero apart at = absurd (none-some call at)
@@ -95,7 +95,7 @@ cleared call (Some r ∷ slots) (suc place) apart at = by (same_call r.call call
     by true is rest = absurd (HasNone-rest r slots apart place (at ∙ ap Some (sym (same_call-true r.call call is))))
     by false is rest = sym (λ i. cond (is i) None (Some r) ∷ sym rest i)
 
--- that leaves one request fewer
+-- emptying a slot with a request leaves one request fewer
 pub length-cleared : (call : CallId) (slots : List (Option TokenRequest)) (place : ℕ) → call_at slots place ≡ Some call → length (requests_in (set slots place None)) + 1 ≡ length (requests_in slots)
 length-cleared call [] place at = absurd (none-some call at)
 length-cleared call (None ∷ slots) zero at = absurd (none-some call at)

@@ -15,43 +15,43 @@ use Rattle.token_queue.proofs.SlotLaws.{requests_in-append}
 pub request_eq-Decides : (a b : TokenRequest) → Decides (derived.ghosts.eq a b) (a ≡ b)
 request_eq-Decides a b = grind (arith, common_steps)
 
--- and so is that of slots
+-- the derived `==` of slots is equality
 pub slot_eq-Decides : (a b : Option TokenRequest) → Decides (option_eq derived.ghosts.eq a b) (a ≡ b)
 slot_eq-Decides None None = (λ h. refl, λ h. refl)
 slot_eq-Decides None (Some b) = (λ h. absurd (none-some b (grind arith)), λ h. absurd (none-some b h))
 slot_eq-Decides (Some a) None = (λ h. absurd (none-some a (grind arith)), λ h. absurd (none-some a (sym h)))
 slot_eq-Decides (Some a) (Some b) = (λ h. ap Some ((request_eq-Decides a b).0 h), λ h. (request_eq-Decides a b).1 (same_Some a b h))
 
--- the slot's request, if it holds one, and then those of the slots after it
+-- the requests from a place on: that of its slot, if it holds one, and then those of later slots
 pub requests_in-from : (slots : List (Option TokenRequest)) (place : ℕ) → place < length slots → requests_in (drop place slots) ≡ requests_in (request_at slots place ∷ drop (place + 1) slots)
 requests_in-from slots place low = ap requests_in (drop_more slots place None low)
 
--- one slot further
+-- the requests up to a place and one more slot: those before it, and then that of its slot, if it holds one
 pub requests_in-more : (slots : List (Option TokenRequest)) (place : ℕ) → place < length slots → requests_in (take (place + 1) slots) ≡ requests_in (take place slots) ++ requests_in (request_at slots place ∷ [])
 requests_in-more slots place low = ap requests_in (take_more slots place None low) ∙ requests_in-append (take place slots) (request_at slots place ∷ [])
 
--- one slot further, past a request
+-- the requests up to a slot with a request: those before it, and then that request
 pub requests_in-full : (slots : List (Option TokenRequest)) (place : ℕ) (slot : Option TokenRequest) (r : TokenRequest) → place < length slots → slot ≡ get_or slots place slot → slot ≡ Some r
     → requests_in (take (place + 1) slots) ≡ requests_in (take place slots) ++ r ∷ []
 requests_in-full slots place slot r low read some =
     requests_in-more slots place low ∙ ap (λ (s : Option TokenRequest). requests_in (take place slots) ++ requests_in (s ∷ [])) (sym (get_or_read slots place slot low read None) ∙ some)
 
--- and past an empty slot
+-- the requests up to an empty slot are those before it
 pub requests_in-empty : (slots : List (Option TokenRequest)) (place : ℕ) (slot : Option TokenRequest) → place < length slots → slot ≡ get_or slots place slot → slot ≡ None
     → requests_in (take (place + 1) slots) ≡ requests_in (take place slots)
 requests_in-empty slots place slot low read none =
     requests_in-more slots place low ∙ ap (λ (s : Option TokenRequest). requests_in (take place slots) ++ requests_in (s ∷ [])) (sym (get_or_read slots place slot low read None) ∙ none)
     ∙ append-nil (requests_in (take place slots))
 
--- an empty slot holds no request
+-- the requests from an empty slot on are those behind it
 pub requests_in-skip : (slots : List (Option TokenRequest)) (place : ℕ) → place < length slots → request_at slots place ≡ None → requests_in (drop place slots) ≡ requests_in (drop (place + 1) slots)
 requests_in-skip slots place low none = requests_in-from slots place low ∙ ap (λ (slot : Option TokenRequest). requests_in (slot ∷ drop (place + 1) slots)) none
 
--- a full one holds its request
+-- the requests from a slot with a request on: that request, and then those behind it
 pub requests_in-step : (slots : List (Option TokenRequest)) (place : ℕ) (r : TokenRequest) → place < length slots → request_at slots place ≡ Some r → requests_in (drop place slots) ≡ r ∷ requests_in (drop (place + 1) slots)
 requests_in-step slots place r low some = requests_in-from slots place low ∙ ap (λ (slot : Option TokenRequest). requests_in (slot ∷ drop (place + 1) slots)) some
 
--- the requests before a slot, its own, and those after it
+-- the requests in slots: those before a place, the one at it, and those behind it
 pub requests_in-around : (slots : List (Option TokenRequest)) (place : ℕ) (r : TokenRequest) → place < length slots → request_at slots place ≡ Some r
     → requests_in slots ≡ requests_in (take place slots) ++ r ∷ requests_in (drop (place + 1) slots)
 requests_in-around slots place r low at =

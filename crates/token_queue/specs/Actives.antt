@@ -1,18 +1,18 @@
--- The requests that a server serves.
+-- The active requests of a token server.
 use Rattle.std.specs.Prelude.{ℕ, List, [], ◌∷◌, map}
 use Rattle.token_queue.specs.declared.held.Held.{Held}
 use Rattle.token_queue.specs.declared.token_request.TokenRequest.{TokenRequest}
 
--- requests in order, each with the node whose row it waits for, and how many more may come without asking for memory
+-- active requests in order, each with the node whose row it waits for, and how many more may come without asking for memory
 pub record ActiveParts : Type 0 where
   pub held : List Held
   pub room : ℕ
 
--- the requests alone
+-- the requests without their nodes
 abbrev pub requests_of : List Held → List TokenRequest
 requests_of held = map (λ h. h.request) held
 
--- the first of the requests wait for the rows of these nodes, in order
+-- request i waits for the row of node i of these; the requests beyond them stay as they are
 abbrev pub waiting_for : List ℕ → List Held → List Held
 waiting_for [] held = held
 waiting_for (at ∷ ats) [] = []

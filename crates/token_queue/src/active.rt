@@ -1,4 +1,5 @@
-//! The requests that a server serves, in order.
+//! The active requests of a token server, in order. A function here that gives a `Result` answers `AllocError` where
+//! a request for memory was refused.
 ghost use Rattle.std.specs.Prelude.{◌≡◌, ◌↔◌, ◌+◌, ◌<◌, ◌≤◌, ◌++◌, ◌∷◌, [], not, filter, find, map, length, IfSome, IfOk, IsTrue, None};
 ghost use Rattle.std.specs.List.{count_by, remove};
 ghost use Rattle.std.specs.Option.{option_map};
@@ -12,11 +13,12 @@ use model::call::CallId;
 use std::alloc::{AllocError, Global};
 use std::marker::Model;
 
-// A spare list has at least this much room, so that few are made where few requests are served.
+// A list that `spare_for` makes has at least this much room, so that few lists are made where few requests are
+// active.
 const LEAST_ROOM: usize = 8;
 
-/// Requests that are served, in order, each with the node whose row it waits for. A call that is not to
-/// answer `AllocError` takes no memory: a request comes in where there is room for it.
+/// The active requests of a token server, in order, each with the node whose row it waits for. Only `copy` and
+/// `spare_for` take memory: `push` needs room that is there already.
 #[derive(Drop)]
 pub struct Active {
     held: Vec<Held>,
@@ -36,7 +38,7 @@ impl Model for Active {
 }
 
 impl Active {
-    /// No requests, and no room.
+    /// An empty list without room.
     pub fn new(alloc: Global) -> Active
         ensures { result ≡ record { held = []; room = 0 } }
     {
@@ -53,14 +55,14 @@ impl Active {
         self.held.as_slice()
     }
 
-    /// How many more may come without memory.
+    /// The number of requests that may still come before memory is asked for.
     pub fn room(&self) -> usize
         ensures { result ≡ self.now.room }
     {
         self.room
     }
 
-    /// The request of the call, if there is one: a walk.
+    /// The request of the call, if the list has one. Walks the list.
     pub fn find(&self, call: CallId) -> Option<TokenRequest>
         ensures { result ≡ find (is_of_call call) (requests_of self.now.held) }
     {
@@ -70,10 +72,7 @@ impl Active {
         }
     }
 
-    /// An equal list: the same requests in the same order, and the same room.
-    ///
-    /// # Errors
-    /// `AllocError` where a request for memory was refused.
+    /// A copy: equal requests in equal order, and equal room.
     pub fn copy(&self) -> Result<Active, AllocError>
         ensures { IfOk result (λ copy. copy ≡ self.now) }
     {
@@ -88,14 +87,14 @@ impl Active {
         })
     }
 
-    /// Whether both are the same requests in the same order.
+    /// Whether both lists hold equal requests in equal order. Nodes and room are not compared.
     pub fn same(&self, other: &Active) -> bool
         ensures { IsTrue result ↔ (requests_of self.now.held ≡ requests_of other.now.held) }
     {
         same_requests(&self.held, &other.held)
     }
 
-    /// The request comes last from now on.
+    /// Appends the request, in room that is there already.
     pub fn push(&mut self, held: Held)
         requires { 0 < self.old.room }
         ensures held { self.new.held ≡ self.old.held ++ held ∷ [] }
@@ -105,7 +104,8 @@ impl Active {
         self.room -= 1;
     }
 
-    /// The request of the call is served no longer, of which there is one at most: no request behind it is looked at.
+    /// Removes the request of the call, if there is one. No call has two requests here, so the walk stops at the
+    /// first.
     pub fn end_one(&mut self, call: CallId)
         requires { count_by (is_of_call call) (requests_of self.old.held) ≤ 1 }
         ensures held { self.new.held ≡ filter (λ h. not (is_of_call call h.request)) self.old.held }
@@ -114,7 +114,7 @@ impl Active {
         end_one(&mut self.held, call);
     }
 
-    /// The requests of the node in that incarnation or an older one are served no longer.
+    /// Removes the requests of the node in that incarnation or an older one.
     pub fn forget(&mut self, node: u8, incarnation: u16)
         ensures held { self.new.held ≡ filter (λ h. not (is_up_to node incarnation h.request)) self.old.held }
         ensures room { self.new.room ≡ self.old.room }
@@ -122,7 +122,8 @@ impl Active {
         forget(&mut self.held, node, incarnation);
     }
 
-    /// The first requests wait for the rows of these nodes from now on, in order.
+    /// Sets the nodes whose rows the first requests wait for: request i waits for `ats[i]`. Requests beyond `ats`
+    /// keep theirs.
     pub fn wait_for(&mut self, ats: &[u8])
         ensures held { self.new.held ≡ waiting_for ats.now self.old.held }
         ensures room { self.new.room ≡ self.old.room }
@@ -130,10 +131,8 @@ impl Active {
         wait_for(&mut self.held, ats);
     }
 
-    /// An empty list with room for these and so many more, and for as many again and a few: `refill` takes it.
-    ///
-    /// # Errors
-    /// `AllocError` where a request for memory was refused.
+    /// An empty list for `refill`, with room for the requests here and `more`, and where that fits in `usize` for
+    /// twice as many and a few.
     pub fn spare_for(&self, more: usize) -> Result<Vec<Held>, AllocError>
         ensures empty { IfOk result (λ spare. spare.items ≡ []) }
         ensures room { IfOk result (λ spare. length self.now.held + more ≤ vec_capacity spare) }
@@ -145,7 +144,7 @@ impl Active {
         Vec::with_capacity(*self.held.allocator(), ample.saturating_add(LEAST_ROOM))
     }
 
-    /// The requests move into the spare list, which has room for them.
+    /// Moves the requests into the spare list, whose room the list has from now on.
     pub fn refill(&mut self, spare: Vec<Held>)
         requires empty { spare.items ≡ [] }
         requires room { length self.old.held ≤ vec_capacity spare }
@@ -162,14 +161,14 @@ impl Active {
     }
 }
 
-// Whether both are the same request.
+// Whether both hold equal requests. Their nodes are not compared.
 fn same_request(one: &Held, other: &Held) -> bool
     ensures { IsTrue result ↔ (one.now.request ≡ other.now.request) }
 {
     one.request == other.request
 }
 
-// Whether both are the same requests in the same order.
+// Whether both lists hold equal requests in equal order. Nodes are not compared.
 fn same_requests(one: &[Held], other: &[Held]) -> bool
     ensures { IsTrue result ↔ (requests_of one.now ≡ requests_of other.now) }
 {
@@ -184,15 +183,15 @@ fn same_requests(one: &[Held], other: &[Held]) -> bool
     true
 }
 
-// The request of the call, with the node whose row it waits for.
+// The entry of the call, if there is one: its request, with the node whose row it waits for.
 fn find(held: &[Held], call: CallId) -> Option<Held>
     ensures { result ≡ find (λ h. is_of_call call h.request) held.now }
 {
     held.iter().find(|held| held.is_of_call(call)).copied()
 }
 
-// The place of the first request of the call, if there is one: without it those of other calls are left, where one at
-// most is of the call.
+// The index of the first request of the call, if there is one. Where no call has two requests, removing it leaves
+// exactly the requests of other calls.
 fn place_of(held: &[Held], call: CallId) -> Option<usize>
     ensures within { IfSome result (λ place. place < length held.now) }
     ensures one { IfSome result (λ place. count_by (is_of_call call) (requests_of held.now) ≤ 1 → remove held.now place ≡ filter (λ h. not (is_of_call call h.request)) held.now) }
@@ -206,7 +205,7 @@ fn place_of(held: &[Held], call: CallId) -> Option<usize>
     None
 }
 
-// The request of the call goes, of which there is one at most.
+// Removes the request of the call, if there is one. No call has two requests here.
 fn end_one(held: &mut Vec<Held>, call: CallId)
     requires { count_by (is_of_call call) (requests_of held.old.items) ≤ 1 }
     ensures items { held.new.items ≡ filter (λ h. not (is_of_call call h.request)) held.old.items }
@@ -218,7 +217,7 @@ fn end_one(held: &mut Vec<Held>, call: CallId)
     }
 }
 
-// The requests of the node in that incarnation or an older one go.
+// Removes the requests of the node in that incarnation or an older one.
 fn forget(held: &mut Vec<Held>, node: u8, incarnation: u16)
     ensures items { held.new.items ≡ filter (λ h. not (is_up_to node incarnation h.request)) held.old.items }
     ensures len { length held.new.items ≤ length held.old.items }
@@ -227,7 +226,8 @@ fn forget(held: &mut Vec<Held>, node: u8, incarnation: u16)
     held.retain(|held| !held.is_up_to(node, incarnation));
 }
 
-// The first requests wait for the rows of these nodes from now on, in order.
+// Sets the nodes whose rows the first requests wait for: request i waits for `ats[i]`. Requests beyond `ats` keep
+// theirs.
 fn wait_for(held: &mut Vec<Held>, ats: &[u8])
     ensures items { held.new.items ≡ waiting_for ats.now held.old.items }
     ensures len { length held.new.items ≡ length held.old.items }

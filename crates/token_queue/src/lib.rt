@@ -1,4 +1,6 @@
-//! Requests for tokens, in a line.
+//! The requests for tokens that a token server keeps: the active ones, and lines of those that are queued or wait. It
+//! knows when two requests need a common byte, and nothing of tokens, rows, messages that are sent, files or printed
+//! text.
 #![tactic(auto)]
 
 pub mod active;

@@ -1,4 +1,5 @@
-//! Requests in a line, in the order in which they are to be served.
+//! A line: requests in the order in which they are to be served. A function here that gives a `Result` answers
+//! `AllocError` where a request for memory was refused.
 ghost use Rattle.std.specs.Prelude.{◌≡◌, ◌↔◌, ◌+◌, ◌-◌, ◌<◌, ◌≤◌, ◌^◌, ◌++◌, ◌∷◌, [], not, filter, find, drop, length, slice_get, None, IfOk, IsTrue};
 ghost use Rattle.token_queue.specs.Requests.{is_of_call, is_up_to, requests_in, AreOfDistinctCalls};
 
@@ -9,11 +10,11 @@ use model::call::CallId;
 use std::alloc::{AllocError, Global};
 use std::marker::Model;
 
-// A spare line has at least this much room, so that few are made where few requests wait.
+// A line that `spare_for` makes has at least this much room, so that few are made where few requests wait.
 const LEAST_ROOM: usize = 16;
 
-/// Requests in order, each found by its call. No two are of one call. A call that is not to answer `AllocError`
-/// takes no memory: a request comes in where there is room for it.
+/// Requests in order, each found by its call. No two are of one call. Only functions that give a `Result` take
+/// memory: `push` and `append` need room that is there already.
 #[derive(Drop)]
 pub struct Line {
     slots: Slots,
@@ -32,7 +33,7 @@ impl Model for Line {
 }
 
 impl Line {
-    /// No requests, and no room.
+    /// An empty line without room.
     pub fn new(alloc: Global) -> Line
         ensures { result ≡ record { requests = []; room = 0 } }
     {
@@ -42,10 +43,7 @@ impl Line {
         }
     }
 
-    /// No requests, and room for as many.
-    ///
-    /// # Errors
-    /// `AllocError` where a request for memory was refused.
+    /// An empty line with room for that many requests.
     pub fn with_room(alloc: Global, room: usize) -> Result<Line, AllocError>
         ensures { IfOk result (λ line. line ≡ record { requests = []; room = room }) }
     {
@@ -55,12 +53,12 @@ impl Line {
         })
     }
 
-    /// Where it takes its memory.
+    /// The allocator from which the line takes its memory.
     pub fn allocator(&self) -> Global {
         self.slots.allocator()
     }
 
-    /// How many requests there are. No two are of one call.
+    /// The number of requests. No two are of one call.
     pub fn len(&self) -> usize
         ensures value { result ≡ length self.now.requests }
         ensures distinct { AreOfDistinctCalls self.now.requests }
@@ -69,28 +67,28 @@ impl Line {
         self.slots.len()
     }
 
-    /// How many more requests may come without asking for memory.
+    /// The number of requests that may still come without asking for memory.
     pub fn room(&self) -> usize
         ensures { result ≡ self.now.room }
     {
         self.slots.room()
     }
 
-    /// The slots in order, each of which holds a request or none.
+    /// The slots in order, from the first request on. Each slot holds a request or none.
     pub fn slots(&self) -> &[Option<TokenRequest>]
         ensures { requests_in result.now ≡ self.now.requests }
     {
         &self.slots.as_slice()[self.front..]
     }
 
-    /// The request of the call: a look-up by the call, not a walk.
+    /// The request of the call, if the line has one. Looks the call up, without a walk.
     pub fn find(&self, call: CallId) -> Option<TokenRequest>
         ensures { result ≡ find (is_of_call call) self.now.requests }
     {
         self.slots.find(call)
     }
 
-    /// The first request.
+    /// The first request, if the line has one.
     pub fn first(&self) -> Option<TokenRequest>
         ensures { result ≡ slice_get self.now.requests 0 }
     {
@@ -101,14 +99,14 @@ impl Line {
         slots[self.front]
     }
 
-    /// Whether both are the same requests in the same order: a walk.
+    /// Whether both lines hold equal requests in equal order. Walks both.
     pub fn same(&self, other: &Line) -> bool
         ensures { IsTrue result ↔ (self.now.requests ≡ other.now.requests) }
     {
         same_requests(self.slots(), other.slots())
     }
 
-    /// The request comes last from now on. There is none of its call. Takes no memory.
+    /// Appends the request. The line has none of its call. Takes no memory.
     pub fn push(&mut self, request: TokenRequest)
         requires room { 0 < self.old.room }
         requires new { find (is_of_call request.call) self.old.requests ≡ None }
@@ -118,8 +116,8 @@ impl Line {
         self.slots.push(request);
     }
 
-    /// Drops the request of the call: a look-up by the call, not a walk. The others keep their order. Takes no
-    /// memory.
+    /// Drops the request of the call, if there is one. Looks the call up, without a walk. The others keep their
+    /// order. Takes no memory.
     pub fn take_out(&mut self, call: CallId)
         ensures requests { self.new.requests ≡ filter (λ r. not (is_of_call call r)) self.old.requests }
         ensures room { self.new.room ≡ self.old.room }
@@ -144,8 +142,8 @@ impl Line {
         }
     }
 
-    /// Drops the requests of the node in that incarnation or an older one: a walk. The others keep their order.
-    /// Takes no memory.
+    /// Drops the requests of the node in that incarnation or an older one. Walks the line. The others keep their
+    /// order. Takes no memory.
     pub fn forget(&mut self, node: u8, incarnation: u16)
         ensures requests { self.new.requests ≡ filter (λ r. not (is_up_to node incarnation r)) self.old.requests }
         ensures room { self.new.room ≡ self.old.room }
@@ -160,7 +158,7 @@ impl Line {
         self.front = first_from(self.slots.as_slice(), self.front);
     }
 
-    // The requests in the slots come last from now on, in their order.
+    // Appends the requests in the slots, in their order.
     fn push_all(&mut self, slots: &[Option<TokenRequest>])
         requires room { length (requests_in slots.now) ≤ self.old.room }
         requires distinct { AreOfDistinctCalls (self.old.requests ++ requests_in slots.now) }
@@ -174,10 +172,7 @@ impl Line {
         }
     }
 
-    /// An equal line: the same requests in the same order, and the same room.
-    ///
-    /// # Errors
-    /// `AllocError` where a request for memory was refused.
+    /// A copy: equal requests in equal order, and equal room.
     pub fn copy(&self) -> Result<Line, AllocError>
         ensures { IfOk result (λ copy. copy ≡ self.now) }
     {
@@ -186,8 +181,8 @@ impl Line {
         Ok(copy)
     }
 
-    /// The requests of the other line come last from now on, in their order, and are no longer in that. Takes no
-    /// memory, and costs what it moves.
+    /// Moves all requests of the other line behind those here, in their order. Takes no memory. The time grows with
+    /// the number of requests moved.
     pub fn append(&mut self, other: &mut Line)
         requires room { length other.old.requests ≤ self.old.room }
         requires distinct { AreOfDistinctCalls (self.old.requests ++ other.old.requests) }
@@ -200,11 +195,8 @@ impl Line {
         }
     }
 
-    /// A line that has no requests, with room for these and so many more, and for as many again and a few: `refill`
-    /// takes it.
-    ///
-    /// # Errors
-    /// `AllocError` where a request for memory was refused.
+    /// An empty line for `refill`, with room for twice as many as the requests here and `more` together, and a few.
+    /// If these together are more than `usize` counts, memory is refused.
     pub fn spare_for(&self, more: usize) -> Result<Line, AllocError>
         ensures empty { IfOk result (λ spare. spare.requests ≡ []) }
         ensures room { IfOk result (λ spare. length self.now.requests + more ≤ spare.room) }
@@ -218,8 +210,7 @@ impl Line {
         )
     }
 
-    /// The requests move into a line that has none yet, with its room, and that takes this one's place. Takes no
-    /// memory.
+    /// Moves the requests into the empty spare line, whose room the line has from now on. Takes no memory.
     pub fn refill(&mut self, spare: Line)
         requires empty { spare.requests ≡ [] }
         requires room { length self.old.requests ≤ spare.room }

@@ -1,4 +1,5 @@
-//! Slots that hold requests, each found by its call.
+//! The slots of a line, with an index from each call to its slot. A function here that gives a `Result` answers
+//! `AllocError` where a request for memory was refused.
 ghost use Rattle.std.specs.Prelude.{◌≡◌, ◌+◌, ◌<◌, ◌≤◌, ◌^◌, ◌++◌, ◌∷◌, [], List, map, find, length, None, Some, IfOk, IsSome};
 ghost use Rattle.token_queue.specs.Requests.{is_of_call, requests_in, AreOfDistinctCalls};
 ghost use Rattle.token_queue.specs.Places.{unless};
@@ -31,7 +32,7 @@ impl Model for Slots {
 }
 
 impl Slots {
-    /// No slots, and no room.
+    /// No slots and no room.
     pub fn new(alloc: Global) -> Slots
         ensures { result ≡ record { slots = []; room = 0 } }
     {
@@ -42,10 +43,7 @@ impl Slots {
         }
     }
 
-    /// No slots, and room for as many requests.
-    ///
-    /// # Errors
-    /// `AllocError` where a request for memory was refused.
+    /// No slots, and room for that many requests.
     pub fn with_room(alloc: Global, room: usize) -> Result<Slots, AllocError>
         ensures { IfOk result (λ slots. slots ≡ record { slots = []; room = room }) }
     {
@@ -56,19 +54,19 @@ impl Slots {
         })
     }
 
-    /// Where it takes its memory.
+    /// The allocator from which the slots take their memory.
     pub fn allocator(&self) -> Global {
         *self.slots.allocator()
     }
 
-    /// How many more requests may come without asking for memory.
+    /// The number of requests that may still come without asking for memory.
     pub fn room(&self) -> usize
         ensures { result ≡ self.now.room }
     {
         self.room
     }
 
-    /// How many requests there are.
+    /// The number of requests.
     pub fn len(&self) -> usize
         ensures value { result ≡ length (requests_in self.now.slots) }
         ensures distinct { AreOfDistinctCalls (requests_in self.now.slots) }
@@ -85,7 +83,7 @@ impl Slots {
         self.slots.as_slice()
     }
 
-    /// The request of the call: a look-up by the call, not a walk.
+    /// The request of the call, if a slot holds one. Looks the call up, without a walk.
     pub fn find(&self, call: CallId) -> Option<TokenRequest>
         ensures { result ≡ find (is_of_call call) (requests_in self.now.slots) }
     {
@@ -95,7 +93,7 @@ impl Slots {
         }
     }
 
-    /// The request comes last, in a slot of its own. Takes no memory.
+    /// Appends a slot that holds the request. Takes no memory.
     pub fn push(&mut self, request: TokenRequest)
         requires room { 0 < self.old.room }
         requires new { find (is_of_call request.call) (requests_in self.old.slots) ≡ None }
@@ -112,7 +110,7 @@ impl Slots {
         self.room -= 1;
     }
 
-    /// Empties the slot of the call's request: a look-up by the call, not a walk. Takes no memory.
+    /// Empties the slot of the call's request, if there is one. Looks the call up, without a walk. Takes no memory.
     pub fn take_out(&mut self, call: CallId)
         ensures slots { self.new.slots ≡ map (unless (is_of_call call)) self.old.slots }
         ensures room { self.new.room ≡ self.old.room }

@@ -1,11 +1,11 @@
-//! Walks over slots that hold requests.
+//! Walks over the slots of a line.
 ghost use Rattle.std.specs.Prelude.{◌≡◌, ◌↔◌, ◌<◌, ◌≤◌, IsTrue, length, drop, is_some, true};
 ghost use Rattle.token_queue.specs.Requests.{requests_in};
 ghost use Rattle.token_queue.specs.Places.{request_at};
 
 use crate::token_request::TokenRequest;
 
-/// The place of the first request from that place on; the end, if there is none.
+/// The index of the first slot at `from` or behind it that holds a request; the number of slots, if none does.
 pub fn first_from(slots: &[Option<TokenRequest>], from: usize) -> usize
     requires { from ≤ length slots.now }
     ensures after { from ≤ result }
@@ -20,7 +20,7 @@ pub fn first_from(slots: &[Option<TokenRequest>], from: usize) -> usize
     place
 }
 
-/// Whether both hold the same requests in the same order.
+/// Whether both hold equal requests in equal order. Empty slots don't count.
 pub fn same_requests(slots: &[Option<TokenRequest>], others: &[Option<TokenRequest>]) -> bool
     ensures { IsTrue result ↔ (requests_in slots.now ≡ requests_in others.now) }
 {

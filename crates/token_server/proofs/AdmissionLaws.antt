@@ -31,7 +31,7 @@ Answer = Result (ServerState × List Message) StepError
 none-of : (a b : Bool) → a ≡ false → b ≡ false → (a || b) ≡ false
 none-of a b x y = ap (λ (t : Bool). t || b) x ∙ y
 
--- what none of a list does, none of a part of it does
+-- a test that passes none of a list passes none of a part of it
 any-filter : (p q : TokenRequest → Bool) (xs : List TokenRequest) → list_any p xs ≡ false → list_any p (filter q xs) ≡ false
 any-filter p q [] none = refl
 any-filter p q (x ∷ xs) none = by (q x) (any-filter p q xs (neither (p x) (list_any p xs) none).1)
@@ -46,7 +46,7 @@ find-none p (x ∷ xs) none =
     let parts = neither (p x) (list_any p xs) none in
     ap (λ (b : Bool). cond b (Some x) (find p xs)) parts.0 ∙ find-none p xs parts.1
 
--- it needs no byte of those that come from the queue, nor of those that stay
+-- a request that needs no byte of an active or queued one needs none of those that are admitted, nor of those that stay
 admitted-apart : (r : TokenRequest) (active staying queue : List TokenRequest) → meets_some r active ≡ false → meets_some r staying ≡ false → meets_some r queue ≡ false → (let next = admitted active staying queue in (meets_some r next.0 || meets_some r next.1) ≡ false)
 admitted-apart r active staying [] a s q = none-of (meets_some r active) (meets_some r staying) a s
 admitted-apart r active staying (x ∷ rest) a s q =
@@ -67,14 +67,14 @@ admitted-apart r active staying (x ∷ rest) a s q =
     by true stays goes = stays
     by false stays goes = goes
 
--- so it comes last of those that are served
+-- a request at the end of the queue that needs no byte of another is admitted as the last active one
 admitted-last : (r : TokenRequest) (active queue : List TokenRequest) → meets_some r active ≡ false → meets_some r queue ≡ false → (admitted active [] (queue ++ r ∷ [])).0 ≡ (admitted active [] queue).0 ++ r ∷ []
 admitted-last r active queue a q =
     let next : Lists = admitted active [] queue in
     ap (λ (xs : Lists). xs.0) (admitted-append active [] queue (r ∷ []))
     ∙ ap (λ (b : Bool). (let both : Lists = cond b (next.0, next.1 ++ r ∷ []) (next.0 ++ r ∷ [], next.1) in both).0) (admitted-apart r active [] queue a refl q)
 
--- serving leaves who is served
+-- serving leaves the list of active requests
 commanded-active : (s t : ServerState) (node : ℕ) (row : Row) (token : Token) (command : Message) (out : List Message) → commanded s node row token command ≡ Ok (t, out) → t.active ≡ s.active
 commanded-active s t node row token command out is = by (is_some row.outstanding) (nat_lt row.number (begin s + greatest_number)) _ _ refl refl is
   where
@@ -127,7 +127,7 @@ each_served-active (r ∷ rest) s t out h = by (served s r) refl (λ u v sent. e
     by (Err e) is keeps h = absurd (cc)
     by (Ok done) is keeps h = more done.0 done.1 (each_served rest done.0) keeps refl h ∙ served-active s done.0 r done.1 is
 
--- a server whose nodes have told it their tokens waits for none once a request came
+-- a server whose nodes all reported their tokens awaits none after a request came
 abbrev HaveTold : ServerState → Type 0
 HaveTold s = (n : ℕ) → 1 ≤ n → n < 1 + s.shape.nodes → is_awaited (s.rows n) ≡ false
 
@@ -164,7 +164,7 @@ asked-told s r none =
     let second = with_a_row-told young r.call (young.rows r.call.node) first in
     none_passes-from (λ n. is_awaited ((asked s r).rows n)) 1 (asked s r).shape.nodes (enqueued-told (with_a_row young r.call (young.rows r.call.node)) r second)
 
--- the queue once the request came
+-- the queue after the request came
 asked-lists : (s : ServerState) (r : TokenRequest) → MeetsNone s r → (let young = forgotten s r.call.node (r.call.incarnation - 1) in ((asked s r).active ≡ young.active) × ((asked s r).queue ≡ young.queue ++ r ∷ []))
 asked-lists s r is = by (young.rows r.call.node)
   where

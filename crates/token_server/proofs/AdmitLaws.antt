@@ -5,11 +5,11 @@ use Rattle.token_queue.specs.declared.token_request.TokenRequest.{TokenRequest}
 use Rattle.token_server.specs.State.{ServerState}
 use Rattle.token_server.specs.Serve.{meets_some, admitted, ready}
 
--- those that are served, and those that stay
+-- the active requests, and those that stay queued
 abbrev pub Lists : Type 0
 Lists = List TokenRequest × List TokenRequest
 
--- some of the queue, and then the others
+-- the admission of two parts of the queue, one after the other
 pub admitted-append : (active staying xs ys : List TokenRequest) → admitted active staying (xs ++ ys) ≡ (let next = admitted active staying xs in admitted next.0 next.1 ys)
 admitted-append active staying [] ys = refl
 admitted-append active staying (r ∷ xs) ys =
@@ -22,7 +22,7 @@ admitted-append active staying (r ∷ xs) ys =
     by true stays goes = stays
     by false stays goes = goes
 
--- one more
+-- the admission of one request more
 pub admitted-one : (active staying : List TokenRequest) (r : TokenRequest) (b : Bool) → (meets_some r active || meets_some r staying) ≡ b → admitted active staying (r ∷ []) ≡ cond b (active, staying ++ r ∷ []) (active ++ r ∷ [], staying)
 admitted-one active staying r b is = ap (λ (t : Bool). let next : Lists = cond t (active, staying ++ r ∷ []) (active ++ r ∷ [], staying) in next) is
 

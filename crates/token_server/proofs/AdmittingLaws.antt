@@ -1,4 +1,4 @@
--- Requests that come from the queue of a server, one after the other.
+-- The admission of requests from the queue, one after the other.
 use Rattle.std.specs.Prelude.{◌≡◌, ℕ, ◌+◌, Bool, true, false, cond, not, ◌&&◌, ◌||◌, nat_le, List, [], ◌∷◌, ◌++◌, filter, count_by}
 use Rattle.std.specs.List.{list_any}
 use Rattle.std.proofs.Common.{refl, sym, ap, subst, ◌∙◌, inl, inr, arith, append-nil, append_assoc, ◌==◌}
@@ -19,7 +19,7 @@ use Rattle.token_server.proofs.AdmitLaws.{Lists, admitted-more}
 use Rattle.token_server.specs.Obstacles.{are_apart}
 use Rattle.token_server.proofs.StayLaws.{Stay, stay-admits, admitted-stay}
 
--- how many of the requests are of the call
+-- the number of the call's requests among these
 abbrev pub calls : CallId → List TokenRequest → ℕ
 calls call rs = count_by (is_of_call call) rs
 
@@ -37,7 +37,7 @@ calls-none call (x ∷ xs) none = by (is_of_call call x) (sym (calls-cons call x
     by true h rest = absurd (omega arith)
     by false h rest = rest (omega arith)
 
--- the test of one call by another is the same the other way round
+-- equality of two numbers is symmetric
 eq-flip : (m n : ℕ) → m == n ≡ n == m
 eq-flip m n = elim (eqb_tells m n) [
   | inl same ↦ same.0 ∙ sym (ap (λ (k : ℕ). n == k) same.1 ∙ here n)
@@ -53,7 +53,7 @@ eq-flip m n = elim (eqb_tells m n) [
 pub same_call-flip : (c d : CallId) → same_call c d ≡ same_call d c
 same_call-flip c d = λ i. eq-flip c.node d.node i && (eq-flip c.incarnation d.incarnation i && eq-flip c.number d.number i)
 
--- what is left does not change by one more call that it has not
+-- removing a call that has no request there changes nothing
 all_but-more : (fresh done : List TokenRequest) (r : TokenRequest) → calls r.call done ≡ 0 → all_but (fresh ++ r ∷ []) done ≡ all_but fresh done
 all_but-more fresh [] r none = refl
 all_but-more fresh (q ∷ done) r none = by (is_of_call r.call q) refl (sym (calls-cons r.call q done) ∙ none) (all_but-more fresh done r)
@@ -93,11 +93,11 @@ pub or-end : (b : Bool) → (b || false) ≡ b
 or-end true = refl
 or-end false = refl
 
--- whether it needs a byte of one of two lists
+-- the test against two lists together is the test against one or the other
 pub both-meet : (r : TokenRequest) (xs ys : List TokenRequest) → meets_some r (xs ++ ys) ≡ (meets_some r xs || meets_some r ys)
 both-meet r xs ys = list_any-append (λ q. meets r.wanted.required q.wanted.required) xs ys
 
--- so far
+-- one request more is tested against the active, the admitted and the staying ones
 tested : (active done fresh : List TokenRequest) (r : TokenRequest) (b : Bool) → IsAdmitted active done fresh → (meets_some r active || meets_some r done) ≡ b → (meets_some r (active ++ fresh) || meets_some r (all_but fresh done)) ≡ b
 tested active done fresh r b is test =
     ap (λ (t : Bool). t || meets_some r (all_but fresh done)) (both-meet r active fresh)
@@ -115,7 +115,7 @@ left-push fresh done r apart =
     filter-append (λ q. not (has_call_of fresh q)) done (r ∷ [])
     ∙ ap (λ (b : Bool). all_but fresh done ++ cond (not b) (r ∷ []) []) apart
 
--- nothing has come yet
+-- of an empty queue none is admitted
 pub admitted-none : (active : List TokenRequest) → IsAdmitted active [] []
 admitted-none active = record {
   comes = ap (λ (xs : List TokenRequest). let p : Lists = (xs, []) in p) (sym (append-nil active));
@@ -127,7 +127,7 @@ pub all_but-none : (rs : List TokenRequest) → all_but [] rs ≡ rs
 all_but-none [] = refl
 all_but-none (r ∷ rs) = ap (λ (xs : List TokenRequest). r ∷ xs) (all_but-none rs)
 
--- of a queue that has settled none comes
+-- of a settled queue none is admitted
 pub admitted-settled : (active queue : List TokenRequest) → Stay active [] queue → IsAdmitted active queue []
 admitted-settled active queue settled = record {
   comes = stay-admits active [] queue settled ∙ sym (λ i. let p : Lists = (append-nil active i, all_but-none queue i) in p);
@@ -135,7 +135,7 @@ admitted-settled active queue settled = record {
   counted = λ call. let same : calls call (all_but [] queue) ≡ calls call queue = ap (calls call) (all_but-none queue) in let nothing : calls call [] ≡ 0 = refl in omega arith;
 }
 
--- one that stays
+-- one request more stays queued
 pub admitted-stays : (active done fresh : List TokenRequest) (r : TokenRequest) → IsAdmitted active done fresh → calls r.call done ≡ 0 → (meets_some r active || meets_some r done) ≡ true → IsAdmitted active (done ++ r ∷ []) fresh
 admitted-stays active done fresh r is none stays =
     let left = left-push fresh done r (not_fresh active done fresh r is none) in
@@ -154,7 +154,7 @@ admitted-stays active done fresh r is none stays =
           omega arith;
     }
 
--- one that comes
+-- one request more is admitted
 pub admitted-goes : (active done fresh : List TokenRequest) (r : TokenRequest) → IsAdmitted active done fresh → calls r.call done ≡ 0 → (meets_some r active || meets_some r done) ≡ false → IsAdmitted active (done ++ r ∷ []) (fresh ++ r ∷ [])
 admitted-goes active done fresh r is none goes =
     let left : all_but (fresh ++ r ∷ []) (done ++ r ∷ []) ≡ all_but fresh done = gone in
@@ -197,7 +197,7 @@ admitted-goes active done fresh r is none goes =
         ∙ append-nil (all_but (fresh ++ r ∷ []) done)
         ∙ all_but-more fresh done r none
 
--- then those that stay need a byte of one that is served, or of one before them
+-- after the admission each request that stays needs a byte of an active one, or of one before it
 pub admitted-leaves : (active done fresh : List TokenRequest) → IsAdmitted active done fresh → Stay (active ++ fresh) [] (all_but fresh done)
 admitted-leaves active done fresh is = subst (λ (p : Lists). Stay p.0 [] p.1) is.comes (admitted-stay active [] done tt)
 
@@ -222,7 +222,7 @@ apart-push (q ∷ rs) r apart none =
     ∙ not-true (meets_some q rs) parts.0 in
     and_from (not (meets_some q (rs ++ r ∷ []))) (are_apart (rs ++ r ∷ [])) (ap not clear) (apart-push rs r parts.1 here.1)
 
--- no two of those that are served need a byte in common, once requests have come
+-- no two active requests need a byte in common after the admission
 apart-admitted : (active staying queue : List TokenRequest) → are_apart active ≡ true → are_apart (admitted active staying queue).0 ≡ true
 apart-admitted active staying [] apart = apart
 apart-admitted active staying (r ∷ rest) apart =
@@ -239,7 +239,7 @@ apart-admitted active staying (r ∷ rest) apart =
 pub admitted-keeps_apart : (active done fresh : List TokenRequest) → IsAdmitted active done fresh → are_apart active ≡ true → are_apart (active ++ fresh) ≡ true
 admitted-keeps_apart active done fresh is apart = subst (λ (p : Lists). are_apart p.0 ≡ true) is.comes (apart-admitted active [] done apart)
 
--- fewer need no byte in common either
+-- where a request needs no byte of these, it needs none of a part of them
 meets-fewer : (r : TokenRequest) (p : TokenRequest → Bool) (rs : List TokenRequest) → meets_some r rs ≡ false → meets_some r (filter p rs) ≡ false
 meets-fewer r p [] none = refl
 meets-fewer r p (q ∷ rs) none =
@@ -261,7 +261,7 @@ apart-fewer p (r ∷ rs) apart =
       | false ↦ rest
     ]
 
--- what is left once one more call has nothing there
+-- removing the call of one admitted request more
 pub all_but-push : (fresh rs : List TokenRequest) (x : TokenRequest) → all_but (fresh ++ x ∷ []) rs ≡ filter (λ r. not (is_of_call x.call r)) (all_but fresh rs)
 all_but-push fresh [] x = refl
 all_but-push fresh (r ∷ rs) x = by (has_call_of fresh r) (is_of_call x.call r) refl test (all_but-push fresh rs x)

@@ -25,7 +25,7 @@ empty-told : (begin incarnation : ℕ) (row : Option Row) → is_awaited row ≡
 empty-told begin incarnation None told = refl
 empty-told begin incarnation (Some row) told = told
 
--- no change asks a node for its token
+-- no change sends a node a Hello
 change-told : (c : NodeChange) (row : Option Row) → is_awaited row ≡ false → is_awaited (row_after c row) ≡ false
 change-told (Forgotten incarnation) row told = above-told incarnation row told
 change-told (Asked host begin) row told = empty-told begin host.incarnation (row_above (host.incarnation - 1) row) (above-told (host.incarnation - 1) row told)
@@ -41,7 +41,7 @@ rows-told None rows n told = told
 rows-told (Some c) rows n told =
     elim (n == c.node) as (λ b. is_awaited (cond b (row_after c.change (rows n)) (rows n)) ≡ false) [ true ↦ change-told c.change (rows n) told | false ↦ told ]
 
--- so a server that has asked none for its token, or heard of all, awaits none after an event
+-- a server that awaits no report awaits none after an event
 pub none-after : (changed : Option Changed) (rows : ℕ → Option Row) (nodes : ℕ) → some_passes (λ n. is_awaited (rows n)) 1 nodes ≡ false → some_passes (λ n. is_awaited (rows_after changed rows n)) 1 nodes ≡ false
 none-after changed rows nodes none =
     none_passes-from (λ n. is_awaited (rows_after changed rows n)) 1 nodes (λ n above below. rows-told changed rows n (some_passes-none (λ k. is_awaited (rows k)) 1 nodes n none above below))
@@ -49,7 +49,7 @@ none-after changed rows nodes none =
 abbrev Answer : Type 0
 Answer = Result (ServerState × List Message) StepError
 
--- what holds of the row of each node, and holds on once its next command is sent that asks it for no token
+-- a property of each row that holds on after the next command, where that is no Hello
 module _ (P : ℕ → Option Row → Type 0) (keeps : (n : ℕ) (row : Row) (token : Token) (command : Message) → is_hello (Some command) ≡ false → row.outstanding ≡ None → P n (Some row) → P n (Some (record row { token = token; number = row.number + 1; outstanding = Some command }))) where
   abbrev Holds : ServerState → Type 0
   Holds s = (n : ℕ) → P n (s.rows n)
@@ -96,7 +96,7 @@ module _ (P : ℕ → Option Row → Type 0) (keeps : (n : ℕ) (row : Row) (tok
       by true h = revoked (s.rows node) refl h
       by false h = granted (s.rows r.call.node) refl h
 
-  -- holds after requests were served
+  -- the property holds after requests were served
   each_served-holds : (rs : List TokenRequest) (s t : ServerState) (out : List Message) → Holds s → each_served rs s ≡ Ok (t, out) → Holds t
   each_served-holds [] s t out all h = silent-holds s t out all h
   each_served-holds (r ∷ rest) s t out all h = by (served s r) refl (λ u v sent. each_served-holds rest u v sent) h
@@ -114,7 +114,7 @@ module _ (P : ℕ → Option Row → Type 0) (keeps : (n : ℕ) (row : Row) (tok
       by (Err e) is goes h = absurd (cc)
       by (Ok done) is goes h = more done.0 done.1 (each_served rest done.0) goes (served-holds s done.0 r done.1 all is) refl h
 
--- serving asks no node for its token, and hears of none
+-- serving sends no Hello, and takes no report
 pub served-awaits : (rs : List TokenRequest) (s t : ServerState) (out : List Message) → t.shape ≡ s.shape → each_served rs s ≡ Ok (t, out) → awaits t ≡ awaits s
 served-awaits rs s t out shape is =
     let P : ℕ → Option Row → Type 0 = λ n o. is_awaited o ≡ is_awaited (s.rows n) in
@@ -125,7 +125,7 @@ served-awaits rs s t out shape is =
     keeps : (n : ℕ) (row : Row) (token : Token) (command : Message) → is_hello (Some command) ≡ false → row.outstanding ≡ None → is_hello row.outstanding ≡ is_awaited (s.rows n) → is_hello (Some command) ≡ is_awaited (s.rows n)
     keeps n row token command plain idle was = plain ∙ sym (ap is_hello idle) ∙ was
 
--- and no number becomes one of an earlier epoch
+-- serving leaves each number at or above the epoch's base
 pub served-counted : (rs : List TokenRequest) (s t : ServerState) (out : List Message) → t.epoch ≡ s.epoch → AreOfEpoch s → each_served rs s ≡ Ok (t, out) → AreOfEpoch t
 served-counted rs s t out epoch counted is n =
     let all : (k : ℕ) → IfSome (t.rows k) (λ row. begin s ≤ row.number) = each_served-holds (λ k o. IfSome o (λ row. begin s ≤ row.number)) (λ k row token command plain idle was. omega arith) rs s t out counted is in

@@ -1,4 +1,4 @@
--- The nodes whose rows the requests of a server wait for.
+-- The nodes whose rows the active requests of a server wait for.
 use Rattle.std.specs.Prelude.{◌≡◌, ℕ, zero, suc, ◌+◌, ◌<◌, ◌≤◌, Bool, true, false, cond, ◌&&◌, ◌||◌, ◌==◌, List, [], ◌∷◌, ◌++◌, length, slice_get, All, Option, Some}
 use Rattle.std.proofs.Common.{refl, sym, ap, subst, ◌∙◌, take, drop, arith}
 use Rattle.std.proofs.lemmas.Bool.{both_ways, lt-leb}
@@ -29,12 +29,12 @@ use Rattle.token_server.proofs.KeepLaws.{apart-behind}
 use Rattle.token_server.proofs.ToldLaws.{list-at}
 use Rattle.token_server.proofs.TurnLaws.{take-next}
 
--- a request that no row stands in the way of waits for the row of its own node
+-- a request that no row blocks waits for the row of its own node
 pub unopposed-own : (s : ServerState) (r : TokenRequest) → ((node : ℕ) → row_conflicts (s.rows node) r.wanted.required r.mode ≡ false) → r.call.node ≡ obstacle s r
 unopposed-own s r free =
     sym (ap (λ (b : Bool). cond b (conflicting_node s r) r.call.node) (lt-leb (conflicting_node s r) s.shape.nodes (unopposed-none s r free)))
 
--- each request waits for the node beside it
+-- each request waits for the row of the node at its index
 abbrev pub Await : (TokenRequest → ℕ → Type 0) → List Held → List ℕ → Type 0
 Await P [] [] = Unit {0}
 Await P (h ∷ held) (a ∷ ats) = P h.request a × Await P held ats
@@ -46,7 +46,7 @@ await-more P (x ∷ held) (y ∷ ats) h a all one = (all.0, await-more P held at
 await-more P [] (y ∷ ats) h a all one = absurd all
 await-more P (x ∷ held) [] h a all one = absurd all
 
--- the first requests wait for the nodes beside them, and the rest for those for which they waited
+-- the first requests wait for the nodes at their indexes, and the rest for those that they waited for
 pub await-first : (P : TokenRequest → ℕ → Type 0) (n : ℕ) (held : List Held) (ats : List ℕ) → Await P (take n held) ats → All (λ h. P h.request h.at) (drop n held) → All (λ h. P h.request h.at) (waiting_for ats held)
 await-first P zero held [] all rest = rest
 await-first P zero held (a ∷ ats) all rest = absurd all
@@ -55,20 +55,20 @@ await-first P (suc n) [] (a ∷ ats) all rest = absurd all
 await-first P (suc n) (h ∷ held) [] all rest = absurd all
 await-first P (suc n) (h ∷ held) (a ∷ ats) all rest = All-cons (λ h. P h.request h.at) (record { request = h.request; at = a }) (waiting_for ats held) all.0 (await-first P n held ats all.1 rest)
 
--- of those so far, none from a place on is freed: one more that is not
+-- one request more that is not freed, behind those from a place on that are not
 pub rest-more : (P : Held → Type 0) (held : List Held) (many i : ℕ) (h : Held) → many ≤ i → slice_get held i ≡ Some h → P h → All P (drop many (take i held)) → All P (drop many (take (i + 1) held))
 rest-more P held many i h few there one all =
     let within : i < length held = slice_get_within held i h there in
     let len : length (take i held) ≡ i = length-take-le i held (omega (arith, within)) in
     subst (All P) (sym (ap (λ (hs : List Held). drop many hs) (take-next held i h there) ∙ drop-append-le many (take i held) (h ∷ []) (omega (arith, few, len)))) (All-push P (drop many (take i held)) h all one)
 
--- one more that is
+-- behind the last request so far none is freed
 pub rest-none : (P : Held → Type 0) (held : List Held) (i : ℕ) → All P (drop i (take i held))
 rest-none P held i =
     let len : length (take i held) ≤ i = omega (arith, length-take i held) in
     subst (All P) (sym (drop_all i (take i held) len)) (All-nil P)
 
--- whoever needs no byte of a span needs none of a part of it
+-- a span without a byte of another one has a part without one too
 pub apart-part : (t u s : Range) → t.lo ≤ u.lo → u.hi ≤ t.hi → meets t s ≡ false → meets u s ≡ false
 apart-part t u s starts ends apart = by (meets u s) refl
   where
@@ -76,7 +76,7 @@ apart-part t u s starts ends apart = by (meets u s) refl
     by true here = absurd (both_ways (meets t s) apart (meets-flip t s ∙ meets-within s t u starts ends (meets-flip s u ∙ here)))
     by false here = here
 
--- none behind a request that needs all that is given up: no two of them need a byte in common
+-- behind a request that needs all bytes given up, no request is freed: no two active ones need a byte in common
 pub rest-apart : (c : Changed) (row : Option Row) (held : List Held) (i : ℕ) (h : Held) → slice_get held i ≡ Some h → are_apart (requests_of held) ≡ true → ((s : Range) → meets h.request.wanted.required s ≡ false → frees c.change row s ≡ false) → All (λ k. may_turn c row k ≡ false) (drop (i + 1) held)
 rest-apart c row held i h there apart kept =
     each (drop (i + 1) held) (apart-behind (requests_of (take i held)) (requests_of (drop (i + 1) held)) h.request (subst (λ (rs : List TokenRequest). are_apart rs ≡ true) parts apart))
@@ -101,7 +101,7 @@ rest-apart c row held i h there apart kept =
         (ap (λ (b : Bool). (may_bar c.change || (k.at == c.node)) && b) (kept k.request.wanted.required (All-head Clear k.request (requests_of ks) all)) ∙ never (may_bar c.change || (k.at == c.node)))
         (each ks (All-tail Clear k.request (requests_of ks) all))
 
--- one that can't turn to another row waits as before
+-- a request that can't turn to another row waits as before
 pub unfreed-waits : (p : ServerParts) (edit : Option RowEdit) (c : Changed) (h : Held) → rows_overlaid p.known_nodes edit ≡ rows_after (Some c) (rows_of p.known_nodes) → obstacle (server_state p) h.request ≡ h.at → may_turn c (rows_of p.known_nodes c.node) h ≡ false → obstacle (reached p edit) h.request ≡ h.at
 unfreed-waits p edit c h rows waits kept = obstacle-changed (server_state p) (reached p edit) h c refl rows waits kept
 

@@ -1,4 +1,4 @@
--- Rows of nodes that are told something, and what stands in the way then.
+-- The rows of nodes after commands are sent, and the requests that they block.
 use Rattle.std.specs.Prelude.{◌≡◌, ℕ, ◌≤◌, Bool, true, false, cond, ◌||◌, Option, Some, None, MatchOption}
 use Rattle.std.proofs.Common.{refl, sym, ap, ◌∙◌, arith}
 use Rattle.std.proofs.lemmas.Bool.{both_ways, false_from_ne_true}
@@ -29,7 +29,7 @@ abbrev pub in_span : Option Range → ℕ → Bool
 in_span None b = false
 in_span (Some s) b = is_in s b
 
--- what conflicts once the command is kept: what did, and what it grants
+-- after a command is noted, a byte conflicts if it did, or if the command grants it in a mode that conflicts
 level_kept : (level : Option Level) (granted mode : Mode) (b : ℕ) (span : Range) → is_in span b ≡ true → level_conflicts (raised_level level granted) mode ≡ (level_conflicts level mode || in_span (barred_by granted mode span) b)
 level_kept None Write mode b span h = sym h
 level_kept (Some Shared) Write Read b span h = sym h
@@ -57,7 +57,7 @@ promised_conflicts (Grant file number call granted span) t mode b = by (is_in sp
         ∙ ap (λ (x : Bool). level_conflicts (t b) mode || x) (sym (out_of_span granted mode b span is))
 promised_conflicts command t mode b = or_none (level_conflicts (t b) mode)
 
--- so a token that conflicts still does
+-- a token that conflicts at a byte conflicts there after the command
 or_true : (b c : Bool) → b ≡ true → (b || c) ≡ true
 or_true true c h = refl
 or_true false c h = absurd (cc)
@@ -78,7 +78,7 @@ told-conflicts t row span mode h =
         let below = f.below in
         (_, f.above, omega arith, f.here)
 
--- the largest span beside such a row
+-- the largest span beside the row of a node after a command to it
 pub around-told : (t : Told) (row : Row) (required within free granted : Range) (mode : Mode) → required.lo ≤ required.hi → within.lo ≤ required.lo → required.hi ≤ within.hi → free.lo ≤ required.lo → required.hi ≤ free.hi → granted.lo ≤ granted.hi → row_conflicts (row_told (Some t) (Some row)) required mode ≡ false → free ≡ largest_around (λ b. row_conflicts_at (Some row) b mode) required within → bars t.command mode ≡ Some granted → cut required free granted ≡ largest_around (λ b. row_conflicts_at (row_told (Some t) (Some row)) b mode) required within
 around-told t row required within free granted mode order starts ends free_lo free_hi full clear is bar =
     let none : NoneIn (λ b. row_conflicts_at (row_told (Some t) (Some row)) b mode ≡ true) required = row_free (row_told (Some t) (Some row)) required mode clear in
@@ -95,21 +95,21 @@ around-other t row required within free mode is bar =
     is ∙ largest_around-same (λ b. row_conflicts_at (Some row) b mode) (λ b. row_conflicts_at (row_told (Some t) (Some row)) b mode) required within
     (λ b. or_none (level_conflicts (row.token b) mode) ∙ ap (λ (o : Option Range). level_conflicts (row.token b) mode || in_span o b) (sym bar) ∙ sym (promised_conflicts t.command row.token mode b))
 
--- a row that conflicts with nothing does not before it is told
+-- a row that conflicts with nothing after a command to its node conflicts with nothing before it
 pub told-free : (t : Told) (row : Row) (span : Range) (mode : Mode) → row_conflicts (row_told (Some t) (Some row)) span mode ≡ false → row_conflicts (Some row) span mode ≡ false
 told-free t row span mode clear = false_from_ne_true (conflicts row.token span mode) (λ old. both_ways (row_conflicts (row_told (Some t) (Some row)) span mode) clear (told-conflicts t row span mode old))
 
--- a node without a row has none once it is told something
+-- a node without a row has none after a command
 pub told-nothing : (o : Option Told) (row : Option Row) → row ≡ None → row_told o row ≡ None
 told-nothing None row is = is
 told-nothing (Some t) row is = ap (row_told (Some t)) is
 
--- nor before it is told something or nothing
+-- a row that conflicts with nothing after a command or none conflicts with nothing before it
 pub told-clear : (o : Option Told) (row : Row) (span : Range) (mode : Mode) → row_conflicts (row_told o (Some row)) span mode ≡ false → row_conflicts (Some row) span mode ≡ false
 told-clear None row span mode clear = clear
 told-clear (Some t) row span mode clear = told-free t row span mode clear
 
--- what is left of the largest span beside a row once its node is told
+-- the largest span beside a row after a command is the one before it, cut by what the command grants
 pub around-cut : (t : Told) (row : Row) (required within free result : Range) (mode : Mode) → required.lo ≤ required.hi → within.lo ≤ required.lo → required.hi ≤ within.hi → free.lo ≤ required.lo → required.hi ≤ free.hi → row_conflicts (row_told (Some t) (Some row)) required mode ≡ false → free ≡ largest_around (λ b. row_conflicts_at (Some row) b mode) required within → MatchOption (bars t.command mode) (result ≡ free) (λ granted. (result ≡ cut required free granted) × (granted.lo ≤ granted.hi)) → result ≡ largest_around (λ b. row_conflicts_at (row_told (Some t) (Some row)) b mode) required within
 around-cut t row required within free result mode order starts ends free_lo free_hi clear is made = by (bars t.command mode) refl made
   where

@@ -1,4 +1,4 @@
--- What becomes of the requests of a server, as one list.
+-- The requests of a server, as one list, through an event.
 use Rattle.std.specs.Prelude.{◌≡◌, ℕ, ◌-◌, Bool, true, false, not, cond, ◌||◌, List, [], ◌∷◌, ◌++◌, All, find, IfSome, Option, Some, None}
 use Rattle.std.specs.List.{list_any}
 use Rattle.std.proofs.Common.{refl}
@@ -13,13 +13,13 @@ use Rattle.token_server.specs.State.{ServerState, forgotten, requests, requeued}
 use Rattle.token_server.specs.Serve.{meets_some, admitted, ready}
 use Rattle.token_server.specs.Server.{with_a_row, request_of, enqueued_with, enqueued, asked, ended, put_off, postponed, freed}
 
--- P holds of the requests, of those of each kind
+-- P holds of the active, of the queued and of the waiting requests
 pub record AreRequests (P : TokenRequest → Type 0) (s : ServerState) : Type 0 where
   pub active : All P s.active
   pub queue : All P s.queue
   pub waiting : All P s.waiting
 
--- what holds of all of two lists holds of all of each
+-- P holds of each element of two lists together, then of each element of the first
 pub All-left : {X : Type 0} (P : X → Type 0) (xs ys : List X) → All P (xs ++ ys) → All P xs
 All-left P [] ys all = All-nil P
 All-left P (x ∷ xs) ys all = All-cons P x xs (All-head P x (xs ++ ys) all) (All-left P xs ys (All-tail P x (xs ++ ys) all))
@@ -28,13 +28,13 @@ pub All-right : {X : Type 0} (P : X → Type 0) (xs ys : List X) → All P (xs +
 All-right P [] ys all = all
 All-right P (x ∷ xs) ys all = All-right P xs ys (All-tail P x (xs ++ ys) all)
 
--- what holds of all requests holds of one that is found
+-- P holds of all requests, then of one that is found
 pub find-each : (P : TokenRequest → Type 0) (test : TokenRequest → Bool) (rs : List TokenRequest) → All P rs → IfSome (find test rs) P
 find-each P test [] all = tt
 find-each P test (r ∷ rs) all =
     elim (test r) as (λ b. IfSome (cond b (Some r) (find test rs)) P) [ true ↦ All-head P r rs all | false ↦ find-each P test rs (All-tail P r rs all) ]
 
--- one that is found passes
+-- a request that is found passes the test
 pub find-passes : (test : TokenRequest → Bool) (rs : List TokenRequest) → IfSome (find test rs) (λ r. test r ≡ true)
 find-passes test [] = tt
 find-passes test (r ∷ rs) = by (test r) refl (find-passes test rs)
@@ -43,7 +43,7 @@ find-passes test (r ∷ rs) = by (test r) refl (find-passes test rs)
     by true is rest = is
     by false is rest = rest
 
--- as one list, and by their kinds
+-- P holds of all requests, then of those of each list
 pub requests-parts : (P : TokenRequest → Type 0) (s : ServerState) → All P (requests s) → AreRequests P s
 requests-parts P s all = record {
   active = All-left P s.active (s.queue ++ s.waiting) all;
@@ -54,11 +54,11 @@ requests-parts P s all = record {
 pub requests-whole : (P : TokenRequest → Type 0) (s : ServerState) → AreRequests P s → All P (requests s)
 requests-whole P s are = All-append P s.active (s.queue ++ s.waiting) are.active (All-append P s.queue s.waiting are.queue are.waiting)
 
--- what holds of all of them holds of those that are served
+-- P holds of all requests, then of the active ones
 pub active-each : (P : TokenRequest → Type 0) (s : ServerState) → All P (requests s) → All P s.active
 active-each P s all = (requests-parts P s all).active
 
--- requests come from the queue
+-- P holds of all requests after some are admitted
 pub admitted-all : (P : TokenRequest → Type 0) (active staying queue : List TokenRequest) → All P active → All P staying → All P queue → (let next = admitted active staying queue in All P next.0 × All P next.1)
 admitted-all P active staying [] a b c = (a, b)
 admitted-all P active staying (r ∷ rest) a b c =
@@ -76,7 +76,7 @@ ready-each P s all =
     let both = admitted-all P s.active [] s.queue are.active (All-nil P) are.queue in
     requests-whole P (ready s) (record { active = both.0; queue = both.1; waiting = are.waiting })
 
--- what waits is asked for again
+-- P holds of all requests after the waiting ones are queued again
 pub requeued-each : (P : TokenRequest → Type 0) (s : ServerState) → All P (requests s) → All P (requests (requeued s))
 requeued-each P s all =
     let are = requests-parts P s all in
@@ -86,7 +86,7 @@ pub freed-each : (P : TokenRequest → Type 0) (s : ServerState) (row : Option R
 freed-each P s None all = all
 freed-each P s (Some row) all = requeued-each P s all
 
--- a call's request is served no longer
+-- P holds of all requests after the call's active one ends
 pub ended-each : (P : TokenRequest → Type 0) (call : CallId) (s : ServerState) → All P (requests s) → All P (requests (ended call s))
 ended-each P call s all =
     let are = requests-parts P s all in
@@ -96,7 +96,7 @@ put_off-each : (P : TokenRequest → Type 0) (own : Option TokenRequest) → IfS
 put_off-each P None one = All-nil P
 put_off-each P (Some r) one = elim (same_blocking r.blocking Yes) as (λ b. All P (cond b (r ∷ []) [])) [ true ↦ All-cons P r [] one (All-nil P) | false ↦ All-nil P ]
 
--- or it waits from then on
+-- P holds of all requests after the call's active one is put off
 pub postponed-each : (P : TokenRequest → Type 0) (call : CallId) (s : ServerState) → All P (requests s) → All P (requests (postponed call s))
 postponed-each P call s all =
     let are = requests-parts P s all in
@@ -106,7 +106,7 @@ postponed-each P call s all =
       waiting = All-append P s.waiting (put_off (request_of call s.active)) are.waiting (put_off-each P (request_of call s.active) (find-each P (is_of_call call) s.active are.active));
     })
 
--- requests of a node's dead incarnations go
+-- P holds of all requests after those of dead incarnations go
 pub forgotten-each : (P : TokenRequest → Type 0) (s : ServerState) (node incarnation : ℕ) → All P (requests s) → All P (requests (forgotten s node incarnation))
 forgotten-each P s node incarnation all =
     let are = requests-parts P s all in
@@ -117,7 +117,7 @@ forgotten-each P s node incarnation all =
       waiting = All-filter stays P s.waiting are.waiting;
     })
 
--- and none of them is left
+-- no request of the dead incarnations is left
 pub forgotten-young : (s : ServerState) (node incarnation : ℕ) → All (λ r. not (is_up_to node incarnation r) ≡ true) (requests (forgotten s node incarnation))
 forgotten-young s node incarnation =
     let stays : TokenRequest → Bool = λ r. not (is_up_to node incarnation r) in
@@ -127,7 +127,7 @@ forgotten-young s node incarnation =
       waiting = filter_passes stays s.waiting;
     })
 
--- a request comes into the queue, or one that waits does
+-- P holds of all requests after one is queued, where it holds of the new one
 pub enqueued_with-each : (P : TokenRequest → Type 0) (s : ServerState) (r : TokenRequest) (own : Option TokenRequest) → P r → IfSome own P → AreRequests P s → All P (requests (enqueued_with s r own))
 enqueued_with-each P s r None new old are = requests-whole P (enqueued_with s r None) (record { active = are.active; queue = All-push P s.queue r are.queue new; waiting = are.waiting })
 enqueued_with-each P s r (Some own) new old are = requests-whole P (enqueued_with s r (Some own)) (record {
@@ -145,7 +145,7 @@ enqueued-each P s r new all =
       | false ↦ enqueued_with-each P s r (request_of r.call s.waiting) new (find-each P (is_of_call r.call) s.waiting are.waiting) are
     ]
 
--- a new row changes no request
+-- P holds of all requests after a row is added
 pub with_a_row-each : (P : TokenRequest → Type 0) (s : ServerState) (call : CallId) (row : Option Row) → All P (requests s) → All P (requests (with_a_row s call row))
 with_a_row-each P s call None all = all
 with_a_row-each P s call (Some row) all = all

@@ -1,4 +1,4 @@
--- Requests that come from the queue of a server, slot by slot.
+-- The admission of requests from the queue of a token server, slot by slot.
 use Rattle.std.specs.Prelude.{◌≡◌, ℕ, ◌+◌, ◌<◌, ◌≤◌, Bool, true, false, cond, not, ◌&&◌, ◌||◌, List, [], ◌∷◌, ◌++◌, length, filter, Option, Some, None}
 use Rattle.std.specs.List.{list_any}
 use Rattle.std.proofs.Common.{refl, sym, ap, subst, ◌∙◌, take, drop, arith, append-nil, append_assoc}
@@ -42,13 +42,13 @@ or-second false b h = h
 pub own-call : (r : TokenRequest) → is_of_call r.call r ≡ true
 own-call r = same_call-refl r.call
 
--- those that stay where some are dropped
+-- dropping requests keeps those that are not of the dropped incarnations
 without-is : (dropped : Option (ℕ × ℕ)) (rs : List TokenRequest) → without dropped rs ≡ filter (λ r. not (is_up_to_any dropped r)) rs
 without-is None [] = refl
 without-is None (r ∷ rs) = ap (λ (xs : List TokenRequest). r ∷ xs) (without-is None rs)
 without-is (Some d) rs = refl
 
--- and where one is served no longer
+-- ending a request keeps those that are not of its call
 still-is : (ended : Option CallId) (rs : List TokenRequest) → still_active ended rs ≡ filter (λ r. not (is_of_any ended r)) rs
 still-is None [] = refl
 still-is None (r ∷ rs) = ap (λ (xs : List TokenRequest). r ∷ xs) (still-is None rs)
@@ -82,7 +82,7 @@ any-kept test p (h ∷ held) = by (p h.request) (any-kept test p held)
     by true more = λ i. and-end (test h.request) i || more i
     by false more = ap (λ (t : Bool). t || list_any (λ x. test x.request && p x.request) held) (and-none (test h.request)) ∙ more
 
--- whether it needs a byte of one that is served on
+-- the test of an entry against the active requests that stay active
 pub meets-served : (g : Gone) (held : List Held) (r : TokenRequest) → list_any (λ h. meets r.wanted.required h.request.wanted.required && keeps g.dropped g.ended h.request) held ≡ meets_some r (served_on g held)
 meets-served g held r =
     any-kept (λ q. meets r.wanted.required q.wanted.required) (keeps g.dropped g.ended) held ∙ sym (ap (meets_some r) (served-kept g.dropped g.ended (requests_of held)))
@@ -98,7 +98,7 @@ without-append (Some d) xs ys = filter-append (λ r. not (is_up_to_any (Some d) 
 pub left-append : (g : Gone) (slots more : List (Option TokenRequest)) → left_in g (slots ++ more) ≡ left_in g slots ++ left_in g more
 left-append g slots more = ap (without g.dropped) (requests_in-append slots more) ∙ without-append g.dropped (requests_in slots) (requests_in more)
 
--- whether it needs a byte of one that stands in the slots
+-- the test of a request against those in slots that are not dropped
 pub meets-left : (g : Gone) (slots : List (Option TokenRequest)) (r : TokenRequest) → list_any (λ slot. meets_some r (left_in g (slot ∷ []))) slots ≡ meets_some r (left_in g slots)
 meets-left g [] r = sym (ap (meets_some r) (without-nil g.dropped))
 meets-left g (slot ∷ slots) r =
@@ -106,7 +106,7 @@ meets-left g (slot ∷ slots) r =
     ∙ sym (both-meet r (left_in g (slot ∷ [])) (left_in g slots))
     ∙ sym (ap (meets_some r) (left-append g (slot ∷ []) slots))
 
--- one that is dropped is none, and another is itself
+-- a request that is dropped leaves an empty list
 pub without-dropped : (dropped : Option (ℕ × ℕ)) (r : TokenRequest) → is_up_to_any dropped r ≡ true → without dropped (r ∷ []) ≡ []
 without-dropped None r is = absurd (cc)
 without-dropped (Some d) r is = ap (λ (b : Bool). cond (not b) (r ∷ []) []) is
@@ -115,7 +115,7 @@ pub without-other : (dropped : Option (ℕ × ℕ)) (r : TokenRequest) → is_up
 without-other None r is = refl
 without-other (Some d) r is = ap (λ (b : Bool). cond (not b) (r ∷ []) []) is
 
--- the first slots, one more, and all
+-- the requests in the first slots and in one more
 slot-done : (g : Gone) (front slots : List (Option TokenRequest)) (place : ℕ) → place < length slots → left_in g front ++ left_in g (take (place + 1) slots) ≡ (left_in g front ++ left_in g (take place slots)) ++ left_in g (request_at slots place ∷ [])
 slot-done g front slots place low =
     ap (λ (xs : List TokenRequest). left_in g front ++ xs) (ap (left_in g) (take_more slots place None low) ∙ left-append g (take place slots) (request_at slots place ∷ []))
@@ -129,13 +129,13 @@ slot-all g front slots place low =
     ∙ ap (λ (xs : List TokenRequest). left_in g (take place slots) ++ xs) (ap (left_in g) (drop_more slots place None low) ∙ left-append g (request_at slots place ∷ []) (drop (place + 1) slots)))
     ∙ sym (append_assoc (left_in g front) (left_in g (take place slots)) (left_in g (request_at slots place ∷ []) ++ left_in g (drop (place + 1) slots)))
 
--- a slot in which none is left
+-- a slot without a request that is left: nothing is admitted
 pub comes-none : (g : Gone) (active : List TokenRequest) (front slots : List (Option TokenRequest)) (place : ℕ) (fresh : List TokenRequest) → place < length slots → left_in g (request_at slots place ∷ []) ≡ [] → IsAdmitted active (left_in g front ++ left_in g (take place slots)) fresh → IsAdmitted active (left_in g front ++ left_in g (take (place + 1) slots)) fresh
 comes-none g active front slots place fresh low none is =
     let done : List TokenRequest = left_in g front ++ left_in g (take place slots) in
     subst (λ (xs : List TokenRequest). IsAdmitted active xs fresh) (sym (slot-done g front slots place low ∙ ap (λ (xs : List TokenRequest). done ++ xs) none ∙ append-nil done)) is
 
--- a slot in which one is left, that of no call before it
+-- a slot with a request that is left, of a call that has none before it
 module _ (g : Gone) (active : List TokenRequest) (front slots : List (Option TokenRequest)) (place : ℕ) (fresh : List TokenRequest) (r : TokenRequest) (low : place < length slots) (one : left_in g (request_at slots place ∷ []) ≡ r ∷ []) (distinct : AreDistinct (left_in g front ++ left_in g slots)) (is : IsAdmitted active (left_in g front ++ left_in g (take place slots)) fresh) where
   abbrev done : List TokenRequest
   done = left_in g front ++ left_in g (take place slots)
@@ -150,27 +150,27 @@ module _ (g : Gone) (active : List TokenRequest) (front slots : List (Option Tok
   test : (b : Bool) → (meets_some r active || (meets_some r (left_in g front) || meets_some r (left_in g (take place slots)))) ≡ b → (meets_some r active || meets_some r done) ≡ b
   test b h = ap (λ (t : Bool). meets_some r active || t) (both-meet r (left_in g front) (left_in g (take place slots))) ∙ h
 
-  -- it stays
+  -- the request in the slot stays queued
   pub comes-stays : (meets_some r active || (meets_some r (left_in g front) || meets_some r (left_in g (take place slots)))) ≡ true → IsAdmitted active (left_in g front ++ left_in g (take (place + 1) slots)) fresh
   comes-stays h = subst (λ (xs : List TokenRequest). IsAdmitted active xs fresh) (sym next) (admitted-stays active done fresh r is alone (test true h))
 
-  -- it comes
+  -- the request in the slot is admitted
   pub comes-goes : (meets_some r active || (meets_some r (left_in g front) || meets_some r (left_in g (take place slots)))) ≡ false → IsAdmitted active (left_in g front ++ left_in g (take (place + 1) slots)) (fresh ++ r ∷ [])
   comes-goes h = subst (λ (xs : List TokenRequest). IsAdmitted active xs (fresh ++ r ∷ [])) (sym next) (admitted-goes active done fresh r is alone (test false h))
 
--- of a queue that has settled each stays
+-- in a settled queue each request stays
 pub stays-all : (active before queue : List TokenRequest) → all_stay active before queue ≡ true → Stay active before queue
 stays-all active before [] h = tt
 stays-all active before (r ∷ rest) h =
     let parts = and_parts (meets_some r active || meets_some r before) (all_stay active (before ++ r ∷ []) rest) h in
     (parts.0, stays-all active (before ++ r ∷ []) rest parts.1)
 
--- also beside the one that has ended last
+-- in a settled queue each request stays, with the ended one at the end of the active
 freed-stay : (active queue : List TokenRequest) (call : CallId) (ended : TokenRequest) → HasEnded active queue call ended → Stay (still_active (Some call) active ++ ended ∷ []) [] queue
 freed-stay active queue call ended has =
     stay-same active (still_active (Some call) active ++ ended ∷ []) [] queue (ended-meets call active ended has.few has.found) (stays-all active [] queue has.settled)
 
--- a request that needs no byte of that one stays
+-- a request that needs no byte of the ended one stays
 pub freed-skip : (active : List TokenRequest) (slots : List (Option TokenRequest)) (call : CallId) (ended : TokenRequest) (place : ℕ) (fresh : List TokenRequest) (r : TokenRequest) → HasEnded active (requests_in slots) call ended → place < length slots → request_at slots place ≡ Some r → meets ended.wanted.required r.wanted.required ≡ false → IsAdmitted (still_active (Some call) active) (requests_in (take place slots)) fresh → IsAdmitted (still_active (Some call) active) (requests_in (take (place + 1) slots)) fresh
 freed-skip active slots call ended place fresh r has low at apart is =
     subst (λ (xs : List TokenRequest). IsAdmitted on xs fresh) (sym next) (admitted-stays on done fresh r is (distinct-before done rest r (subst AreDistinct around has.distinct) (own-call r)) (by (meets_some r on) (meets_some r done) (sym (ap (λ (t : Bool). t || meets_some r done) beside) ∙ here)))
@@ -200,14 +200,14 @@ freed-skip active slots call ended place fresh r has low at apart is =
     by true d h = refl
     by false d h = h
 
--- one that needs all of its bytes
+-- a request that needs all bytes of the ended one
 pub freed-all : (slots : List (Option TokenRequest)) (ended : TokenRequest) (place : ℕ) (r : TokenRequest) → place < length slots → request_at slots place ≡ Some r → r.wanted.required.lo ≤ ended.wanted.required.lo → ended.wanted.required.hi ≤ r.wanted.required.hi → NeedsAllOf ended (requests_in (take (place + 1) slots))
 freed-all slots ended place r low at starts ends q meet =
     ap (meets_some q) (requests_in-more slots place low ∙ ap (λ (slot : Option TokenRequest). requests_in (take place slots) ++ requests_in (slot ∷ [])) at)
     ∙ both-meet q (requests_in (take place slots)) (r ∷ [])
     ∙ or-second (meets_some q (requests_in (take place slots))) (meets q.wanted.required r.wanted.required || false) (or-end (meets q.wanted.required r.wanted.required) ∙ meets-within q.wanted.required r.wanted.required ended.wanted.required starts ends meet)
 
--- then all behind it stay
+-- behind a request that needs all bytes of the ended one, all stay
 pub freed-rest : (active : List TokenRequest) (slots : List (Option TokenRequest)) (call : CallId) (ended : TokenRequest) (place : ℕ) (fresh : List TokenRequest) → HasEnded active (requests_in slots) call ended → NeedsAllOf ended (requests_in (take place slots)) → IsAdmitted (still_active (Some call) active) (requests_in (take place slots)) fresh → IsAdmitted (still_active (Some call) active) (requests_in slots) fresh
 freed-rest active slots call ended place fresh has all is =
     subst (λ (xs : List TokenRequest). IsAdmitted on xs fresh) (sym parts) (admitted-rest on done rest fresh own-call (subst AreDistinct parts has.distinct) is (stay-covered on ended done rest all (stay-behind (on ++ ended ∷ []) [] done rest (subst (Stay (on ++ ended ∷ []) []) parts (freed-stay active (requests_in slots) call ended has)))))
@@ -224,14 +224,14 @@ freed-rest active slots call ended place fresh has all is =
     parts : requests_in slots ≡ done ++ rest
     parts = ap requests_in (sym (take-append-drop place slots)) ∙ requests_in-append (take place slots) (drop place slots)
 
--- the first of requests of distinct calls
+-- where requests are of distinct calls, so are the first of them
 pub distinct-first : (xs ys : List TokenRequest) → AreDistinct (xs ++ ys) → AreDistinct xs
 distinct-first xs ys distinct = λ call.
     let a : calls call (xs ++ ys) ≡ calls call xs + calls call ys = calls-append call xs ys in
     let b : calls call (xs ++ ys) ≤ 1 = distinct call in
     omega arith
 
--- those that are queued before others move
+-- where the queue after a move is of distinct calls, so is the queue before
 pub distinct-before_moved : (moved : Moved) (queue waiting : List TokenRequest) → AreDistinct (queue_moved moved queue waiting) → AreDistinct queue
 distinct-before_moved Nothing queue waiting distinct = distinct
 distinct-before_moved (New r) queue waiting distinct = distinct-first queue (r ∷ []) distinct

@@ -1,4 +1,4 @@
--- What is left of a span without the bytes of another.
+-- A span without the bytes of another: cutting.
 use Rattle.std.specs.Prelude.{◌≡◌, ℕ, ◌+◌, ◌-◌, ◌<◌, ◌≤◌, ◌⊎◌, Bool, true, false, not, ◌&&◌, ◌||◌, cond, max, min, nat_le, nat_lt, List, [], ◌∷◌, ◌++◌, All}
 use Rattle.std.specs.List.{list_any}
 use Rattle.std.proofs.Common.{refl, ap, sym, subst, ◌∙◌, inl, inr, arith, append-nil, append_assoc}
@@ -49,7 +49,7 @@ from_outside required other b out above below =
     is_out (inl h) = not_lo required.lo h
     is_out (inr h) = not_hi required.hi h
 
--- the first byte of what is left, and the last
+-- the bounds of the cut span
 record IsCut (required within other s : Range) : Type 0 where
   lo_cut : other.lo < required.lo → s.lo ≡ max within.lo (min (other.hi + 1) required.lo)
   lo_same : required.lo ≤ other.lo → s.lo ≡ within.lo
@@ -71,14 +71,14 @@ cut-cases required within other =
     let hi = chosen required.hi other.hi (min within.hi (max (other.lo - 1) required.hi)) within.hi in
     record { lo_cut = lo.0; lo_same = lo.1; hi_cut = hi.0; hi_same = hi.1 }
 
--- what the less of two is, and the greater
+-- the less of two numbers is the first or the second, and so is the greater
 mins : (a b : ℕ) → ((a ≤ b) × (min a b ≡ a)) ⊎ ((b ≤ a) × (min a b ≡ b))
 mins a b = elim (cases_lt a b) [
   | inl less ↦ let le : a ≤ b = omega arith in inl (le, min-eq_left le)
   | inr more ↦ inr (more, min-eq_right more)
 ]
 
--- it is the largest of its kind
+-- the cut span is the largest with its bounds
 cut-largest : (required within other s : Range) → required.lo ≤ required.hi → within.lo ≤ required.lo → required.hi ≤ within.hi → other.lo ≤ other.hi → IsCut required within other s → IsLargest (λ b. only_in required other b ≡ true) required within s
 cut-largest required within other s order starts ends full c = record {
   has_first = bounds_lo.1;
@@ -155,7 +155,7 @@ cut-is required within other order starts ends full =
 none_only : (required other : Range) → NoneIn (λ b. only_in required other b ≡ true) required
 none_only required other b above below h = elim (outside required other b h).0 [ inl under ↦ omega arith | inr past ↦ omega arith ]
 
--- of a span that has no byte of what is required
+-- the cut by a span that has no byte of the required one
 pub cut-apart : (required within other : Range) → required.lo ≤ required.hi → within.lo ≤ required.lo → required.hi ≤ within.hi → other.lo ≤ other.hi → NoneIn (λ b. is_in other b ≡ true) required → cut required within other ≡ largest_around (is_in other) required within
 cut-apart required within other order starts ends full apart =
     cut-is required within other order starts ends full ∙ largest_around-same (only_in required other) (is_in other) required within (λ b. by b (is_in required b) (is_in other b) refl refl)
@@ -167,7 +167,7 @@ cut-apart required within other order starts ends full apart =
         let ends = and_parts (nat_le required.lo b) (nat_le b required.hi) i in
         absurd (apart b (leb-true required.lo b ends.0) (leb-true b required.hi ends.1) j)
 
--- what a request is left with by those so far, and the bounds that it keeps
+-- the largest span that a request keeps beside these active ones, and its bounds
 pub record IsLeft (active : List TokenRequest) (r : TokenRequest) (span : Range) : Type 0 where
   pub order : r.wanted.required.lo ≤ r.wanted.required.hi
   pub starts : r.wanted.desired.lo ≤ r.wanted.required.lo
@@ -190,7 +190,7 @@ left-start r order starts ends = record {
     none : (b : ℕ) → is_needed [] r b ≡ true → ⊥
     none b h = both_ways false refl (and_parts (not (is_in r.wanted.required b)) false h).1
 
--- one more that is served
+-- one active request more cuts the span
 pub left-more : (active : List TokenRequest) (q r : TokenRequest) (span : Range) → q.wanted.required.lo ≤ q.wanted.required.hi → IsLeft active r span → IsLeft (active ++ q ∷ []) r (cut r.wanted.required span q.wanted.required)
 left-more active q r span full l = record { order = l.order; starts = l.starts; ends = l.ends; value = is }
   where
@@ -214,12 +214,12 @@ left-more active q r span full l = record { order = l.order; starts = l.starts; 
         ∙ sym (largest_around-or (is_needed active r) (only_in required q.wanted.required) required r.wanted.desired l.order l.starts l.ends (none_needed active r) (none_only required q.wanted.required))
         ∙ sym (largest_around-same (is_needed (active ++ q ∷ []) r) (λ b. is_needed active r b || only_in required q.wanted.required b) required r.wanted.desired same)
 
--- what is just required loses nothing
+-- a request that desires just what it requires keeps that
 pub left-exact : (active : List TokenRequest) (r : TokenRequest) → r.wanted.required.lo ≤ r.wanted.required.hi → r.wanted.desired.lo ≡ r.wanted.required.lo → r.wanted.desired.hi ≡ r.wanted.required.hi → r.wanted.desired ≡ narrowed active r
 left-exact active r order starts ends =
     sym (largest_around-free (is_needed active r) r.wanted.required r.wanted.desired order (omega arith) (omega arith) (λ b above below. none_needed active r b (omega arith) (omega arith)))
 
--- where no more is left than is required, no other request takes a byte away
+-- where the span is down to the required bytes, no further request takes a byte away
 pub left-least : (active more : List TokenRequest) (r : TokenRequest) (span : Range) → IsLeft active r span → span ≡ r.wanted.required → span ≡ narrowed (active ++ more) r
 left-least active more r span l exact =
     exact ∙ largest_around-is (is_needed (active ++ more) r) r.wanted.required r.wanted.desired r.wanted.required l.order (record {
@@ -247,7 +247,7 @@ left-least active more r span l exact =
 abbrev pub HasByte : TokenRequest → Type 0
 HasByte r = r.wanted.required.lo ≤ r.wanted.required.hi
 
--- what is left contains what is required, whatever the other span is
+-- the cut span contains the required one, whatever the other span is
 pub cut-keeps : (required within other : Range) → within.lo ≤ required.lo → required.hi ≤ within.hi → ((cut required within other).lo ≤ required.lo) × (required.hi ≤ (cut required within other).hi)
 cut-keeps required within other starts ends = (lo, hi)
   where
@@ -272,7 +272,7 @@ cut-keeps required within other starts ends = (lo, hi)
       | inr under ↦ let is = c.hi_same under in omega (arith, is)
     ]
 
--- a span that has no byte of the other one loses none
+-- a cut by a span without a common byte changes nothing
 pub cut-clear : (required within other : Range) → required.lo ≤ required.hi → within.lo ≤ required.lo → required.hi ≤ within.hi → other.lo ≤ other.hi → meets within other ≡ false → cut required within other ≡ within
 cut-clear required within other order starts ends full apart = λ i. record { lo = lo i; hi = hi i }
   where
@@ -316,7 +316,7 @@ cut-clear required within other order starts ends full apart = λ i. record { lo
       | inr under ↦ c.hi_same under
     ]
 
--- what is left of a span without the bytes that those requests need
+-- the largest span that is left by these requests
 pub record AreCut (required within : Range) (xs : List TokenRequest) (span : Range) : Type 0 where
   pub value : span ≡ cut_all required within xs
   pub starts : span.lo ≤ required.lo
@@ -340,7 +340,7 @@ cut-more required within xs span q full c =
       full = All-push HasByte xs q c.full full;
     }
 
--- the same of all that are served
+-- the largest span that is left by all active requests
 pub left-all : (active xs : List TokenRequest) (r : TokenRequest) (span : Range) → All HasByte xs → IsLeft active r span → IsLeft (active ++ xs) r (cut_all r.wanted.required span xs)
 left-all active [] r span full l = subst (λ (all : List TokenRequest). IsLeft all r span) (sym (append-nil active)) l
 left-all active (q ∷ xs) r span full l =

@@ -1,4 +1,4 @@
--- Requests that are served, as one of them ends.
+-- The active requests, as one of them ends.
 use Rattle.std.specs.Prelude.{ℕ, not, List, Option, Some, None}
 use Rattle.std.proofs.Common.{sym, ap, subst, ◌∙◌, arith}
 use Rattle.token_queue.specs.declared.held.Held.{Held}
@@ -10,7 +10,7 @@ use Rattle.token_server.specs.Edits.{held_without}
 use Rattle.token_server.proofs.OrderlyLaws.{calls-fewer}
 use Rattle.token_server.proofs.TurnLaws.{waiting_for-requests, without-requests}
 
--- no two of those that are not dropped are of one call
+-- no two of the active requests that are not dropped are of one call
 pub distinct-kept : (dropped : Option (ℕ × ℕ)) (ats : List ℕ) (held : List Held) → AreDistinct (requests_of held) → AreDistinct (requests_of (held_without dropped (waiting_for ats held)))
 distinct-kept None ats held distinct = subst AreDistinct (sym (waiting_for-requests ats held)) distinct
 distinct-kept (Some d) ats held distinct =

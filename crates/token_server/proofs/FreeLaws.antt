@@ -1,4 +1,4 @@
--- What a change of a row leaves in the way of a request.
+-- The rows that block a request, after a change of one row.
 use Rattle.std.specs.Prelude.{◌≡◌, ℕ, ◌+◌, ◌-◌, ◌<◌, ◌≤◌, Bool, true, false, not, cond, ◌&&◌, ◌||◌, ◌==◌, nat_le, nat_lt, Option, Some, None}
 use Rattle.std.proofs.Common.{refl, sym, ap, ◌∙◌, inl, inr, arith}
 use Rattle.std.proofs.lemmas.Bool.{both_ways, and_from, le-leb, false_from_ne_true}
@@ -42,7 +42,7 @@ lowered-fewer t span s by mode some =
     at b true h = level-fewer (t b) by mode h
     at b false h = h
 
--- one that is lowered elsewhere conflicts as before
+-- a token that is lowered elsewhere conflicts as before
 lowered-elsewhere : (t : Token) (span s : Range) (by mode : Mode) → meets span s ≡ false → conflicts (lowered t span by) s mode ≡ conflicts t s mode
 lowered-elsewhere t span s by mode apart =
     let same = first-same (λ b. level_conflicts (lowered t span by b) mode) (λ b. level_conflicts (t b) mode) s.lo (size s) (λ b above below. ap (λ l. level_conflicts l mode) (at b (is_in span b) refl above below)) in
@@ -58,7 +58,7 @@ none-empty s mode = false_from_ne_true (conflicts no_token s mode) (λ some.
     let one = some_passes-first (λ b. level_conflicts (no_token b) mode) s.lo (size s) some in
     both_ways false refl one.here)
 
--- a row that changes so conflicts no more than before
+-- a row after a change conflicts no more than before
 above-fewer : (i : ℕ) (o : Option Row) (s : Range) (mode : Mode) → row_conflicts (row_above i o) s mode ≡ true → row_conflicts o s mode ≡ true
 above-fewer i None s mode h = h
 above-fewer i (Some row) s mode h = by (nat_le row.incarnation i) h
@@ -84,7 +84,7 @@ above-same : (i : ℕ) (o : Option Row) → is_dropped i o ≡ false → row_abo
 above-same i None kept = refl
 above-same i (Some row) kept = ap (λ (b : Bool). let o : Option Row = cond b None (Some row) in o) kept
 
--- and as before where nothing is freed
+-- a row after a change that frees nothing conflicts as before
 pub row_after-same : (c : NodeChange) (o : Option Row) (s : Range) (mode : Mode) → frees c o s ≡ false → row_conflicts (row_after c o) s mode ≡ row_conflicts o s mode
 row_after-same (Forgotten i) o s mode kept = ap (λ (x : Option Row). row_conflicts x s mode) (above-same i o kept)
 row_after-same (Asked host begin) o s mode kept =
@@ -95,7 +95,7 @@ row_after-same (Relieved span by) None s mode kept = refl
 row_after-same (Relieved span by) (Some row) s mode kept = lowered-elsewhere row.token span s by mode kept
 row_after-same (Reported runs) o s mode kept = absurd (cc)
 
--- the obstacle of a request, where the row of a node changes so that it comes in no one's way: another one's stays, and its own where nothing is freed
+-- the node that blocks a request, after a change that blocks none: another node stays it, and the changed one too where nothing is freed
 obstacle-less : (s t : ServerState) (r : TokenRequest) (node : ℕ) (c : NodeChange) → may_bar c ≡ false → t.shape.nodes ≡ s.shape.nodes → t.rows ≡ with_change node (row_after c) s.rows → (obstacle s r == node && frees c (s.rows node) r.wanted.required) ≡ false → obstacle t r ≡ obstacle s r
 obstacle-less s t r node c less nodes rows kept = obstacle-kept s t r nodes fewer here
   where

@@ -1,4 +1,4 @@
--- Requests that come from the queue once one is served no longer.
+-- The admission from the queue after an active request ended.
 use Rattle.std.specs.Prelude.{◌≡◌, ◌+◌, ◌≤◌, Bool, true, false, cond, not, ◌||◌, nat_le, List, [], ◌∷◌, ◌++◌, filter, find, Some}
 use Rattle.std.proofs.Common.{refl, sym, ap, subst, ◌∙◌, arith, append-nil, append_assoc}
 use Rattle.std.proofs.lemmas.Bool.{and_parts, and_from, leb-true, le-leb}
@@ -13,7 +13,7 @@ use Rattle.token_server.specs.Ready.{AreDistinct}
 use Rattle.token_server.proofs.StayLaws.{Stay}
 use Rattle.token_server.proofs.AdmittingLaws.{calls, calls-append, calls-cons, both-meet, admitted-stays}
 
--- a call that has a request has no other before it
+-- a call that has a request has no other before it, where calls are distinct
 pub distinct-before : (done rest : List TokenRequest) (r : TokenRequest) → AreDistinct (done ++ r ∷ rest) → is_of_call r.call r ≡ true → calls r.call done ≡ 0
 distinct-before done rest r distinct own =
     let a : calls r.call (done ++ r ∷ rest) ≡ calls r.call done + calls r.call (r ∷ rest) = calls-append r.call done (r ∷ rest) in
@@ -21,25 +21,25 @@ distinct-before done rest r distinct own =
     let c : calls r.call (done ++ r ∷ rest) ≤ 1 = distinct r.call in
     omega arith
 
--- who stays beside the one stays beside the other, where they need the same bytes
+-- who stays beside some active requests stays beside others that need the same bytes
 pub stay-same : (active others before queue : List TokenRequest) → ((r : TokenRequest) → meets_some r active ≡ meets_some r others) → Stay active before queue → Stay others before queue
 stay-same active others before [] same all = tt
 stay-same active others before (r ∷ rest) same all =
     (ap (λ (b : Bool). b || meets_some r before) (sym (same r)) ∙ all.0, stay-same active others (before ++ r ∷ []) rest same all.1)
 
--- one of those that stay
+-- each request of those that stay needs a byte of an active one, or of one before it
 pub stay-at : (active before done rest : List TokenRequest) (r : TokenRequest) → Stay active before (done ++ r ∷ rest) → (meets_some r active || meets_some r (before ++ done)) ≡ true
 stay-at active before [] rest r all = ap (λ (xs : List TokenRequest). meets_some r active || meets_some r xs) (append-nil before) ∙ all.0
 stay-at active before (q ∷ done) rest r all =
     ap (λ (xs : List TokenRequest). meets_some r active || meets_some r xs) (sym (append_assoc before (q ∷ []) done)) ∙ stay-at active (before ++ q ∷ []) done rest r all.1
 
--- and those behind it
+-- behind some that stay, the others stay
 pub stay-behind : (active before done rest : List TokenRequest) → Stay active before (done ++ rest) → Stay active (before ++ done) rest
 stay-behind active before [] rest all = subst (λ (xs : List TokenRequest). Stay active xs rest) (sym (append-nil before)) all
 stay-behind active before (q ∷ done) rest all =
     subst (λ (xs : List TokenRequest). Stay active xs rest) (append_assoc before (q ∷ []) done) (stay-behind active (before ++ q ∷ []) done rest all.1)
 
--- where those before them need all that one needs which is served no longer, they stay without it
+-- where requests before them need all bytes of the ended one, requests stay without it
 pub stay-covered : (active : List TokenRequest) (ended : TokenRequest) (before queue : List TokenRequest) → ((r : TokenRequest) → meets r.wanted.required ended.wanted.required ≡ true → meets_some r before ≡ true) → Stay (active ++ ended ∷ []) before queue → Stay active before queue
 stay-covered active ended before [] cover all = tt
 stay-covered active ended before (r ∷ rest) cover all =
@@ -53,7 +53,7 @@ stay-covered active ended before (r ∷ rest) cover all =
     more : (q : TokenRequest) → meets q.wanted.required ended.wanted.required ≡ true → meets_some q (before ++ r ∷ []) ≡ true
     more q h = both-meet q before (r ∷ []) ∙ ap (λ (b : Bool). b || meets_some q (r ∷ [])) (cover q h)
 
--- all others stay
+-- the rest of the queue stays, and none of it is admitted
 pub admitted-rest : (active done rest fresh : List TokenRequest) → ((r : TokenRequest) → is_of_call r.call r ≡ true) → AreDistinct (done ++ rest) → IsAdmitted active done fresh → Stay active done rest → IsAdmitted active (done ++ rest) fresh
 admitted-rest active done [] fresh own distinct is all = subst (λ (xs : List TokenRequest). IsAdmitted active xs fresh) (sym (append-nil done)) is
 admitted-rest active done (r ∷ rest) fresh own distinct is all =
@@ -61,7 +61,7 @@ admitted-rest active done (r ∷ rest) fresh own distinct is all =
     let one = admitted-stays active done fresh r is (distinct-before done rest r distinct (own r)) all.0 in
     subst (λ (xs : List TokenRequest). IsAdmitted active xs fresh) next (admitted-rest active (done ++ r ∷ []) rest fresh own (subst AreDistinct (sym next) distinct) one all.1)
 
--- a span that holds another one meets all that it meets
+-- a span that contains another one meets all that it meets
 pub meets-within : (s t u : Range) → t.lo ≤ u.lo → u.hi ≤ t.hi → meets s u ≡ true → meets s t ≡ true
 meets-within s t u starts ends both =
     let parts = and_parts (nat_le s.lo u.hi) (nat_le u.lo s.hi) both in
@@ -69,7 +69,7 @@ meets-within s t u starts ends both =
     let b : u.lo ≤ s.hi = leb-true u.lo s.hi parts.1 in
     and_from (nat_le s.lo t.hi) (nat_le t.lo s.hi) (le-leb s.lo t.hi (omega arith)) (le-leb t.lo s.hi (omega arith))
 
--- those that are served, with the one of the call last in place of where it stood
+-- the active requests need the same bytes with the ended one moved to the end
 pub ended-meets : (call : CallId) (active : List TokenRequest) (ended : TokenRequest) → calls call active ≤ 1 → find (is_of_call call) active ≡ Some ended → (r : TokenRequest) → meets_some r active ≡ meets_some r (filter (λ q. not (is_of_call call q)) active ++ ended ∷ [])
 ended-meets call [] ended few found r = absurd (cc)
 ended-meets call (q ∷ rest) ended few found r = by (is_of_call call q) refl few_cons found (ended-meets call rest ended)
@@ -83,7 +83,7 @@ ended-meets call (q ∷ rest) ended few found r = by (is_of_call call q) refl fe
     M : TokenRequest → Bool
     M x = meets r.wanted.required x.wanted.required
 
-    -- of the others none is of the call
+    -- where no request is of the call, removing the call's keeps all
     none : (xs : List TokenRequest) → calls call xs ≡ 0 → filter (λ q. not (is_of_call call q)) xs ≡ xs
     none [] h = refl
     none (x ∷ xs) h = go (is_of_call call x) (sym (calls-cons call x xs) ∙ h) (none xs)

@@ -1,4 +1,4 @@
--- What serving one request leaves in the way of the others.
+-- The rows that block the other requests, after one is served.
 use Rattle.std.specs.Prelude.{◌≡◌, ℕ, ◌+◌, ◌≤◌, Bool, true, false, not, cond, ◌&&◌, ◌||◌, ◌==◌, nat_le, nat_lt, List, [], ◌∷◌, ◌++◌, All, is_some, Option, Some, None, Result, Ok, Err}
 use Rattle.std.specs.List.{list_any}
 use Rattle.std.proofs.Common.{refl, sym, ap, subst, ◌∙◌, inl, inr, append_assoc}
@@ -23,7 +23,7 @@ use Rattle.token_server.proofs.AdmittingLaws.{both-meet, meets-flip, neither}
 use Rattle.token_server.proofs.CareLaws.{All-left, All-right}
 use Rattle.token_server.proofs.ObstacleLaws.{granted-spares, served-leaves}
 
--- none of the others needs a byte that the request needs
+-- no other active request needs a byte that this one needs
 none-each : (r : TokenRequest) (qs : List TokenRequest) → meets_some r qs ≡ false → All (λ q. meets r.wanted.required q.wanted.required ≡ false) qs
 none-each r [] none = All-nil (λ q. meets r.wanted.required q.wanted.required ≡ false)
 none-each r (q ∷ qs) none =
@@ -42,7 +42,7 @@ apart-before (x ∷ xs) ys r apart =
     let one = neither (meets x.wanted.required r.wanted.required) (meets_some x ys) (neither (meets_some x xs) (meets_some x (r ∷ ys)) none).1 in
     All-cons (λ q. meets r.wanted.required q.wanted.required ≡ false) x xs (meets-flip r.wanted.required x.wanted.required ∙ one.0) (apart-before xs ys r parts.1)
 
--- what one needs is needed by one of all
+-- a byte that one request needs is needed by one of all
 abbrev pub IsAmongNeeds : List TokenRequest → TokenRequest → Type 0
 IsAmongNeeds all q = (b : ℕ) → is_in q.wanted.required b ≡ true → list_any (λ x. is_in x.wanted.required b) all ≡ true
 
@@ -64,14 +64,14 @@ among-some before (q ∷ qs) =
 pub among-all : (all : List TokenRequest) → All (IsAmongNeeds all) all
 among-all all = among-some [] all
 
--- the same rows stand in the way of a request
+-- a request is blocked by the same row before and after
 abbrev pub StandSame : ServerState → ServerState → TokenRequest → Type 0
 StandSame s t q = (n : ℕ) → conflicts_at t q n ≡ conflicts_at s q n
 
 abbrev Answer : Type 0
 Answer = Result (ServerState × List Message) StepError
 
--- of the request that is served itself
+-- serving that sends nothing leaves the row that blocks the request
 silent-same : (s t : ServerState) (q : TokenRequest) (out : List Message) → ◌≡◌ {A = Answer} (Ok (s, [])) (Ok (t, out)) → StandSame s t q
 silent-same s t q out h =
     let pair : ◌≡◌ {A = ServerState × List Message} (s, []) (t, out) = cc in
@@ -120,13 +120,13 @@ served-own s t q out is = by (nat_le node s.shape.nodes) is
     by true h = revoked (s.rows node) refl h
     by false h = granted (s.rows q.call.node) h
 
--- of one that needs no byte that it needs
+-- serving a request leaves the row that blocks another, which needs no byte that it needs
 served-other : (s t : ServerState) (r q : TokenRequest) (out : List Message) → r.wanted.required.lo ≤ r.wanted.required.hi → r.wanted.desired.lo ≤ r.wanted.required.lo → r.wanted.required.hi ≤ r.wanted.desired.hi → IsAmongNeeds s.active q → meets r.wanted.required q.wanted.required ≡ false → served s r ≡ Ok (t, out) → StandSame s t q
 served-other s t r q out order starts ends among apart is =
     let leaves = served-leaves s t r out q.wanted.required q.mode (λ b within here. granted-spares s r q order starts ends among apart b within here) is in
     λ n. ap (λ (b : Bool). not (n == q.call.node) && b) (leaves.rows n)
 
--- serving one leaves in the way of each what stood there
+-- serving a request leaves the row that blocks each active one
 pub served-same : (s t : ServerState) (r : TokenRequest) (out : List Message) (xs ys : List TokenRequest) → s.active ≡ xs ++ r ∷ ys → are_apart s.active ≡ true → r.wanted.required.lo ≤ r.wanted.required.hi → r.wanted.desired.lo ≤ r.wanted.required.lo → r.wanted.required.hi ≤ r.wanted.desired.hi → served s r ≡ Ok (t, out) → All (StandSame s t) (xs ++ r ∷ ys)
 served-same s t r out xs ys split apart order starts ends is =
     All-append (StandSame s t) xs (r ∷ ys) (each xs before (apart-before xs ys r both)) (All-cons (StandSame s t) r ys (served-own s t r out is) (each ys behind (apart-behind xs ys r both)))

@@ -1,4 +1,4 @@
--- What stands in the way of a request that is served, and what leaves it there.
+-- The node that blocks an active request, and what keeps it so.
 use Rattle.std.specs.Prelude.{◌≡◌, ℕ, zero, suc, pred, ◌+◌, ◌-◌, ◌<◌, ◌≤◌, Bool, true, false, not, cond, nat_le, nat_lt, List, [], ◌∷◌, is_some, Option, Some, None, Result, Ok, Err}
 use Rattle.std.specs.List.{list_any}
 use Rattle.std.proofs.Common.{refl, sym, ap, subst, ◌∙◌, inl, inr, arith}
@@ -33,7 +33,7 @@ first-kept p q lo n fewer here =
       here = here;
     })
 
--- the obstacle of a request where as many rows conflict with it as before, or fewer, but the obstacle still does if it did
+-- the node that blocks a request stays it where no further row conflicts, and its row still does if it did
 pub obstacle-kept : (s t : ServerState) (r : TokenRequest) → t.shape.nodes ≡ s.shape.nodes → ((n : ℕ) → conflicts_at t r n ≡ true → conflicts_at s r n ≡ true) → (conflicting_node s r ≤ s.shape.nodes → conflicts_at t r (conflicting_node s r) ≡ true) → obstacle t r ≡ obstacle s r
 obstacle-kept s t r nodes fewer here =
     let same : conflicting_node t r ≡ conflicting_node s r =
@@ -43,7 +43,7 @@ obstacle-kept s t r nodes fewer here =
     within : first (conflicts_at s r) 1 s.shape.nodes < 1 + s.shape.nodes → first (conflicts_at s r) 1 s.shape.nodes ≤ s.shape.nodes
     within h = omega arith
 
--- where the same rows conflict with it
+-- the node that blocks a request stays it where the same rows conflict
 pub obstacle-same : (s t : ServerState) (r : TokenRequest) → t.shape.nodes ≡ s.shape.nodes → ((n : ℕ) → conflicts_at t r n ≡ conflicts_at s r n) → obstacle t r ≡ obstacle s r
 obstacle-same s t r nodes same =
     let both : conflicting_node t r ≡ conflicting_node s r =
@@ -60,7 +60,7 @@ meets-from s t b in_s in_t =
     let hi2 : b ≤ t.hi = leb-true b t.hi pt.1 in
     and_from (nat_le s.lo t.hi) (nat_le t.lo s.hi) (le-leb s.lo t.hi (omega arith)) (le-leb t.lo s.hi (omega arith))
 
--- what is left of what a request would like to have has no byte that another one needs
+-- the narrowed desired span has no byte that another active request needs
 pub narrowed-spares : (active : List TokenRequest) (r q : TokenRequest) → r.wanted.required.lo ≤ r.wanted.required.hi → r.wanted.desired.lo ≤ r.wanted.required.lo → r.wanted.required.hi ≤ r.wanted.desired.hi → ((b : ℕ) → is_in q.wanted.required b ≡ true → list_any (λ x. is_in x.wanted.required b) active ≡ true) → meets r.wanted.required q.wanted.required ≡ false → (b : ℕ) → (narrowed active r).lo ≤ b → b ≤ (narrowed active r).hi → is_in q.wanted.required b ≡ true → ⊥
 narrowed-spares active r q order starts ends among apart b above below here =
     let l = narrowed-largest active r order starts ends in
@@ -78,7 +78,7 @@ raised-elsewhere t span s by mode apart =
     at b true is above below =
         absurd (apart b is (and_from (nat_le s.lo b) (nat_le b s.hi) (le-leb s.lo b above) (le-leb b s.hi (omega arith))))
 
--- the largest span lies within the other
+-- the largest span lies within the span that it is sought in
 around-starts : (barred : ℕ → Bool) (required within : Range) → within.lo ≤ (largest_around barred required within).lo
 around-starts barred required within = (first_is_first _ within.lo (required.lo - within.lo)).least
 
@@ -91,7 +91,7 @@ around-ends barred required within ends =
     below zero h = omega arith
     below (suc k) h = omega arith
 
--- so the span that a request is granted has no byte that another one needs
+-- the span that a request is granted has no byte that another active one needs
 pub granted-spares : (s : ServerState) (r q : TokenRequest) → r.wanted.required.lo ≤ r.wanted.required.hi → r.wanted.desired.lo ≤ r.wanted.required.lo → r.wanted.required.hi ≤ r.wanted.desired.hi → ((b : ℕ) → is_in q.wanted.required b ≡ true → list_any (λ x. is_in x.wanted.required b) s.active ≡ true) → meets r.wanted.required q.wanted.required ≡ false → (b : ℕ) → is_in (granted_span s r) b ≡ true → is_in q.wanted.required b ≡ true → ⊥
 granted-spares s r q order starts ends among apart b within here =
     let n = narrowed s.active r in
@@ -106,7 +106,7 @@ granted-spares s r q order starts ends among apart b within here =
 abbrev Answer : Type 0
 Answer = Result (ServerState × List Message) StepError
 
--- what serving leaves of the rest of a server
+-- the parts of a server that serving leaves
 pub record Leaves (F : Option Row → Bool) (s t : ServerState) : Type 0 where
   pub shape : t.shape ≡ s.shape
   pub file : t.file ≡ s.file
@@ -144,7 +144,7 @@ commanded-leaves F s t node row token command out there same is = by (is_some ro
         subst (Leaves F s) (ap (λ (p : ServerState × List Message). p.0) pair) (record { shape = refl; file = refl; epoch = refl; dead = refl; queue = refl; active = refl; waiting = refl; rows = at })
     by false false h = absurd (cc)
 
--- a request that is served leaves what other requests meet as it was
+-- serving one request leaves the rows that another one meets
 pub served-leaves : (s t : ServerState) (r : TokenRequest) (out : List Message) (span : Range) (mode : Mode) → ((b : ℕ) → is_in (granted_span s r) b ≡ true → is_in span b ≡ true → ⊥) → served s r ≡ Ok (t, out) → Leaves (λ o. row_conflicts o span mode) s t
 served-leaves s t r out span mode apart is = by (nat_le node s.shape.nodes) is
   where
@@ -173,7 +173,7 @@ commanded-silent s node row token command busy = by (is_some row.outstanding) bu
     by true busy = refl
     by false busy = absurd (cc)
 
--- nothing is sent for a request whose obstacle has a command under way
+-- nothing is sent for a request while the node that it waits for has an outstanding command
 pub served-silent : (s : ServerState) (r : TokenRequest) → is_idle (s.rows (obstacle s r)) ≡ false → served s r ≡ Ok (s, [])
 served-silent s r busy = by (nat_le node s.shape.nodes) busy
   where

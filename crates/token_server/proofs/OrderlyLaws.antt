@@ -1,4 +1,4 @@
--- What holds of all requests of a server: no two are of one call, and none is of an incarnation known as dead.
+-- All requests of a server: no two are of one call, and none is of an incarnation known to be dead.
 use Rattle.std.specs.Prelude.{◌≡◌, ℕ, ◌+◌, ◌-◌, ◌<◌, ◌≤◌, Bool, true, false, not, cond, ◌&&◌, ◌||◌, ◌==◌, nat_le, max, List, [], ◌∷◌, ◌++◌, All, filter, find, IfSome, Option, Some, None}
 use Rattle.std.specs.List.{list_any}
 use Rattle.std.specs.Option.{option_map}
@@ -31,7 +31,7 @@ use Rattle.token_server.proofs.AdmitLaws.{Lists}
 use Rattle.token_server.proofs.AdmittingLaws.{calls, calls-append, calls-cons, neither}
 use Rattle.token_server.proofs.CareLaws.{AreRequests, requests-parts, ready-each, find-each, find-passes, enqueued_with-each, requeued-each, ended-each, postponed-each, forgotten-each, forgotten-young}
 
--- the requests of a call, by their kinds
+-- the number of a call's requests is the sum of those active, queued and waiting
 pub calls-kinds : (call : CallId) (s : ServerState) → calls call (requests s) ≡ calls call s.active + (calls call s.queue + calls call s.waiting)
 calls-kinds call s = calls-append call s.active (s.queue ++ s.waiting) ∙ ap (λ (k : ℕ). calls call s.active + k) (calls-append call s.queue s.waiting)
 
@@ -48,7 +48,7 @@ calls-fewer call p (r ∷ rs) = by (p r) (calls-fewer call p rs)
         let b : calls call (r ∷ rs) ≡ cond (is_of_call call r) 1 0 + calls call rs = calls-cons call r rs in
         omega arith
 
--- none is of the call
+-- a list without a request of the call has 0 of them
 pub calls-none_of : (call : CallId) (rs : List TokenRequest) → list_any (is_of_call call) rs ≡ false → calls call rs ≡ 0
 calls-none_of call [] none = refl
 calls-none_of call (r ∷ rs) none = by (is_of_call call r) refl none (calls-none_of call rs)
@@ -80,7 +80,7 @@ find-none call (r ∷ rs) none = by (is_of_call call r) refl none (find-none cal
 pub one-call : (r : TokenRequest) (call other : CallId) → is_of_call call r ≡ true → is_of_call other r ≡ true → call ≡ other
 one-call r call other a b = sym (same_call-true r.call call a) ∙ same_call-true r.call other b
 
--- one that is served no longer, and perhaps waits
+-- a request that ends and perhaps waits is counted no more than before
 put_off-few : (c call : CallId) (rs : List TokenRequest) → calls c (filter (λ r. not (is_of_call call r)) rs) + calls c (put_off (request_of call rs)) ≤ calls c rs
 put_off-few c call [] = omega arith
 put_off-few c call (r ∷ rs) = by (is_of_call call r) (put_off-few c call rs) (calls-fewer c (λ q. not (is_of_call call q)) rs)
@@ -99,7 +99,7 @@ put_off-few c call (r ∷ rs) = by (is_of_call call r) (put_off-few c call rs) (
     by true h less = let own = some (same_blocking r.blocking Yes) in let whole = all in omega arith
     by false h less = let one : calls c (r ∷ rest) ≡ cond (is_of_call c r) 1 0 + calls c rest = calls-cons c r rest in let whole = all in omega arith
 
--- a request is living
+-- a request's incarnation is not known to be dead
 abbrev pub Living : (ℕ → ℕ) → TokenRequest → Type 0
 Living dead r = dead r.call.node < r.call.incarnation
 
@@ -181,7 +181,7 @@ orderly-forgotten s node incarnation o = record {
             later : incarnation < r.call.incarnation → max (s.dead r.call.node) incarnation < r.call.incarnation
             later h = omega arith
 
--- a new row changes no request
+-- the requests stay as they are where a row is added
 pub orderly-row : (s : ServerState) (call : CallId) (row : Option Row) → IsOrderly s → IsOrderly (with_a_row s call row)
 orderly-row s call None o = record {
   distinct = o.distinct;
@@ -190,14 +190,14 @@ orderly-row s call None o = record {
 }
 orderly-row s call (Some row) o = o
 
--- whether one is of the call
+-- one request counts 1 for its call, and 0 for any other
 pub calls-one : (c : CallId) (r : TokenRequest) (b : Bool) → is_of_call c r ≡ b → calls c (r ∷ []) ≡ cond b 1 0
 calls-one c r b is = calls-cons c r [] ∙ ap (λ (t : Bool). cond t 1 0 + 0) is ∙ plus-none (cond b 1 0)
   where
     plus-none : (n : ℕ) → n + 0 ≡ n
     plus-none n = omega arith
 
--- a request of a call that has none comes last in the queue
+-- the requests stay orderly where one of a new call is queued
 orderly-new : (s : ServerState) (r : TokenRequest) → list_any (is_of_call r.call) s.active ≡ false → list_any (is_of_call r.call) s.queue ≡ false → request_of r.call s.waiting ≡ None → Living s.dead r → IsOrderly s → IsOrderly (enqueued_with s r None)
 orderly-new s r active queue waiting living o = record {
   distinct = λ c. few c (is_of_call c r) refl;
@@ -223,7 +223,7 @@ orderly-new s r active queue waiting living o = record {
         let f = o.distinct c in
         omega arith
 
--- or its call's that waits does
+-- the requests stay orderly where the older request of a call is queued again
 orderly-again : (s : ServerState) (r own : TokenRequest) → list_any (is_of_call r.call) s.active ≡ false → list_any (is_of_call r.call) s.queue ≡ false → request_of r.call s.waiting ≡ Some own → Living s.dead r → IsOrderly s → IsOrderly (enqueued_with s r (Some own))
 orderly-again s r own active queue waiting living o = record {
   distinct = λ c. few c (is_of_call c own) refl;
@@ -284,11 +284,11 @@ orderly-asked s r counted living o =
     rowed None = later (r.call.node == r.call.node)
     rowed (Some row) = later (r.call.node == r.call.node)
 
--- a row whose number is of no earlier epoch
+-- the number of a row is at least the base of the epoch
 abbrev Counted : ServerState → Option Row → Type 0
 Counted s row = IfSome row (λ r. begin s ≤ r.number)
 
--- a command is answered
+-- the requests stay orderly where a command is answered
 acknowledged-orderly : (s : ServerState) (node : ℕ) (row : Row) (token : Token) → begin s ≤ row.number → IsOrderly s → IsOrderly (acknowledged s node row token)
 acknowledged-orderly s node row token counted o = record {
   distinct = o.distinct;
@@ -296,7 +296,7 @@ acknowledged-orderly s node row token counted o = record {
   counted = λ n. elim (n == node) as (λ b. Counted s (cond b (Some (record row { token = token; outstanding = None })) (s.rows n))) [ true ↦ counted | false ↦ o.counted n ];
 }
 
--- what a message changes
+-- the requests stay orderly after each message
 taken-orderly : (s : ServerState) (number : ℕ) (call : CallId) (row : Option Row) (d : Change) → Counted s row → taken s number call row ≡ Some d → IsOrderly s → IsOrderly d.0
 taken-orderly s number call None d counted is o = absurd (cc)
 taken-orderly s number call (Some row) d counted is o = by (is_grant number row.outstanding) is
@@ -346,7 +346,7 @@ heard-orderly s number holder runs (Some row) d counted is o = by (asks_token nu
         subst (λ (c : Change). IsOrderly c.0) same (acknowledged-orderly s holder.node row (reported runs) counted o)
     by false h = absurd (cc)
 
--- the row of a host is one of the server's
+-- the row of a host is one of the server's rows
 host-counted : (s : ServerState) (h : Host) → IsOrderly s → Counted s (row_of_host s h)
 host-counted s h o = by (s.rows h.node) (o.counted h.node)
   where
@@ -371,7 +371,7 @@ orderly-delivered s (Grant file number call mode span) d counted living is o = a
 orderly-delivered s (Revoke file number holder call mode wanted) d counted living is o = absurd (cc)
 orderly-delivered s (Deny file call holder number lock) d counted living is o = absurd (cc)
 
--- requests come from the queue: none goes
+-- admission loses no request of a call
 admitted-calls : (c : CallId) (active staying queue : List TokenRequest) → calls c (admitted active staying queue).0 + calls c (admitted active staying queue).1 ≡ calls c active + (calls c staying + calls c queue)
 admitted-calls c active staying [] = let none : calls c [] ≡ 0 = refl in omega arith
 admitted-calls c active staying (r ∷ rest) =

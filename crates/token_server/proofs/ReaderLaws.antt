@@ -1,4 +1,4 @@
--- What the readers of a token server show.
+-- The readers of a token server.
 use Rattle.std.specs.Prelude.{◌≡◌, ℕ, ◌+◌, Bool, true, false, cond, List, [], ◌∷◌, ◌++◌, filter, map, is_some, None}
 use Rattle.std.specs.List.{range_with_len}
 use Rattle.std.proofs.Common.{sym, ap, ◌∙◌, append-nil}
@@ -12,7 +12,7 @@ use Rattle.token_server.specs.Readers.{nodes_where, IsRow}
 counting_more : (n node : ℕ) → 1 + n ≡ node → range_with_len 1 (n + 1) ≡ range_with_len 1 n ++ node ∷ []
 counting_more n node e = sym (map-id (range_with_len 1 (n + 1))) ∙ map-range_with_len_more (λ k. k) 1 n node e ∙ ap (λ l. l ++ node ∷ []) (map-id (range_with_len 1 n))
 
--- with one more node, that comes last where it passes
+-- one node more comes last among those that pass, if it passes
 pub nodes_where-more : (passes : ℕ → Bool) (n node : ℕ) → 1 + n ≡ node → nodes_where passes (n + 1) ≡ nodes_where passes n ++ cond (passes node) (node ∷ []) []
 nodes_where-more passes n node e = ap (filter passes) (counting_more n node e) ∙ filter-append passes (range_with_len 1 n) (node ∷ [])
 

@@ -1,4 +1,4 @@
--- What holds of a server between two steps, once a planned step is made.
+-- What holds of a server between two steps holds after a planned step.
 use Rattle.std.specs.Prelude.{◌≡◌, ◌≢◌, ℕ, ◌+◌, ◌<◌, ◌≤◌, Bool, true, false, not, cond, ◌&&◌, ◌||◌, nat_le, List, [], ◌∷◌, ◌++◌, All, filter, find, length, Option, Some, None, Result, Ok, Err}
 use Rattle.std.proofs.Common.{refl, sym, ap, subst, ◌∙◌, inl, inr, arith, append-nil, append_assoc}
 use Rattle.std.proofs.lemmas.Bool.{both_ways, leb-true, and_from, and_parts}
@@ -45,7 +45,7 @@ use Rattle.token_server.proofs.TurnLaws.{held_after-requests}
 use Rattle.token_server.proofs.ObstacleLaws.{served-silent}
 use Rattle.token_server.proofs.OrderlyLaws.{Living, calls-kinds, calls-one, orderly-ready}
 
--- where none of the requests is of a dead incarnation, none goes
+-- where no request is of a dead incarnation, dropping those drops none
 living-stays : (dead : ℕ → ℕ) (node incarnation : ℕ) (rs : List TokenRequest) → incarnation ≤ dead node → All (Living dead) rs → rs ≡ filter (λ r. not (is_up_to node incarnation r)) rs
 living-stays dead node incarnation [] known all = refl
 living-stays dead node incarnation (r ∷ rs) known all =
@@ -84,7 +84,7 @@ without-fewer : (d : Option (ℕ × ℕ)) (rs : List TokenRequest) → length (w
 without-fewer None rs = omega arith
 without-fewer (Some d) rs = filter-fewer (λ r. not (is_up_to d.0 d.1 r)) rs
 
--- fewer move where some are dropped first
+-- no more requests move where some are dropped first
 pub many-fewer : (m : Moved) (d : Option (ℕ × ℕ)) (rs : List TokenRequest) → many_moved m (without d rs) ≤ many_moved m rs
 many-fewer Nothing d rs = omega arith
 many-fewer (New r) d rs = omega arith
@@ -92,12 +92,12 @@ many-fewer (Again call r) d rs = omega arith
 many-fewer Waiting d rs = without-fewer d rs
 many-fewer (PutOff r) d rs = omega arith
 
--- and then there is room for them
+-- where there is room for some, there is room for fewer
 pub room-fewer : (l : LineParts) (spare : Option LineParts) (more less : ℕ) → less ≤ more → HasRoom l spare more → HasRoom l spare less
 room-fewer l None more less fewer room = omega arith
 room-fewer l (Some spare) more less fewer room = (room.0, omega (arith, room.1))
 
--- what holds of all holds of those that are served on
+-- P holds of each entry, then of each that stays active
 pub kept-all : (P : Held → Type 0) (e : Option CallId) (d : Option (ℕ × ℕ)) (held : List Held) → All P held → All P (held_still e (held_without d held))
 kept-all P e d held all = still e (held_without d held) (drop d)
   where
@@ -109,7 +109,7 @@ kept-all P e d held all = still e (held_without d held) (drop d)
     still None hs h = h
     still (Some call) hs h = All-filter (λ h. not (is_of_call call h.request)) P hs h
 
--- fewer that are served need no byte in common either
+-- no two of the requests that stay active need a byte in common
 still-apart : (e : Option CallId) (d : Option (ℕ × ℕ)) (rs : List TokenRequest) → are_apart rs ≡ true → are_apart (still_active e (without d rs)) ≡ true
 still-apart e d rs apart = still e (without d rs) (drop d)
   where
@@ -125,7 +125,7 @@ stay-all : (active before queue : List TokenRequest) → Stay active before queu
 stay-all active before [] all = refl
 stay-all active before (r ∷ rest) all = and_from (meets_some r active || meets_some r before) (all_stay active (before ++ r ∷ []) rest) all.0 (stay-all active (before ++ r ∷ []) rest all.1)
 
--- where no request is served, none is after some go
+-- where no request is active, none is after some go
 none-left : (e : Option CallId) (d : Option (ℕ × ℕ)) → still_active e (without d []) ≡ []
 none-left None None = refl
 none-left None (Some d) = refl
@@ -135,7 +135,7 @@ none-left (Some call) (Some d) = refl
 abbrev Answer : Type 0
 Answer = Result (ServerState × List Message) StepError
 
--- a step whose rows and requests change as the sketch has it
+-- a step that makes the sketched changes
 module _ (p : ServerParts) (k : Sketch) (d : Draft) (so : IsDrafted p k d) where
   active-is : requests_of (held_after d.lists p.active.held) ≡ (sketched p k).active ++ requests_of d.lists.fresh.items
   active-is = held_after-requests d.lists p.active.held ∙ ap (λ (xs : List TokenRequest). xs ++ requests_of d.lists.fresh.items) so.listed.served
@@ -143,7 +143,7 @@ module _ (p : ServerParts) (k : Sketch) (d : Draft) (so : IsDrafted p k d) where
   queue-is : queue_after d.lists p.queue.requests p.waiting.requests ≡ all_but (requests_of d.lists.fresh.items) (sketched p k).queue
   queue-is = ap (all_but (requests_of d.lists.fresh.items)) so.listed.queued
 
-  -- which awaits a token awaited one before, and serves none
+  -- while a node has not reported its token, no request is active
   rests : awaits (sketched p k) ≡ true → (sketched p k).active ≡ []
   rests awaited = by (awaits (server_state p)) refl
     where
@@ -151,7 +151,7 @@ module _ (p : ServerParts) (k : Sketch) (d : Draft) (so : IsDrafted p k d) where
       by true is = ap (λ (rs : List TokenRequest). still_active k.ended (without (dropped k.changed) rs)) (so.before.resting is) ∙ none-left k.ended (dropped k.changed)
       by false is = absurd (both_ways (awaits (sketched p k)) (none-after k.changed (rows_of p.known_nodes) p.shape.nodes is) awaited)
 
-  -- is the sketched state, with requests from the queue unless it awaits a token
+  -- the drafted state is the sketched one while a node has not reported its token
   drafted-awaiting : awaits (sketched p k) ≡ true → drafted p d ≡ sketched p k
   drafted-awaiting awaited =
       let none : d.lists.fresh.items ≡ [] = so.listed.rests awaited in
@@ -164,7 +164,7 @@ module _ (p : ServerParts) (k : Sketch) (d : Draft) (so : IsDrafted p k d) where
       (λ i. record { shape = p.shape; file = p.file; epoch = p.epoch; rows = so.rows i; dead = so.deaths i; queue = queue-is i; active = active-is i; waiting = so.listed.put_off i })
       ∙ sym (ready-is (sketched p k) ((sketched p k).active ++ requests_of d.lists.fresh.items) (all_but (requests_of d.lists.fresh.items) (sketched p k).queue) (so.listed.comes told).comes)
 
-  -- serves what it has to
+  -- serving the sketched state is serving each active request of the drafted one
   pub drafted-serves : serve (sketched p k) ≡ each_served (drafted p d).active (drafted p d)
   drafted-serves = by (awaits (sketched p k)) refl
     where
@@ -205,7 +205,7 @@ module _ (p : ServerParts) (k : Sketch) (d : Draft) (so : IsDrafted p k d) where
       (λ i. all_stay (active-is i) [] (queue-is i))
       ∙ stay-all ((sketched p k).active ++ requests_of d.lists.fresh.items) [] (all_but (requests_of d.lists.fresh.items) (sketched p k).queue) (admitted-leaves (sketched p k).active (sketched p k).queue (requests_of d.lists.fresh.items) (so.listed.comes is))
 
-  -- and holds all that a server has to, once nodes are told what comes of it
+  -- after the commands the server holds all that it has to between two steps
   module _ (ts : List Told) (out : List Message) (comes : each_served (drafted p d).active (drafted p d) ≡ Ok (with_told ts (drafted p d), out)) where
     pub told-awaits : awaits (with_told ts (drafted p d)) ≡ awaits (drafted p d)
     told-awaits = served-awaits (drafted p d).active (drafted p d) (with_told ts (drafted p d)) out refl comes
@@ -222,7 +222,7 @@ module _ (p : ServerParts) (k : Sketch) (d : Draft) (so : IsDrafted p k d) where
           orderly = record { distinct = o.distinct; living = o.living; counted = served-counted (drafted p d).active (drafted p d) (with_told ts (drafted p d)) out refl o.counted comes };
         }
 
--- none of the call is found
+-- a list with 0 requests of the call has none to be found
 none-find : (c : CallId) (rs : List TokenRequest) → calls c rs ≡ 0 → find (is_of_call c) rs ≡ None
 none-find c [] none = refl
 none-find c (r ∷ rs) none = by (is_of_call c r) (sym (calls-cons c r rs) ∙ none) (none-find c rs)
@@ -246,7 +246,7 @@ distinct-calls (r ∷ rs) distinct =
     let few = distinct r.call in
     (none-find r.call rs (omega arith), distinct-calls rs (λ c. let all : calls c (r ∷ rs) ≡ calls c (r ∷ []) + calls c rs = calls-append c (r ∷ []) rs in let less = distinct c in omega arith))
 
--- what moves is of a call that has no request where it comes
+-- the list to which a request moves has none of its call
 pub moved-new : (m : Moved) (queue waiting : List TokenRequest) → AreDistinct (queue_moved m queue waiting) → AreDistinct (waiting_moved m waiting) → IsNewCall m queue waiting
 moved-new Nothing queue waiting q w = tt
 moved-new (New r) queue waiting q w = none-before queue r q
@@ -260,7 +260,7 @@ distinct-queue s o c = let a = calls-kinds c s in let few = o.distinct c in omeg
 pub distinct-waiting : (s : ServerState) → IsOrderly s → AreDistinct s.waiting
 distinct-waiting s o c = let a = calls-kinds c s in let few = o.distinct c in omega arith
 
--- what a planned step makes of a server holds all that a server has to
+-- after a planned step a server holds all that it has to
 pub applied : (p : ServerParts) (awaiting : Bool) (e : Edit) (v : Parts) (known_nodes : List KnownNode) (active : ActiveParts) (queue waiting : LineParts) → v ≡ e.parts.value → IsServer p awaiting → Fits p e → ((n : ℕ) → rows_of known_nodes n ≡ given_rows (v.given.items ++ given_of v.draft.rows) p.known_nodes n) → deaths_of known_nodes ≡ deaths_overlaid p.known_nodes v.draft.rows → length known_nodes ≡ length p.known_nodes → active.held ≡ held_after v.draft.lists p.active.held → queue.requests ≡ queue_after v.draft.lists p.queue.requests p.waiting.requests → waiting.requests ≡ waiting_after v.draft.lists p.waiting.requests → IsServer (record { shape = p.shape; file = p.file; epoch = p.epoch; known_nodes = known_nodes; active = active; queue = queue; waiting = waiting }) v.draft.awaits
 applied p awaiting e v known_nodes active queue waiting is server fits rows deaths many held queued put_off = record {
   each_node = many ∙ server.each_node;
@@ -273,7 +273,7 @@ applied p awaiting e v known_nodes active queue waiting is server fits rows deat
     whole : ◌≡◌ {A = ServerState × List Held} (made p v, held_after v.draft.lists p.active.held) (server_state (record { shape = p.shape; file = p.file; epoch = p.epoch; known_nodes = known_nodes; active = active; queue = queue; waiting = waiting }), active.held)
     whole = λ i. (record { shape = p.shape; file = p.file; epoch = p.epoch; rows = λ n. sym (rows n) i; dead = sym deaths i; queue = sym queued i; active = requests_of (sym held i); waiting = sym put_off i }, sym held i)
 
--- nothing more is served between two steps
+-- a settled queue stays as it is at an admission
 settled-stays : (active before queue : List TokenRequest) → all_stay active before queue ≡ true → admitted active before queue ≡ (active, before ++ queue)
 settled-stays active before [] stay = ap (λ (q : List TokenRequest). let x : List TokenRequest × List TokenRequest = (active, q) in x) (sym (append-nil before))
 settled-stays active before (r ∷ rest) stay =
@@ -307,7 +307,7 @@ nothing-served p k first is empty holds =
     (λ i. sending_first (empty i) (serve (sketched p (is i))))
     ∙ ap (sending_first []) (serves-nothing (server_state p) p.active.held holds refl)
 
--- then none is refused but for want of memory
+-- where the rule refuses nothing, a step is refused for want of memory alone
 pub never-refused : (e : StepError) (x : Result (ServerState × Outcome) StepError) (done : ServerState × Outcome) → (e ≢ NoMemory → x ≡ Err e) → x ≡ Ok done → e ≡ NoMemory
 never-refused NoMemory x done refused is = refl
 never-refused Busy x done refused is = let never : x ≡ Err Busy = refused (λ other. absurd (cc)) in absurd (cc)

@@ -55,7 +55,7 @@ each_served-spent (r ∷ rest) s e h = by (served s r) (served-spent s r e) (λ 
     by (Err f) first others h = first h
     by (Ok done) first others h = others done.0 (with_more-spent done.1 (each_served rest done.0) e h)
 
--- what is refused once a server serves is refused for want of a number
+-- serving is refused for want of a number alone
 pub serve_first-spent : (first : List Message) (s : ServerState) (e : StepError) → sending_first first (serve s) ≡ Err e → e ≡ Spent
 serve_first-spent first s e h = serves (awaits s) (by (serve s) h)
   where
@@ -70,7 +70,7 @@ serve_first-spent first s e h = serves (awaits s) (by (serve s) h)
 pub resend-spent : (s : ServerState) (e : StepError) → resend_rule s ≡ Err e → e ≡ Spent
 resend-spent s e h = serve_first-spent (outstanding s) (requeued s) e h
 
--- so is what comes of a node of the cluster
+-- the news of a dead incarnation of a node of the cluster is refused for want of a number alone
 pub learn-spent : (s : ServerState) (node incarnation : ℕ) (e : StepError) → is_within s.shape.nodes node ≡ true → learn_rule s node incarnation ≡ Err e → e ≡ Spent
 learn-spent s node incarnation e within h = by (is_within s.shape.nodes node) within h
   where

@@ -1,10 +1,10 @@
--- Requests that are looked for.
+-- The search for a request.
 use Rattle.std.specs.Prelude.{◌≡◌, Bool, true, false, cond, ◌||◌, List, [], ◌∷◌, filter, find, Some, is_some, refl}
 use Rattle.std.specs.List.{list_any}
 use Rattle.std.proofs.Common.{ap, ◌∙◌}
 use Rattle.std.proofs.lemmas.Bool.{both_ways}
 
--- a request is found where one passes
+-- a search finds an element exactly if one passes the test
 pub find-any : {X : Type 0} (test : X → Bool) (xs : List X) → is_some (find test xs) ≡ list_any test xs
 find-any test [] = refl
 find-any test (x ∷ xs) = by (test x) (find-any test xs)
@@ -13,7 +13,7 @@ find-any test (x ∷ xs) = by (test x) (find-any test xs)
     by true rest = refl
     by false rest = rest
 
--- what is found is not dropped, where what passes is kept
+-- a search finds the same element after a filter that keeps all that pass
 pub find-filter : {X : Type 0} (test keep : X → Bool) (xs : List X) → ((x : X) → test x ≡ true → keep x ≡ true) → find test (filter keep xs) ≡ find test xs
 find-filter test keep [] keeps = refl
 find-filter test keep (x ∷ xs) keeps = by (test x) (keep x) refl refl (find-filter test keep xs keeps)

@@ -1,4 +1,4 @@
--- A request that nothing hinders is granted when it is served.
+-- An active request that nothing blocks is granted when it is served.
 use Rattle.std.specs.Prelude.{◌≡◌, ℕ, ◌+◌, ◌<◌, ◌≤◌, Bool, false, cond, not, ◌&&◌, nat_lt, List, [], ◌∷◌, ◌++◌, is_some, Option, Some, None, Result, Ok, Err}
 use Rattle.std.proofs.Common.{refl, sym, ap, ◌∙◌, inl, inr, arith, append_assoc}
 use Rattle.std.proofs.lemmas.Bool.{lt-leb, lt-ltb}
@@ -17,7 +17,7 @@ use Rattle.token_server.specs.Serve.{granted_span, conflicting_node, commanded, 
 use Rattle.token_server.specs.Grants.{IsUnhindered, GrantsWhatIsFree}
 use Rattle.token_server.proofs.GrantLaws.{conflicts_at, first-none, narrowed-largest, narrowed-holds}
 
--- no row conflicts, so no node is found whose row does
+-- where no row conflicts, no node blocks the request
 unhindered-none : (s : ServerState) (r : TokenRequest) (row : Row) → IsUnhindered s r row → s.shape.nodes < conflicting_node s r
 unhindered-none s r row free = first-none (conflicts_at s r) s.shape.nodes s.shape.nodes (omega arith) none
   where
@@ -27,17 +27,17 @@ unhindered-none s r row free = first-none (conflicts_at s r) s.shape.nodes s.sha
       | inr other ↦ ap (λ b. not b && row_conflicts (s.rows n) r.wanted.required r.mode) other.0 ∙ free.unopposed n (above, within) other.1
     ]
 
--- it is granted where no node is found
+-- a request that no node blocks is granted
 served-granted : (s : ServerState) (r : TokenRequest) → s.shape.nodes < conflicting_node s r → served s r ≡ granted_to s r (s.rows r.call.node)
 served-granted s r none =
     let node = conflicting_node s r in
     ap (λ (b : Bool). cond b (revoked_from s r node (s.rows node)) (granted_to s r (s.rows r.call.node))) (lt-leb node s.shape.nodes none)
 
--- the row with one command more
+-- the row after one more command
 abbrev with_command : Row → Token → Message → Row
 with_command row token command = record row { token = token; number = row.number + 1; outstanding = Some command }
 
--- the command goes where none is under way and a number is left
+-- a command is sent where none is outstanding and a number is left
 commanded-idle : (s : ServerState) (node : ℕ) (row : Row) (token : Token) (command : Message) → row.outstanding ≡ None → row.number < begin s + greatest_number → commanded s node row token command ≡ Ok (with_row s node (Some (with_command row token command)), command ∷ [])
 commanded-idle s node row token command idle room =
     let Served : Type 0 = Result (ServerState × List Message) StepError in
@@ -47,7 +47,7 @@ commanded-idle s node row token command idle room =
     ap (λ (o : Option Message). cond (is_some o) busy (cond (nat_lt row.number (begin s + greatest_number)) sent spent)) idle
     ∙ ap (λ (b : Bool). cond b sent spent) (lt-ltb row.number (begin s + greatest_number) room)
 
--- the answer to a request that nothing hinders
+-- the answer to a request that nothing blocks is a grant
 record Grants (s : ServerState) (r : TokenRequest) (row : Row) (answer : Result (ServerState × List Message) StepError) : Type 0 where
   new : ServerState
   span : Range
@@ -71,12 +71,12 @@ served-free s r row there ordered starts ends free =
       serves = served-granted s r none ∙ ap (granted_to s r) there ∙ commanded-idle s r.call.node row token command free.idle free.room;
     }
 
--- messages that come first, one after the other
+-- messages before messages before a result are both before it
 joined : (xs ys : List Message) (x : Result (ServerState × List Message) StepError) → with_more xs (with_more ys x) ≡ with_more (xs ++ ys) x
 joined xs ys (Err e) = refl
 joined xs ys (Ok done) = ap (λ (ms : List Message). let p : Result (ServerState × List Message) StepError = Ok (done.0, ms) in p) (sym (append_assoc xs ys done.1))
 
--- some requests, and then others
+-- serving some requests and then others is serving all
 pub each_served-append : (xs ys : List TokenRequest) (s : ServerState) → each_served (xs ++ ys) s ≡ and_then (each_served xs s) (each_served ys)
 each_served-append [] ys s = sym (none_more (each_served ys s))
   where

@@ -1,4 +1,4 @@
--- What a sketch makes of a server is what the rule says.
+-- A sketch makes of a server what the rule says.
 use Rattle.std.specs.Prelude.{◌≡◌, ℕ, ◌-◌, ◌≤◌, Bool, true, false, not, cond, if◌then◌else◌, ◌&&◌, ◌||◌, ◌==◌, List, filter, find, nat_le, is_some, Option, Some, None}
 use Rattle.std.specs.List.{list_any}
 use Rattle.std.proofs.Common.{refl, sym, ap, ◌∙◌, inl, inr, arith}
@@ -46,7 +46,7 @@ row_there node rows row is = λ i n. at n i
       | inr apart ↦ ap (λ (b : Bool). cond b row (rows n)) apart.0
     ]
 
--- one change after the other
+-- two changes of one node, one after the other
 pub change_twice : (node : ℕ) (f g : Option Row → Option Row) (rows : ℕ → Option Row) → with_change node f (with_change node g rows) ≡ with_change node (λ row. f (g row)) rows
 change_twice node f g rows = λ i n. each (n == node) (rows n) i
   where
@@ -58,7 +58,7 @@ with_a_row-is : (s : ServerState) (call : CallId) (row : Option Row) → s.rows 
 with_a_row-is s call None is = λ i. record s { rows = row_added call.node (begin s) call.incarnation s.rows None is i }
 with_a_row-is s call (Some row) is = λ i. record s { rows = (sym (row_there call.node s.rows (Some row) is) ∙ row_added call.node (begin s) call.incarnation s.rows (Some row) is) i }
 
--- a request of the call is not of an older incarnation
+-- a request of the call is not of an incarnation before it
 of_call-young : (own asked : CallId) → 1 ≤ asked.incarnation → same_call own asked ≡ true → not ((own.node == asked.node) && nat_le own.incarnation (asked.incarnation - 1)) ≡ true
 of_call-young own asked counted same = grind (arith, common_steps)
 
@@ -112,7 +112,7 @@ asked-sketched p r counted = moves ∙ same_test ∙ ap (λ (s : ServerState). e
     same_test : cond test base (enqueued_with base r (request_of r.call p.waiting.requests)) ≡ enqueued base r
     same_test = λ i. cond (tests (requests_of p.active.held) i || tests p.queue.requests i) base (enqueued_with base r (sym (kept p.waiting.requests) i))
 
--- what a request changes
+-- the sketch of a request makes what the rule says
 pub asked-from : (p : ServerParts) (r : TokenRequest) (node : ℕ) (host : HostFields) (after : ℕ) (moved : Moved) → 1 ≤ r.call.incarnation → node ≡ r.call.node → host ≡ host_of_call r.call → after ≡ begin (server_state p) → moved ≡ moved_for r (requests_of p.active.held) p.queue.requests p.waiting.requests → sketched p (record { changed = Some (record { node = node; change = Asked host after }); moved = moved; ended = None }) ≡ asked (server_state p) r
 asked-from p r node host after moved counted at by begins is =
     (λ i. sketched p (record { changed = Some (record { node = at i; change = Asked (by i) (begins i) }); moved = is i; ended = None }))

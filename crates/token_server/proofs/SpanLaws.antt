@@ -1,10 +1,10 @@
--- Whether two spans are one.
+-- The test whether two spans are equal.
 use Rattle.std.specs.Prelude.{◌≡◌, Bool, true, ◌&&◌, ◌==◌}
 use Rattle.std.proofs.Common.{sym, ◌∙◌}
 use Rattle.std.proofs.lemmas.Bool.{and_parts, eqb-true}
 use Rattle.intervals.specs.Bytes.{Range}
 
--- spans of one first and one last byte are one span
+-- spans with equal first and last bytes are equal
 pub one_span : (r s : Range) (same : Bool) → same ≡ (r.lo == s.lo && r.hi == s.hi) → same ≡ true → r ≡ s
 one_span r s same is true_is =
     let ends = and_parts (r.lo == s.lo) (r.hi == s.hi) (sym is ∙ true_is) in

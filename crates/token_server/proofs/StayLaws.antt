@@ -7,12 +7,12 @@ use Rattle.token_queue.specs.Requests.{meets}
 use Rattle.token_server.specs.Serve.{meets_some, admitted}
 use Rattle.token_server.proofs.AdmitLaws.{Lists}
 
--- each of the requests needs a byte of one that is served, or of one before it
+-- each of the requests needs a byte of an active one, or of one before it
 abbrev pub Stay : List TokenRequest → List TokenRequest → List TokenRequest → Type 0
 Stay active before [] = Unit {0}
 Stay active before (r ∷ rest) = ((meets_some r active || meets_some r before) ≡ true) × Stay active (before ++ r ∷ []) rest
 
--- then none comes from the queue
+-- where each request stays, none is admitted
 pub stay-admits : (active before queue : List TokenRequest) → Stay active before queue → admitted active before queue ≡ (active, before ++ queue)
 stay-admits active before [] all = ap (λ (xs : List TokenRequest). let p : Lists = (active, xs) in p) (sym (append-nil before))
 stay-admits active before (r ∷ rest) all =
@@ -25,7 +25,7 @@ or-more true b c h = refl
 or-more false true c h = refl
 or-more false false c h = h
 
--- they stay also beside more that are served
+-- requests stay beside more active ones
 pub stay-more : (active more before queue : List TokenRequest) → Stay active before queue → Stay (active ++ more) before queue
 stay-more active more before [] all = tt
 stay-more active more before (r ∷ rest) all = (
@@ -34,13 +34,13 @@ stay-more active more before (r ∷ rest) all = (
   stay-more active more (before ++ r ∷ []) rest all.1,
 )
 
--- one more that stays
+-- one request more stays at the end of those that do
 pub stay-push : (active before queue : List TokenRequest) (r : TokenRequest) → Stay active before queue → (meets_some r active || meets_some r (before ++ queue)) ≡ true → Stay active before (queue ++ r ∷ [])
 stay-push active before [] r all one = (ap (λ (xs : List TokenRequest). meets_some r active || meets_some r xs) (sym (append-nil before)) ∙ one, tt)
 stay-push active before (q ∷ queue) r all one =
     (all.0, stay-push active (before ++ q ∷ []) queue r all.1 (ap (λ (xs : List TokenRequest). meets_some r active || meets_some r xs) (append_assoc before (q ∷ []) queue) ∙ one))
 
--- once requests have come from the queue, the others stay
+-- after an admission the requests that are left stay
 pub admitted-stay : (active staying queue : List TokenRequest) → Stay active [] staying → (let next = admitted active staying queue in Stay next.0 [] next.1)
 admitted-stay active staying [] all = all
 admitted-stay active staying (r ∷ rest) all =

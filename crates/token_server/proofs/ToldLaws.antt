@@ -1,4 +1,4 @@
--- What nodes are told as a server serves, and the state then.
+-- The commands that a server sends as it serves, and the state with them.
 use Rattle.std.specs.Prelude.{◌≡◌, ℕ, ◌+◌, ◌≤◌, Bool, true, false, cond, ◌==◌, nat_lt, List, [], ◌∷◌, ◌++◌, is_some, All, IfSome, Option, Some, None, Result, Ok, Err}
 use Rattle.std.specs.Option.{option_map, option_to_list}
 use Rattle.std.proofs.lemmas.List.Elements.{All-push}
@@ -33,7 +33,7 @@ use Rattle.token_server.specs.Told.{told_to, row_told, with_told, commands_told}
 abbrev pub Answer : Type 0
 Answer = Result (ServerState × List Message) StepError
 
--- a node that is told something more, after which one that was told before is told the same
+-- one command more leaves the command to a node that had one
 told_to-more : (ts : List Told) (t : Told) (n : ℕ) (o : Option Told) → told_to ts n ≡ o → told_to (ts ++ t ∷ []) n ≡ (elim o [ None ↦ cond (t.node == n) (Some t) None | Some x ↦ Some x ])
 told_to-more [] t n o is = sym (ap (λ (p : Option Told). elim p as (λ q. Option Told) [ None ↦ cond (t.node == n) (Some t) None | Some x ↦ Some x ]) (sym is))
 told_to-more (x ∷ ts) t n o is = by (x.node == n) is (told_to-more ts t n)
@@ -54,7 +54,7 @@ none_of_commands : (o : Option Row) → None ≡ option_map commands_of o → o 
 none_of_commands None is = refl
 none_of_commands (Some row) is = absurd (none-some (commands_of row) is)
 
--- what a number that is left tells
+-- the facts that a number that is left gives
 pub record HasNumber (begin : ℕ) (c : Commands) (k : ℕ) : Type 0 where
   pub idle : c.outstanding ≡ None
   pub room : nat_lt c.number (begin + greatest_number) ≡ true
@@ -72,11 +72,11 @@ module _ (ts : List Told) (s : ServerState) where
   abbrev now : ServerState
   now = with_told ts s
 
-  -- nothing more is told
+  -- no command is added
   pub silent : ◌≡◌ {A = Answer} (Ok (now, [])) (Ok (with_told (ts ++ []) s, []))
   silent = ap (λ (xs : List Told). let a : Answer = Ok (with_told xs s, []) in a) (sym (append-nil ts))
 
-  -- a node that has a row with nothing under way was told nothing
+  -- a node whose row has no outstanding command was sent none
   untold : (n : ℕ) (row : Row) (o : Option Told) → told_to ts n ≡ o → row_told o (s.rows n) ≡ Some row → row.outstanding ≡ None → (o ≡ None) × (s.rows n ≡ Some row)
   untold n row None is there idle = (refl, there)
   untold n row (Some t) is there idle = by (s.rows n) there
@@ -87,7 +87,7 @@ module _ (ts : List Told) (s : ServerState) where
           let waits : Some t.command ≡ row.outstanding = ap (λ (x : Row). x.outstanding) (same_Some _ row there) in
           absurd (none-some t.command (sym idle ∙ sym waits))
 
-  -- the next command
+  -- one command more
   with_more_told : (n : ℕ) (row : Row) (t : Told) → t.node ≡ n → told_to ts n ≡ None → s.rows n ≡ Some row → with_told (ts ++ t ∷ []) s ≡ with_row now n (row_told (Some t) (Some row))
   with_more_told n row t to none there = λ i. record s { rows = λ m. at m i }
     where
@@ -114,7 +114,7 @@ module _ (ts : List Told) (s : ServerState) where
           ]
           elsewhere k (Some x) is other = told_to-more ts t k (Some x) is
 
-  -- where its node can be told nothing
+  -- the node has no row: no command is sent
   gone : (n : ℕ) (f : Option Row → Answer) → f None ≡ Ok (now, []) → None ≡ option_map commands_of (now.rows n) → f (now.rows n) ≡ Ok (with_told (ts ++ []) s, [])
   gone n f none is = ap f (none_of_commands (now.rows n) is) ∙ none ∙ silent
 
@@ -201,12 +201,12 @@ module _ (ts : List Told) (s : ServerState) where
         ∙ commanded-sent r.call.node k x.0 command t x.1 (ap (next_number (begin s)) (sym x.2) ∙ next) to same (commands ∙ (λ i. told_commands (same i) (x.2 i)))
         ∙ ap (λ (m : Message). let a : Answer = Ok (with_told (ts ++ t ∷ []) s, m ∷ []) in a) (sym same)
 
--- one more command
+-- the commands as messages, with one more
 pub commands_told-more : (ts more : List Told) → commands_told (ts ++ more) ≡ commands_told ts ++ commands_told more
 commands_told-more [] more = refl
 commands_told-more (t ∷ ts) more = ap (λ (ms : List Message). t.command ∷ ms) (commands_told-more ts more)
 
--- one more request is served
+-- one active request more is served
 module _ (s : ServerState) (xs : List TokenRequest) (ts : List Told) (r : TokenRequest) (so_far : each_served xs s ≡ Ok (with_told ts s, commands_told ts)) where
   pub served-more : (more : List Told) → served (with_told ts s) r ≡ Ok (with_told (ts ++ more) s, commands_told more) → each_served (xs ++ r ∷ []) s ≡ Ok (with_told (ts ++ more) s, commands_told (ts ++ more))
   served-more more is =
@@ -222,7 +222,7 @@ module _ (s : ServerState) (xs : List TokenRequest) (ts : List Told) (r : TokenR
       ∙ ap (λ (x : Answer). and_then x (each_served (r ∷ rest))) so_far
       ∙ ap (λ (x : Answer). with_more (commands_told ts) (and_then x (each_served rest))) is
 
--- what a node is given is what it is told
+-- the new row that a node gets is the one with its command
 pub record GivesTold (known_nodes : List KnownNode) (edit : Option RowEdit) (t : Told) (g : Given) : Type 0 where
   pub place : g.place + 1 ≡ t.node
   pub row : given_to_known_node g (known_node_at known_nodes t.node) ≡ row_told (Some t) (rows_overlaid known_nodes edit t.node)
@@ -267,11 +267,11 @@ given_rows-told known_nodes edit (t ∷ ts) [] n all = absurd all
 pub with_given-told : (s : ServerState) (known_nodes : List KnownNode) (edit : Option RowEdit) (ts : List Told) (gs : List Given) → rows_overlaid known_nodes edit ≡ s.rows → GiveTold known_nodes edit ts gs → with_given (gs ++ given_of edit) known_nodes s ≡ with_told ts s
 with_given-told s known_nodes edit ts gs same all = λ i. record s { rows = λ n. (given_rows-told known_nodes edit ts gs n all ∙ ap (λ (f : ℕ → Option Row). row_told (told_to ts n) (f n)) same) i }
 
--- a place in a list
+-- the element at a place ends the first ones
 pub list-at : {X : Type 0} (xs : List X) (i : ℕ) (x : X) → take (i + 1) xs ≡ take i xs ++ x ∷ [] → xs ≡ take i xs ++ x ∷ drop (i + 1) xs
 list-at xs i x next = sym (take-append-drop (i + 1) xs) ∙ ap (λ ys. ys ++ drop (i + 1) xs) next ∙ append_assoc (take i xs) (x ∷ []) (drop (i + 1) xs)
 
--- once a request is served that comes to that
+-- one active request more is served, and leads to this command or none
 pub told-next : (s : ServerState) (xs next : List TokenRequest) (ts ms : List Told) (r : TokenRequest) (o : Option Told) → each_served xs s ≡ Ok (with_told ts s, commands_told ts) → next ≡ xs ++ r ∷ [] → served (with_told ts s) r ≡ Ok (with_told (ts ++ option_to_list o) s, commands_told (option_to_list o)) → ms ≡ ts ++ option_to_list o → each_served next s ≡ Ok (with_told ms s, commands_told ms)
 told-next s xs next ts ms r o so_far is one made =
     ap (λ (ys : List TokenRequest). each_served ys s) is

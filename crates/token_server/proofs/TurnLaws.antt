@@ -1,4 +1,4 @@
--- What comes of serving each request that is served, in order.
+-- The turns of the active requests, in order.
 use Rattle.std.specs.Prelude.{◌≡◌, ℕ, zero, suc, ◌+◌, ◌<◌, ◌≤◌, Bool, true, false, not, cond, ◌&&◌, ◌==◌, nat_le, nat_lt, List, [], ◌∷◌, ◌++◌, filter, length, slice_get, slice_index_or, All, is_some, Option, Some, None, Result, Ok, Err}
 use Rattle.std.specs.Option.{option_map, option_to_list}
 use Rattle.std.proofs.Common.{refl, sym, ap, subst, ◌∙◌, inl, inr, arith, take, drop, get_or, append-nil, append_assoc}
@@ -41,7 +41,7 @@ use Rattle.token_server.proofs.KeepLaws.{StandSame, served-same}
 use Rattle.token_server.proofs.CareLaws.{All-right}
 use Rattle.token_server.proofs.ToldLaws.{silent, told-next, nodes-next, served-spent, list-at, grant-gone, grant-busy, grant-spent, grant-sent, revoke-gone, revoke-busy, revoke-spent, revoke-sent}
 
--- the requests that wait for other rows are the same
+-- the requests stay the same where they wait for other rows
 pub waiting_for-requests : (ats : List ℕ) (held : List Held) → requests_of (waiting_for ats held) ≡ requests_of held
 waiting_for-requests [] held = refl
 waiting_for-requests (at ∷ ats) [] = refl
@@ -63,7 +63,7 @@ pub still-requests : (ended : Option CallId) (held : List Held) → requests_of 
 still-requests None held = refl
 still-requests (Some call) held = filter-requests (λ r. not (is_of_call call r)) held
 
--- the requests that are served after the edit: those that are served on, then those that come
+-- the active requests after a change: those that stay active, then those admitted
 pub held_after-requests : (l : Lists) (held : List Held) → requests_of (held_after l held) ≡ still_active l.gone.ended (without l.gone.dropped (requests_of held)) ++ requests_of l.fresh.items
 held_after-requests l held =
     map-append (λ (h : Held). h.request) (held_still l.gone.ended (held_without l.gone.dropped (waiting_for l.ats.items held))) l.fresh.items
@@ -109,7 +109,7 @@ kept-requests l held =
     ∙ still-requests l.gone.ended (held_without l.gone.dropped held)
     ∙ ap (still_active l.gone.ended) (without-requests l.gone.dropped held)
 
--- one more that is served on, and one that is not
+-- one more request stays active
 pub kept-more : (l : Lists) (xs next : List Held) (h : Held) → next ≡ xs ++ h ∷ [] → keeps l.gone.dropped l.gone.ended h.request ≡ true → kept l next ≡ kept l xs ++ h ∷ []
 kept-more l xs next h is on =
     ap (kept l) is
@@ -123,7 +123,7 @@ kept-less l xs next h is off =
     ∙ ap (λ (b : Bool). kept l xs ++ cond b (h ∷ []) []) off
     ∙ append-nil (kept l xs)
 
--- the request at a place, with the row that it waits for from now on
+-- the request at a place, with the row that it waits for after the change
 abbrev pub waiting_at : List ℕ → ℕ → Held → Held
 waiting_at ats i h = record { request = h.request; at = slice_index_or ats i h.at }
 
@@ -138,7 +138,7 @@ waits-at (a ∷ ats) (x ∷ held) (suc i) h there = waits-at ats held i h there
 pub take-next : {X : Type 0} (xs : List X) (i : ℕ) (x : X) → slice_get xs i ≡ Some x → take (i + 1) xs ≡ take i xs ++ x ∷ []
 take-next xs i x there = take_more xs i x (slice_get_within xs i x there) ∙ ap (λ y. take i xs ++ y ∷ []) (get_or_from_slice_get xs i x x there)
 
--- those that are served on, about one of them
+-- the requests that stay active, around one of them
 pub kept-around : (l : Lists) (ws : List Held) (i : ℕ) (w : Held) → slice_get ws i ≡ Some w → keeps l.gone.dropped l.gone.ended w.request ≡ true → kept l ws ++ l.fresh.items ≡ kept l (take i ws) ++ w ∷ (kept l (drop (i + 1) ws) ++ l.fresh.items)
 kept-around l ws i w there on =
     ap (λ (hs : List Held). kept l hs ++ l.fresh.items) (list-at ws i w (take-next ws i w there))
@@ -150,7 +150,7 @@ kept-around l ws i w there on =
 abbrev Answer : Type 0
 Answer = Result (ServerState × List Message) StepError
 
--- a row stands in its way that is not its own
+-- the node that blocks a request is another one than its own
 pub opposing-other : (s : ServerState) (r : TokenRequest) → conflicting_node s r ≤ s.shape.nodes → (1 ≤ conflicting_node s r) × (conflicting_node s r == r.call.node ≡ false)
 opposing-other s r within =
     let f = first_is_first (conflicts_at s r) 1 s.shape.nodes in
@@ -164,7 +164,7 @@ opposing-other s r within =
 above : (k n : ℕ) → nat_le k n ≡ false → n < k
 above k n h = elim (cases_lt n k) [ inl less ↦ less | inr more ↦ absurd (both_ways (nat_le k n) h (le-leb k n more)) ]
 
--- it waits for its own row: no other stands in its way, and it is granted
+-- a request that waits for its own node's row is blocked by none, and is granted
 pub own-unopposed : (s : ServerState) (r : TokenRequest) (at : ℕ) → obstacle s r ≡ at → (at == r.call.node) ≡ true → s.shape.nodes < conflicting_node s r
 own-unopposed s r at is own = by (nat_le (conflicting_node s r) s.shape.nodes) refl
   where
@@ -180,7 +180,7 @@ own-granted s r at is own =
     let node = conflicting_node s r in
     ap (λ (b : Bool). cond b (revoked_from s r node (s.rows node)) (granted_to s r (s.rows r.call.node))) (lt-leb node s.shape.nodes (own-unopposed s r at is own))
 
--- it waits for another row, which is within the nodes, and is revoked
+-- a request that waits for another node's row is blocked by it, and that node's token is revoked
 other-opposes : (s : ServerState) (r : TokenRequest) (at : ℕ) → obstacle s r ≡ at → (at == r.call.node) ≡ false → (nat_le (conflicting_node s r) s.shape.nodes ≡ true) × (conflicting_node s r ≡ at)
 other-opposes s r at is other = by (nat_le (conflicting_node s r) s.shape.nodes) refl
   where
@@ -206,7 +206,7 @@ other-revoked s r at is other =
     ap (λ (b : Bool). cond b (revoked_from s r node (s.rows node)) (granted_to s r (s.rows r.call.node))) o.0
     ∙ ap (λ (k : ℕ). revoked_from s r k (s.rows k)) o.1
 
--- where the node can be told nothing, where no number is left, and where it is told something
+-- the turn of a request, by what can be sent to the node: nothing, no number left, a command
 module _ (ts : List Told) (s : ServerState) (r : TokenRequest) (at : ℕ) (is : obstacle (with_told ts s) r ≡ at) where
   abbrev before : ServerState
   before = with_told ts s
@@ -238,7 +238,7 @@ module _ (ts : List Told) (s : ServerState) (r : TokenRequest) (at : ℕ) (is : 
     | inr other ↦ other-revoked before r at is other.0 ∙ revoke-sent ts s r at c k t known next to (command ∙ ap (message_of s.file) (other_order other.0)) commands
   ]
 
--- once a request is served no command may go to the node whose row it waits for
+-- after a request is served no command may go to the node whose row it waits for
 silent-busy : (s t : ServerState) (node : ℕ) (out : List Message) → is_idle (s.rows node) ≡ false → ◌≡◌ {A = Answer} (Ok (s, [])) (Ok (t, out)) → is_idle (t.rows node) ≡ false
 silent-busy s t node out busy is =
     let pair : ◌≡◌ {A = ServerState × List Message} (s, []) (t, out) = cc in
@@ -281,7 +281,7 @@ served-busy s t r at out where_is is = subst (λ (k : ℕ). is_idle (t.rows k) �
     by true h = revoked (s.rows node) refl h
     by false h = granted (s.rows r.call.node) refl h
 
--- no command may go to a node of which that held before it was told something
+-- a node to which no command may go is one after a command to it or to others
 quiet-row : (o : Option Told) (row : Option Row) → is_idle row ≡ false → is_idle (row_told o row) ≡ false
 quiet-row None row quiet = quiet
 quiet-row (Some t) None quiet = refl
@@ -302,7 +302,7 @@ quiet-more (t ∷ ts) more s n quiet = by (t.node == n) quiet (quiet-more ts mor
     by true quiet rest = quiet-some t (s.rows n)
     by false quiet rest = rest quiet
 
--- a node that is told something is not idle then
+-- a node to which a command was sent has one outstanding
 pub told-quiet : (ts : List Told) (s : ServerState) (n : ℕ) → is_some (told_to ts n) ≡ true → is_idle ((with_told ts s).rows n) ≡ false
 told-quiet ts s n some = by (told_to ts n) some
   where
@@ -310,7 +310,7 @@ told-quiet ts s n some = by (told_to ts n) some
     by None some = absurd (cc)
     by (Some t) some = quiet-some t (s.rows n)
 
--- nothing is served so far
+-- before the first turn
 pub served-start : (s : ServerState) (all : List Held) → All (λ h. obstacle s h.request ≡ h.at) all → AreServed s all [] []
 served-start s all waits = record {
   comes = refl;
@@ -329,13 +329,13 @@ waits-same s t (h ∷ held) nodes same waits =
 requests-around : (done rest : List Held) (h : Held) → requests_of (done ++ h ∷ rest) ≡ requests_of done ++ h.request ∷ requests_of rest
 requests-around done rest h = map-append (λ (x : Held). x.request) done (h ∷ rest)
 
--- what one waits for that has not been served
+-- the row that a request waits for before its turn
 pub waits-here : (s : ServerState) (all done rest : List Held) (h : Held) (told : List Told) → all ≡ done ++ h ∷ rest → AreServed s all done told → obstacle (with_told told s) h.request ≡ h.at
 waits-here s all done rest h told is a =
     let P : Held → Type 0 = λ x. obstacle (with_told told s) x.request ≡ x.at in
     All-head P h rest (All-right P done (h ∷ rest) (subst (All P) is a.waits))
 
--- one more is served
+-- one more request has its turn
 pub turn-next : (s : ServerState) (all done rest : List Held) (h : Held) (before after : List Told) → all ≡ done ++ h ∷ rest → s.active ≡ requests_of all → are_apart s.active ≡ true → AreServed s all done before → IsTurn s h before after → AreServed s all (done ++ h ∷ []) after
 turn-next s all done rest h before after is active apart a t =
     subst (λ (ts : List Told). AreServed s all (done ++ h ∷ []) ts) (sym t.made) (record {
@@ -354,7 +354,7 @@ turn-next s all done rest h before after is active apart a t =
     same : All (StandSame (with_told before s) (with_told new s)) (requests_of done ++ h.request ∷ requests_of rest)
     same = served-same (with_told before s) (with_told new s) h.request (commands_told (option_to_list t.next)) (requests_of done) (requests_of rest) (active ∙ split) apart t.order t.starts t.ends t.comes
 
--- one is passed over, since no command may go to the node whose row it waits for
+-- one more request is passed over, as no command may go to the node whose row it waits for
 pub turn-silent : (s : ServerState) (all done rest : List Held) (h : Held) (told : List Told) → all ≡ done ++ h ∷ rest → AreServed s all done told → is_idle ((with_told told s).rows h.at) ≡ false → AreServed s all (done ++ h ∷ []) told
 turn-silent s all done rest h told is a here = record {
   comes = told-next s (requests_of done) (requests_of (done ++ h ∷ [])) told told h.request None a.comes (requests-around done [] h) (nothing ∙ silent told s) (sym (append-nil told));
@@ -366,7 +366,7 @@ turn-silent s all done rest h told is a here = record {
     nothing : served (with_told told s) h.request ≡ Ok (with_told told s, [])
     nothing = served-silent (with_told told s) h.request (ap (λ (k : ℕ). is_idle ((with_told told s).rows k)) (waits-here s all done rest h told is a) ∙ here)
 
--- one is refused
+-- the turn of one request is refused
 pub turn-spent : (s : ServerState) (all done rest : List Held) (h : Held) (told : List Told) (e : StepError) → all ≡ done ++ h ∷ rest → s.active ≡ requests_of all → AreServed s all done told → served (with_told told s) h.request ≡ Err e → each_served s.active s ≡ Err e
 turn-spent s all done rest h told e is active a refused =
     ap (λ (rs : List TokenRequest). each_served rs s) (active ∙ ap requests_of is ∙ requests-around done rest h)
@@ -375,13 +375,13 @@ turn-spent s all done rest h told e is active a refused =
 pub read-place : (xs held : List Held) (i : ℕ) (item : Held) → xs ≡ held → i < length xs → item ≡ get_or xs i item → slice_get held i ≡ Some item
 read-place xs held i item same within is = ap (λ (ys : List Held). slice_get ys i) (sym same) ∙ slice_get-get_or xs i item within ∙ ap (λ (h : Held). Some h) (sym is)
 
--- the request at a place, as it is read there
+-- the request at a place, and the row that it waits for
 pub waits-place : (l : Lists) (xs held : List Held) (i : ℕ) (item : Held) (ats : List ℕ) (at : ℕ) → xs ≡ held → ats ≡ l.ats.items → i < length xs → item ≡ get_or xs i item → at ≡ slice_index_or ats i item.at → slice_get (waiting_for l.ats.items held) i ≡ Some (record { request = item.request; at = at })
 waits-place l xs held i item ats at same same_ats within is at_is =
     waits-at l.ats.items held i item (read-place xs held i item same within is)
     ∙ ap (λ (k : ℕ). let o : Option Held = Some (record { request = item.request; at = k }) in o) (sym (at_is ∙ ap (λ (ys : List ℕ). slice_index_or ys i item.at) same_ats))
 
--- none could go to the node whose row it waits for, which it waited for before, and it is not touched
+-- no command may go to the node of a row that the request waited for before, where that row is not touched
 pub quiet-place : (s t : ServerState) (touched : Option ℕ) (held : List Held) (i : ℕ) (item : Held) (at : ℕ) → All (λ h. is_idle (s.rows h.at) ≡ false) held → slice_get held i ≡ Some item → at ≡ item.at → (touched ≡ Some at → ⊥) → ((n : ℕ) → (touched ≡ Some n → ⊥) → t.rows n ≡ s.rows n) → is_idle (t.rows at) ≡ false
 quiet-place s t touched held i item at quiet there same apart untouched =
     ap is_idle (untouched at apart)
@@ -395,7 +395,7 @@ module _ (l : Lists) (held : List Held) (s : ServerState) (told : List Told) (i 
   abbrev waiting : List Held
   waiting = waiting_for l.ats.items held
 
-  -- a request that was served
+  -- a request that was active before
   module _ (there : slice_get waiting i ≡ Some w) where
     kept-next : take (i + 1) waiting ≡ take i waiting ++ w ∷ []
     kept-next = take-next waiting i w there
@@ -420,7 +420,7 @@ module _ (l : Lists) (held : List Held) (s : ServerState) (told : List Told) (i 
             subst (λ (hs : List Held). AreServed s all hs told) (sym (kept-more l (take i waiting) (take (i + 1) waiting) w kept-next on))
             (turn-silent s all (kept l (take i waiting)) (kept l (drop (i + 1) waiting) ++ l.fresh.items) w told (kept-split on) a quiet)
 
-  -- one that comes
+  -- a request that is admitted
   module _ (there : slice_get l.fresh.items i ≡ Some w) where
     pub fresh-split : all ≡ (kept_of l held ++ take i l.fresh.items) ++ w ∷ drop (i + 1) l.fresh.items
     fresh-split =
@@ -434,11 +434,11 @@ module _ (l : Lists) (held : List Held) (s : ServerState) (told : List Told) (i 
         (append_assoc (kept_of l held) (take i l.fresh.items) (w ∷ []) ∙ ap (λ (hs : List Held). kept_of l held ++ hs) (sym (take-next l.fresh.items i w there)))
         (turn-next s all (kept_of l held ++ take i l.fresh.items) (drop (i + 1) l.fresh.items) w told after fresh-split active apart a t)
 
--- all of them
+-- all active requests had their turn
 pub served-whole : (l : Lists) (held : List Held) (i : ℕ) → length l.fresh.items ≤ i → kept_of l held ++ take i l.fresh.items ≡ held_after l held
 served-whole l held i past = ap (λ (hs : List Held). kept_of l held ++ hs) (take_all i l.fresh.items past) ∙ sym (held_after-kept l held)
 
--- all from a place on wait for rows to whose nodes no command may go: they are passed over
+-- the requests from a place on are passed over: no command may go to the nodes whose rows they wait for
 pub kept-rest : (l : Lists) (held : List Held) (s : ServerState) (told : List Told) (d i : ℕ) → length held ≤ i + d → ((j : ℕ) (w : Held) → i ≤ j → slice_get (waiting_for l.ats.items held) j ≡ Some w → is_idle ((with_told told s).rows w.at) ≡ false) → AreServed s (held_after l held) (kept l (take i (waiting_for l.ats.items held))) told → AreServed s (held_after l held) (kept_of l held) told
 kept-rest l held s told zero i past quiet a =
     subst (λ (hs : List Held). AreServed s (held_after l held) (kept l hs) told) (take_all i (waiting_for l.ats.items held) (omega (arith, past, waiting_for-length l.ats.items held))) a
@@ -448,31 +448,31 @@ kept-rest l held s told (suc d) i past quiet a = elim (slice_get_cases (waiting_
   | inr p ↦ subst (λ (hs : List Held). AreServed s (held_after l held) (kept l hs) told) (take_all i (waiting_for l.ats.items held) p.0) a
 ]
 
--- past the first requests each waits for the row for which it waited
+-- past the first requests each waits for the row that it waited for
 pub index-past : (ats : List ℕ) (i d : ℕ) → length ats ≤ i → slice_index_or ats i d ≡ d
 index-past [] i d past = refl
 index-past (a ∷ ats) zero d past = absurd (omega arith)
 index-past (a ∷ ats) (suc i) d past = index-past ats i d (omega (arith, past))
 
--- where requests wait for the rows for which they waited, no command may go to the nodes of those, but to the one that is touched
+-- where requests wait for the same rows as before, no command may go to the nodes of those rows, but for the touched one
 module _ (s t : ServerState) (l : Lists) (held : List Held) (told : List Told) (touched : Option ℕ) (i : ℕ) (quiet : All (λ h. is_idle (s.rows h.at) ≡ false) held) (untouched : (n : ℕ) → (touched ≡ Some n → ⊥) → t.rows n ≡ s.rows n) (past : length l.ats.items ≤ i) where
   rest-apart : (j : ℕ) (w : Held) → i ≤ j → slice_get (waiting_for l.ats.items held) j ≡ Some w → (touched ≡ Some w.at → ⊥) → is_idle ((with_told told t).rows w.at) ≡ false
   rest-apart j w above there apart =
       let here : slice_get held j ≡ Some w = sym (waiting_for-at l.ats.items held j (omega (arith, past, above))) ∙ there in
       quiet-told told t w.at (quiet-place s t touched held j w w.at quiet here refl apart untouched)
 
-  -- where none is touched
+  -- no row is touched
   pub rest-untouched : touched ≡ None → (j : ℕ) (w : Held) → i ≤ j → slice_get (waiting_for l.ats.items held) j ≡ Some w → is_idle ((with_told told t).rows w.at) ≡ false
   rest-untouched none j w above there = rest-apart j w above there (λ h. none-some w.at (sym none ∙ h))
 
-  -- where that node was told something
+  -- the node of the touched row was sent a command
   pub rest-told : (at : ℕ) → touched ≡ Some at → is_some (told_to told at) ≡ true → (j : ℕ) (w : Held) → i ≤ j → slice_get (waiting_for l.ats.items held) j ≡ Some w → is_idle ((with_told told t).rows w.at) ≡ false
   rest-told at is some j w above there = elim (eqb_tells w.at at) [
     | inl same ↦ subst (λ (k : ℕ). is_idle ((with_told told t).rows k) ≡ false) (sym same.1) (told-quiet told t at some)
     | inr other ↦ rest-apart j w above there (λ h. other.1 (same_Some w.at at (sym h ∙ is)))
   ]
 
--- what a request is left with, by one request more
+-- the largest span that a request keeps beside one active request more
 pub left-next : (l : Lists) (xs next : List Held) (h : Held) (r : TokenRequest) (span new : Range) → next ≡ xs ++ h ∷ [] → HasByte h.request → (keeps l.gone.dropped l.gone.ended h.request ≡ true → new ≡ cut r.wanted.required span h.request.wanted.required) → (keeps l.gone.dropped l.gone.ended h.request ≡ false → new ≡ span) → IsLeft (requests_of (kept l xs)) r span → IsLeft (requests_of (kept l next)) r new
 left-next l xs next h r span new is full on off left = by (keeps l.gone.dropped l.gone.ended h.request) refl
   where
@@ -486,7 +486,7 @@ left-next l xs next h r span new is full on off left = by (keeps l.gone.dropped 
         subst (λ (hs : List Held). IsLeft (requests_of hs) r new) (sym (kept-less l xs next h is k))
         (subst (λ (s : Range). IsLeft (requests_of (kept l xs)) r s) (sym (off k)) left)
 
--- those of the first requests, and of the others
+-- the requests that stay active: the first of them, and the others
 pub kept-parts : (l : Lists) (held : List Held) (i : ℕ) → still_active l.gone.ended (without l.gone.dropped (requests_of held)) ≡ requests_of (kept l (take i held)) ++ requests_of (kept l (drop i held))
 kept-parts l held i =
     sym (kept-requests l held)

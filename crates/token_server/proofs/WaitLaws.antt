@@ -28,11 +28,11 @@ use Rattle.token_server.specs.Resends.{outstanding, sending_first}
 use Rattle.token_server.specs.Server.{Change, with_a_row, request_of, enqueued_with, enqueued, asked, acknowledged, ended, put_off, postponed, denial, taken, released, in_conflict, heard, row_of_host, freed, delivered, is_server, then_serve}
 use Rattle.token_server.specs.Waiting.{KeepsWhatWaits}
 
--- the call has one of the requests
+-- the list has a request of the call
 abbrev Has : CallId → List TokenRequest → Type 0
 Has call rs = list_any (is_of_call call) rs ≡ true
 
--- the call has a request at the server, or its node is known as dead
+-- the call has a request at the server, or its node's incarnation is known to be dead
 abbrev IsKept : CallId → ServerState → Type 0
 IsKept call s = Has call (requests s) ⊎ (call.incarnation ≤ s.dead call.node)
 
@@ -63,7 +63,7 @@ queued-kept call s h = inl (has-back call s.active (s.queue ++ s.waiting) (has-f
 waiting-kept : (call : CallId) (s : ServerState) → Has call s.waiting → IsKept call s
 waiting-kept call s h = inl (has-back call s.active (s.queue ++ s.waiting) (has-back call s.queue s.waiting h))
 
--- a request that passes, and does not stay
+-- a request passes the test and doesn't stay
 record IsLost (test stays : TokenRequest → Bool) : Type 0 where
   which : TokenRequest
   passes : test which ≡ true
@@ -88,7 +88,7 @@ kept-or_lost test stays (r ∷ rs) h = by (test r) refl (stays r) refl (kept-or_
       | inr lost ↦ inr lost
     ]
 
--- one that is found passes
+-- a request that is found passes the test
 found-passes : (test : TokenRequest → Bool) (rs : List TokenRequest) (own : TokenRequest) → find test rs ≡ Some own → test own ≡ true
 found-passes test [] own h = absurd (cc)
 found-passes test (r ∷ rs) own h = by (test r) refl (found-passes test rs own) h
@@ -100,11 +100,11 @@ found-passes test (r ∷ rs) own h = by (test r) refl (found-passes test rs own)
         sym (ap test here) ∙ is
     by false is rest found = rest (sym (ap (λ (b : Bool). cond b (Some r) (find test rs)) is) ∙ found)
 
--- two requests of one call are of what either is of
+-- two requests of one call are of the same node and incarnation
 same_call-joins : (lost own asked call : CallId) → same_call lost call ≡ true → not (same_call lost asked) ≡ false → same_call own asked ≡ true → same_call own call ≡ true
 same_call-joins lost own asked call a b c = grind (arith, common_steps)
 
--- what goes with its node's dead incarnations is known as dead
+-- a request that goes with dead incarnations is of one known to be dead
 lost-dead : (lost call : CallId) (node incarnation : ℕ) (dead : ℕ → ℕ) → same_call lost call ≡ true → not ((lost.node == node) && nat_le lost.incarnation incarnation) ≡ false → call.incarnation ≤ (if call.node == node then max (dead call.node) incarnation else dead call.node)
 lost-dead lost call node incarnation dead a b = grind (arith, common_steps)
 
@@ -115,7 +115,7 @@ forgotten-waiting call s node incarnation h =
       | inr lost ↦ inr (lost-dead lost.which.call call node incarnation s.dead lost.passes lost.goes)
     ]
 
--- a request that is queued
+-- the call keeps a request where one is queued
 enqueued_with-kept : (call : CallId) (s : ServerState) (r : TokenRequest) (own : Option TokenRequest) → request_of r.call s.waiting ≡ own → Has call s.waiting → IsKept call (enqueued_with s r own)
 enqueued_with-kept call s r None is h = waiting-kept call (enqueued_with s r None) h
 enqueued_with-kept call s r (Some own) is h =
@@ -140,7 +140,7 @@ enqueued-dead call s r h =
       | false ↦ elim (request_of r.call s.waiting) as (λ own. IsKept call (enqueued_with s r own)) [ None ↦ inr h | Some own ↦ inr h ]
     ]
 
--- and one whose node gets a row, where it has none
+-- the call keeps a request where a row is added and one is queued
 asked_with-kept : (call : CallId) (young : ServerState) (r : TokenRequest) (row : Option Row) → Has call young.waiting ⊎ (call.incarnation ≤ young.dead call.node) → IsKept call (enqueued (with_a_row young r.call row) r)
 asked_with-kept call young r None (inl h) = enqueued-kept call (with_a_row young r.call None) r h
 asked_with-kept call young r None (inr h) = enqueued-dead call (with_a_row young r.call None) r h
@@ -163,7 +163,7 @@ freed-kept : (call : CallId) (s : ServerState) (row : Option Row) → IsKept cal
 freed-kept call s None h = h
 freed-kept call s (Some row) h = requeued-kept call s h
 
--- what a message changes leaves the call's request
+-- a message leaves the call a request
 abbrev Leaves : CallId → Option Change → Type 0
 Leaves call o = IfSome o (λ changed. IsKept call changed.0)
 
@@ -210,7 +210,7 @@ delivered-leaves call s (Freed file holder) h = freed-kept call s (row_of_host s
 delivered-leaves call s (Hello file number holder) h = tt
 delivered-leaves call s (Report file number holder runs) h = heard-leaves call s number holder runs (row_of_host s holder) h
 
--- to serve the requests leaves them, and what is known as dead
+-- serving leaves all requests, and the dead incarnations
 abbrev Stays : ServerState → Result (ServerState × List Message) StepError → Type 0
 Stays s a = (new : ServerState) (sends : List Message) → a ≡ Ok (new, sends) → (requests new ≡ requests s) × (new.dead ≡ s.dead)
 
@@ -244,7 +244,7 @@ served-stays s r =
     let node = conflicting_node s r in
     picked-stays s (nat_le node s.shape.nodes) _ _ (revoked-stays s r node (s.rows node)) (granted-stays s r (s.rows r.call.node))
 
--- one after the other
+-- serving one request after the other leaves all requests
 each-stays : (rs : List TokenRequest) (s : ServerState) → Stays s (each_served rs s)
 each-stays [] s = stays-ok s s [] refl refl
 each-stays (r ∷ rest) s = by (served s r) (served-stays s r) (each-stays rest)
@@ -261,7 +261,7 @@ each-stays (r ∷ rest) s = by (served s r) (served-stays s r) (each-stays rest)
         let first = stays done.0 done.1 refl in
         more done.0 done.1 (each_served rest done.0) first.0 first.1 (later done.0)
 
--- one that is served or that stays is one of the two lists, in which it may have moved
+-- admission keeps each active or queued request in one of the two lists
 admitted-has : (call : CallId) (active staying queue : List TokenRequest) → (Has call active ⊎ Has call staying) ⊎ Has call queue → (let next = admitted active staying queue in Has call next.0 ⊎ Has call next.1)
 admitted-has call active staying [] (inl here) = here
 admitted-has call active staying [] (inr none) = absurd (cc)
@@ -331,7 +331,7 @@ then_serve-kept call s None new out kept leaves is =
     subst (IsKept call) made kept
 then_serve-kept call s (Some changed) new out kept leaves is = serve-kept call changed.0 changed.1 new out leaves is
 
--- where a message is for the server or not, of a dead incarnation or not
+-- the call keeps its request at a message for the server or another, of a dead incarnation or not
 sorted-kept : (call : CallId) (s : ServerState) (m : Message) (new : ServerState) (out : Outcome) (stranger dead : Bool) → Has call s.waiting → then_serve s (cond stranger (Err Stranger) (cond dead (Ok None) (Ok (delivered s m)))) ≡ Ok (new, out) → IsKept call new
 sorted-kept call s m new out true dead h is = absurd (cc)
 sorted-kept call s m new out false true h is = then_serve-kept call s None new out (waiting-kept call s h) tt is

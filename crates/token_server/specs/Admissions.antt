@@ -1,4 +1,4 @@
--- What a token server promises to a request that needs no byte of another one.
+-- What a token server promises to a request that needs no byte of an active or queued one.
 use Rattle.std.specs.Prelude.{◌≡◌, ℕ, ◌<◌, false, List, [], ◌∷◌, ◌++◌, Ok}
 use Rattle.std.specs.List.{list_any}
 use Rattle.messages.specs.declared.message.Message.TheVariants.{Request}
@@ -10,7 +10,7 @@ use Rattle.token_server.specs.State.{ServerState, awaits, requests}
 use Rattle.token_server.specs.Serve.{meets_some}
 use Rattle.token_server.specs.Server.{server_rule}
 
--- each node that was asked for its token has told it, since no request comes from the queue before. Its call has no request at the server, its incarnation is not known as dead, and no request that is served or queued needs a byte that it needs
+-- all tokens are reported, the call has no request at the server, its incarnation isn't known to be dead, and no active or queued request needs its bytes
 pub record MeetsNone (s : ServerState) (r : TokenRequest) : Type 0 where
   pub told : awaits s ≡ false
   pub living : s.dead r.call.node < r.call.incarnation
@@ -18,7 +18,7 @@ pub record MeetsNone (s : ServerState) (r : TokenRequest) : Type 0 where
   pub apart : meets_some r s.active ≡ false
   pub clear : meets_some r s.queue ≡ false
 
--- such a request is served from the step on in which it comes, last of those that are
+-- a request that needs no byte of an active or queued one is active after the step in which it comes, as the last
 abbrev pub ServesWhatMeetsNone : Type 0
 ServesWhatMeetsNone =
     (s : ServerState) (file : ℕ) (r : TokenRequest) (new : ServerState) (out : Outcome)

@@ -1,4 +1,4 @@
--- Requests that come from the queue of a server, slot by slot.
+-- The admission of requests from the queue of a token server, slot by slot.
 use Rattle.std.specs.Prelude.{◌≡◌, ◌≤◌, true, List, [], find, count_by, Option, Some}
 use Rattle.model.specs.declared.call.CallId.{CallId}
 use Rattle.token_queue.specs.declared.held.Held.{Held}
@@ -11,7 +11,7 @@ use Rattle.token_server.specs.Admitting.{all_stay}
 use Rattle.token_server.specs.Ready.{AreDistinct}
 use Rattle.token_server.specs.Sketches.{without, still_active}
 
--- those that are served on
+-- the active requests that stay active
 abbrev pub served_on : Gone → List Held → List TokenRequest
 served_on g held = still_active g.ended (without g.dropped (requests_of held))
 
@@ -19,11 +19,11 @@ served_on g held = still_active g.ended (without g.dropped (requests_of held))
 abbrev pub left_in : Gone → List (Option TokenRequest) → List TokenRequest
 left_in g slots = without g.dropped (requests_in slots)
 
--- whoever needs a byte of the one needs a byte of one of these
+-- each request that needs a byte of the ended one needs a byte of one of these
 abbrev pub NeedsAllOf : TokenRequest → List TokenRequest → Type 0
 NeedsAllOf ended rs = (r : TokenRequest) → meets r.wanted.required ended.wanted.required ≡ true → meets_some r rs ≡ true
 
--- the queue had settled beside those that were served, of which the call's is this one
+-- the queue had settled beside the active requests, of which the ended one is the call's
 pub record HasEnded (active queue : List TokenRequest) (call : CallId) (ended : TokenRequest) : Type 0 where
   pub few : count_by (is_of_call call) active ≤ 1
   pub found : find (is_of_call call) active ≡ Some ended

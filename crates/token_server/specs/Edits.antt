@@ -1,4 +1,4 @@
--- What a planned step changes of a server, and no more.
+-- The change that a planned step makes of a token server.
 use Rattle.std.specs.Prelude.{◌≡◌, ℕ, ◌+◌, ◌≤◌, Bool, true, false, ◌&&◌, not, List, [], ◌++◌, filter, find, length, All, Option, Some, None, Ok, Vec}
 use Rattle.std.specs.Global.{Global}
 use Rattle.model.specs.declared.call.CallId.{CallId}
@@ -29,17 +29,17 @@ use Rattle.token_server.specs.Parts.{ServerParts, server_state}
 use Rattle.token_server.specs.Ready.{IsOrderly, IsReady}
 use Rattle.known_nodes.specs.Edits.{rows_overlaid, deaths_overlaid, given_of, given_rows}
 
--- those that are served, once the call's request is served no longer
+-- the active requests without that of the call that ends, if one does
 abbrev pub held_still : Option CallId → List Held → List Held
 held_still None held = held
 held_still (Some call) held = filter (λ h. not (is_of_call call h.request)) held
 
--- and once those of incarnations that are known as dead from now on are dropped
+-- the active requests without those of the node up to the incarnation that is dropped, if one is
 abbrev pub held_without : Option (ℕ × ℕ) → List Held → List Held
 held_without None held = held
 held_without (Some d) held = filter (λ h. not (is_up_to d.0 d.1 h.request)) held
 
--- a request is served on: it is not of a dead incarnation, and not of the call whose request is served no longer
+-- a request is of the dropped incarnations, if any are; `keeps` is of one that is neither dropped nor of the call that ends
 abbrev pub is_up_to_any : Option (ℕ × ℕ) → TokenRequest → Bool
 is_up_to_any None r = false
 is_up_to_any (Some d) r = is_up_to d.0 d.1 r
@@ -51,23 +51,23 @@ is_of_any (Some call) r = is_of_call call r
 abbrev pub keeps : Option (ℕ × ℕ) → Option CallId → TokenRequest → Bool
 keeps dropped ended r = not (is_up_to_any dropped r) && not (is_of_any ended r)
 
--- the requests that are served after the edit
+-- the active requests after the change: those that stay active, each with the row that it waits for then, and those that are admitted
 abbrev pub held_after : Lists → List Held → List Held
 held_after l held = held_still l.gone.ended (held_without l.gone.dropped (waiting_for l.ats.items held)) ++ l.fresh.items
 
--- the queue
+-- the queue after the change
 abbrev pub queue_after : Lists → List TokenRequest → List TokenRequest → List TokenRequest
 queue_after l queue waiting = all_but (requests_of l.fresh.items) (queue_moved l.moved (without l.gone.dropped queue) (without l.gone.dropped waiting))
 
--- those that wait
+-- the waiting requests after the change
 abbrev pub waiting_after : Lists → List TokenRequest → List TokenRequest
 waiting_after l waiting = waiting_moved l.moved (without l.gone.dropped waiting)
 
--- the state once a row is edited, where no request moves
+-- the state after a row is edited, before any request moves
 abbrev pub reached : ServerParts → Option RowEdit → ServerState
 reached p rows = record { shape = p.shape; file = p.file; epoch = p.epoch; rows = rows_overlaid p.known_nodes rows; dead = deaths_overlaid p.known_nodes rows; queue = p.queue.requests; active = requests_of p.active.held; waiting = p.waiting.requests }
 
--- the requests change as the sketch has it; then, unless a node has not told its token, these come from the queue, and each that is served is known with the node whose row it waits for
+-- the requests change as the sketch says; then some are admitted, unless a node has not reported its token; each active one has the node whose row it waits for
 pub record AreListed (p : ServerParts) (k : Sketch) (rows : Option RowEdit) (l : Lists) : Type 0 where
   pub served : still_active l.gone.ended (without l.gone.dropped (requests_of p.active.held)) ≡ (sketched p k).active
   pub queued : queue_moved l.moved (without l.gone.dropped p.queue.requests) (without l.gone.dropped p.waiting.requests) ≡ (sketched p k).queue
@@ -76,7 +76,7 @@ pub record AreListed (p : ServerParts) (k : Sketch) (rows : Option RowEdit) (l :
   pub rests : awaits (sketched p k) ≡ true → l.fresh.items ≡ []
   pub waits : All (λ h. obstacle (reached p rows) h.request ≡ h.at) (held_after l p.active.held)
 
--- the state once the draft is made
+-- the state after the draft is made
 abbrev pub drafted : ServerParts → Draft → ServerState
 drafted p d = record {
   shape = p.shape;
@@ -89,7 +89,7 @@ drafted p d = record {
   waiting = waiting_after d.lists p.waiting.requests;
 }
 
--- the draft is of what the sketch changes of a server that holds what it has to
+-- the draft makes the sketched changes of a server that holds what it has to between two steps
 pub record IsDrafted (p : ServerParts) (k : Sketch) (d : Draft) : Type 0 where
   pub before : IsReady (server_state p) p.active.held
   pub orderly : IsOrderly (sketched p k)
@@ -101,34 +101,34 @@ pub record IsDrafted (p : ServerParts) (k : Sketch) (d : Draft) : Type 0 where
 abbrev pub with_given : List Given → List KnownNode → ServerState → ServerState
 with_given gs known_nodes s = record s { rows = given_rows gs known_nodes }
 
--- the state of a server once the draft is made and nodes are given that
+-- the state after the draft and the new rows are made
 abbrev pub made_of : ServerParts → Draft → List Given → ServerState
 made_of p d gs = with_given (gs ++ given_of d.rows) p.known_nodes (drafted p d)
 
--- serving the draft comes to that, and to those messages
+-- serving the draft leads to the state with these new rows, and to these messages
 pub record IsServed (p : ServerParts) (k : Sketch) (d : Draft) (gs : List Given) (out : List Message) : Type 0 where
   pub comes : serve (sketched p k) ≡ Ok (made_of p d gs, out)
   pub awaited : d.awaits ≡ awaits (made_of p d gs)
   pub ready : IsReady (made_of p d gs) (held_after d.lists p.active.held)
 
--- the state once these parts of an edit are made
+-- the state after these parts of a change are made
 abbrev pub made : ServerParts → Parts → ServerState
 made p v = made_of p v.draft v.given.items
 
--- and once an edit is
+-- the state after a planned change is made
 abbrev pub planned : ServerParts → Edit → ServerState
 planned p e = made p e.parts.value
 
--- how many requests come last in the queue
+-- the number of requests that go to the end of the queue
 abbrev pub many_moved : Moved → List TokenRequest → ℕ
 many_moved moved waiting = length (queue_moved moved [] waiting)
 
--- and how many come last of those that wait
+-- the number of requests that go to the end of those that wait
 abbrev pub many_put_off : Moved → ℕ
 many_put_off (PutOff r) = 1
 many_put_off _ = 0
 
--- a line has room for so many more, or the spare one that comes with the edit has room for all
+-- a line has room for that many more, or the spare line that comes with the change has room for all
 abbrev pub HasRoom : LineParts → Option LineParts → ℕ → Type 0
 HasRoom l None more = more ≤ l.room
 HasRoom l (Some spare) more = (spare.requests ≡ []) × (length l.requests + more ≤ spare.room)
@@ -137,7 +137,7 @@ abbrev pub HeldHasRoom : ActiveParts → Option (Vec Held Global) → ℕ → Ty
 HeldHasRoom a None more = more ≤ a.room
 HeldHasRoom a (Some spare) more = (spare.items ≡ []) × (length a.held + more ≤ vec_capacity spare)
 
--- what moves has no request of its call where it comes last
+-- the list to which a request moves has none of its call
 abbrev pub IsNewCall : Moved → List TokenRequest → List TokenRequest → Type 0
 IsNewCall (New r) queue waiting = find (is_of_call r.call) queue ≡ None
 IsNewCall (Again call r) queue waiting = find (is_of_call r.call) queue ≡ None
@@ -145,7 +145,7 @@ IsNewCall (PutOff r) queue waiting = find (is_of_call r.call) waiting ≡ None
 IsNewCall Waiting queue waiting = AreOfDistinctCalls (queue ++ waiting)
 IsNewCall Nothing queue waiting = Unit {0}
 
--- these parts of an edit were planned from a server with those: there is room for it, and what holds between two steps holds after it
+-- the parts of a change were planned from a server with these parts: there is room for it, and what holds between two steps holds after it
 pub record PartsFit (p : ServerParts) (v : Parts) : Type 0 where
   pub new : IsNewCall v.draft.lists.moved (without v.draft.lists.gone.dropped p.queue.requests) (without v.draft.lists.gone.dropped p.waiting.requests)
   pub served : HeldHasRoom p.active v.spares.active (length v.draft.lists.fresh.items)
@@ -154,6 +154,6 @@ pub record PartsFit (p : ServerParts) (v : Parts) : Type 0 where
   pub awaited : v.draft.awaits ≡ awaits (made p v)
   pub ready : IsReady (made p v) (held_after v.draft.lists p.active.held)
 
--- the edit was planned from a server with these parts
+-- the change was planned from a server with these parts
 abbrev pub Fits : ServerParts → Edit → Type 0
 Fits p e = PartsFit p e.parts.value

@@ -1,4 +1,4 @@
--- What a token server promises to a request that nothing stands in the way of.
+-- What a token server promises to an active request that nothing blocks.
 use Rattle.std.specs.Prelude.{◌≡◌, ◌≢◌, ℕ, ◌+◌, ◌<◌, ◌≤◌, false, List, [], ◌∷◌, ◌++◌, Some, None, Ok}
 use Rattle.intervals.specs.Bytes.{Range}
 use Rattle.model.specs.Limits.{IsNumber}
@@ -10,7 +10,7 @@ use Rattle.known_nodes.specs.Rows.{Row, row_conflicts}
 use Rattle.token_server.specs.State.{ServerState, begin, awaits}
 use Rattle.token_server.specs.Serve.{ready, with_more, each_served, serve}
 
--- each node that was asked for its token has told it, since nothing is served before. The request is one of those that are served, and its turn has come: those before it were, and its node has that row. It needs some bytes, which are among those that it would like to have
+-- the turn of an active request: all tokens are reported, earlier ones are served, its node has that row; it needs bytes, which are among those it desires
 pub record IsServed (s : ServerState) (r : TokenRequest) (row : Row) : Type 0 where
   pub told : awaits s ≡ false
   pub before : List TokenRequest
@@ -24,13 +24,13 @@ pub record IsServed (s : ServerState) (r : TokenRequest) (row : Row) : Type 0 wh
   pub starts : r.wanted.desired.lo ≤ r.wanted.required.lo
   pub ends : r.wanted.required.hi ≤ r.wanted.desired.hi
 
--- no other node's row conflicts with what the request needs, nothing is under way to its own node, and a number is left
+-- no other node's row conflicts with the bytes that the request needs, no command to its own node is outstanding, and a number is left
 pub record IsUnhindered (s : ServerState) (r : TokenRequest) (row : Row) : Type 0 where
   pub unopposed : (n : ℕ) → IsNumber s.shape.nodes n → n ≢ r.call.node → row_conflicts (s.rows n) r.wanted.required r.mode ≡ false
   pub idle : row.outstanding ≡ None
   pub room : row.number < begin s + greatest_number
 
--- the server grants the request all bytes that it needs, and then serves those after it
+-- the server grants the request all bytes that it needs, and then serves the requests behind it
 pub record IsGranted (s : ServerState) (r : TokenRequest) (row : Row) (is : IsServed s r row) : Type 0 where
   pub new : ServerState
   pub span : Range
@@ -38,6 +38,6 @@ pub record IsGranted (s : ServerState) (r : TokenRequest) (row : Row) (is : IsSe
   pub ends : r.wanted.required.hi ≤ span.hi
   pub serves : serve s ≡ with_more (is.sent ++ Grant is.now.file (row.number + 1) r.call r.mode span ∷ []) (each_served is.after new)
 
--- a request that nothing hinders when its turn comes is granted
+-- an active request that nothing blocks when its turn comes is granted
 abbrev pub GrantsWhatIsFree : Type 0
 GrantsWhatIsFree = (s : ServerState) (r : TokenRequest) (row : Row) (is : IsServed s r row) → IsUnhindered is.now r row → IsGranted s r row is

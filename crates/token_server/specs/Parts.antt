@@ -1,4 +1,4 @@
--- What the code keeps of a server, and the state that it stands for.
+-- What the code keeps of a token server, and the state that it stands for.
 use Rattle.std.specs.Prelude.{ℕ, List}
 use Rattle.messages.specs.Shapes.{ShapeFields}
 use Rattle.token_queue.specs.Requests.{LineParts}
@@ -7,7 +7,7 @@ use Rattle.known_nodes.specs.declared.known_node.KnownNode.{KnownNode}
 use Rattle.token_server.specs.State.{ServerState}
 use Rattle.known_nodes.specs.Parts.{rows_of, deaths_of}
 
--- of one file: the epoch of the server; what it knows of each node, from node 1 on; the requests that are served, each with the node whose row it waits for, those that are queued, and those that wait
+-- one file's server: epoch, what is known of each node from node 1 on, active requests with the nodes whose rows they wait for, the queue, and those that wait
 pub record ServerParts : Type 0 where
   pub shape : ShapeFields
   pub file : ℕ

@@ -1,4 +1,4 @@
--- What holds of a server between two steps.
+-- What holds of a token server between two steps.
 use Rattle.std.specs.Prelude.{◌≡◌, ℕ, ◌<◌, ◌≤◌, Bool, true, false, List, [], length, count_by, All, IfSome}
 use Rattle.model.specs.declared.call.CallId.{CallId}
 use Rattle.model.specs.Limits.{IsNumber}
@@ -15,17 +15,18 @@ use Rattle.token_server.specs.Admitting.{all_stay}
 abbrev pub AreDistinct : List TokenRequest → Type 0
 AreDistinct rs = (call : CallId) → count_by (is_of_call call) rs ≤ 1
 
--- no number of a row is one of an epoch before the server's
+-- the number of each row is at least the base of the server's epoch
 abbrev pub AreOfEpoch : ServerState → Type 0
 AreOfEpoch s = (node : ℕ) → IfSome (s.rows node) (λ row. begin s ≤ row.number)
 
--- no two requests are of one call, and none is of an incarnation known as dead; no number of a row is of an earlier epoch
+-- no two requests are of one call, none is of an incarnation known to be dead, and the number of each row is at least the base of the epoch
 pub record IsOrderly (s : ServerState) : Type 0 where
   pub distinct : AreDistinct (requests s)
   pub living : All (λ r. s.dead r.call.node < r.call.incarnation) (requests s)
   pub counted : AreOfEpoch s
 
--- each request that is served waits for the row that stands in its way, to whose node no command may go, and no two of them need a byte in common. While a node has not told its token none is served, and after that each that is queued needs a byte of one that is served or of one before it
+-- No two active requests need a common byte, and each waits for the row of a node with an outstanding command. While a node has not reported its token none is
+-- active; after that each queued request needs a byte of an active one, or of one before it.
 pub record IsReady (s : ServerState) (held : List Held) : Type 0 where
   pub waits : All (λ h. obstacle s h.request ≡ h.at) held
   pub quiet : All (λ h. is_idle (s.rows h.at) ≡ false) held
@@ -34,7 +35,7 @@ pub record IsReady (s : ServerState) (held : List Held) : Type 0 where
   pub settled : awaits s ≡ false → all_stay s.active [] s.queue ≡ true
   pub orderly : IsOrderly s
 
--- each node is known, the file is one of the cluster's, and it is known whether a node has not told its token
+-- the list has each node of the cluster, the file is one of the cluster's, and the mark says whether a node has not reported its token
 pub record IsServer (p : ServerParts) (awaiting : Bool) : Type 0 where
   pub each_node : length p.known_nodes ≡ p.shape.nodes
   pub file_in : IsNumber p.shape.files p.file

@@ -1,4 +1,4 @@
--- A token server sends its commands again.
+-- The resend of a token server's commands.
 use Rattle.std.specs.Prelude.{List, ◌++◌, Result, Ok, Err}
 use Rattle.messages.specs.declared.refusal.StepError.{StepError}
 use Rattle.messages.specs.declared.message.Message.{Message}
@@ -8,15 +8,15 @@ use Rattle.token_server.specs.State.{ServerState, requeued}
 use Rattle.token_server.specs.Serve.{serve}
 use Rattle.known_nodes.specs.Rows.{outstanding_to}
 
--- the commands that have no answer yet
+-- the outstanding commands of the server
 abbrev pub outstanding : ServerState → List Message
 outstanding s = outstanding_to s.rows s.shape.nodes
 
--- those messages are sent, and then what serving sends
+-- a step that sends these messages first, and then those of serving
 abbrev pub sending_first : List Message → Result (ServerState × List Message) StepError → Result (ServerState × Outcome) StepError
 sending_first commands (Err e) = Err e
 sending_first commands (Ok done) = Ok (done.0, sending (commands ++ done.1))
 
--- each command that has no answer yet is sent again as it was, what waits is asked for again, and then the server serves
+-- each outstanding command is sent again as it was, the waiting requests are queued again, and then the server serves
 abbrev pub resend_rule : ServerState → Result (ServerState × Outcome) StepError
 resend_rule s = sending_first (outstanding s) (serve (requeued s))

@@ -1,4 +1,4 @@
--- What an event changes of a server before it serves.
+-- The sketch of an event: what it changes of a token server before it serves.
 use Rattle.std.specs.Prelude.{ℕ, Bool, true, false, not, ◌||◌, is_some, if◌then◌else◌, List, [], ◌∷◌, ◌++◌, filter, Option, Some, None}
 use Rattle.std.specs.Option.{option_map}
 use Rattle.model.specs.declared.call.CallId.{CallId}
@@ -22,7 +22,7 @@ use Rattle.known_nodes.specs.Changes.{dropped_to, rows_after, deaths_after}
 abbrev pub commands_of : Row → Commands
 commands_of row = record { incarnation = row.incarnation; number = row.number; outstanding = row.outstanding }
 
--- the node, and the incarnation up to which its requests are dropped
+-- the node, and the incarnation up to which its requests are dropped, if any are
 abbrev pub dropped : Option Changed → Option (ℕ × ℕ)
 dropped None = None
 dropped (Some c) = option_map (λ incarnation. (c.node, incarnation)) (dropped_to c.change)
@@ -31,12 +31,12 @@ abbrev pub without : Option (ℕ × ℕ) → List TokenRequest → List TokenReq
 without None requests = requests
 without (Some d) requests = filter (λ r. not (is_up_to d.0 d.1 r)) requests
 
--- those that are served on, where the call's are no longer
+-- the active requests without that of the call that ends, if one does
 abbrev pub still_active : Option CallId → List TokenRequest → List TokenRequest
 still_active None active = active
 still_active (Some call) active = filter (λ r. not (is_of_call call r)) active
 
--- the queue after the move, and those that wait
+-- the queue after the move, where those requests wait
 abbrev pub queue_moved : Moved → List TokenRequest → List TokenRequest → List TokenRequest
 queue_moved Nothing queue waiting = queue
 queue_moved (New r) queue waiting = queue ++ r ∷ []
@@ -55,13 +55,13 @@ abbrev pub moved_with : TokenRequest → Option TokenRequest → Moved
 moved_with r None = New r
 moved_with r (Some own) = Again r.call own
 
--- what moves for a request: its call's that waits, or the request itself, unless its call has one that is queued or served
+-- If the call is queued or active: nothing. If it waits: that older request goes to the end of the queue. Else this one does.
 abbrev pub moved_for : TokenRequest → List TokenRequest → List TokenRequest → List TokenRequest → Moved
 moved_for r active queue waiting =
     if is_some (request_of r.call active) || is_some (request_of r.call queue) then Nothing
     else moved_with r (request_of r.call waiting)
 
--- the state once what the event changes is made
+-- the state after the sketched changes
 abbrev pub sketched : ServerParts → Sketch → ServerState
 sketched p k = record {
   shape = p.shape;
@@ -74,7 +74,7 @@ sketched p k = record {
   waiting = waiting_moved k.moved (without (dropped k.changed) p.waiting.requests);
 }
 
--- the message answers a command
+-- the message is an answer to a Grant or a Revoke
 abbrev pub is_answer : Message → Bool
 is_answer (Taken file number call) = true
 is_answer (Released file number holder call span) = true

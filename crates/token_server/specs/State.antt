@@ -1,4 +1,4 @@
--- What a token server knows.
+-- The state of a token server.
 use Rattle.std.specs.Prelude.{ℕ, ◌-◌, Bool, not, ◌&&◌, ◌==◌, max, if◌then◌else◌, List, [], ◌++◌, filter, Option, Some, None}
 use Rattle.intervals.specs.Search.{some_passes}
 use Rattle.messages.specs.Shapes.{ShapeFields}
@@ -8,7 +8,7 @@ use Rattle.token_queue.specs.declared.token_request.TokenRequest.{TokenRequest}
 use Rattle.token_queue.specs.Requests.{is_up_to}
 use Rattle.known_nodes.specs.Rows.{Row, awaited_row, is_awaited, row_above}
 
--- of one file: the epoch of the server, 1 until it was rebuilt, a row for each node that asked, the greatest incarnation of each node known to be dead (0 at first), the requests that are queued, those that are served, and those that wait for a lock of another node to go
+-- one file's server: epoch (1 until rebuilt), rows of nodes that asked, their greatest dead incarnations (0 at first), the queue, active and waiting requests
 pub record ServerState : Type 0 where
   pub shape : ShapeFields
   pub file : ℕ
@@ -22,11 +22,11 @@ pub record ServerState : Type 0 where
 abbrev pub first_server : ShapeFields → ℕ → ServerState
 first_server shape file = record { shape = shape; file = file; epoch = 1; rows = λ node. None; dead = λ node. 0; queue = []; active = []; waiting = [] }
 
--- the number after which the commands of the server's epoch begin
+-- the base of the server's epoch: the number after which its commands begin
 abbrev pub begin : ServerState → ℕ
 begin s = before_epoch s.epoch
 
--- a server that was rebuilt, with a later epoch: all incarnations before the live ones, and those that are not live, are known as dead, and each live node is asked for its token
+-- A rebuilt server, in a later epoch: all incarnations but the live ones are known to be dead, and each live node was sent a Hello
 abbrev pub rebuilt : ShapeFields → ℕ → ℕ → (ℕ → Bool) → (ℕ → ℕ) → ServerState
 rebuilt shape file epoch is_live incarnation = record {
   shape = shape;
@@ -39,14 +39,14 @@ rebuilt shape file epoch is_live incarnation = record {
   waiting = [];
 }
 
--- some node has not told its token yet
+-- some node was asked for its token and has not reported it
 abbrev pub awaits : ServerState → Bool
 awaits s = some_passes (λ node. is_awaited (s.rows node)) 1 s.shape.nodes
 
 abbrev pub with_row : ServerState → ℕ → Option Row → ServerState
 with_row s node row = record s { rows = λ n. if n == node then row else s.rows n }
 
--- the node is known as dead up to that incarnation: its row and its requests of those incarnations are dropped
+-- incarnations of the node up to this one are known to be dead: their row and their requests go
 abbrev pub forgotten : ServerState → ℕ → ℕ → ServerState
 forgotten s node incarnation = record s {
   rows = λ n. if n == node then row_above incarnation (s.rows n) else s.rows n;
@@ -56,10 +56,10 @@ forgotten s node incarnation = record s {
   waiting = filter (λ r. not (is_up_to node incarnation r)) s.waiting;
 }
 
--- the requests of the server: those that it serves, those that are queued, those that wait
+-- all requests of the server: active, queued and waiting
 abbrev pub requests : ServerState → List TokenRequest
 requests s = s.active ++ (s.queue ++ s.waiting)
 
--- those that wait come last in the queue, in their order
+-- the waiting requests go to the end of the queue, in their order
 abbrev pub requeued : ServerState → ServerState
 requeued s = record s { queue = s.queue ++ s.waiting; waiting = [] }

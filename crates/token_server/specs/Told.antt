@@ -1,4 +1,4 @@
--- What nodes are told as a server serves.
+-- The commands that a token server sends as it serves.
 use Rattle.std.specs.Prelude.{ℕ, ◌+◌, ◌-◌, ◌==◌, nat_lt, max, min, if◌then◌else◌, List, [], ◌∷◌, map, find, Option, Some, None}
 use Rattle.intervals.specs.Bytes.{Range}
 use Rattle.messages.specs.declared.message.Message.{Message}
@@ -8,7 +8,7 @@ use Rattle.known_nodes.specs.Rows.{Row}
 use Rattle.token_server.specs.State.{ServerState}
 use Rattle.known_nodes.specs.Sent.{promised}
 
--- what the node is told, if it is
+-- the command to the node among these, if there is one
 abbrev pub told_to : List Told → ℕ → Option Told
 told_to ts n = find (λ t. t.node == n) ts
 
@@ -17,22 +17,22 @@ row_told None row = row
 row_told (Some t) None = None
 row_told (Some t) (Some row) = Some (record { incarnation = t.commands.incarnation; token = promised t.command row.token; number = t.commands.number; outstanding = Some t.command })
 
--- the server once they are told
+-- the server after these commands are sent
 abbrev pub with_told : List Told → ServerState → ServerState
 with_told ts s = record s { rows = λ n. row_told (told_to ts n) (s.rows n) }
 
--- what they are told, in order
+-- the commands as messages, in order
 abbrev pub commands_told : List Told → List Message
 commands_told ts = map (λ t. t.command) ts
 
--- the largest span that contains the one and lies in the other without the bytes of the third that the first has not
+-- `required`, widened inside `within` until it meets `other`
 abbrev pub cut : Range → Range → Range → Range
 cut required within other = record {
   lo = if nat_lt other.lo required.lo then max within.lo (min (other.hi + 1) required.lo) else within.lo;
   hi = if nat_lt required.hi other.hi then min within.hi (max (other.lo - 1) required.hi) else within.hi;
 }
 
--- the same of all that these requests need
+-- `required`, widened inside `within` until it meets bytes that one of these requests needs
 abbrev pub cut_all : Range → Range → List TokenRequest → Range
 cut_all required within [] = within
 cut_all required within (q ∷ qs) = cut_all required (cut required within q.wanted.required) qs

@@ -1,4 +1,4 @@
--- One request after the other that is served.
+-- The turns of the active requests, one after the other.
 use Rattle.std.specs.Prelude.{◌≡◌, ◌≤◌, false, List, ◌++◌, filter, All, IfSome, Option, Ok}
 use Rattle.std.specs.Option.{option_to_list}
 use Rattle.token_queue.specs.declared.held.Held.{Held}
@@ -11,15 +11,15 @@ use Rattle.token_server.specs.Obstacles.{obstacle, is_idle}
 use Rattle.token_server.specs.Told.{with_told, commands_told}
 use Rattle.token_server.specs.Edits.{keeps}
 
--- those of the requests that are served on
+-- the active requests that stay active
 abbrev pub kept : Lists → List Held → List Held
 kept l held = filter (λ h. keeps l.gone.dropped l.gone.ended h.request) held
 
--- those that are served on of those that were served, each with the row that it waits for from now on
+-- the active requests that stay active, each with the node whose row it waits for after the change
 abbrev pub kept_of : Lists → List Held → List Held
 kept_of l held = kept l (waiting_for l.ats.items held)
 
--- after those nodes were told, the request is served: the node whose row it waits for is told something if it can be
+-- after these commands the request is served: it leads to one more command, to the node whose row it waits for, if one may be sent
 pub record IsTurn (s : ServerState) (h : Held) (before after : List Told) : Type 0 where
   pub next : Option Told
   pub made : after ≡ before ++ option_to_list next
@@ -29,7 +29,8 @@ pub record IsTurn (s : ServerState) (h : Held) (before after : List Told) : Type
   pub starts : h.request.wanted.desired.lo ≤ h.request.wanted.required.lo
   pub ends : h.request.wanted.required.hi ≤ h.request.wanted.desired.hi
 
--- those of all requests are served so far, and what comes of it was told: each waits for the row for which it waited, and to none of the nodes for whose rows those wait may a command go
+-- The first active requests were served and led to these commands. Each request still waits for the row that it waited for, and no further command may go to
+-- the nodes whose rows the served ones wait for.
 pub record AreServed (s : ServerState) (all done : List Held) (told : List Told) : Type 0 where
   pub comes : each_served (requests_of done) s ≡ Ok (with_told told s, commands_told told)
   pub nodes : All (λ t. 1 ≤ t.node) told

@@ -8,7 +8,7 @@ use Rattle.token_queue.specs.Requests.{is_of_call}
 use Rattle.token_server.specs.State.{ServerState, requests}
 use Rattle.token_server.specs.Server.{server_rule}
 
--- a call whose request waits has one at the server after the next step too, or its node is known as dead
+-- a call that has a waiting request has a request at the server after the next step too, or its node's incarnation is known to be dead
 abbrev pub KeepsWhatWaits : Type 0
 KeepsWhatWaits =
     (s : ServerState) (event : ServerEvent) (new : ServerState) (out : Outcome) (call : CallId)

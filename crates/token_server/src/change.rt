@@ -1,4 +1,4 @@
-//! What a step of a token server changes.
+//! A planned step of a token server: what it changes, and what it sends.
 ghost use Rattle.std.specs.Prelude.{◌≡◌, IfOk};
 
 use crate::lists::{Lists, Spares};
@@ -7,8 +7,8 @@ use known_nodes::row_edit::RowEdit;
 use messages::outcome::Outcome;
 use std::alloc::{AllocError, Global};
 
-/// What an event changes of a server before it serves: the node that changes, if one does, and the requests that are
-/// served, that are queued and that wait from then on, and whether a node has not told its token yet.
+/// The first half of a step: what an event changes before the server serves. It holds the edit of a node's row, if
+/// there is one, the change of the requests, and whether a node has not reported its token then.
 #[derive(Drop)]
 pub struct Draft {
     pub rows: Option<RowEdit>,
@@ -16,7 +16,8 @@ pub struct Draft {
     pub awaits: bool,
 }
 
-/// What the event changes, then what nodes are given, and the memory that the requests need for it.
+/// The whole change of a step: the draft, the new rows that commands make, and the memory that the requests need for
+/// it.
 #[derive(Drop)]
 pub struct Parts {
     pub draft: Draft,
@@ -24,14 +25,14 @@ pub struct Parts {
     pub spares: Spares,
 }
 
-/// What a step changes. It is in a box, since it is handed up by value through many calls.
+/// The whole change of a step. It lies in a box, because many calls hand it up by value.
 #[derive(Drop)]
 pub struct Edit {
     pub parts: Box<Parts>,
 }
 
 impl Edit {
-    /// What the event changes, and then what nodes are given.
+    /// The change that consists of these parts.
     pub(crate) fn new(
         alloc: Global,
         draft: Draft,
@@ -51,7 +52,7 @@ impl Edit {
     }
 }
 
-/// A step that is planned: what it changes, and what it gives.
+/// A planned step: its change, and its outcome.
 #[derive(Drop)]
 pub struct Change {
     pub edit: Edit,

@@ -1,4 +1,4 @@
-//! Requests that go as an event changes a token server.
+//! The requests that an event removes from a token server.
 ghost use Rattle.std.specs.Prelude.{◌≡◌, ◌&&◌, ◌∷◌, []};
 ghost use Rattle.std.specs.List.{list_any};
 ghost use Rattle.token_queue.specs.Requests.{meets};
@@ -9,8 +9,8 @@ use intervals::span::Span;
 use model::call::CallId;
 use token_queue::token_request::TokenRequest;
 
-/// Which requests go before others come from the queue: those of the incarnations of a node up to one, and the
-/// call's, of those that are served.
+/// The requests that a step removes before it admits others from the queue: those of a node up to an incarnation, in
+/// every list, and the active request of a call.
 #[derive(Clone, Copy)]
 pub struct Gone {
     pub dropped: Option<(u8, u16)>,
@@ -18,7 +18,7 @@ pub struct Gone {
 }
 
 impl Gone {
-    /// Whether a request is dropped.
+    /// Whether the request is of the dropped incarnations.
     pub fn drops(&self, request: &TokenRequest) -> bool
         ensures { result ≡ is_up_to_any self.now.dropped request.now }
     {
@@ -26,28 +26,28 @@ impl Gone {
             .is_some_and(|(node, incarnation)| request.is_up_to(node, incarnation))
     }
 
-    /// Whether a request is the one that is served no longer.
+    /// Whether the request is of the call whose active request ends.
     pub fn ends(&self, request: &TokenRequest) -> bool
         ensures { result ≡ is_of_any self.now.ended request.now }
     {
         self.ended.is_some_and(|call| request.is_of_call(call))
     }
 
-    /// Whether a request that was served is served on.
+    /// Whether the active request stays active.
     pub fn keeps(&self, request: &TokenRequest) -> bool
         ensures { result ≡ keeps self.now.dropped self.now.ended request.now }
     {
         !self.drops(request) && !self.ends(request)
     }
 
-    /// Whether a request that was served is served on and needs a byte of the span.
+    /// Whether the active request stays active and needs a byte of the span.
     pub fn keeps_meeting(&self, request: &TokenRequest, span: Span) -> bool
         ensures { result ≡ (meets span request.now.wanted.required && keeps self.now.dropped self.now.ended request.now) }
     {
         request.meets(span) && self.keeps(request)
     }
 
-    /// Whether a request stands in the slot that is not dropped and needs a byte of the span.
+    /// Whether the slot holds a request that is not dropped and that needs a byte of the span.
     pub fn leaves_meeting(&self, slot: &Option<TokenRequest>, span: Span) -> bool
         ensures { result ≡ list_any (λ q. meets span q.wanted.required) (left_in self.now (slot.now ∷ [])) }
     {

@@ -1,4 +1,6 @@
-//! The token server of a file.
+//! The token server of a file: it takes requests, grants and revokes tokens, and keeps the requests that have to
+//! wait. It knows nothing of locks and processes, of the other actors' state, of printed text, of files of the
+//! operating system or of threads.
 #![tactic(auto)]
 
 pub mod change;

@@ -1,11 +1,11 @@
-//! The requests of a token server, and how a planned step changes them.
+//! The change of a token server's requests in a planned step.
 use crate::gone::Gone;
 use crate::sketch::Moved;
 use token_queue::held::Held;
 use token_queue::line::Line;
 
-/// How a step changes the requests of a server, in this order: the first of those that are served wait for these
-/// rows; some go; requests move; and these come from where they stand, to be served last of all.
+/// The change of the requests in a step, made in this order. `ats`: new blockers of the active; `gone`: dropped;
+/// `moved`: re-queued; `fresh`: admitted.
 #[derive(Drop)]
 pub struct Lists {
     pub gone: Gone,
@@ -14,7 +14,7 @@ pub struct Lists {
     pub fresh: Vec<Held>,
 }
 
-/// The memory for a change of the requests, where the lists have none left.
+/// New memory for a change of the requests, for each list that has too little room left.
 #[derive(Drop)]
 pub struct Spares {
     pub active: Option<Vec<Held>>,

@@ -1,4 +1,4 @@
-//! How the requests of a token server change in a step. Nothing here takes memory.
+//! The functions that change a token server's requests in a step. None of them takes memory.
 ghost use Rattle.std.specs.Prelude.{◌≡◌, ◌≤◌, ◌++◌, ◌∷◌, [], find, length, None};
 ghost use Rattle.token_queue.specs.Requests.{is_of_call};
 ghost use Rattle.token_queue.specs.Actives.{requests_of, waiting_for};
@@ -16,7 +16,7 @@ use token_queue::held::Held;
 use token_queue::line::Line;
 use token_queue::token_request::TokenRequest;
 
-/// The requests move into the spare line, if there is one.
+/// Moves the requests of the line into the spare line, if there is one.
 pub(crate) fn refill(line: &mut Line, spare: Option<Line>, more: usize)
     requires { HasRoom line.old spare more }
     ensures requests { line.new.requests ≡ line.old.requests }
@@ -28,7 +28,7 @@ pub(crate) fn refill(line: &mut Line, spare: Option<Line>, more: usize)
     }
 }
 
-/// The requests of the incarnations of a node up to one go, if it is said of one.
+/// Drops the requests of a node up to an incarnation, if one is named.
 pub(crate) fn forget(line: &mut Line, dropped: Option<(u8, u16)>)
     ensures requests { line.new.requests ≡ without dropped line.old.requests }
     ensures room { line.new.room ≡ line.old.room }
@@ -38,7 +38,7 @@ pub(crate) fn forget(line: &mut Line, dropped: Option<(u8, u16)>)
     }
 }
 
-/// These come last of the requests that are served.
+/// Appends the requests to the active ones.
 pub(crate) fn serve(active: &mut Active, fresh: &[Held])
     requires { length fresh.now ≤ active.old.room }
     ensures { active.new.held ≡ active.old.held ++ fresh.now }
@@ -48,7 +48,7 @@ pub(crate) fn serve(active: &mut Active, fresh: &[Held])
     }
 }
 
-/// The requests of these calls are queued no longer.
+/// Removes from the queue the requests of the calls of these.
 pub(crate) fn leave(queue: &mut Line, fresh: &[Held])
     ensures { queue.new.requests ≡ all_but (requests_of fresh.now) queue.old.requests }
 {
@@ -57,14 +57,14 @@ pub(crate) fn leave(queue: &mut Line, fresh: &[Held])
     }
 }
 
-// Whether the request is of the call of one of these.
+// Whether one of these requests is of the same call as this one.
 fn has_call_of(fresh: &[Held], request: &TokenRequest) -> bool
     ensures { result ≡ has_call_of (requests_of fresh.now) request.now }
 {
     fresh.iter().any(|held| held.is_of_call(request.call))
 }
 
-// The request comes last in the queue, unless it comes from there at once.
+// Appends the request to the queue, unless it is admitted at once: then it is one of `fresh`.
 fn put(queue: &mut Line, request: TokenRequest, fresh: &[Held])
     requires room { 1 ≤ queue.old.room }
     requires new { find (is_of_call request.call) queue.old.requests ≡ None }
@@ -75,7 +75,7 @@ fn put(queue: &mut Line, request: TokenRequest, fresh: &[Held])
     }
 }
 
-/// Requests move.
+/// Moves requests between the queue and those that wait, as `moved` says, without those that are admitted at once.
 pub(crate) fn move_requests(queue: &mut Line, waiting: &mut Line, moved: Moved, fresh: &[Held])
     requires queued { many_moved moved waiting.old.requests ≤ queue.old.room }
     requires put_off { many_put_off moved ≤ waiting.old.room }
@@ -95,7 +95,7 @@ pub(crate) fn move_requests(queue: &mut Line, waiting: &mut Line, moved: Moved, 
     }
 }
 
-/// The requests of a server change so.
+/// Makes the change of the requests.
 pub(crate) fn change(
     active: &mut Active,
     queue: &mut Line,
@@ -133,7 +133,7 @@ pub(crate) fn change(
     leave(queue, fresh.as_slice());
 }
 
-// The requests that are served change so.
+// Makes the change of the active requests.
 fn serve_on(active: &mut Active, spare: Option<Vec<Held>>, gone: &Gone, ats: &[u8], fresh: &[Held])
     requires distinct { AreDistinct (requests_of active.old.held) }
     requires room { HeldHasRoom active.old spare (length fresh.now) }
@@ -146,7 +146,7 @@ fn serve_on(active: &mut Active, spare: Option<Vec<Held>>, gone: &Gone, ats: &[u
     serve(active, fresh);
 }
 
-// The requests that are served move into the spare list, if there is one.
+// Moves the active requests into the spare list, if there is one.
 fn refill_served(active: &mut Active, spare: Option<Vec<Held>>, more: usize)
     requires { HeldHasRoom active.old spare more }
     ensures held { active.new.held ≡ active.old.held }
@@ -158,7 +158,7 @@ fn refill_served(active: &mut Active, spare: Option<Vec<Held>>, more: usize)
     }
 }
 
-// The requests of the incarnations of a node up to one are served no longer, if it is said of one.
+// Drops the active requests of a node up to an incarnation, if one is named.
 fn drop_served(active: &mut Active, dropped: Option<(u8, u16)>)
     ensures held { active.new.held ≡ held_without dropped active.old.held }
     ensures room { active.new.room ≡ active.old.room }
@@ -168,7 +168,7 @@ fn drop_served(active: &mut Active, dropped: Option<(u8, u16)>)
     }
 }
 
-// The call's request is served no longer, if one is named.
+// Removes the active request of the call, if one is named.
 fn end_served(active: &mut Active, ended: Option<CallId>)
     requires { AreDistinct (requests_of active.old.held) }
     ensures held { active.new.held ≡ held_still ended active.old.held }

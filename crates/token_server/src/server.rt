@@ -1,4 +1,4 @@
-//! The token server of a file.
+//! The token server of one file, and its rule: what it does at each event.
 ghost use Rattle.std.specs.Prelude.{◌≡◌, ◌≢◌, ℕ, ◌-◌, ◌<◌, ◌≤◌, ◌↔◌, true, false, not, ◌&&◌, ◌||◌, ◌==◌, IsTrue, length, IfSome, IfOk, IfErr, MatchOption, [], Option, Some, None, Ok, Err};
 ghost use Rattle.std.specs.Option.{option_map, option_to_list};
 ghost use Rattle.model.specs.Limits.{IsNumber};
@@ -59,21 +59,20 @@ mod obstacles;
 mod readers;
 mod serving;
 
-/// The token server of one file: what it knows of each node, the requests that are queued, in the
-/// order in which they came, those that are served, no two of which need a byte in common, and those that
-/// wait for a lock of another node to go. One that was rebuilt serves none before each node that is alive
-/// has told its token, or is known to be dead.
+/// The token server of one file: a row for each node, the active requests, of which no two need a byte in common, the
+/// queued requests in order, and the waiting requests, which wait for a lock of another node to go. A rebuilt server
+/// serves none before each node that is alive has reported its token, or is known to be dead.
 #[derive(Drop)]
 pub struct Server {
     shape: Shape,
     file: FileNumber,
-    // 1 until it was rebuilt.
+    // The epoch, from 1: a server that was rebuilt is in a later one.
     epoch: u16,
     known_nodes: KnownNodes,
     active: Active,
     queue: Line,
     waiting: Line,
-    // Whether a node has not told its token yet.
+    // Whether a node was asked for its token and has not reported it.
     awaits: bool,
 }
 
@@ -89,7 +88,7 @@ impl Model for Server {
 }
 
 impl Server {
-    /// The server of a file of the shape that no node has asked for.
+    /// The first server of a file of the shape, in epoch 1: no node has asked it for anything.
     ///
     /// # Errors
     /// `AllocError` where a request for memory was refused.
@@ -110,9 +109,9 @@ impl Server {
         })
     }
 
-    /// The server of a file of the shape that is rebuilt after it failed, with that epoch, 2 to 65,535, from the
-    /// members of the cluster: it knows the incarnations as dead that were declared failed, and asks each node that
-    /// is alive for its token. What it sends, by rising node.
+    /// The server of a file of the shape that is rebuilt after a failure, in that epoch, 2 to 65,535, from the
+    /// members of the cluster. It knows the incarnations that were declared failed to be dead, and sends each node
+    /// that is alive a Hello. Those messages come with it, by rising node.
     ///
     /// # Errors
     /// `AllocError` where a request for memory was refused.
@@ -147,7 +146,7 @@ impl Server {
         Ok((server, Outcome::sending(hellos)))
     }
 
-    /// An equal server.
+    /// A copy, equal to this server.
     ///
     /// # Errors
     /// `AllocError` where a request for memory was refused.
@@ -166,8 +165,8 @@ impl Server {
         })
     }
 
-    /// Whether both are servers of one file in clusters of one shape, of one epoch, and know the same, with
-    /// the same requests in the same order.
+    /// Whether both servers are equal: file, shape, epoch, rows, dead incarnations, and all requests with their
+    /// order.
     pub fn same(&self, other: &Server) -> bool
         ensures { IsTrue result ↔ (server_state self.now ≡ server_state other.now) }
     {
@@ -183,7 +182,7 @@ impl Server {
         self.known_nodes.same(&other.known_nodes)
     }
 
-    /// The epoch in which the server is: 1 until it was rebuilt.
+    /// The epoch of the server: 1 until it was rebuilt.
     pub fn epoch(&self) -> u16
         ensures value { result ≡ (server_state self.now).epoch }
         ensures from_one { 1 ≤ result }
@@ -191,8 +190,8 @@ impl Server {
         self.epoch
     }
 
-    // What comes last in the queue for a request: its call's that waits, or the request itself, unless its
-    // call has one that is queued or served.
+    // If the call is queued or active: nothing. If it waits: that older request goes to the end of the queue. Else
+    // this one does.
     fn enqueued(&self, request: TokenRequest) -> Moved
         ensures { result ≡ moved_for request (requests_of self.now.active.held) self.now.queue.requests self.now.waiting.requests }
     {
@@ -206,7 +205,7 @@ impl Server {
         }
     }
 
-    // Takes a request: older incarnations of its node are dead, and there is a row from now on.
+    // Takes a request: incarnations of its node before this one are dead, and the node gets a row if it has none.
     fn ask(&self, request: TokenRequest) -> Sketch
         requires { IsNumber self.now.shape.nodes request.call.node }
         ensures state { sketched self.now result ≡ asked (server_state self.now) request }
@@ -218,21 +217,21 @@ impl Server {
         Sketch::of(host.node, NodeChange::Asked { host, begin }, moved, None)
     }
 
-    // The command that is under way to that holder, if one is.
+    // The outstanding command to the holder, if there is one and the node's row is of that incarnation.
     fn command_to(&self, holder: Host) -> Option<Command>
         ensures { MatchOption (row_of_host (server_state self.now) holder) (result ≡ None) (λ row. result ≡ row.outstanding) }
     {
         self.known_nodes.row_of(holder)?.commands.outstanding
     }
 
-    // The mode that the command with that number revokes, if it is under way to that holder.
+    // The mode that the outstanding command to the holder revokes, if it is the Revoke with that number.
     fn revoked_mode(&self, number: u64, holder: Host) -> Option<Mode>
         ensures { MatchOption (row_of_host (server_state self.now) holder) (result ≡ None) (λ row. result ≡ revoked_mode number row.outstanding) }
     {
         self.command_to(holder)?.revoked_mode(number)
     }
 
-    // Takes a node's answer to a Grant: the call's request is served no longer. `None` where the answer
+    // Takes Taken, a node's answer to a Grant: the call's request is not active any more. `None` where the answer
     // doesn't count.
     fn on_taken(&self, number: u64, call: CallId) -> Option<Sketch>
         requires { IsNumber self.now.shape.nodes call.node }
@@ -246,7 +245,7 @@ impl Server {
         Some(Sketch::of(call.node, answered, Moved::Nothing, Some(call)))
     }
 
-    // Takes a holder's answer that it gave up a span. `None` where the answer doesn't count.
+    // Takes Released, a holder's answer that it gave up a span. `None` where the answer doesn't count.
     fn on_released(&self, number: u64, holder: Host, span: Span) -> Option<Sketch>
         requires { IsNumber self.now.shape.nodes holder.node }
         ensures state { released (server_state self.now) number holder span (row_of_host (server_state self.now) holder) ≡ option_map (λ k. (sketched self.now k, [])) result }
@@ -257,8 +256,8 @@ impl Server {
         Some(Sketch::of(holder.node, relieved, Moved::Nothing, None))
     }
 
-    // Takes a holder's answer that a lock is in the way: the call's request is served no longer, and is
-    // denied or waits. What is sent, or `None` where the answer doesn't count.
+    // Takes Conflict, a holder's answer that a lock blocks the request: the call's request is not active any more,
+    // and is denied or waits. Gives what is sent too, or `None` where the answer doesn't count.
     fn on_conflict(
         &self,
         number: CommandNumber,
@@ -290,8 +289,8 @@ impl Server {
         Some((sketch, denial))
     }
 
-    // Takes the token that a node tells, which has those runs. `None` where it is not asked for it with that
-    // number.
+    // Takes a Report of the token that a node has, as these runs. `None` where no Hello with that number is
+    // outstanding.
     fn on_report(
         &self,
         alloc: Global,
@@ -313,8 +312,8 @@ impl Server {
         Ok(Some(Sketch::of(holder.node, reported, Moved::Nothing, None)))
     }
 
-    // Takes that locks of the holder may be gone: where its row is of that incarnation, what waits is asked
-    // for again.
+    // Takes Freed: locks of the holder may be gone. If its row is of that incarnation, the waiting requests are
+    // queued again.
     fn on_freed(&self, holder: Host) -> Sketch
         ensures state { sketched self.now result ≡ freed (server_state self.now) (row_of_host (server_state self.now) holder) }
         ensures in_cluster { IfSome result.changed (λ c. IsNumber self.now.shape.nodes c.node) }
@@ -325,7 +324,8 @@ impl Server {
         }
     }
 
-    // The incarnations of a node up to one of which requests go: what is known as dead already has none.
+    // The node, and the incarnation up to which its requests are dropped, if that drops any. Those that were known to
+    // be dead already have no requests.
     fn newly_dead(&self, sketch: &Sketch) -> Option<(u8, u16)>
         requires { IfSome sketch.now.changed (λ c. IsNumber self.now.shape.nodes c.node) }
         ensures active { without result (requests_of self.now.active.held) ≡ without (dropped sketch.now.changed) (requests_of self.now.active.held) }
@@ -340,7 +340,7 @@ impl Server {
         }
     }
 
-    // Whether a node has not told its token yet, once the row is edited: an event asks none for it.
+    // Whether a node has not reported its token after the edit. No event asks a node for its token.
     fn awaits_after(&self, rows: &Option<RowEdit>) -> bool
         requires { awaits (server_state self.now) ≡ false → awaits (reached self.now rows.now) ≡ false }
         ensures { result ≡ awaits (reached self.now rows.now) }
@@ -348,7 +348,7 @@ impl Server {
         self.awaits && self.known_nodes.awaits(rows, self.shape.nodes())
     }
 
-    // How the requests change.
+    // The change of the requests in a step.
     fn lists(
         &self,
         alloc: Global,
@@ -376,7 +376,7 @@ impl Server {
         })
     }
 
-    // The memory for a change of the requests.
+    // The memory for the change of the requests.
     fn spares(&self, lists: &Lists) -> Result<Spares, AllocError>
         ensures active { IfOk result (λ spares. HeldHasRoom self.now.active spares.active (length lists.now.fresh.items)) }
         ensures queue { IfOk result (λ spares. HasRoom self.now.queue spares.queue (many_moved lists.now.moved (without lists.now.gone.dropped self.now.waiting.requests))) }
@@ -389,7 +389,7 @@ impl Server {
         })
     }
 
-    // The node whose row is edited, if one is.
+    // The node whose row the edit changes, if there is an edit.
     fn touched(&self, rows: &Option<RowEdit>, sketch: &Sketch) -> Option<u8>
         requires { rows_overlaid self.now.known_nodes rows.now ≡ rows_after sketch.now.changed (rows_of self.now.known_nodes) }
         ensures { (n : ℕ) → result ≢ Some n → rows_overlaid self.now.known_nodes rows.now n ≡ rows_of self.now.known_nodes n }
@@ -398,7 +398,7 @@ impl Server {
         Some(sketch.changed.as_ref()?.node)
     }
 
-    // What the event changes before the server serves.
+    // The draft of a step: what the event changes before the server serves.
     fn draft(&self, sketch: &Sketch, alloc: Global) -> Result<Draft, AllocError>
         requires in_cluster { IfSome sketch.now.changed (λ c. IsNumber self.now.shape.nodes c.node) }
         requires orderly { IsOrderly (sketched self.now sketch.now) }
@@ -414,8 +414,8 @@ impl Server {
         })
     }
 
-    // Serves the requests: each is granted, but where other nodes' rows conflict with it, the token of the
-    // least such node is revoked first. None is served before each node has told its token.
+    // Serves the active requests in order. A request is granted, unless another node's row conflicts: then the token
+    // of the least such node is revoked first. Serves none before each node has reported its token.
     fn serve(&self, sketch: &Sketch, alloc: Global) -> Result<(Edit, Items<Message>), StepError>
         requires in_cluster { IfSome sketch.now.changed (λ c. IsNumber self.now.shape.nodes c.node) }
         requires orderly { IsOrderly (sketched self.now sketch.now) }
@@ -429,8 +429,8 @@ impl Server {
         Ok((Edit::new(alloc, draft, given, spares)?, commands))
     }
 
-    // What an answer to a command changes before the server serves, and what is sent for it, or `None` where
-    // the answer doesn't count.
+    // What an answer to a command changes before the server serves, and what is sent for it. `None` where the answer
+    // doesn't count.
     fn on_answer(&self, message: &Message) -> Option<(Sketch, Option<Message>)>
         requires answer { is_answer message.now ≡ true }
         requires in_cluster { IsNumber self.now.shape.nodes (host_of message.now).node }
@@ -456,8 +456,7 @@ impl Server {
         }
     }
 
-    // What a message changes before the server serves, and what is sent for it, or `None` where it does
-    // nothing at all.
+    // What a message changes before the server serves, and what is sent for it. `None` where it changes nothing.
     fn deliver(
         &self,
         alloc: Global,
@@ -492,7 +491,7 @@ impl Server {
         }
     }
 
-    // Whether the message is for this server, from a node of the cluster.
+    // Whether the message is for this server and from a node of the cluster.
     fn is_addressed_by(&self, message: &Message) -> bool
         ensures { result ≡ (is_server self.now.file (addressee message.now) && is_within self.now.shape.nodes (host_of message.now).node) }
     {
@@ -502,7 +501,7 @@ impl Server {
         message.host().node <= self.shape.nodes()
     }
 
-    // Serves after those messages were sent.
+    // Serves, and puts these messages before those that serving sends.
     fn serve_after(
         &self,
         sketch: &Sketch,
@@ -524,7 +523,7 @@ impl Server {
         })
     }
 
-    // Nothing changes, nothing is sent.
+    // The step that changes nothing and sends nothing.
     fn no_change(&self, alloc: Global) -> Result<Change, StepError>
         ensures state { IfOk result (λ change. planned self.now change.edit ≡ server_state self.now) }
         ensures fits { IfOk result (λ change. Fits self.now change.edit) }
@@ -535,10 +534,10 @@ impl Server {
         self.serve_after(&Sketch::moving(Moved::Nothing), alloc, Items::new(alloc))
     }
 
-    /// Plans what the delivery of the message changes, as `plan` does.
+    /// Plans the delivery of the message, as `plan` does.
     ///
     /// # Errors
-    /// Those of `step`.
+    /// As `step`.
     pub fn plan_delivery(&self, alloc: Global, message: &Message) -> Result<Change, StepError>
         ensures fits { IfOk result (λ change. Fits self.now change.edit) }
         ensures ok { IfOk result (λ change. server_rule (server_state self.now) (ServerEvent.Deliver message.now) ≡ Ok (planned self.now change.edit, change.outcome)) }
@@ -558,7 +557,8 @@ impl Server {
         }
     }
 
-    // Sends again what has no answer yet, asks again for what waits, and then serves.
+    // Plans a Resend: every outstanding command is sent again, the waiting requests are queued again, and then the
+    // server serves.
     fn resend(&self, alloc: Global) -> Result<Change, StepError>
         ensures fits { IfOk result (λ change. Fits self.now change.edit) }
         ensures ok { IfOk result (λ change. resend_rule (server_state self.now) ≡ Ok (planned self.now change.edit, change.outcome)) }
@@ -570,7 +570,8 @@ impl Server {
         self.serve_after(&Sketch::moving(Moved::Waiting), alloc, commands)
     }
 
-    // The incarnation is known as dead from now on, what waits is asked for again, and then the server serves.
+    // Plans a Learn: the incarnation is known to be dead, the waiting requests are queued again, and then the server
+    // serves.
     fn learn(&self, alloc: Global, node: u8, incarnation: u16) -> Result<Change, StepError>
         ensures fits { IfOk result (λ change. Fits self.now change.edit) }
         ensures ok { IfOk result (λ change. learn_rule (server_state self.now) node incarnation ≡ Ok (planned self.now change.edit, change.outcome)) }
@@ -586,16 +587,16 @@ impl Server {
         self.serve_after(&sketch, alloc, Items::new(alloc))
     }
 
-    /// What the server will do at an event, as `step` says: only what the event changes is made anew.
+    /// Plans the step that `step` makes. Only what the event changes is made anew.
     ///
     /// # Errors
-    /// Those of `step`.
+    /// As `step`.
     pub fn plan(&self, alloc: Global, event: &ServerEvent) -> Result<Change, StepError>
         ensures fits { IfOk result (λ change. Fits self.now change.edit) }
         ensures ok { IfOk result (λ change. server_rule (server_state self.now) event.now ≡ Ok (planned self.now change.edit, change.outcome)) }
         ensures err { IfErr result (λ e. e ≢ StepError.NoMemory → server_rule (server_state self.now) event.now ≡ Err e) }
 
-        // Every refusal but `Spent` always comes, for it is decided before memory is taken.
+        // Every refusal but `Spent` always comes: it is decided before memory is taken.
         ensures refused { (r : StepError) → r ≢ StepError.Spent → server_rule (server_state self.now) event.now ≡ Err r → result ≡ Err r }
     {
         match event {
@@ -605,7 +606,7 @@ impl Server {
         }
     }
 
-    /// Makes a planned change. Takes no memory. The change was planned from this server, or from an equal one.
+    /// Makes a planned change, which was planned from this server or an equal one. Takes no memory.
     pub fn apply(&mut self, change: Change) -> Outcome
         requires { Fits self.old change.edit }
         ensures state { server_state self.new ≡ planned self.old change.edit }
@@ -634,16 +635,15 @@ impl Server {
         outcome
     }
 
-    /// What the server does at an event: the server after it, and what it sends. Requests that need no
-    /// byte in common are served at once; of two that do, the one that came first is served first. One
-    /// is granted the largest span around the bytes that it needs, within those that it would like to
-    /// have, that no other request which is served needs and no other node's token stands in the way of.
-    /// Where another node's token has some of the bytes that it needs, that is revoked first, one node
-    /// after the other; where a holder then names a lock in the way, the request is denied, or, where it
-    /// may wait, put off until the holder says that locks of it may be gone. An answer counts once, and
-    /// only where the command with its number waits for one of its kind. A server that was rebuilt serves
-    /// none before each node that was asked for its token has told it, or is known to be dead. (Tokens revoked
-    /// by required and desired ranges: Schmuck and Haskin, FAST 2002.)
+    /// The step of the server at an event: the server after it, and what it sends. Requests that need no byte in
+    /// common are active at once; of two that do, the one that came first becomes active first. A request is granted
+    /// the largest span around its required bytes, within its desired bytes, that no other active request needs and
+    /// no other node's token conflicts with. Where another node's token has some of its required bytes, that token is
+    /// revoked first, one node after the other. Where a holder then names a lock that blocks the request, the request
+    /// is denied, or, if it may wait, put off until the holder reports that locks may be gone. An answer counts once,
+    /// and only where the command with its number is outstanding and of its kind. A rebuilt server serves none before
+    /// each node that it asked for its token has reported it, or is known to be dead. (Tokens revoked by required and
+    /// desired ranges: Schmuck and Haskin, FAST 2002.)
     ///
     /// # Errors
     /// `Stranger` where a message is not for this server or names a node that the cluster doesn't have,
@@ -653,7 +653,7 @@ impl Server {
         ensures ok { IfOk result (λ r. server_rule (server_state self.now) event.now ≡ Ok (server_state r.0, r.1)) }
         ensures err { IfErr result (λ e. e ≢ StepError.NoMemory → server_rule (server_state self.now) event.now ≡ Err e) }
 
-        // Every refusal but `Spent` always comes, for it is decided before memory is taken.
+        // Every refusal but `Spent` always comes: it is decided before memory is taken.
         ensures refused { (r : StepError) → r ≢ StepError.Spent → server_rule (server_state self.now) event.now ≡ Err r → result ≡ Err r }
     {
         let change = self.plan(alloc, event)?;
@@ -663,7 +663,7 @@ impl Server {
     }
 }
 
-// What an event changes, where nothing is sent for it before the server serves.
+// The sketch of an event for which nothing is sent before the server serves.
 fn silent(sketch: Option<Sketch>) -> Option<(Sketch, Option<Message>)>
     ensures { result ≡ option_map (λ k. (k, None)) sketch }
 {
@@ -680,7 +680,7 @@ fn in_list(alloc: Global, message: Option<Message>) -> Result<Items<Message>, Al
     }
 }
 
-// The commands, in order.
+// The commands as messages, in order.
 fn commands_told(alloc: Global, told: &[Told]) -> Result<Items<Message>, AllocError>
     ensures { IfOk result (λ commands. commands ≡ commands_told told.now) }
 {
@@ -691,7 +691,7 @@ fn commands_told(alloc: Global, told: &[Told]) -> Result<Items<Message>, AllocEr
     Ok(commands)
 }
 
-// Room for so many more requests that are served, where the list has less.
+// Memory for that many more active requests, where the list has too little room.
 fn spare_active(active: &Active, more: usize) -> Result<Option<Vec<Held>>, AllocError>
     ensures { IfOk result (λ spare. HeldHasRoom active.now spare more) }
 {
@@ -701,7 +701,7 @@ fn spare_active(active: &Active, more: usize) -> Result<Option<Vec<Held>>, Alloc
     Ok(Some(active.spare_for(more)?))
 }
 
-// Room for so many more requests in a line, where it has less.
+// Memory for that many more requests of a line, where it has too little room.
 fn spare_line(line: &Line, more: usize) -> Result<Option<Line>, AllocError>
     ensures { IfOk result (λ spare. HasRoom line.now spare more) }
 {

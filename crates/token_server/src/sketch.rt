@@ -1,4 +1,4 @@
-//! What an event changes of a token server before it serves.
+//! The sketch of an event: what it changes of a token server before it serves.
 ghost use Rattle.std.specs.Prelude.{◌≡◌, Some, None};
 ghost use Rattle.token_server.specs.Edits.{many_moved, many_put_off};
 ghost use Rattle.token_server.specs.Sketches.{dropped};
@@ -8,24 +8,23 @@ use model::call::CallId;
 use token_queue::line::Line;
 use token_queue::token_request::TokenRequest;
 
-/// What moves in the lists of requests.
+/// The move of requests between the lists of a server.
 #[derive(Clone, Copy)]
 pub enum Moved {
-    /// Nothing.
+    /// No request moves.
     Nothing,
-    /// The request comes last in the queue.
+    /// The new request goes to the end of the queue.
     New(TokenRequest),
-    /// The request comes last in the queue, and those of the call wait no longer.
+    /// The older request of the call goes to the end of the queue, and the call's requests wait no longer.
     Again { call: CallId, request: TokenRequest },
-    /// Those that wait come last in the queue, in their order.
+    /// All waiting requests go to the end of the queue, in their order.
     Waiting,
-    /// The request comes last of those that wait.
+    /// The request goes to the end of those that wait.
     PutOff(TokenRequest),
 }
 
-/// What an event changes of a token server before it serves, in so few words that only a report takes memory:
-/// what is known of a node (requests of its dead incarnations go), then what moves, and the call whose request
-/// is served no longer, if there is one.
+/// The sketch of an event: the change of one node, if there is one (requests of its dead incarnations go), the move
+/// of requests, and the call whose active request ends, if there is one. Only a report takes memory here.
 #[derive(Drop)]
 pub struct Sketch {
     pub changed: Option<Changed>,
@@ -34,7 +33,7 @@ pub struct Sketch {
 }
 
 impl Sketch {
-    /// A node changes so, then requests move, and the call's request is served no longer, if one is named.
+    /// The sketch of a change of the node, a move, and the end of the call's active request, if one is named.
     pub fn of(node: u8, change: NodeChange, moved: Moved, ended: Option<CallId>) -> Sketch
         ensures { result ≡ record { changed = Some (record { node = node; change = change }); moved = moved; ended = ended } }
     {
@@ -45,7 +44,7 @@ impl Sketch {
         }
     }
 
-    /// Only requests move.
+    /// The sketch of a move alone.
     pub fn moving(moved: Moved) -> Sketch
         ensures { result ≡ record { changed = None; moved = moved; ended = None } }
     {
@@ -66,7 +65,7 @@ impl Sketch {
 }
 
 impl Moved {
-    /// How many come last of those that wait.
+    /// The number of requests that go to the end of those that wait: 0 or 1.
     pub fn put_off(&self) -> usize
         ensures { result ≡ many_put_off self.now }
     {
@@ -76,7 +75,7 @@ impl Moved {
         }
     }
 
-    /// How many come last in the queue, where these wait.
+    /// The number of requests that go to the end of the queue, where these wait.
     pub fn many(&self, waiting: &Line) -> usize
         ensures { result ≡ many_moved self.now waiting.now.requests }
     {

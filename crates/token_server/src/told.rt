@@ -1,4 +1,4 @@
-//! Commands that a server sends as it serves.
+//! The commands that a token server sends as it serves.
 ghost use Rattle.std.specs.Prelude.{◌≡◌, ◌≤◌};
 ghost use Rattle.token_server.specs.Told.{told_to, cut};
 
@@ -6,7 +6,7 @@ use intervals::span::Span;
 use known_nodes::command::Command;
 use known_nodes::commands::Commands;
 
-/// A node that is sent a command, and the commands to it from then on.
+/// A command, the node that it goes to, and the commands to that node with it.
 #[derive(Clone, Copy)]
 pub struct Told {
     pub node: u8,
@@ -14,15 +14,14 @@ pub struct Told {
     pub command: Command,
 }
 
-/// What a node is told, if it is.
+/// The command to the node among these, if there is one.
 pub fn told_to(told: &[Told], node: u8) -> Option<Told>
     ensures { result ≡ told_to told.now node }
 {
     told.iter().find(|told| told.node == node).copied()
 }
 
-/// The largest span that contains `required` and lies in `within` without the bytes of the other span
-/// that `required` has not.
+/// `required`, widened inside `within` until it meets `other`.
 pub fn cut(required: Span, within: Span, other: Span) -> Span
     requires starts_within { within.lo ≤ required.lo }
     requires ends_within { required.hi ≤ within.hi }

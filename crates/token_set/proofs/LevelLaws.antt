@@ -1,4 +1,4 @@
--- Levels that are put in place of exclusive ones.
+-- Tokens in which exclusive bytes get another level.
 use Rattle.std.specs.Prelude.{◌≡◌, ◌≢◌, ℕ, ◌+◌, ◌<◌, ◌≤◌, Bool, true, false, ◌&&◌, if◌then◌else◌, Option, Some, None, refl}
 use Rattle.std.proofs.Common.{arith, ap, sym, ◌∙◌, inl, inr}
 use Rattle.std.proofs.lemmas.Bool.{cases_lt, and_from, and_right, le-leb}
@@ -13,7 +13,7 @@ use Rattle.token_set.specs.Sets.{IsFirstExclusive, at_exclusive}
 use Rattle.token_set.specs.Releases.{lowered_level, lowered}
 use Rattle.token_set.proofs.TokenLaws.{none-conflicts, covers-from}
 
--- the bytes below `from` are done, and those from there on are as in f
+-- the exclusive bytes below `from` have got the level, and the bytes from there on are as in f
 pub record IsDoneTo (t : Token) (s : Range) (level : Level) (f g : Token) (from : ℕ) : Type 0 where
   pub starts : s.lo ≤ from
   pub ends : from ≤ s.hi + 1
@@ -35,7 +35,7 @@ not_exclusive (Some Shared) h = refl
 not_exclusive (Some Exclusive) h = absurd (h refl)
 
 module _ (t : Token) (s : Range) (level : Level) (f : Token) where
-  -- a byte outside the span, or that is not exclusive, is as in f
+  -- a byte outside the span, or one that isn't exclusive, is as in f
   as_it_was : (b : ℕ) → (s.lo ≤ b → b ≤ s.hi → t b ≢ Some Exclusive) → at_exclusive t s level f b ≡ f b
   as_it_was b h = elim (cases_lt b s.lo) [
     | inl lt ↦ ap (λ i. if i && level_conflicts (t b) Read then Some level else f b) (below_it s b lt)
@@ -56,7 +56,7 @@ module _ (t : Token) (s : Range) (level : Level) (f : Token) where
     left = λ b above. refl;
   }
 
-  -- the next exclusive bytes are done
+  -- the next run of exclusive bytes gets the level
   pub done-more : (g : Token) (from : ℕ) (e : Range) → IsDoneTo t s level f g from → IsFirstExclusive t (record { lo = from; hi = s.hi }) e → IsDoneTo t s level f (put g e (Some level)) (e.hi + 1)
   done-more g from e d x = record {
     starts = omega (arith, d.starts, x.starts_within, x.ordered);
@@ -71,7 +71,7 @@ module _ (t : Token) (s : Range) (level : Level) (f : Token) where
     left = λ b above. ap (λ i. if i then Some level else g b) (above_it e b (omega arith)) ∙ d.left b (omega (arith, x.starts_within, x.ordered));
   }
 
-  -- nothing is left
+  -- if no exclusive byte is left all of them have got the level
   pub done-end : (g : Token) (from : ℕ) → IsDoneTo t s level f g from → s.hi < from → g ≡ at_exclusive t s level f
   done-end g from d end = λ i b. at b i
     where
@@ -90,7 +90,7 @@ module _ (t : Token) (s : Range) (level : Level) (f : Token) where
         | inr after ↦ d.left b after ∙ sym (as_it_was b (λ above below is. none b after below is))
       ]
 
--- a grant for read: shared everywhere, and exclusive again where it was
+-- a grant for read is made as shared on the whole span, and then exclusive again where it was
 raised_level-is : (x : Option Level) → (if level_conflicts x Read then Some Exclusive else Some Shared) ≡ raised_level x Read
 raised_level-is None = refl
 raised_level-is (Some Shared) = refl
@@ -103,7 +103,7 @@ raised-is t s = λ i b. at b (is_in s b) i
     at b true = raised_level-is (t b)
     at b false = refl
 
--- a revoke for read: shared where it was exclusive
+-- a revoke for read is made as shared where it was exclusive
 lowered_level-is : (x : Option Level) → (if level_conflicts x Read then Some Shared else x) ≡ lowered_level x Read
 lowered_level-is None = refl
 lowered_level-is (Some Shared) = refl
@@ -116,7 +116,7 @@ lowered-is t s = λ i b. at b (is_in s b) i
     at b true = lowered_level-is (t b)
     at b false = refl
 
--- where both say the same inside, they say the same
+-- two functions that agree inside the span agree if they are put there
 inside_alone : (i : Bool) (x y z : Option Level) → (i ≡ true → x ≡ y) → (if i then x else z) ≡ (if i then y else z)
 inside_alone true x y z h = h refl
 inside_alone false x y z h = refl
@@ -141,19 +141,19 @@ above_start s b is = grind (arith, nat_tests)
 below_end : (s : Range) (b : ℕ) → is_in s b ≡ true → b ≤ s.hi
 below_end s b is = grind (arith, nat_tests)
 
--- a grant for read where no byte is exclusive: shared throughout
+-- a grant for read on a span without exclusive bytes gives each byte shared
 pub raised-free : (t : Token) (s : Range) → conflicts t s Read ≡ false → put t s (Some Shared) ≡ raised t s Read
 raised-free t s free = λ i b. inside_alone (is_in s b) _ _ (t b) (λ is. raised_shared (t b) (none-conflicts t s Read free b (above_start s b is) (below_end s b is))) i
 
--- a write serves a span within its own as its level does
+-- a written token covers a span within the write exactly if the level serves the mode
 pub covers-put : (t : Token) (s span : Range) (level : Option Level) (mode : Mode) → s.lo ≤ span.lo → span.hi ≤ s.hi → serves level mode ≡ true → covers (put t s level) span mode ≡ true
 covers-put t s span level mode starts ends served =
     covers-from (put t s level) span mode (λ b above below. ap (λ i. serves (if i then level else t b) mode) (inside s b (omega arith) (omega arith)) ∙ served)
 
--- a revoke for read where each byte is exclusive: shared throughout
+-- a revoke for read on a span of exclusive bytes gives each byte shared
 pub lowered-all : (t : Token) (s : Range) → AllAre t s (Some Exclusive) → put t s (Some Shared) ≡ lowered t s Read
 lowered-all t s all = λ i b. inside_alone (is_in s b) _ _ (t b) (λ is. sym (ap (λ x. lowered_level x Read) (all b (above_start s b is) (below_end s b is)))) i
 
--- and where none is, it changes nothing
+-- a revoke for read on a span without exclusive bytes changes nothing
 pub lowered-free : (t : Token) (s : Range) → conflicts t s Read ≡ false → t ≡ lowered t s Read
 lowered-free t s free = λ i b. kept_inside (is_in s b) _ (t b) (λ is. lowered_free (t b) (none-conflicts t s Read free b (above_start s b is) (below_end s b is))) i

@@ -1,4 +1,4 @@
--- What a node gives up, and what its token is then.
+-- What a holder gives up, and what its token is then.
 use Rattle.std.specs.Prelude.{◌≡◌, ℕ, ◌+◌, ◌<◌, ◌≤◌, true, false, if◌then◌else◌, Option, Some, None, IsSome, MatchOption, refl}
 use Rattle.std.proofs.Common.{arith, ap, sym, ◌∙◌, subst, inl, inr}
 use Rattle.std.proofs.lemmas.Bool.{cases_Bool, and_parts, leb-true}
@@ -22,12 +22,12 @@ use Rattle.token_set.specs.declared.gave_up.GaveUp.TheVariants.{Released, Confli
 use Rattle.token_set.proofs.SearchLaws.{some_passes-first, some_passes-from}
 use Rattle.token_set.proofs.AroundLaws.{largest_around-is}
 
--- what is in the way of a byte is in the way of a span that has it
+-- a lock in the way of a byte is in the way of each span with that byte
 in_way-wider : (s : Range) (mode : Mode) (b : ℕ) (lock : LockInfo) → s.lo ≤ b → b ≤ s.hi → IsInWay (record { lo = b; hi = b }) mode lock → IsInWay s mode lock
 in_way-wider s mode b lock above below way = record { conflicts = way.conflicts; starts = omega (arith, way.starts); ends = omega (arith, way.ends) }
 
 module _ (h : FileLocks) (node incarnation : ℕ) (own : IsOfNode h node incarnation) where
-  -- a byte is in the way exactly where a region in the way has it
+  -- a byte is in the way exactly if a region in the way holds it
   way_region : (mode : Mode) (b : ℕ) → is_in_way h node incarnation mode b ≡ true → HasInWay (IsRegion h) mode b
   way_region mode b some =
       let passes = λ (k : ℕ). bars mode (h (owner_at node incarnation k) b) in
@@ -44,7 +44,7 @@ module _ (h : FileLocks) (node incarnation : ℕ) (own : IsOfNode h node incarna
       more : (k : ℕ) → k < 16640 → k < 0 + 16640
       more k h = omega arith
 
-  -- no region is in the way exactly on a clear span
+  -- no region is in the way exactly if the span is clear
   none-clear : (s : Range) (mode : Mode) → NoneIn (HasInWay (IsRegion h) mode) s → IsClear h s mode
   none-clear s mode none o b above below = elim (cases_Bool (bars mode (h o b))) [
     | inl bar ↦ absurd (none b above below (barred_region h node incarnation own mode o b (h o b) refl bar))
@@ -83,7 +83,7 @@ pub released_is_clear : ReleasedIsClear
 released_is_clear h node incarnation mode required desired s own r e =
     none-clear h node incarnation own s mode (subst (IsGivenUp (IsRegion h) mode required desired) e (gave_up_is_given_up h node incarnation mode required desired own r)).1.free
 
--- a lowered token has at each byte the level that it had, or in the span the lowered one
+-- a lowered token has its old level at each byte outside the span, and the lowered one inside
 pub lowered-at : (P : Option Level → Type 0) (t : Token) (s : Range) (mode : Mode) (b : ℕ) → (is_in s b ≡ true → P (lowered_level (t b) mode)) → P (t b) → P (lowered t s mode b)
 lowered-at P t s mode b here there =
     elim (is_in s b) as (λ i. is_in s b ≡ i → P (if i then lowered_level (t b) mode else t b)) [ true ↦ λ h. here h | false ↦ λ h. there ] refl
@@ -101,7 +101,7 @@ at_most-lowered (Some level) Read = refl
 pub lowering_lowers : LoweringLowers
 lowering_lowers t s mode b = lowered-at (λ x. IsAtMost x (t b)) t s mode b (λ within. at_most-lowered (t b) mode) (at_most-itself (t b))
 
--- a level that serves a lock which does not exclude the mode does so when it is lowered
+-- a level that serves a lock which doesn't exclude the mode serves it after it is lowered
 lowered_level-serves : (x : Option Level) (mode held : Mode) → excludes held mode ≡ false → serves x held ≡ true → serves (lowered_level x mode) held ≡ true
 lowered_level-serves None mode held shares h = absurd (cc)
 lowered_level-serves x Write Read shares h = absurd (cc)
@@ -114,7 +114,7 @@ lowering_keeps_locks h t s mode clear served o b held here =
     let parts = and_parts _ _ within in
     lowered_level-serves (t b) mode held (sym (ap (bars mode) here) ∙ clear o b (leb-true _ _ parts.0) (leb-true _ _ parts.1)) (served o b held here)) (served o b held here)
 
--- what a lowered token has nothing of, or has exclusive, is as it was
+-- a byte without a level has none after lowering, and a byte that is exclusive after lowering was so before
 pub at_most-none : (x y : Option Level) → IsAtMost x y → y ≡ None → x ≡ None
 at_most-none None y low none = refl
 at_most-none (Some Shared) y low none = absurd (let some : IsSome {T = Level} None = subst (λ y. IsSome y) none low in cc)

@@ -10,7 +10,7 @@ use Rattle.model.specs.declared.level.Level.{Level}
 use Rattle.token_set.specs.Tokens.{Token}
 use Rattle.token_set.specs.Runs.{IsNextRun}
 
--- those runs are listed that begin before the byte, at which none goes on
+-- the runs that begin below byte `from` are listed, and no run goes on across it
 pub record Listed (t : Token) (from : ℕ) (runs : List (Range × Level)) : Type 0 where
   pub edge : (b : ℕ) (v : Level) → b + 1 ≡ from → t b ≡ Some v → t from ≢ Some v
   pub each : All (λ (r : Range × Level). IsRun t r.0 r.1 × (r.0.lo < from)) runs
@@ -30,7 +30,7 @@ module _ (t : Token) (from : ℕ) (runs : List (Range × Level)) (l : Listed t f
         | inr le ↦ le
       ]
 
-  -- a run that begins from there on, and not past this one, is this one
+  -- a run that begins at `from` or above, and no later than this one, is this one
   only_one : (q : Range) (w : Level) → IsRun t q w → from ≤ q.lo → q.lo < s.hi + 1 → ◌≡◌ {A = Range × Level} (q, w) (s, v)
   only_one q w run late within =
       let starts = next.starts in

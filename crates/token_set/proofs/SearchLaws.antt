@@ -1,4 +1,4 @@
--- What `first`, `some_passes` and `all_pass` say of the numbers that they go over.
+-- What `first`, `some_passes` and `all_pass` say of the numbers that they search.
 use Rattle.std.specs.Prelude.{◌≡◌, ℕ, ◌+◌, ◌<◌, ◌≤◌, Bool, true, false, not, ◌||◌}
 use Rattle.std.specs.Cmp.{both_ways as same_tests}
 use Rattle.std.proofs.Common.{◌∙◌, inl, inr, arith}
@@ -6,7 +6,7 @@ use Rattle.std.proofs.lemmas.Bool.{both_ways, cases_lt, cases_order, not-true, n
 use Rattle.intervals.specs.Search.{first, some_passes, all_pass, IsFirst}
 use Rattle.intervals.proofs.SearchLaws.{first_is_first}
 
--- the first number that passes is the only one
+-- at most one number is the first that passes
 pub first-unique : (passes : ℕ → Bool) (lo n j k : ℕ) → IsFirst passes lo n j → IsFirst passes lo n k → j ≡ k
 first-unique passes lo n j k f g = elim (cases_order j k) [
   | inl same ↦ same
@@ -16,46 +16,46 @@ first-unique passes lo n j k f g = elim (cases_order j k) [
   ]
 ]
 
--- what is the first is what `first` gives
+-- a first number that passes is the one that `first` gives
 pub first-is : (passes : ℕ → Bool) (lo n k : ℕ) → IsFirst passes lo n k → first passes lo n ≡ k
 first-is passes lo n k f = first-unique passes lo n _ k (first_is_first passes lo n) f
 
--- where some pass, the first does
+-- if some number passes, the first one does
 pub some_passes-first : (passes : ℕ → Bool) (lo n : ℕ) → some_passes passes lo n ≡ true → record { above : lo ≤ first passes lo n; below : first passes lo n < lo + n; here : passes (first passes lo n) ≡ true }
 some_passes-first passes lo n some =
     let f = first_is_first passes lo n in
     let below = ltb-true _ _ some in
     record { above = f.least; below = below; here = f.here below }
 
--- a number that passes
+-- if a number passes, some number does
 pub some_passes-from : (passes : ℕ → Bool) (lo n k : ℕ) → lo ≤ k → k < lo + n → passes k ≡ true → some_passes passes lo n ≡ true
 some_passes-from passes lo n k above below here = elim (cases_lt (first passes lo n) (lo + n)) [
   | inl lt ↦ lt-ltb _ _ lt
   | inr ge ↦ absurd (both_ways _ ((first_is_first passes lo n).none_before k above (omega arith)) here)
 ]
 
--- where none pass, no number does
+-- if it isn't so that some number passes, each fails
 pub some_passes-none : (passes : ℕ → Bool) (lo n k : ℕ) → some_passes passes lo n ≡ false → lo ≤ k → k < lo + n → passes k ≡ false
 some_passes-none passes lo n k none above below =
     false_from_ne_true _ (λ here. both_ways _ none (some_passes-from passes lo n k above below here))
 
--- no number that passes
+-- if each number fails, it isn't so that some number passes
 pub none_passes-from : (passes : ℕ → Bool) (lo n : ℕ) → ((k : ℕ) → lo ≤ k → k < lo + n → passes k ≡ false) → some_passes passes lo n ≡ false
 none_passes-from passes lo n none = false_from_ne_true _ (λ some.
     let f = some_passes-first passes lo n some in
     both_ways _ (none _ f.above f.below) f.here)
 
--- where all pass, each does
+-- if all numbers pass, each of them does
 pub all_pass-each : (passes : ℕ → Bool) (lo n k : ℕ) → all_pass passes lo n ≡ true → lo ≤ k → k < lo + n → passes k ≡ true
 all_pass-each passes lo n k all above below =
     not-false _ (some_passes-none (λ j. not (passes j)) lo n k (not-true _ all) above below)
 
--- each passes
+-- if each number passes, all of them do
 pub all_pass-from : (passes : ℕ → Bool) (lo n : ℕ) → ((k : ℕ) → lo ≤ k → k < lo + n → passes k ≡ true) → all_pass passes lo n ≡ true
 all_pass-from passes lo n each =
     not_from_false _ (none_passes-from (λ j. not (passes j)) lo n (λ k above below. not_from_true _ (each k above below)))
 
--- the same tests have the same first number
+-- two tests that agree on each number have one first number
 pub first-same : (p q : ℕ → Bool) (lo n : ℕ) → ((k : ℕ) → lo ≤ k → k < lo + n → p k ≡ q k) → first p lo n ≡ first q lo n
 first-same p q lo n same =
     let f = first_is_first q lo n in
@@ -66,11 +66,11 @@ first-same p q lo n same =
       here = λ below. same _ f.least below ∙ f.here below;
     })
 
--- of no numbers none passes
+-- a search of no numbers finds none that passes
 pub some_passes-zero : (passes : ℕ → Bool) (lo : ℕ) → some_passes passes lo 0 ≡ false
 some_passes-zero passes lo = none_passes-from passes lo 0 (λ k above below. absurd (omega arith))
 
--- one more number passes too
+-- some of one more number pass exactly if some of the others do or the last one does
 pub some_passes-more : (passes : ℕ → Bool) (lo n : ℕ) → some_passes passes lo (n + 1) ≡ (some_passes passes lo n || passes (lo + n))
 some_passes-more passes lo n = same_tests (some_passes passes lo (n + 1)) (some_passes passes lo n || passes (lo + n)) apart together
   where

@@ -1,4 +1,4 @@
--- What is read of a token with a level at each byte of a span.
+-- What is read of a token with a planned write of one level on a span.
 use Rattle.std.specs.Prelude.{◌≡◌, ℕ, ◌+◌, ◌-◌, ◌<◌, ◌≤◌, true, false, if◌then◌else◌, Bool, length, Option, nat_le}
 use Rattle.std.proofs.Common.{sym, ap, subst, ◌∙◌, inl, inr, arith}
 use Rattle.std.proofs.lemmas.Bool.{both_ways, cases_lt, false_from_ne_true, and_from, le-leb}
@@ -34,14 +34,14 @@ module _ (t : Token) (over : Range) (level : Option Level) (mode : Mode) where
   pub above_same : (b : ℕ) → over.hi < b → put t over level b ≡ t b
   above_same b lt = ap (λ i. if i then level else t b) (is_above b lt)
 
-  -- in the span all bytes stand in the way or none does
+  -- all bytes of the written span conflict, or none does
   pub within-way : (b : ℕ) → over.lo ≤ b → b ≤ over.hi → level_conflicts level mode ≡ true → InWay (put t over level) mode b
   within-way b above below way = ap (λ x. level_conflicts x mode) (inside b above below) ∙ way
 
   pub within-free : (b : ℕ) → over.lo ≤ b → b ≤ over.hi → level_conflicts level mode ≡ false → InWay (put t over level) mode b → ⊥
   within-free b above below free here = both_ways _ free (sym (ap (λ x. level_conflicts x mode) (inside b above below)) ∙ here)
 
-  -- elsewhere those that did
+  -- a byte outside the written span conflicts exactly if it did before
   pub below-way : (b : ℕ) → b < over.lo → InWay t mode b → InWay (put t over level) mode b
   below-way b lt here = ap (λ x. level_conflicts x mode) (below_same b lt) ∙ here
 
@@ -54,7 +54,7 @@ module _ (t : Token) (over : Range) (level : Option Level) (mode : Mode) where
   pub way-above : (b : ℕ) → over.hi < b → InWay (put t over level) mode b → InWay t mode b
   way-above b lt here = sym (ap (λ x. level_conflicts x mode) (above_same b lt)) ∙ here
 
-  -- a byte of the span in the way, and none
+  -- whether some byte of a span conflicts after the write, by one that does or by none
   pub found : (span : Range) (b : ℕ) → span.lo ≤ b → b ≤ span.hi → InWay (put t over level) mode b → true ≡ conflicts (put t over level) span mode
   found span b above below here = sym (conflicts-from (put t over level) span mode b above below here)
 
@@ -67,7 +67,7 @@ module _ (t : Token) (over : Range) (level : Option Level) (mode : Mode) where
     ]
   ]))
 
--- a write that gives no byte the exclusive level
+-- a write of a level that isn't exclusive makes no byte exclusive
 pub put-unexclusive : (t : Token) (s : Range) (level : Option Level) → level_conflicts level Read ≡ false → conflicts t whole Read ≡ false → conflicts (put t s level) whole Read ≡ false
 put-unexclusive t s level own none = conflicts-none (put t s level) whole Read (λ b above below here.
     either (is_in s b) b above below here)
@@ -83,13 +83,13 @@ written-unexclusive e levels own none = by (nat_le (length levels) e.runs)
     by true = put-unexclusive (token_of levels) e.span e.value own none
     by false = none
 
--- a byte of the span that stands in the way
+-- a span that conflicts has a byte that conflicts
 pub conflict-byte : (t : Token) (s : Range) (mode : Mode) → conflicts t s mode ≡ true → (b : ℕ) × (s.lo ≤ b) × (b ≤ s.hi) × InWay t mode b
 conflict-byte t s mode some =
     let f = some_passes-first (λ b. level_conflicts (t b) mode) s.lo (size s) some in
     (first (λ b. level_conflicts (t b) mode) s.lo (size s), f.above, omega (arith, f.above, f.below), f.here)
 
--- the only one
+-- a span of one byte conflicts exactly if that byte does
 pub one-byte : (t : Token) (s : Range) (mode : Mode) (b : ℕ) → s.lo ≡ b → s.hi ≡ b → conflicts t s mode ≡ true → InWay t mode b
 one-byte t s mode b lo hi some =
     let x = conflict-byte t s mode some in

@@ -7,7 +7,7 @@ use Rattle.token_set.specs.Sets.{token_of}
 use Rattle.token_set.specs.declared.edit.TokenEdit.{TokenEdit}
 use Rattle.token_set.specs.declared.edit.TokenEdit.TheVariants.{Same, Write, Whole}
 
--- the token once the change is made
+-- the token after the change is made
 abbrev pub edited : TokenEdit → TreeMap Level → Token
 edited Same levels = token_of levels
 edited (Write e) levels = written e levels

@@ -4,11 +4,11 @@ use Rattle.intervals.specs.Bytes.{Range, IsRun}
 use Rattle.model.specs.declared.level.Level.{Level}
 use Rattle.token_set.specs.Tokens.{Token}
 
--- no byte from the first on has a level
+-- no byte from `first` on has a level
 abbrev pub NothingFrom : Token → ℕ → Type 0
 NothingFrom t first = (b : ℕ) → first ≤ b → t b ≡ None
 
--- the bytes are a longest run at the level, and have the lowest byte from the first on that has any
+-- the span is a longest run at the level, and contains the lowest byte from `first` on that has a level
 pub record IsNextRun (t : Token) (first : ℕ) (s : Range) (level : Level) : Type 0 where
   pub run : IsRun t s level
   pub byte : ℕ
@@ -17,7 +17,7 @@ pub record IsNextRun (t : Token) (first : ℕ) (s : Range) (level : Level) : Typ
   pub ends : byte ≤ s.hi
   pub none_before : (b : ℕ) → first ≤ b → b < byte → t b ≡ None
 
--- each longest run once, with its level, by first byte
+-- the list has each longest run once, with its level, in ascending order
 pub record ListsRuns (t : Token) (runs : List (Range × Level)) : Type 0 where
   pub each : All (λ r. IsRun t r.0 r.1) runs
   pub complete : (s : Range) (level : Level) → IsRun t s level → Contains runs (s, level)

@@ -1,4 +1,4 @@
--- The token that a map of levels is.
+-- The token that a map of levels stands for, and its exclusive bytes.
 use Rattle.std.specs.Prelude.{◌≡◌, ◌≢◌, ℕ, false, ◌&&◌, if◌then◌else◌, ◌<◌, ◌≤◌, Option, Some, None, IsSome}
 use Rattle.intervals.specs.declared.tree_map.TreeMap.{TreeMap}
 use Rattle.intervals.specs.Bytes.{Range, is_in, AllAre}
@@ -9,11 +9,11 @@ use Rattle.model.specs.declared.level.Level.{Level}
 use Rattle.model.specs.declared.level.Level.TheVariants.{Exclusive}
 use Rattle.token_set.specs.Tokens.{Token, level_conflicts}
 
--- the token of a token set
+-- the token that a map of levels stands for
 abbrev pub token_of : TreeMap Level → Token
 token_of = value_at
 
--- the level that stands in the way of the mode at another node: an exclusive one, or any
+-- the level of the bytes that conflict with a lock of the mode on another node: exclusive for read, any level for write
 abbrev pub bar_of : Mode → Option Level
 bar_of Read = Some Exclusive
 bar_of Write = None
@@ -26,7 +26,7 @@ ExcludesNone t = (b : ℕ) → level_conflicts (t b) Read ≡ false
 abbrev pub HasLevels : Token → Range → Type 0
 HasLevels t s = (b : ℕ) → s.lo ≤ b → b ≤ s.hi → IsSome (t b)
 
--- s is the first of the exclusive bytes in the span
+-- s is the first run of exclusive bytes in the span
 pub record IsFirstExclusive (t : Token) (span s : Range) : Type 0 where
   pub starts_within : span.lo ≤ s.lo
   pub ordered : s.lo ≤ s.hi
@@ -34,6 +34,6 @@ pub record IsFirstExclusive (t : Token) (span s : Range) : Type 0 where
   pub here : AllAre t s (Some Exclusive)
   pub none_before : (b : ℕ) → span.lo ≤ b → b < s.lo → t b ≢ Some Exclusive
 
--- f, but the level at each byte of the span that is exclusive in t
+-- f, but with the level at each byte of the span that is exclusive in t
 abbrev pub at_exclusive : Token → Range → Level → Token → Token
 at_exclusive t s level f b = if is_in s b && level_conflicts (t b) Read then Some level else f b

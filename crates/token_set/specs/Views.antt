@@ -1,4 +1,4 @@
--- Tokens as they will be once a planned write is made.
+-- Tokens for reading, as they are or as they will be after a planned write.
 use Rattle.std.specs.Prelude.{◌≡◌, ℕ, true}
 use Rattle.intervals.specs.Bytes.{put}
 use Rattle.model.specs.declared.mode.Mode.{Mode}
@@ -12,6 +12,6 @@ abbrev pub viewed : TokenView → Token
 viewed (Now token) = token_of token.now
 viewed (With token span level) = put (token_of token.now) span level
 
--- the byte stands in the way of the mode at another node
+-- byte b of the token conflicts with a lock of the mode on another node
 abbrev pub InWay : Token → Mode → ℕ → Type 0
 InWay t mode b = level_conflicts (t b) mode ≡ true

@@ -1,4 +1,4 @@
-//! How much of a file a node asks for.
+//! The desired range of a token request.
 ghost use Rattle.std.specs.Prelude.{◌≡◌};
 ghost use Rattle.token_set.specs.Tokens.{desired};
 ghost use Rattle.token_set.specs.Sets.{token_of};
@@ -7,10 +7,10 @@ use crate::set::TokenSet;
 use intervals::span::{GREATEST, Span};
 use model::policy::Policy;
 
-/// The bytes that a node asks for with those that a call needs. Under `Wide` the whole file, from
-/// byte 0 to the greatest offset, where the node holds no token of it, and else all from the first
-/// byte that is needed to the greatest offset; under `Exact` those that are needed alone. (The
-/// desired range of a token request: Schmuck and Haskin, FAST 2002.)
+/// The bytes that a node requests with the ones that a call needs, under a policy. Under `Wide`
+/// they are the whole file where the node holds no token of it, and else all bytes from the first
+/// required one to the greatest offset; under `Exact` they are the required ones. (The desired
+/// range of a token request: Schmuck and Haskin, FAST 2002.)
 pub fn desired(policy: Policy, required: Span, token: &TokenSet) -> Span
     ensures { result ≡ desired policy (token_of token.now) required }
 {

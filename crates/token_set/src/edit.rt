@@ -1,4 +1,4 @@
-//! Planned changes of tokens.
+//! Planned changes of tokens, with the memory that they take.
 ghost use Rattle.std.specs.Prelude.{◌≡◌, false};
 ghost use Rattle.intervals.specs.Bytes.{whole};
 ghost use Rattle.intervals.specs.declared.tree_map.TreeMap.{TreeMap};
@@ -14,20 +14,20 @@ use intervals::span_edit::SpanEdit;
 use model::level::Level;
 use model::mode::Mode;
 
-/// A change of a token that is planned. It brings the memory that it takes, for a token of no more
-/// runs than the one that it was planned for.
+/// A planned change of a token. It holds the memory that it takes, for a token of at most as many
+/// runs as the one that it was planned for.
 #[derive(Drop)]
 pub enum TokenEdit {
-    /// The token stays.
+    /// The token stays as it is.
     Same,
-    /// Each byte of a span has the level, or none.
+    /// Each byte of a span gets the level, or none.
     Write(SpanEdit<Level>),
-    /// This token stands in its place.
+    /// The token is replaced by this one.
     Whole(TokenSet),
 }
 
 impl TokenEdit {
-    /// Whether the token may have an exclusive byte after the edit where it had none before.
+    /// Whether the token may have an exclusive byte after the change if it has none before.
     pub fn may_exclude(&self) -> bool
         ensures { result ≡ false → (levels : TreeMap Level) → conflicts (token_of levels) whole Read ≡ false → conflicts (edited self.now levels) whole Read ≡ false }
     {

@@ -1,4 +1,4 @@
-//! What a node gives up where a token server revokes.
+//! What a holder gives up when a token server revokes bytes of its token.
 ghost use Rattle.std.specs.Prelude.{◌≤◌};
 ghost use Rattle.model.specs.Locks.{IsRegion};
 ghost use Rattle.lock_table.specs.Rows.{held};
@@ -9,21 +9,21 @@ use lock_table::lock_table::LockTable;
 use model::lock_info::LockInfo;
 use model::mode::Mode;
 
-/// A node's answer where a token server revokes bytes of its token.
+/// A holder's answer to a revoke.
 #[derive(Clone, Copy, PartialEq, Eq)]
 pub enum GaveUp {
     /// The bytes that were given up.
     Released(Span),
-    /// The lock of the node that was in the way, so that nothing was given up.
+    /// A lock of the holder is in the way, so nothing was given up.
     Conflict(LockInfo),
 }
 
 impl GaveUp {
-    /// What a node answers by its locks of the file where bytes are revoked for a mode; each lock that
-    /// excludes the mode is in the way of it. `Conflict` names the lock in the way that reaches into
-    /// `required`: the one of the lowest first byte, and of those with one first byte the one of the
-    /// lowest owner. Where there is none, `Released` has the largest span that contains `required`, lies
-    /// in `desired` and has no byte of a lock in the way. Takes no memory.
+    /// A holder's answer to a revoke, by its locks of the file. A lock that excludes the mode is in
+    /// the way. If one reaches into `required`, the answer is `Conflict` with the one of the lowest
+    /// first byte, and among those with one first byte the one of the lowest owner. Else it is
+    /// `Released` with the largest span that contains `required`, lies in `desired` and has no byte
+    /// of a lock in the way. Takes no memory.
     pub fn by_locks(
         locks: &LockTable,
         file: u16,

@@ -1,4 +1,6 @@
-//! Tokens: what a node may lock at each byte without asking.
+//! Tokens: for each byte of a file, what a node may lock without asking the token server, and how
+//! grants and revokes change that. This crate knows nothing of messages, servers, calls or
+//! processes.
 #![tactic(auto)]
 
 pub mod desired;

@@ -1,4 +1,7 @@
 //! The token of one node for one file.
+//!
+//! Each function here that can fail errs with `AllocError`, where a request for memory was refused,
+//! and changes nothing then.
 ghost use Rattle.std.specs.Prelude.{◌≡◌, ◌≤◌, ◌<◌, ℕ, true, false, Some, None, IfOk, OnOk, OnErr, IsTrue, ◌↔◌, MatchOption};
 ghost use Rattle.intervals.specs.Bytes.{greatest, IsLargest, NoneIn, put, largest_around};
 ghost use Rattle.intervals.specs.Edits.{written};
@@ -24,16 +27,16 @@ use model::mode::Mode;
 use std::alloc::{AllocError, Global};
 use std::marker::Model;
 
-// The level of each byte.
+// The level of each byte, if it has one.
 type Levels = TreeMap<Level>;
 
 /// The token of one node for one file: the level of each byte, or none where the node may lock
-/// nothing without asking. A call that answers `AllocError` leaves the token as it was. (Byte-range
-/// tokens: Schmuck and Haskin, FAST 2002.)
+/// nothing without asking. (Byte-range tokens: Schmuck and Haskin, FAST 2002.)
 #[derive(Drop)]
 pub struct TokenSet {
     levels: Levels,
-    // Whether a byte may be exclusive: where none is, no byte has to be asked for a read lock.
+    // Whether some byte may be exclusive. If this is false no byte of the token conflicts with a
+    // read lock, and none is read to see that.
     may_exclude: bool,
 }
 
@@ -51,7 +54,8 @@ impl Model for TokenSet {
     ghost invariant = { λ t. t.may_exclude ≡ false → ExcludesNone (token_of t.levels) };
 }
 
-// The level that stands in the way of the mode at another node, or any where it is `None`.
+// The level of the bytes that conflict with a lock of the mode on another node; `None` where bytes
+// of any level do.
 fn bar_of(mode: Mode) -> Option<Level>
     ensures { result ≡ bar_of mode }
 {
@@ -71,7 +75,7 @@ pub(crate) fn is_exclusive(level: Option<Level>) -> bool
     }
 }
 
-// The first of the exclusive bytes in the span.
+// The first run of exclusive bytes in the span.
 fn first_exclusive(levels: &Levels, span: Span) -> Option<Span>
     ensures { MatchOption result (NoneIn (λ b. token_of levels.now b ≡ Some Level.Exclusive) span) (IsFirstExclusive (token_of levels.now) span) }
 {
@@ -83,7 +87,7 @@ fn first_exclusive(levels: &Levels, span: Span) -> Option<Span>
     })
 }
 
-// Gives each byte of the span that is exclusive in `levels` the level in `new`.
+// Gives `level` in `new` to each byte of the span that is exclusive in `levels`.
 fn set_exclusive(
     new: &mut Levels,
     levels: &Levels,
@@ -104,7 +108,7 @@ fn set_exclusive(
     Ok(())
 }
 
-// The levels with each byte of the span that has none raised to shared.
+// The levels after each byte of the span without a level is raised to shared.
 fn shared(levels: &Levels, span: Span) -> Result<Levels, AllocError>
     ensures { IfOk result (λ new. token_of new ≡ raised (token_of levels.now) span Mode.Read) }
 {
@@ -114,7 +118,7 @@ fn shared(levels: &Levels, span: Span) -> Result<Levels, AllocError>
     Ok(new)
 }
 
-// The levels with each exclusive byte of the span lowered to shared.
+// The levels after each exclusive byte of the span is lowered to shared.
 fn unexclusive(levels: &Levels, span: Span) -> Result<Levels, AllocError>
     ensures { IfOk result (λ new. token_of new ≡ lowered (token_of levels.now) span Mode.Read) }
 {
@@ -137,7 +141,7 @@ fn has_levels(levels: &Levels, span: Span) -> bool
     false
 }
 
-// Whether a byte of that level serves the mode.
+// Whether a byte of that level may be locked in the mode.
 fn serves(level: Option<Level>, mode: Mode) -> bool
     ensures { result ≡ serves level mode }
 {
@@ -148,7 +152,7 @@ fn serves(level: Option<Level>, mode: Mode) -> bool
     }
 }
 
-// Whether each byte of the inner span is one of the outer.
+// Whether each byte of the inner span is in the outer one.
 fn is_within(inner: Span, outer: Span) -> bool
     ensures { IsTrue result → (outer.lo ≤ inner.lo) × (inner.hi ≤ outer.hi) }
 {
@@ -162,7 +166,7 @@ fn is_served(write: &SpanEdit<Level>, span: Span, mode: Mode) -> bool
     is_within(span, write.span) && serves(write.value, mode)
 }
 
-// The longest run of one level with the lowest byte from `from` on that has any.
+// The longest run of one level that contains the lowest byte with a level from `from` on.
 fn run_from(levels: &Levels, from: u64) -> Option<(Span, Level)>
     ensures { MatchOption result (NothingFrom (token_of levels.now) from) (λ run. IsNextRun (token_of levels.now) from run.0 run.1) }
 {
@@ -178,7 +182,7 @@ fn run_from(levels: &Levels, from: u64) -> Option<(Span, Level)>
 }
 
 impl TokenSet {
-    /// The token that has no byte.
+    /// The token without bytes.
     pub fn new(alloc: Global) -> Self
         ensures { token_of result ≡ no_token }
     {
@@ -188,7 +192,7 @@ impl TokenSet {
         }
     }
 
-    // The token of these levels.
+    // The token with these levels.
     fn of(levels: Levels) -> Self
         ensures { result ≡ levels }
     {
@@ -198,7 +202,8 @@ impl TokenSet {
         }
     }
 
-    // Whether it is known at once that no byte stands in the way of the mode at another node.
+    // Whether it is known, without reading bytes, that no byte conflicts with a lock of the mode on
+    // another node.
     fn excludes_none(&self, mode: Mode) -> bool
         ensures { result ≡ true → (b : ℕ) → level_conflicts (token_of self.now b) mode ≡ false }
     {
@@ -208,7 +213,7 @@ impl TokenSet {
         }
     }
 
-    // The levels with each byte of the span that has none raised to shared. Where no byte of it is
+    // Plans to raise each byte of the span without a level to shared. If no byte of the span is
     // exclusive the span is written, else the levels are made anew.
     fn plan_shared(&self, span: Span) -> Result<TokenEdit, AllocError>
         ensures { IfOk result (λ edit. edited edit self.now ≡ raised (token_of self.now) span Mode.Read) }
@@ -220,8 +225,8 @@ impl TokenSet {
         Ok(TokenEdit::Write(self.levels.plan(span, Some(Level::Shared))?))
     }
 
-    // The levels with each exclusive byte of the span lowered to shared. Where they are exclusive
-    // throughout the span is written, else the levels are made anew, if some byte is exclusive.
+    // Plans to lower each exclusive byte of the span to shared. If all bytes of the span are
+    // exclusive it is written, else the levels are made anew, if some byte is exclusive.
     fn plan_unexclusive(&self, span: Span) -> Result<TokenEdit, AllocError>
         ensures { IfOk result (λ edit. edited edit self.now ≡ lowered (token_of self.now) span Mode.Read) }
     {
@@ -235,10 +240,7 @@ impl TokenSet {
         Ok(TokenEdit::Whole(TokenSet::of(levels)))
     }
 
-    /// The edit that `grant` makes.
-    ///
-    /// # Errors
-    /// `AllocError` where a request for memory was refused.
+    /// The change that `grant` makes.
     pub fn plan_grant(&self, span: Span, mode: Mode) -> Result<TokenEdit, AllocError>
         ensures { IfOk result (λ edit. edited edit self.now ≡ raised (token_of self.now) span mode) }
     {
@@ -248,11 +250,8 @@ impl TokenSet {
         }
     }
 
-    /// The edit that lowers each byte of the span: for write to none, for read from exclusive to shared, so that a
-    /// byte that has no level stays so.
-    ///
-    /// # Errors
-    /// `AllocError` where a request for memory was refused.
+    /// The change that lowers each byte of the span: for write to none; for read from exclusive to
+    /// shared, so that a byte without a level stays without one.
     pub fn plan_lower(&self, span: Span, mode: Mode) -> Result<TokenEdit, AllocError>
         ensures { IfOk result (λ edit. edited edit self.now ≡ lowered (token_of self.now) span mode) }
     {
@@ -262,10 +261,7 @@ impl TokenSet {
         }
     }
 
-    /// The edit that `give_up` makes where it answers that.
-    ///
-    /// # Errors
-    /// `AllocError` where a request for memory was refused.
+    /// The change that `give_up` makes where its answer is `gives`.
     pub fn plan_give_up(&self, mode: Mode, gives: &GaveUp) -> Result<TokenEdit, AllocError>
         ensures { IfOk result (λ edit. edited edit self.now ≡ after_giving_up (token_of self.now) mode gives.now) }
     {
@@ -275,10 +271,8 @@ impl TokenSet {
         }
     }
 
-    /// The edit that makes of the token what that one makes of it. Where that one writes a span, no level is copied.
-    ///
-    /// # Errors
-    /// `AllocError` where a request for memory was refused.
+    /// The change that makes of this token what `edit` makes of it. If `edit` writes a span, no
+    /// level is copied.
     pub fn plan_again(&self, edit: &TokenEdit) -> Result<TokenEdit, AllocError>
         ensures { IfOk result (λ again. edited again self.now ≡ edited edit.now self.now) }
     {
@@ -292,10 +286,8 @@ impl TokenSet {
         }
     }
 
-    /// The edit that makes that one, and then `grant`. Where that one changes the token, it is made anew.
-    ///
-    /// # Errors
-    /// `AllocError` where a request for memory was refused.
+    /// The change that makes `edit` first and then the change of `grant`. If `edit` changes the
+    /// token, the token is made anew.
     pub fn plan_grant_after(
         &self,
         edit: &TokenEdit,
@@ -312,7 +304,7 @@ impl TokenSet {
         Ok(TokenEdit::Whole(token))
     }
 
-    /// The token once the edit is made, to be read. Takes no memory.
+    /// The token after the change, for reading. Takes no memory.
     pub fn view<'a>(&'a self, edit: &'a TokenEdit) -> TokenView<'a>
         ensures { viewed result ≡ edited edit.now self.now }
     {
@@ -347,7 +339,7 @@ impl TokenSet {
         }
     }
 
-    // The token once the write is made, as one of its own.
+    // A token of its own that has the levels of this one after the write.
     fn written(&self, write: &SpanEdit<Level>) -> Result<TokenSet, AllocError>
         ensures { IfOk result (λ token. token_of token ≡ written write.now self.now) }
     {
@@ -361,10 +353,8 @@ impl TokenSet {
         Ok(TokenSet::of(levels))
     }
 
-    /// The token once the edit is made, as one of its own; the token itself stays as it is.
-    ///
-    /// # Errors
-    /// `AllocError` where a request for memory was refused.
+    /// A token of its own that has the levels of this one after the change; this token stays as it
+    /// is.
     pub fn after(&self, edit: &TokenEdit) -> Result<TokenSet, AllocError>
         ensures { IfOk result (λ token. token_of token ≡ edited edit.now self.now) }
     {
@@ -375,11 +365,8 @@ impl TokenSet {
         }
     }
 
-    /// What `covers` answers once the edit is made. Where the edit gives each byte of the span a level
-    /// that serves the mode, it takes no memory and no time.
-    ///
-    /// # Errors
-    /// `AllocError` where a request for memory was refused.
+    /// Whether the token covers the span for the mode after the change. If the change gives each
+    /// byte of the span a level that serves the mode, this takes no memory and no time.
     pub fn covers_after(&self, edit: &TokenEdit, span: Span, mode: Mode) -> Result<bool, AllocError>
         ensures { IfOk result (λ yes. yes ≡ covers (edited edit.now self.now) span mode) }
     {
@@ -395,11 +382,8 @@ impl TokenSet {
         }
     }
 
-    /// Raises each byte of the span: for write to exclusive, for read to shared where it has no
+    /// Raises each byte of the span: for write to exclusive; for read to shared where it has no
     /// level, so that an exclusive byte stays exclusive.
-    ///
-    /// # Errors
-    /// `AllocError` where a request for memory was refused.
     pub fn grant(&mut self, span: Span, mode: Mode) -> Result<(), AllocError>
         ensures ok { OnOk result (token_of self.new ≡ raised (token_of self.old) span mode) }
         ensures err { OnErr result (self.new ≡ self.old) }
@@ -409,16 +393,13 @@ impl TokenSet {
         Ok(())
     }
 
-    /// Gives up bytes that a token server revokes for a mode, as far as the node's locks of the file
-    /// let it. A write lock is in the way of either mode, a read lock of write. Where no lock in the way
-    /// reaches into `required`, the largest span that contains `required`, lies in `desired` and has no
-    /// byte of a lock in the way is lowered, and `Released` names it. Else the token stays, and `Conflict`
-    /// names the lock in the way that reaches into `required`: the one of the lowest first byte, and of
-    /// those with one first byte the one of the lowest owner. (Revocation with required and desired
-    /// ranges: Schmuck and Haskin, FAST 2002.)
-    ///
-    /// # Errors
-    /// `AllocError` where a request for memory was refused.
+    /// Gives up bytes that a token server revokes for a mode, as far as the node's locks of the
+    /// file allow. A write lock is in the way of either mode, a read lock of write. If no lock in
+    /// the way reaches into `required`, the largest span that contains `required`, lies in
+    /// `desired` and has no byte of a lock in the way is lowered, and `Released` names it. Else the
+    /// token stays, and `Conflict` names the lock in the way that reaches into `required`: the one
+    /// of the lowest first byte, and among those with one first byte the one of the lowest owner.
+    /// (Revocation with required and desired ranges: Schmuck and Haskin, FAST 2002.)
     pub fn give_up(
         &mut self,
         mode: Mode,
@@ -439,8 +420,8 @@ impl TokenSet {
         Ok(answer)
     }
 
-    /// Whether the node may lock each byte of the span in the mode without asking: a read lock where
-    /// the byte has a level, a write lock where it is exclusive.
+    /// Whether the node may lock each byte of the span in the mode without asking: for read each
+    /// byte has a level, for write each is exclusive.
     pub fn covers(&self, span: Span, mode: Mode) -> bool
         ensures { result ≡ covers (token_of self.now) span mode }
     {
@@ -457,8 +438,8 @@ impl TokenSet {
         self.levels.is_empty()
     }
 
-    /// Whether some byte of the span stands in the way of the mode at another node: an exclusive one
-    /// of either mode, a shared one of write.
+    /// Whether some byte of the span conflicts with a lock of the mode on another node: an
+    /// exclusive byte with a lock of either mode, a shared byte with a write lock.
     pub fn conflicts(&self, span: Span, mode: Mode) -> bool
         ensures { result ≡ conflicts (token_of self.now) span mode }
     {
@@ -468,8 +449,8 @@ impl TokenSet {
         self.levels.first_where(span, bar_of(mode)).is_some()
     }
 
-    /// The largest span that contains `required`, lies in `within`, and has no byte that stands in
-    /// the way of the mode at another node.
+    /// The largest span that contains `required`, lies in `within`, and has no byte that conflicts
+    /// with a lock of the mode on another node.
     pub fn free_around(&self, required: Span, within: Span, mode: Mode) -> Span
         requires starts_within { within.lo ≤ required.lo }
         requires ends_within { required.hi ≤ within.hi }
@@ -484,10 +465,7 @@ impl TokenSet {
         self.levels.largest_around(required, within, bar_of(mode))
     }
 
-    /// The longest runs of bytes at one level, each with its level, by first byte.
-    ///
-    /// # Errors
-    /// `AllocError` where a request for memory was refused.
+    /// The longest runs of bytes at one level, each with its level, in ascending order.
     pub fn runs(&self, alloc: Global) -> Result<Vec<(Span, Level)>, AllocError>
         ensures listed { IfOk result (λ runs. ListsRuns (token_of self.now) runs.items) }
         ensures bounded { IfOk result (λ runs. (b : ℕ) → greatest < b → token_of self.now b ≡ None) }
@@ -502,10 +480,7 @@ impl TokenSet {
         Ok(runs)
     }
 
-    /// An equal token set.
-    ///
-    /// # Errors
-    /// `AllocError` where a request for memory was refused.
+    /// An equal token.
     pub fn copy(&self) -> Result<Self, AllocError>
         ensures { IfOk result (λ copy. copy ≡ self.now) }
     {
@@ -515,7 +490,7 @@ impl TokenSet {
         })
     }
 
-    /// Whether both have the same level at each byte.
+    /// Whether both tokens have the same level at each byte.
     pub fn same(&self, other: &Self) -> bool
         ensures { IsTrue result ↔ (token_of self.now ≡ token_of other.now) }
     {

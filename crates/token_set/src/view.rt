@@ -1,4 +1,4 @@
-//! Tokens as they are, or as they will be once a planned write is made.
+//! Tokens for reading: as they are, or as they will be after a planned write.
 ghost use Rattle.std.specs.Prelude.{◌≡◌, ◌+◌, ◌<◌, ◌≤◌, ℕ, true, false, Option};
 ghost use Rattle.intervals.specs.Bytes.{greatest, IsLargest, NoneIn, put, largest_around};
 ghost use Rattle.intervals.specs.Runs.{IsLowestFree, IsHighestFree};
@@ -11,12 +11,12 @@ use intervals::span::Span;
 use model::level::Level;
 use model::mode::Mode;
 
-/// A token that is read: as it is, or with a write that is not made yet.
+/// A token for reading: as it is, or with a write that isn't made yet.
 #[derive(Clone, Copy)]
 pub enum TokenView<'a> {
     /// The token as it is.
     Now(&'a TokenSet),
-    /// The token with the level, or none, at each byte of the span.
+    /// The token with the level, or none, at each byte of the span `span`.
     With {
         token: &'a TokenSet,
         span: Span,
@@ -25,7 +25,8 @@ pub enum TokenView<'a> {
 }
 
 impl<'a> TokenView<'a> {
-    /// Whether some byte of the span stands in the way of the mode at another node. Takes no memory.
+    /// Whether some byte of the span conflicts with a lock of the mode on another node. Takes no
+    /// memory.
     pub fn conflicts(self, span: Span, mode: Mode) -> bool
         ensures { result ≡ conflicts (viewed self.entry) span mode }
     {
@@ -39,8 +40,8 @@ impl<'a> TokenView<'a> {
         }
     }
 
-    /// The largest span that contains `required`, lies in `within`, and has no byte that stands in
-    /// the way of the mode at another node. Takes no memory.
+    /// The largest span that contains `required`, lies in `within`, and has no byte that conflicts
+    /// with a lock of the mode on another node. Takes no memory.
     pub fn free_around(self, required: Span, within: Span, mode: Mode) -> Span
         requires starts_within { within.lo ≤ required.lo }
         requires ends_within { required.hi ≤ within.hi }
@@ -64,7 +65,7 @@ impl<'a> TokenView<'a> {
     }
 }
 
-// Whether a byte of that level stands in the way of the mode at another node.
+// Whether a byte of that level conflicts with a lock of the mode on another node.
 fn is_in_way(level: Option<Level>, mode: Mode) -> bool
     ensures { result ≡ level_conflicts level mode }
 {
@@ -74,7 +75,7 @@ fn is_in_way(level: Option<Level>, mode: Mode) -> bool
     }
 }
 
-// Whether some byte of the span stands in the way, where each byte of `over` has the level.
+// Whether some byte of the span conflicts with the mode, where each byte of `over` has the level.
 fn conflicts_with(
     token: &TokenSet,
     over: Span,
@@ -93,7 +94,7 @@ fn conflicts_with(
     conflicts_above(token, over, span, mode)
 }
 
-// Whether the span has a byte of the one that is written, and that stands in the way.
+// Whether the span shares a byte with `over`, whose level conflicts with the mode.
 fn conflicts_within(over: Span, level: Option<Level>, span: Span, mode: Mode) -> bool
     ensures some { result ≡ true → (b : ℕ) × (over.lo ≤ b) × (b ≤ over.hi) × (span.lo ≤ b) × (b ≤ span.hi) × (level_conflicts level mode ≡ true) }
     ensures none { result ≡ false → (b : ℕ) → over.lo ≤ b → b ≤ over.hi → span.lo ≤ b → b ≤ span.hi → level_conflicts level mode ≡ false }
@@ -106,7 +107,7 @@ fn conflicts_within(over: Span, level: Option<Level>, span: Span, mode: Mode) ->
     is_in_way(level, mode)
 }
 
-// Whether a byte of the span below the one that is written stands in the way.
+// Whether some byte of the span below `over` conflicts with the mode.
 fn conflicts_below(token: &TokenSet, over: Span, span: Span, mode: Mode) -> bool
     ensures some { result ≡ true → (b : ℕ) × (b < over.lo) × (span.lo ≤ b) × (b ≤ span.hi) × InWay (token_of token.now) mode b }
     ensures none { result ≡ false → (b : ℕ) → b < over.lo → span.lo ≤ b → b ≤ span.hi → InWay (token_of token.now) mode b → ⊥ }
@@ -123,7 +124,7 @@ fn conflicts_below(token: &TokenSet, over: Span, span: Span, mode: Mode) -> bool
     token.conflicts(below, mode)
 }
 
-// Whether a byte of the span above the one that is written stands in the way.
+// Whether some byte of the span above `over` conflicts with the mode.
 fn conflicts_above(token: &TokenSet, over: Span, span: Span, mode: Mode) -> bool
     ensures some { result ≡ true → (b : ℕ) × (over.hi < b) × (span.lo ≤ b) × (b ≤ span.hi) × InWay (token_of token.now) mode b }
     ensures none { result ≡ false → (b : ℕ) → over.hi < b → span.lo ≤ b → b ≤ span.hi → InWay (token_of token.now) mode b → ⊥ }
@@ -140,7 +141,8 @@ fn conflicts_above(token: &TokenSet, over: Span, span: Span, mode: Mode) -> bool
     token.conflicts(above, mode)
 }
 
-// The lowest byte down to which none below `from` stands in the way, but not below `low`.
+// The lowest byte, from `low` on, such that no byte from it on and below `from` conflicts with the
+// mode.
 fn lowest_free(token: &TokenSet, low: u64, from: u64, mode: Mode) -> u64
     requires order { low ≤ from }
     requires bounded { from ≤ greatest + 1 }
@@ -163,7 +165,8 @@ fn lowest_free(token: &TokenSet, low: u64, from: u64, mode: Mode) -> u64
     token.free_around(next, within, mode).lo
 }
 
-// The highest byte up to which none above `to` stands in the way, but not above `high`.
+// The highest byte, up to `high`, such that no byte above `to` and up to it conflicts with the
+// mode.
 fn highest_free(token: &TokenSet, to: u64, high: u64, mode: Mode) -> u64
     requires order { to ≤ high }
     requires bounded { high ≤ greatest }
@@ -186,7 +189,8 @@ fn highest_free(token: &TokenSet, to: u64, high: u64, mode: Mode) -> u64
     token.free_around(next, within, mode).hi
 }
 
-// The same of the token with the level at each byte of the span: first above the span, then in it, then below.
+// The lowest byte, from `low` on, such that no byte from it on and below `from` conflicts, where
+// each byte of `over` has the level: found above `over`, then in it, then below it.
 fn lowest_free_with(
     token: &TokenSet,
     over: Span,
@@ -211,7 +215,8 @@ fn lowest_free_with(
     lowest_free(token, low, end.min(over.lo).max(low), mode)
 }
 
-// The same upwards: first below the span, then in it, then above.
+// The highest byte, up to `high`, such that no byte above `to` and up to it conflicts, where each
+// byte of `over` has the level: found below `over`, then in it, then above it.
 fn highest_free_with(
     token: &TokenSet,
     over: Span,

@@ -1,4 +1,4 @@
--- The exchange that puts an item last keeps the rule.
+-- The exchange that appends an item keeps the rule.
 use Rattle.std.proofs.Common.{◌≡◌, ℕ, ◌+◌, ◌<◌, ◌==◌, Bool, true, false, List, [], ◌∷◌, ◌++◌, length, refl, ap, sym, subst, arith, inl, length-append, MatchBool, None}
 use Rattle.std.proofs.lemmas.List.{append-nil}
 use Rattle.std.proofs.lemmas.Bool.Decides.{nat_tests}
@@ -41,14 +41,14 @@ adds_goes log v e old len pre false is =
       rw is (ap length all),
     )
 
--- whatever the list is, the exchange puts the item behind all that was seen, or finds that the list is longer
+-- whatever the list is, the exchange appends the item to all that was seen, or finds that the list is longer
 pub adds_moves : {E : Type 0} (v : List E) (e : E) (old : ℕ) → length v ≡ old
     → Moves IsKept shown moved 0 (v, (no_nib, None)) (λ n. either (n == old) (old + 1) n) (Adds (step 0 old (old + 1) e) (v, (no_nib, None)))
 adds_moves v e old len cs log kept pre away =
     let P : List Cell → Type 0 = λ c. (0 < length c) × ((cell c 0).1 ≡ true) × Goes IsKept shown moved 0 (v, (no_nib, None)) (λ n. either (n == old) (old + 1) n) (Adds (step 0 old (old + 1) e) (v, (no_nib, None))) c log in
     subst P (sym kept) (omega arith, refl, adds_goes log v e old len pre (length log == old) refl)
 
--- where the length that was expected was found, the item was put behind all that had been seen
+-- where the expected length was found, the item was appended to all that had been seen
 pub added : {E : Type 0} (item : E) (before after : List E) (old found : ℕ) → found ≡ old → MatchBool (found == old) (after ≡ before ++ item ∷ []) (length after ≡ found) → after ≡ before ++ item ∷ []
 added item before after old found same told =
     let yes : (found == old) ≡ true = grind (arith, nat_tests, same) in

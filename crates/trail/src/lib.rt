@@ -1,5 +1,6 @@
-//! A list that only grows: whoever keeps a place of it knows what stands there. The list stands in the proofs alone. At run
-//! time it is its length, and a place a number.
+//! Trails: lists that only grow and stand in the proofs alone, so that whoever keeps a spot of one knows what stands
+//! there. At run time a trail is its length and a spot a number. It knows nothing of what is listed: no state, book
+//! or message.
 #![tactic(auto)]
 
 pub mod name;

@@ -1,7 +1,7 @@
-//! The rule of trails, and their one step.
+//! The rule that the words of a trail keep, and their one step.
 use logbook::{Gain, Plain, Play, Rule};
 
-/// The first word is the length of the list, the second 0.
+/// The rule of a trail's two words: the first is the length of the list, the second 0.
 pub(crate) struct Law;
 
 impl<E> Rule<E, u64> for Law {
@@ -22,7 +22,7 @@ impl<E> Rule<E, u64> for Law {
     ghost moves = { λ ask before after answer. Unit {0} };
 }
 
-/// Callers trade nothing.
+/// The trade of a trail, which trades nothing.
 pub(crate) struct Nothing;
 
 impl<E> Gain<E, u64> for Nothing {
@@ -31,7 +31,7 @@ impl<E> Gain<E, u64> for Nothing {
     ghost after = { λ names about answer. ftrue };
 }
 
-/// A step that puts an item last.
+/// The step that appends an item.
 pub(crate) struct Add;
 
 impl<E> Play<E, u64> for Add {

@@ -1,4 +1,4 @@
-//! Places of trails.
+//! A spot: a place of a trail, with what stands there.
 ghost use Rattle.std.specs.Prelude.{◌≡◌, ◌<◌, ◌↔◌, length, slice_get, true, IsTrue};
 
 use crate::name::Name;
@@ -6,7 +6,7 @@ use crate::rule::Law;
 use logbook::Seen;
 use std::marker::{Model, PhantomData};
 
-/// A place of a trail, from 0. Contracts see it and what stands there.
+/// A place of a trail, from 0. Contracts see the place and the item that stands there.
 #[derive(Drop)]
 pub struct Spot<J: Name, E> {
     place: u64,
@@ -49,7 +49,7 @@ impl<J: Name, E> Spot<J, E> {
         }
     }
 
-    /// Whether the other is the same place. Then the same item stands there.
+    /// Whether both are the same place of the trail. Then the same item stands there.
     pub fn is_at(&self, other: &Spot<J, E>) -> bool
         ensures places { IsTrue result ↔ (self.now.place ≡ other.now.place) }
         ensures items { result ≡ true → self.now.item ≡ other.now.item }

@@ -1,4 +1,4 @@
-//! Trails.
+//! A trail: a list that only grows, of which the program keeps the length.
 ghost use Rattle.std.specs.Prelude.{◌≡◌, ◌<◌, ◌≤◌, ◌^◌, ◌⊎◌, ◌++◌, ◌∷◌, [], length, Some, IfNone, IfSome};
 ghost use Rattle.trail.specs.Rules.{head_of};
 
@@ -8,10 +8,10 @@ use crate::spot::Spot;
 use logbook::{Offer, Seen, Word};
 use std::marker::{Model, PhantomData};
 
-// No place is as high, so that numbers of places don't overflow.
+// The length of a trail stays below this, so that numbers of places don't overflow.
 const MOST: u64 = 1 << 62;
 
-/// The right to see a trail grow: what was seen of it, and its length.
+/// The right to append to a trail: what was seen of the list, and its length.
 #[derive(Drop)]
 pub struct Trail<J: Name, E> {
     head: Word<E, u64, Law>,
@@ -46,7 +46,7 @@ impl<J: Name, E> Trail<J, E> {
         }
     }
 
-    /// Puts an item last, of which nothing is kept but where it stands: its spot. None where the trail has 2^62 items.
+    /// Appends an item, of which nothing is kept but the spot, which is given. `None` where the trail has 2^62 items.
     /// (The contract allows that another value has made the trail longer. None can.)
     pub fn push(&mut self, item: &E) -> Option<Spot<J, E>>
         ensures spot { IfSome result (λ spot. (spot.place ≡ length self.old) × (spot.item ≡ Some item.now)) }

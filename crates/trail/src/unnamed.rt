@@ -1,4 +1,4 @@
-//! Trails without a name.
+//! A trail without a name.
 ghost use Rattle.std.specs.Prelude.{◌≡◌, []};
 
 use crate::name::Name;
@@ -7,7 +7,7 @@ use crate::trail::Trail;
 use logbook::{Seen, Start, Word};
 use std::marker::Model;
 
-/// An empty trail that has no name yet. Contracts see which one it is.
+/// An empty trail that has no name yet. Contracts see which trail it is.
 #[derive(Drop)]
 pub struct Unnamed<E> {
     head: Word<E, u64, Law>,
@@ -27,7 +27,7 @@ impl<E> Model for Unnamed<E> {
 }
 
 impl<E> Unnamed<E> {
-    /// A new one.
+    /// A new empty trail.
     pub fn new() -> Unnamed<E> {
         let (seen, mut first, _second) = Seen::open(Start::alone(), 0, 0);
         Unnamed {
@@ -36,7 +36,7 @@ impl<E> Unnamed<E> {
         }
     }
 
-    /// The trail under its name.
+    /// The trail under the name that the caller picked for it.
     pub fn named<J: Name>(self) -> Trail<J, E>
         requires { self ≡ J.trail }
         ensures { result ≡ [] }

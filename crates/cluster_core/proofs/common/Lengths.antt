@@ -1,4 +1,4 @@
--- How many entries a run has.
+-- The number of entries of a run.
 use Rattle.std.proofs.Common.{◌≡◌, ℕ, ◌+◌, refl, sym, ◌∙◌, ap, arith, nat_le, nat_lt, List, [], ◌∷◌, length, Result, Ok, Err}
 use Rattle.messages.specs.Messages.{addressee, sending}
 use Rattle.messages.specs.declared.actor.Actor.{Actor}

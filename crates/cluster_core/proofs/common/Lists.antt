@@ -8,7 +8,7 @@ use Rattle.std.proofs.lemmas.List.Kept.{AllPairs-cons}
 use Rattle.cluster_core.specs.Listings.{Lists, Adds}
 use Rattle.cluster_core.proofs.common.Places.{take_read}
 
--- what two facts of each make of it
+-- what follows from two facts of an element follows for each element of a list
 pub All-both : {A : Type 0} (P Q R : A → Type 0) → ((x : A) → P x → Q x → R x) → (xs : List A) → All P xs → All Q xs → All R xs
 All-both P Q R f xs a b k d lt = f _ (a k d lt) (b k d lt)
 
@@ -16,7 +16,7 @@ some_of : {A : Type 0} (xs : List A) (n : ℕ) → n < length xs → A
 some_of [] n lt = absurd (omega arith)
 some_of (x ∷ xs) n lt = x
 
--- what f makes of a list
+-- the list of all elements of a kind, mapped by f
 pub lists_map : {A B : Type 0} (Is : A → Type 0) (Before : A → A → Type 0) (f : B → A) (g : A → B) (xs : List B) → All (λ (b : B). Is (f b)) xs → ((x : A) → Is x → Contains xs (g x) × (f (g x) ≡ x)) → AllPairs (λ (a b : B). Before (f a) (f b)) xs → Lists Is Before (map f xs)
 lists_map {A} {B} Is Before f g xs each complete rises = record {
   each = All-map Is f xs each;
@@ -37,7 +37,7 @@ all_pairs-append R (x ∷ xs) ys p q h =
     (All-append (R x) xs ys (λ k d lt. p 0 (suc k) d (omega arith) (omega arith)) (All-head (λ (z : _). All (R z) ys) x xs h))
     (all_pairs-append R xs ys (λ i j d lt within. p (suc i) (suc j) d (omega arith) (omega arith)) q (All-tail (λ (z : _). All (R z) ys) x xs h))
 
--- those of one kind, and then those of another
+-- the elements of one kind, and then those of another, are all elements of either kind
 pub lists_join : {A : Type 0} (P Q R : A → Type 0) (Before : A → A → Type 0) (xs ys : List A) → ((x : A) → P x → R x) → ((x : A) → Q x → R x) → ((x : A) → R x → P x ⊎ Q x) → ((x y : A) → P x → Q y → Before x y) → Lists P Before xs → Lists Q Before ys → Lists R Before (xs ++ ys)
 lists_join P Q R Before xs ys left right cases before p q = record {
   each = All-append R xs ys (All-weaker P R left xs p.each) (All-weaker Q R right ys q.each);
@@ -55,7 +55,7 @@ lists_same P Q Before xs to from l = record {
   rises = l.rises;
 }
 
--- there are none
+-- no element of a kind is added where there is none
 pub adds_none : {A : Type 0} (P : A → Type 0) (Before : A → A → Type 0) (old : List A) → ((x : A) → P x → ⊥) → Adds P Before old old
 adds_none P Before old none = (
   [],
@@ -77,7 +77,7 @@ adds_join P Q R Before old mid new left right cases before p q = (
 pub adds_same : {A : Type 0} (P Q : A → Type 0) (Before : A → A → Type 0) (old new : List A) → ((x : A) → P x → Q x) → ((x : A) → Q x → P x) → Adds P Before old new → Adds Q Before old new
 adds_same P Q Before old new to from p = (p.0, p.1, lists_same P Q Before p.0 to from p.2)
 
--- where nothing stood before, they are the list
+-- elements that are added to the empty list are the whole list
 pub adds_all : {A : Type 0} (P : A → Type 0) (Before : A → A → Type 0) (new : List A) → Adds P Before [] new → Lists P Before new
 adds_all P Before new p = subst (Lists P Before) (sym p.1) p.2
 
@@ -91,7 +91,7 @@ module _ {A B : Type 0} (f : A → B) (xs : List A) (i : ℕ) (old now : List B)
   pub mapped_all : length xs ≤ i → now ≡ old ++ map f xs
   mapped_all past = so_far ∙ ap (λ (l : List A). old ++ map f l) (take_all i xs past)
 
--- things by a number that each has
+-- elements of a kind, each with a number
 module _ {A : Type 0} (Is : A → Type 0) (number : A → ℕ) where
   abbrev pub IsAt : ℕ → A → Type 0
   IsAt n x = Is x × (number x ≡ n)

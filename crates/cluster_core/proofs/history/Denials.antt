@@ -1,4 +1,4 @@
--- A node that first does a revoke in whose way a lock is gives the evidence for it.
+-- A node that first does a revoke which a lock blocks gives the evidence for the denial.
 use Rattle.std.proofs.Common.{◌≡◌, ℕ, ◌+◌, ◌≤◌, Bool, true, false, ◌&&◌, ◌||◌, ◌==◌, inl, inr, refl, sym, ◌∙◌, ap, subst, arith, List, [], ◌∷◌, ◌++◌, length, length-append, get_or, All, Option, Some, None, MatchOption}
 use Rattle.std.specs.Prelude.{max}
 use Rattle.std.specs.List.{list_any}
@@ -38,7 +38,7 @@ use Rattle.cluster_core.proofs.history.Nodes.{IsOpen}
 use Rattle.cluster_core.proofs.history.Prefixes.{after_all, after-keeps}
 use Rattle.cluster_core.proofs.history.Witnesses.{about_span, about_node, called_one, asked_one, asked-keeps, IsAskedBy, MayRefuse, Denies}
 
--- what holds where node n does that revoke
+-- the facts where node n first does the revoke
 pub record Revokes (shape : ShapeFields) (past : List Entry) (w later : WorldState) (made : Entry) (n file number : ℕ) (call : CallId) (mode : Mode) (wanted : Wants) (lock : LockInfo) : Type 0 where
   pub there : has_node w n ≡ true
   pub leads : Leads (first_world shape) past w
@@ -92,7 +92,7 @@ module _ (shape : ShapeFields) (past : List Entry) (w later : WorldState) (made 
       let Q : Table → Type 0 = λ t. IsRegion (t.locks file) lock in
       subst Q (sym r.same) (subst P (sym in_union) lowest.is_one)
 
-  -- the lock is in the way of each owner of the caller's node
+  -- the lock blocks each owner of the caller's node
   blocks_now : (o : Owner) → o.node ≡ call.node → Blocks ((union later).locks file) o wanted.required mode lock
   blocks_now o of_caller = record {
     is_other = λ same. r.other (sym owner_node ∙ (ap (λ (x : Owner). x.node) same ∙ of_caller));
@@ -163,7 +163,7 @@ module _ (shape : ShapeFields) (past : List Entry) (w later : WorldState) (made 
       let F : Op → Type 0 = λ op. Step (union later) (caller call r.asked.pid) op reply (union later) in
       subst F calls.op_is (subst E calls.pid_is (subst D named step))
 
-  -- it is allowed of the open calls of that name
+  -- MayRefuse holds of the node's open calls of that name
   abbrev IsAllowed : NodeState → OpenCall → Type 0
   IsAllowed t c = MayRefuse later call r.asked.pid r.asked.op lock t c
 

@@ -9,7 +9,7 @@ use Rattle.messages.specs.declared.entry.Entry.{Entry}
 use Rattle.cluster_core.specs.Histories.{EntryAt, IsCalledAt, IsRepliedAt, OneCall, OneReply}
 use Rattle.cluster_core.proofs.common.Places.{slice_get-keeps, slice_get-last, slice_get-push}
 
--- an answer that is not there
+-- an answer that is none is no answer
 pub not_there : {A : Type 0} (o : Option A) (x : A) → o ≡ None → o ≡ Some x → ⊥
 not_there o x n h = none-some x (sym n ∙ h)
 
@@ -32,7 +32,7 @@ entry_at-push es e d at h = elim (slice_get-push es e h.0 d h.2) [
 pub entry_at-within : (es : List Entry) (at : ℕ) (e : Entry) → EntryAt es at e → at ≤ length es
 entry_at-within es at e h = let place = h.1 in let lt = slice_get_within es h.0 e h.2 in omega arith
 
--- calls
+-- a call of the run is one of the longer run
 pub called_at-keeps : (es fs : List Entry) (id : CallId) (pid : ℕ) (op : Op) (at : ℕ) → IsCalledAt es id pid op at → IsCalledAt (es ++ fs) id pid op at
 called_at-keeps es fs id pid op at c = record { calling = c.calling; there = entry_at-keeps es fs at c.calling c.there; is_call = c.is_call; named = c.named }
 
@@ -45,7 +45,7 @@ called_at-push es e id pid op at c = elim (entry_at-push es e c.calling at c.the
   | inr new ↦ inr (new.0, ap (λ (x : Entry). x.call) new.1 ∙ c.named)
 ]
 
--- replies
+-- a reply of the run is one of the longer run
 pub replied_at-keeps : (es fs : List Entry) (id : CallId) (reply : Reply) (at : ℕ) → IsRepliedAt es id reply at → IsRepliedAt (es ++ fs) id reply at
 replied_at-keeps es fs id reply at r = record { replying = r.replying; there = entry_at-keeps es fs at r.replying r.there; is_reply = r.is_reply }
 

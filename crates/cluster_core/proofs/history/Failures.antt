@@ -1,4 +1,4 @@
--- The union after a node was declared failed is what is left of the union before once every process of it exits.
+-- The union after a node was declared failed is the union before it with all processes of the node exited.
 use Rattle.std.specs.Prelude.{◌==◌, ◌&&◌}
 use Rattle.std.proofs.Common.{◌≡◌, ℕ, ◌+◌, Bool, true, false, if◌then◌else◌, refl, sym, ◌∙◌, ap, subst, Option}
 use Rattle.intervals.specs.Bytes.{nothing}
@@ -16,7 +16,7 @@ use Rattle.cluster_core.proofs.history.Lifting.{union_locks-host}
 use Rattle.model.specs.Anchors.{IsAnchored, AreAnchored}
 use Rattle.model.proofs.Anchors.{without_host, gone_is}
 
--- what stands nowhere any more stood in that incarnation alone
+-- a part that is empty everywhere now was that of the failed incarnation alone
 gone_part : {A : Type 0} (c h d e : Bool) (x none : A) → d ≡ e → (if c then none else none) ≡ (if e then none else (if h && d then x else none))
 gone_part true h d true x none s = refl
 gone_part false h d true x none s = refl
@@ -51,7 +51,7 @@ module _ (w : WorldState) (n : ℕ) where
     locks = λ file o. part (λ s. s.table.locks file o) nothing o.node o.incarnation refl j;
   }
 
-  -- what hangs on the node's descriptors in its own table does in the union
+  -- a lock that hangs on descriptors in the node's own table does so in the union
   pub union_anchored : has_node w n ≡ true → IsAnchored (w.nodes n).table n i → IsAnchored (union w) n i
   union_anchored there a =
       let here : (union w).on n i ≡ (w.nodes n).table.on n i = rw (live_at w n n i there refl refl) refl in

@@ -27,7 +27,7 @@ use Rattle.cluster_core.proofs.steps.ServerSteps.{server_rule-sending}
 use Rattle.cluster_core.proofs.history.Placing.{declared_node}
 use Rattle.cluster_core.proofs.steps.Steps.{next_taken, next_step, node_step, server_step, declare_step, restart_step, fail_step, start_step}
 
--- incarnations only rise
+-- no step lowers an incarnation
 incarnations_rise : (w : WorldState) (event : Event) (q : WorldState × Entry) → next w event ≡ Ok q → (n : ℕ) → (w.nodes n).incarnation ≤ (q.0.nodes n).incarnation
 incarnations_rise w event q h = next_step w (λ p. (n : ℕ) → (w.nodes n).incarnation ≤ (p.0.nodes n).incarnation) event q
     (λ n step done is m. at_number m n (λ b. (w.nodes m).incarnation ≤ (if b then done.0 else w.nodes m).incarnation)
@@ -95,7 +95,7 @@ past_silent (d ∷ ds) w v n i named older l (suc k) e id there c node is =
     let rises = incarnations_rise w d.event (l.0, d) l.1 n in
     past_silent ds l.0 v n i (still_named w d.event (l.0, d) l.1 named) (omega arith) l.2 k e id there c node is
 
--- after its declaration
+-- after the declaration of an incarnation its node is past it
 declared_past : (w : WorldState) (n i : ℕ) (e : Entry) (v : WorldState) → e.event ≡ Declare n → e.incarnation ≡ i → next w e.event ≡ Ok (v, e) → i < (v.nodes n).incarnation
 declared_past w n i e v is_declare of step =
     let h : next w (Declare n) ≡ Ok (v, e) = subst (λ (x : Event). next w x ≡ Ok (v, e)) is_declare step in
@@ -115,7 +115,7 @@ declared_silent (x ∷ xs) w v n i named l (suc j) zero d e id there is_declare 
 declared_silent (x ∷ xs) w v n i named l (suc j) (suc k) d e id there is_declare of lt here c node is =
     declared_silent xs l.0 v n i (still_named w x.event (l.0, x) l.1 named) l.2 j k d e id there is_declare of (omega arith) here c node is
 
--- in every run: an incarnation that was declared makes no call afterwards
+-- in every run an incarnation that was declared makes no call afterwards
 pub declared_for_good : (shape : ShapeFields) (es : List Entry) (w : WorldState) → Leads (first_world shape) es w → (n i at : ℕ) → IsDeclaredAt es n i at → (k : ℕ) (e : Entry) (id : CallId) → at < k → EntryAt es k e → e.call ≡ Some id → id.node ≡ n → id.incarnation ≡ i → ⊥
 declared_for_good shape es w l n i at d k e id later there c node is =
     let first = d.there.1 in

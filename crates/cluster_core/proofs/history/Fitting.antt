@@ -1,4 +1,4 @@
--- Calls that are found in the run by their names.
+-- The look-up of a run's calls by their names.
 use Rattle.std.proofs.Common.{◌≡◌, ℕ, zero, suc, ◌+◌, Bool, true, false, cond, refl, sym, ◌∙◌, ap, List, [], ◌∷◌, ◌++◌, length, Option, Some, None}
 use Rattle.std.proofs.lemmas.Bool.{false≢true}
 use Rattle.model.specs.declared.call.CallId.{CallId}
@@ -36,7 +36,7 @@ pub find_call-keeps : (es fs : List Entry) (id : CallId) (c : ℕ × Op) → fin
 find_call-keeps [] fs id c e = cc
 find_call-keeps (d ∷ ds) fs id c e = go_on (is_named id d.call) d.event (find_call ds id) (find_call (ds ++ fs) id) c (find_call-keeps ds fs id c) e
 
--- and one that no entry names is found after them
+-- a call that no entry names is looked up in the entries behind them
 pub find_call-after : (es fs : List Entry) (id : CallId) → (IsNamed es id → ⊥) → find_call (es ++ fs) id ≡ find_call fs id
 find_call-after [] fs id none = refl
 find_call-after (d ∷ ds) fs id none =

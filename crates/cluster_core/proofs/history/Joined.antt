@@ -1,4 +1,4 @@
--- The table of a node beside those of others: what a call of the node makes of them all.
+-- The table of a node joined with those of others: what a call of the node makes of all.
 use Rattle.std.proofs.Common.{◌≡◌, ℕ, zero, suc, ◌≤◌, Bool, true, false, if◌then◌else◌, ◌&&◌, ◌==◌, inl, inr, refl, sym, ◌∙◌, ap, subst, arith, ℤ, nat_le, Option, Some, None, Result, Ok, Err}
 use Rattle.std.proofs.lemmas.Bool.{and_parts, and_from, eq-eqb, cases_Bool, false≢true}
 use Rattle.intervals.specs.Bytes.{Range, IsRun, put, nothing}
@@ -41,7 +41,7 @@ joined others node incarnation t = record {
   locks = λ file owner. if is_of_host node incarnation owner then t.locks file owner else others.locks file owner;
 }
 
--- the other's change within one's own part
+-- a change of the other within one's own part
 within_part : {A : Type 0} (own this : Bool) (x y z : A) → (this ≡ true → own ≡ true) → (if own then (if this then x else y) else z) ≡ (if this then x else (if own then y else z))
 within_part true true x y z part = refl
 within_part true false x y z part = refl
@@ -69,7 +69,7 @@ target_of_host t p need fd kind start len c h =
     subst (λ (x : LockTarget). is_of_host p.node p.incarnation x.owner ≡ true) passes.is (owner_of_host p kind passes.what)
 
 module _ (others : Table) (p : Process) where
-  -- the tables together
+  -- all tables together
   abbrev all : Table → Table
   all t = joined others p.node p.incarnation t
 
@@ -121,7 +121,7 @@ module _ (others : Table) (p : Process) where
       let bytes : (ℕ → Option Mode) → Table = λ f. record (all t) { locks = replace (all t).locks c.file c.owner (put f c.span mode) } in
       joined-replace t c.file c.owner (put (t.locks c.file c.owner) c.span mode) own ∙ ap bytes (sym (locks-joined t c.file c.owner own))
 
-  -- what the operations make of it
+  -- an operation on processes alone, on all tables together
   pub beside-joined : (t : Table) (r : Result (Processes × Reply) Reply) → beside (all t) p r ≡ answer_of_all (beside t p r)
   beside-joined t (Ok answer) = λ i. (sym (joined-with_processes t answer.0) i, answer.1)
   beside-joined t (Err refusal) = refl
@@ -129,7 +129,7 @@ module _ (others : Table) (p : Process) where
   pub target-joined : (t : Table) (need : Option Mode) (fd : ℕ) (kind : Kind) (start len : ℤ) → target (all t) p need fd kind start len ≡ target t p need fd kind start len
   target-joined t need fd kind start len = ap (λ (ps : Processes). if ps.runs p.pid then target_at p need kind (ps.opened p.pid fd) (seg start len) else Err NoProcess) (around-joined t)
 
-  -- what a call is about
+  -- the target of a call, in all tables together
   pub about-joined : (t : Table) (op : Op) (mode : Mode) (c : LockTarget) → IsAbout t p op mode c → IsAbout (all t) p op mode c
   about-joined t op mode c a = about_maps t (all t) p op mode c (λ need fd kind start len h. target-joined t need fd kind start len ∙ h) a
 
@@ -196,7 +196,7 @@ module _ (others : Table) (p : Process) where
       ∙ ap (λ (ps : Processes). with_processes (all before) p (end ps)) (around-joined before)
       ∙ sym (joined-with_processes before (end (around before p)))
 
-  -- what a call of the process makes of it, where it runs
+  -- a call of the process, on all tables together, if the process runs
   ran-joined : (t : Table) (one two : Table × Reply) → two ≡ answer_of_all one → (if is_running (all t) p then two else (all t, NoProcess)) ≡ answer_of_all (if is_running t p then one else (t, NoProcess))
   ran-joined t one two same =
       ap (λ (ps : Processes). if ps.runs p.pid then two else (all t, NoProcess)) (around-joined t) ∙ either (is_running t p)
@@ -217,7 +217,7 @@ module _ (others : Table) (p : Process) where
   after_exit-joined : (t : Table) → after_exit (all t) p ≡ answer_of_all (after_exit t p)
   after_exit-joined t = ran-joined t (exited t p, Done) (exited (all t) p, Done) (λ i. (exited-joined t i, Done))
 
-  -- locks in the way
+  -- the locks that block, in all tables together
   pub blocks-joined : (t : Table) (file : ℕ) (owner : Owner) (s : Range) (mode : Mode) (lock : LockInfo) → IsOwn t p.node p.incarnation → Blocks (t.locks file) owner s mode lock → Blocks ((all t).locks file) owner s mode lock
   blocks-joined t file owner s mode lock own b =
       let first = b.region.all lock.span.lo (omega arith) b.region.ordered in
@@ -240,7 +240,7 @@ module _ (others : Table) (p : Process) where
   is-joined : (answer now : Table × Reply) (reply : Reply) (u : Table) → now ≡ answer_of_all answer → Is answer reply u → Is now reply (all u)
   is-joined answer now reply u same h = (h.0 ∙ ap (λ (a : Table × Reply). a.1) (sym same), ap all h.1 ∙ ap (λ (a : Table × Reply). a.0) (sym same))
 
-  -- no lock beside the table is in the way on the bytes
+  -- no lock beside the node's table blocks the bytes
   abbrev pub IsFreeAt : Mode → LockTarget → Type 0
   IsFreeAt mode c = (o : Owner) (b : ℕ) → is_own o ≡ false → c.span.lo ≤ b → b ≤ c.span.hi → bars mode (others.locks c.file o b) ≡ false
 
@@ -261,7 +261,7 @@ module _ (others : Table) (p : Process) where
   query-joined t u mode Free c own elsewhere h = (free-joined t c.file c.owner c.span mode (elsewhere tt) h.0, ap all h.1)
   query-joined t u mode _ c own elsewhere h = absurd h
 
-  -- where a call goes unhindered, no lock beside the table is in its way
+  -- if a call is not blocked, no lock beside the node's table blocks it
   abbrev pub IsFreeBeside : Table → Op → Reply → Type 0
   IsFreeBeside t op reply = (mode : Mode) (c : LockTarget) → IsUnhindered reply → IsAbout t p op mode c → IsFreeAt mode c
 

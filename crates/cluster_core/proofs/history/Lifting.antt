@@ -23,11 +23,11 @@ use Rattle.cluster_core.proofs.steps.Tries.{IsUnhindered}
 use Rattle.cluster_core.proofs.history.Unions.{live_at}
 use Rattle.cluster_core.proofs.history.Joined.{IsFreeBeside, is_of_host, of_host, joined, step-joined, about-joined}
 
--- no lock of another node is in the way of a lock of that mode on these bytes
+-- no lock of another node blocks a lock of that mode on these bytes
 abbrev pub IsFreeOfOthers : WorldState → ℕ → Mode → LockTarget → Type 0
 IsFreeOfOthers w n mode c = (m : ℕ) (o : Owner) (b : ℕ) → has_node w m ≡ true → (m ≡ n → ⊥) → c.span.lo ≤ b → b ≤ c.span.hi → bars mode ((w.nodes m).table.locks c.file o b) ≡ false
 
--- where a call of a process of the node goes unhindered, no lock of another node is in its way
+-- if a call of a process of the node is not blocked, no lock of another node blocks it
 abbrev pub IsFreeElsewhere : WorldState → ℕ → ℕ → Op → Reply → Type 0
 IsFreeElsewhere w n pid op reply = (mode : Mode) (c : LockTarget) → IsUnhindered reply → IsAbout (w.nodes n).table (process (w.nodes n) pid) op mode c → IsFreeOfOthers w n mode c
 
@@ -44,7 +44,7 @@ union_locks-live w file o live = rw live refl
 pub union_locks-dead : (w : WorldState) (file : ℕ) (o : Owner) → is_live w o.node o.incarnation ≡ false → (union w).locks file o ≡ nothing
 union_locks-dead w file o dead = rw dead refl
 
--- where a node of the shape is live they are those of its table
+-- the locks of an owner whose node of the shape is live are those of its node's table
 pub union_locks-host : (w : WorldState) (n file : ℕ) (o : Owner) → has_node w n ≡ true → o.node ≡ n → o.incarnation ≡ (w.nodes n).incarnation → (union w).locks file o ≡ (w.nodes n).table.locks file o
 union_locks-host w n file o there node incarnation =
     let live : is_live w o.node o.incarnation ≡ true = live_at w n o.node o.incarnation there node incarnation in
@@ -84,7 +84,7 @@ module _ (w v : WorldState) (n : ℕ) (there : has_node w n ≡ true) (named : (
     locks = λ file o. part (λ s. s.table.locks file o) nothing o.node o.incarnation i;
   }
 
--- what no lock of another node hinders no lock beside the node's table does
+-- a call that no lock of another node blocks is blocked by none beside the node's table
 free_beside : (w : WorldState) (n pid : ℕ) (op : Op) (reply : Reply) → (w.nodes n).node ≡ n → IsFreeElsewhere w n pid op reply → IsFreeBeside (union w) (process (w.nodes n) pid) (w.nodes n).table op reply
 free_beside w n pid op reply named free mode c unhindered about o b apart above below =
     let s = w.nodes n in
@@ -110,7 +110,7 @@ step_lifts w v n pid op reply there named limit own differs free step =
     let Q : Table → Type 0 = λ t. Step (joined (union w) s.node s.incarnation s.table) p op reply t in
     subst P (sym old) (subst Q (sym new) (step-joined (union w) p s.table (v.nodes n).table op reply limit own (free_beside w n pid op reply named free) step))
 
--- what a call of a process of the node is about in the node's table it is about in the union
+-- the target of a call in the node's table is its target in the union
 pub about_lifts : (w : WorldState) (n pid : ℕ) (op : Op) (mode : Mode) (c : LockTarget) → has_node w n ≡ true → (w.nodes n).node ≡ n → IsAbout (w.nodes n).table (process (w.nodes n) pid) op mode c → IsAbout (union w) (process (w.nodes n) pid) op mode c
 about_lifts w n pid op mode c there named about =
     let s = w.nodes n in

@@ -1,4 +1,4 @@
--- What holds of a node after each run, and what its steps make of that.
+-- The facts of a node after each run, and how its steps keep them.
 use Rattle.std.proofs.Common.{◌≡◌, ℕ, suc, ◌≤◌, Bool, true, false, if◌then◌else◌, ◌⊎◌, refl, sym, ap, subst, arith, List, [], ◌∷◌, ◌++◌, find, All, Contains, inl, inr, Some}
 use Rattle.std.proofs.lemmas.List.Elements.{All-weaker, All-same, All-push, All-contains, All-contains_itself}
 use Rattle.model.specs.declared.call.CallId.{CallId}
@@ -35,7 +35,7 @@ pub record IsOpen (past : List Entry) (s : NodeState) (c : OpenCall) : Type 0 wh
   pub called : Called past (id_of s c.number) c.pid op
   pub unanswered : Unanswered past (id_of s c.number)
 
--- what holds of a node after a run
+-- the facts of a node after a run
 pub record Holds (past : List Entry) (s : NodeState) : Type 0 where
   pub own : IsOwn s.table s.node s.incarnation
   pub waiting : All (IsOpen past s) s.pending
@@ -57,11 +57,11 @@ open-push past e s c other o = record {
   unanswered = unanswered-push past e (id_of s c.number) o.unanswered other;
 }
 
--- what a call is about it stays about while its process goes on
+-- the target of a call stays its target while its process goes on
 about_goes_on : (t u : Table) (node incarnation pid : ℕ) (op : Op) (mode : Mode) (c : LockTarget) → GoesOn (t.on node incarnation) (u.on node incarnation) pid → IsAbout t (record { node = node; incarnation = incarnation; pid = pid }) op mode c → IsAbout u (record { node = node; incarnation = incarnation; pid = pid }) op mode c
 about_goes_on t u node incarnation pid op mode c g a = about_maps t u (record { node = node; incarnation = incarnation; pid = pid }) op mode c (λ need fd kind start len h. target_goes_on t u node incarnation pid need fd kind start len c g h) a
 
--- and while its node goes on
+-- an open call stays ready while its node goes on
 pub ready-continues : (s u : NodeState) (pid : ℕ) (op : Op) (c : OpenCall) → u.node ≡ s.node → u.incarnation ≡ s.incarnation → GoesOn (s.table.on s.node s.incarnation) (u.table.on s.node s.incarnation) pid → IsReady s.table (process s pid) op c → IsReady u.table (process u pid) op c
 ready-continues s u pid op c node incarnation going r =
     let P : Process → Type 0 = λ p. IsReady u.table p op c in
@@ -103,7 +103,7 @@ others_wait past e s u number reply g is left waiting =
     each : (c : OpenCall) → Stays s.pending number c → GoesOn (s.table.on s.node s.incarnation) (u.table.on s.node s.incarnation) c.pid → IsOpen (past ++ e ∷ []) u c
     each c stays going = open-continues (past ++ e ∷ []) s u c g going (open-push past e s c (other c stays.1) (All-contains (IsOpen past s) s.pending c waiting stays.0))
 
--- an open call that is found is one of those, and passes
+-- an open call that is found is one of the open calls, and passes the test
 pub found_open : (test : OpenCall → Bool) (calls : List OpenCall) (c : OpenCall) → find test calls ≡ Some c → Contains calls c × (test c ≡ true)
 found_open test [] c h = absurd (cc)
 found_open test (d ∷ ds) c h =
@@ -122,7 +122,7 @@ found_open test (d ∷ ds) c h =
 abbrev pub StayOpen : NodeState → NodeState → Entry → Type 0
 StayOpen s u e = All (λ c. Contains s.pending c ⊎ (e.call ≡ Some (id_of u c.number))) u.pending
 
--- calls that stay, that are closed, and one that opens
+-- where the open calls stay, each was open before
 pub stay_same : (s u : NodeState) (e : Entry) → u.pending ≡ s.pending → StayOpen s u e
 stay_same s u e same = All-weaker (Contains s.pending) (λ c. Contains s.pending c ⊎ (e.call ≡ Some (id_of u c.number))) (λ c there. inl there) u.pending (All-same (Contains s.pending) u.pending s.pending same (All-contains_itself s.pending))
 
@@ -134,7 +134,7 @@ stay_opened s u e c same named =
     let P : OpenCall → Type 0 = λ d. Contains s.pending d ⊎ (e.call ≡ Some (id_of u d.number)) in
     All-same P u.pending (s.pending ++ c ∷ []) same (All-push P s.pending c (All-weaker (Contains s.pending) P (λ d there. inl there) s.pending (All-contains_itself s.pending)) (inr named))
 
--- what an entry says of calls of this node: it answers one of them by a step of its table and under its token, or leaves the table
+-- what an entry says of the node's calls: it answers one by a step of the node's table and under its token, or leaves the table
 pub record IsExplained (past : List Entry) (s u : NodeState) (e : Entry) : Type 0 where
   pub number : ℕ
   pub pid : ℕ
@@ -163,17 +163,17 @@ pub record IsDenied (s u : NodeState) (e : Entry) : Type 0 where
   pub is_reply : e.reply ≡ Some (call, reply)
   pub table : u.table ≡ s.table
 
--- no reply comes of a denial but that
+-- the event delivers no denial
 abbrev pub IsNoDenial : Event → Type 0
 IsNoDenial (Deliver (Deny file call holder number lock)) = ⊥
 IsNoDenial _ = Unit {0}
 
--- no node is declared failed
+-- the event declares no node failed
 abbrev pub IsNoDeclaration : Event → Type 0
 IsNoDeclaration (Declare node) = ⊥
 IsNoDeclaration _ = Unit {0}
 
--- what an entry says of calls of this node
+-- the entry answers a call of this node in one of these ways
 abbrev pub Ends : List Entry → NodeState → NodeState → Entry → Type 0
 Ends past s u e = (IsExplained past s u e × IsNoDenial e.event) ⊎ (IsDenied s u e ⊎ IsSilent s u e.reply)
 
@@ -187,14 +187,14 @@ pub record Moves (past : List Entry) (s u : NodeState) (e : Entry) : Type 0 wher
   pub stay : StayOpen s u e
   pub ends : Ends past s u e
 
--- its table has the limit that it had
+-- a step of a node keeps the limit of its table
 pub moves_limit : (past : List Entry) (s u : NodeState) (e : Entry) → Moves past s u e → u.table.limit ≡ s.table.limit
 moves_limit past s u e moves = elim moves.ends [
   | inl x ↦ step_limit s.table u.table (process s x.0.pid) x.0.op x.0.reply x.0.step
   | inr rest ↦ elim rest [ inl d ↦ ap (λ (t : Table). t.limit) d.table | inr silent ↦ ap (λ (t : Table). t.limit) silent.table ]
 ]
 
--- a call that opens
+-- the facts of a node with a new open call
 pub opened : (past : List Entry) (e : Entry) (s : NodeState) (number pid : ℕ) (op : Op) (c : OpenCall) → c.number ≡ number → c.pid ≡ pid → IsReady s.table (process s pid) op c → IsProcess (process s pid) → Called (past ++ e ∷ []) (id_of s number) pid op → Unanswered (past ++ e ∷ []) (id_of s number) → IsOpen (past ++ e ∷ []) s c
 opened past e s number pid op c number_is pid_is ready is_process called unanswered = record {
   op = op;

@@ -1,4 +1,4 @@
--- Each step of the cluster keeps what holds of it and of its past, where tokens are apart and answers are known.
+-- Each step of the cluster keeps the facts of it and its past, where tokens are apart and answers are known.
 use Rattle.std.proofs.Common.{◌≡◌, ℕ, ◌+◌, ◌≤◌, ◌<◌, Bool, true, false, not, if◌then◌else◌, ◌&&◌, ◌||◌, ◌==◌, inl, inr, refl, sym, ◌∙◌, ap, subst, arith, nat_le, List, [], ◌∷◌, ◌++◌, append-nil, append_assoc, All, Option, Some, None, Result, Ok}
 use Rattle.std.specs.Prelude.{max, nat_lt}
 use Rattle.std.specs.List.{list_any, range_with_len}
@@ -94,7 +94,7 @@ restarted_node : {m n : ℕ} → Restart m ≡ Restart n → m ≡ n
 unfolding node_in
 restarted_node h = ap node_in h
 
--- one that passes a test is among them
+-- a message that passes the test is among them
 passing : (test : Message → Bool) (ms : List Message) → list_any test ms ≡ true → (m : Message) × (is_among ms m ≡ true) × (test m ≡ true)
 passing test [] h = absurd (false≢true h)
 passing test (x ∷ xs) h =
@@ -105,7 +105,7 @@ passing test (x ∷ xs) h =
           (later.0, or_right (same_message later.0 x) (list_any (same_message later.0) xs) later.1, later.2)
     ] refl h
 
--- the conflict of that number
+-- a message that is a conflict of that number
 conflict_is : (file : ℕ) (holder : Host) (number : ℕ) (m : Message) → is_conflict file holder number m ≡ true → (call : CallId) × (lock : LockInfo) × (m ≡ Conflict file number holder call lock)
 conflict_is file holder number (Conflict f k h call lock) is =
     let first = and_parts (f == file) ((k == number) && same_host h holder) is in
@@ -124,7 +124,7 @@ conflict_is file holder number (Freed f h) is = absurd (false≢true is)
 conflict_is file holder number (Hello f k h) is = absurd (false≢true is)
 conflict_is file holder number (Report f k h runs) is = absurd (false≢true is)
 
--- the last command done, once the node has heard of the epoch
+-- the last command done, after the node has heard of the epoch
 entered_last : (s : NodeState) (file number : ℕ) → ((in_epoch s file number).files file).last ≡ max (s.files file).last (begin_of number)
 entered_last s file number =
     let x = s.files file in
@@ -136,7 +136,7 @@ entered_last s file number =
     ] refl)
     (λ other. absurd (other refl))
 
--- a node that first does a revoke in whose way a lock is names it, and does nothing else that others see
+-- a node that first does a revoke which a lock blocks names the lock, and does nothing else that others see
 pub record Names (s : NodeState) (file number : ℕ) (call : CallId) (lock : LockInfo) (e : Effect) : Type 0 where
   pub answer : e.sends ≡ Conflict file number (host s) call lock ∷ []
   pub no_reply : e.reply ≡ None
@@ -253,7 +253,7 @@ module _ (shape : ShapeFields) (past : List Entry) (w : WorldState) (few : IsNum
       let v = (recorded (with_node w n effect.state) event s.incarnation o).0 in
       subst P (interrupt_done s pid done h) (λ made_so safe. keeps n effect.state event s.incarnation o there received.moves (λ m h. absurd (cc)) tt made_so (interrupted-sends (Backed shape run v) (freely run v) s (open_call_of s pid)) (asks_ends s effect (interrupted_asks s (open_call_of s pid)) (g.ends n)) safe)
 
-  -- a message for another incarnation does nothing
+  -- a message for another incarnation changes nothing
   idle_good : (n : ℕ) (m : Message) → has_node w n ≡ true → is_among w.sent m ≡ true → After (Deliver m) (recorded (with_node w n (w.nodes n)) (Deliver m) 0 (outcome None (quiet (w.nodes n))).1)
   idle_good n m there known made_so safe =
       let s = w.nodes n in
@@ -412,7 +412,7 @@ module _ (shape : ShapeFields) (past : List Entry) (w : WorldState) (few : IsNum
   restart_good : (n k : ℕ) → Restart n ≡ Restart k → (w.nodes k).incarnation ≤ most_incarnations → After (Restart n) (silent (restarted w k) (Restart n) (w.nodes k).incarnation)
   restart_good n k is = subst (λ (j : ℕ). (w.nodes j).incarnation ≤ most_incarnations → After (Restart n) (silent (restarted w j) (Restart n) (w.nodes j).incarnation)) (restarted_node is) (λ small made_so safe. (few, restarted_good shape past w n small g made_so))
 
-  -- a server fails, and one is rebuilt: it holds no request, and sends but questions
+  -- a token server fails, or is rebuilt: it holds no request, and sends only questions
   fail_good : (event : Event) → IsNoDeclaration event → (file : ℕ) → After event (silent (failed w file) event (w.servers file).epoch)
   fail_good event undeclared file made_so safe =
       (few, servers_good shape past w w.servers (failed w file).working event (w.servers file).epoch (sending []) refl refl undeclared g made_so g.comes (All-nil (Backed shape past w)))
@@ -517,11 +517,11 @@ good_first shape = record {
   all = all_slotted_first;
 }
 
--- the tables of the nodes are their own
+-- each node's table is its own
 abbrev pub AllOwn : WorldState → Type 0
 AllOwn w = (n : ℕ) → IsOwn (w.nodes n).table (w.nodes n).node (w.nodes n).incarnation
 
--- together with what holds of tokens and answers it holds after each run
+-- the facts that hold after each run, together with those of tokens and answers
 module _ (shape : ShapeFields) (is_shape : IsShape shape) (Q : WorldState → Type 0) (begins : Q (first_world shape)) (goes_on : (w : WorldState) → AllOwn w → ((n : ℕ) → EndsOf (w.nodes n)) → Q w → (event : Event) (p : WorldState × Entry) → next w event ≡ Ok p → Q p.0) (heard : (w : WorldState) → Q w → IsHeard w) where
   pub record Both (past : List Entry) (w : WorldState) : Type 0 where
     pub present : Q w
@@ -543,7 +543,7 @@ module _ (shape : ShapeFields) (is_shape : IsShape shape) (Q : WorldState → Ty
   pub safe_after : (es : List Entry) (w : WorldState) → Leads (first_world shape) es w → IsSafe w
   safe_after es w l = (heard w (both_after es w l).present).safe
 
-  -- its history has each call at its place
+  -- the history of a run has each call at its place
   pub history_after : (es : List Entry) (w : WorldState) → Leads (first_world shape) es w → HasHistory shape es (history_of es) × EachAtItsPlace es (history_of es)
   history_after es w l =
       let g = (both_after es w l).good in
@@ -560,7 +560,7 @@ module _ (shape : ShapeFields) (is_shape : IsShape shape) (Q : WorldState → Ty
         slots_at_their_places shape es slots g.slotted g.one_reply g.all,
       )
 
-  -- and the calls that name no lock are a plain history
+  -- the calls of a run whose replies name no lock are a plain history
   pub plain_after : (es : List Entry) (w : WorldState) → Leads (first_world shape) es w → IsPlainHistory shape es (items_in (plain_slots (slots_of es)))
   plain_after es w l =
       let g = (both_after es w l).good in
@@ -575,11 +575,11 @@ module _ (shape : ShapeFields) (is_shape : IsShape shape) (Q : WorldState → Ty
         lives = sym (union_live w (rests_after shape es w l));
       }
 
-  -- what holds together with it
+  -- Q holds after each run
   pub kept_after : (es : List Entry) (w : WorldState) → Leads (first_world shape) es w → Q w
   kept_after es w l = (both_after es w l).present
 
-  -- and each denial its evidence
+  -- each denial of a run has its evidence
   pub evidence_after : (es : List Entry) (w : WorldState) (file : ℕ) (call : CallId) (holder : Host) (number : ℕ) (lock : LockInfo) → Leads (first_world shape) es w → IsTold w file call holder number lock → HasEvidence shape es file call holder number lock
   evidence_after es w file call holder number lock l told =
       let both = both_after es w l in
@@ -593,7 +593,7 @@ module _ (shape : ShapeFields) (is_shape : IsShape shape) (Q : WorldState → Ty
         ]
       ]
 
-  -- and no call that waits is denied
+  -- no call that waits is denied in a run
   pub no_wait_after : (es : List Entry) (w : WorldState) (file : ℕ) (call : CallId) (holder : Host) (number : ℕ) (lock : LockInfo) (pid : ℕ) (op : Op) (at : ℕ) → Leads (first_world shape) es w → is_among w.sent (Deny file call holder number lock) ≡ true → IsCalledAt es call pid op at → is_wait op ≡ false
   no_wait_after es w file call holder number lock pid op at l sent called =
       let g = (both_after es w l).good in

@@ -1,4 +1,4 @@
--- What the slots of a run become with one more entry.
+-- The slots of a run, with one more entry.
 use Rattle.std.proofs.Common.{◌≡◌, ℕ, suc, ◌+◌, ◌<◌, inl, inr, refl, sym, ◌∙◌, ap, subst, arith, List, [], ◌∷◌, ◌++◌, length, length-append, slice_get, slice_set, get_or, Option, Some, None}
 use Rattle.std.proofs.lemmas.Option.{slice_get_within, slice_get-get_or, none-some, same_Some}
 use Rattle.model.specs.declared.call.CallId.{CallId}
@@ -97,7 +97,7 @@ module _ (shape : ShapeFields) (past : List Entry) (w later : WorldState) (made 
   with_empty : IsNoDeclaration made.event → union w ≡ union later → Slotted shape run (old ++ None ∷ [])
   with_empty undeclared same = slotted-push shape past old made None (λ i h. absurd (none-some i h)) (slot_step None same) (λ node is. declares_none made.event node undeclared is) stand
 
-  -- nothing is answered
+  -- an entry that answers nothing
   pub nothing_placed : IsNoDeclaration made.event → made.reply ≡ None → union w ≡ union later → Placed
   nothing_placed undeclared none same =
       placed_as (old ++ None ∷ []) (slots_of-push past made ∙ (ap (slots_after past old made) none ∙ ap (λ (o : Option Item). old ++ o ∷ []) (gone_none (length past + 1) made.incarnation made.event undeclared))) (with_empty undeclared same)
@@ -171,7 +171,7 @@ module _ (shape : ShapeFields) (past : List Entry) (w later : WorldState) (made 
       there_at : EntryAt past (k + 1) revoking
       there_at = (k, refl, ev.revoked.there.2)
 
-      -- nothing stands there yet
+      -- the slot is not filled yet
       not_full : (i : Item) → Stands past k i → ⊥
       not_full (Answered at other pid2 op2 r) s =
           let here : EntryAt past (k + 1) s.1.marking = subst (λ (j : ℕ). EntryAt past j s.1.marking) s.0 s.1.there in

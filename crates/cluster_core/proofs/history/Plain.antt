@@ -1,4 +1,4 @@
--- The plain history of a run: what stands in its slots, but for the calls that name a lock.
+-- The plain history of a run: the items of its slots, without the calls whose replies name a lock.
 use Rattle.std.proofs.Common.{◌≡◌, ℕ, zero, suc, refl, sym, ◌∙◌, ap, subst, List, [], ◌∷◌, map, slice_get, Option, Some, None, option_map}
 use Rattle.std.proofs.lemmas.Option.{none-some, same_Some, slice_get-map}
 use Rattle.std.proofs.lemmas.List.{length-map}
@@ -37,7 +37,7 @@ plain_slot (Some (Gone at node incarnation)) = Some (Gone at node incarnation)
 pub plain_slots : Slots → Slots
 plain_slots slots = map plain_slot slots
 
--- what is kept names no lock, and what names none is kept
+-- an item that is kept names no lock, and one that names none is kept
 abbrev IsUnnamed : Item → Type 0
 IsUnnamed (Answered at id pid op reply) = NamesNoLock reply
 IsUnnamed (Gone at node incarnation) = Unit {0}
@@ -62,7 +62,7 @@ kept_item (Some (Answered at id pid op reply)) i h =
     (ap Some k.0, subst IsUnnamed k.0 k.1)
 kept_item (Some (Gone at node incarnation)) i h = (h, subst IsUnnamed (same_Some (Gone at node incarnation) i h) tt)
 
--- each plain slot leads where the slot did
+-- each plain slot leads on as its slot does
 kept_step : (t u : Table) (at : ℕ) (id : CallId) (pid : ℕ) (op : Op) (reply : Reply) → SlotStep t (Some (Answered at id pid op reply)) u → SlotStep t (plain_of (Answered at id pid op reply) reply) u
 unfolding plain_of
 kept_step t u at id pid op (Again lock) s = sym (again_stays t u (caller id pid) op lock s.1)
@@ -75,13 +75,13 @@ plain_step t u None s = s
 plain_step t u (Some (Answered at id pid op reply)) s = kept_step t u at id pid op reply s
 plain_step t u (Some (Gone at node incarnation)) s = s
 
--- each plain slot is that of a slot
+-- each plain slot is made of a slot
 slot_of : (slots : Slots) (q : ℕ) (p : Option Item) → slice_get (map plain_slot slots) q ≡ Some p → (o : Option Item) × (slice_get slots q ≡ Some o) × (plain_slot o ≡ p)
 slot_of [] q p h = absurd (none-some p h)
 slot_of (o ∷ os) zero p h = (o, refl, same_Some (plain_slot o) p h)
 slot_of (o ∷ os) (suc q) p h = slot_of os q p h
 
--- what stands in a slot stands there plainly
+-- an item that stands in a slot and names no lock stands in the plain slot
 stands_plain : (es : List Entry) (q : ℕ) (i : Item) → Stands es q i → IsUnnamed i → IsPlaced (IsPlainAnswer es) es i
 stands_plain es q (Answered at id pid op reply) s none = record {
   call_at = s.1.interval.call_at;

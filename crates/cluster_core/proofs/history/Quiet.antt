@@ -29,12 +29,12 @@ again_stays t u p op lock h = only_done_change t u p op (Again lock) tt h
 pub blocked_stays : (t u : Table) (p : Process) (op : Op) (lock : LockInfo) → Step t p op (Blocked lock) u → u ≡ t
 blocked_stays t u p op lock h = only_done_change t u p op (Blocked lock) tt h
 
--- an item more, where it leaves the table as it is there
+-- items with one more, which the table there allows and which leaves it
 put_in : (t m u : Table) (xs ys : List Item) (i : Item) → Legal t xs m → Legal m ys u → ItemStep m i m → Legal t (xs ++ i ∷ ys) u
 put_in t m u [] ys i before after quiet = (m, subst (λ (x : Table). ItemStep x i m) (sym before) quiet, after)
 put_in t m u (x ∷ xs) ys i before after quiet = (before.0, before.1, put_in before.0 m u xs ys i before.2 after quiet)
 
--- an item less, which leaves the table as it was
+-- items without one that leaves the table as it was
 taken_out : (m u : Table) (ys zs : List Item) (i : Item) → Legal m (ys ++ i ∷ zs) u → IsReadOnly i → Legal m (ys ++ zs) u
 taken_out m u [] zs i legal quiet = subst (λ (x : Table). Legal x zs u) (quiet m legal.0 legal.1) legal.2
 taken_out m u (y ∷ ys) zs i legal quiet = (legal.0, legal.1, taken_out legal.0 u ys zs i legal.2 quiet)

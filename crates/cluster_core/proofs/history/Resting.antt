@@ -1,4 +1,4 @@
--- A node that was declared failed and is not restarted is empty, so what is said of all nodes is said of the live ones.
+-- A node that is not alive is empty, so the facts of all nodes are facts of the live ones.
 use Rattle.std.proofs.Common.{◌≡◌, ℕ, ◌+◌, Bool, true, false, not, if◌then◌else◌, ◌&&◌, ◌==◌, refl, sym, ◌∙◌, ap, subst, List, [], ◌∷◌, Ok}
 use Rattle.std.proofs.lemmas.Bool.{both_ways}
 use Rattle.intervals.specs.Bytes.{nothing}
@@ -24,7 +24,7 @@ use Rattle.cluster_core.specs.Union.{union, live_union}
 use Rattle.cluster_core.proofs.common.Choices.{at_number}
 use Rattle.cluster_core.proofs.steps.Steps.{next_taken, next_unfenced, node_step, server_step, declare_step, restart_step, fail_step, start_step}
 
--- each node that is not alive is as it will begin
+-- each node that is not alive is in the state in which it will begin
 abbrev pub Rests : WorldState → Type 0
 Rests w = (n : ℕ) → w.alive n ≡ false → w.nodes n ≡ first_node w.shape n (w.nodes n).incarnation
 
@@ -66,7 +66,7 @@ module _ (w : WorldState) (rests : Rests w) where
   pub next_rests : (event : Event) (q : WorldState × Entry) → next w event ≡ Ok q → Rests q.0
   next_rests event q h = taken_rests event q (next_unfenced w event q h) (next_taken w event q h).1
 
-  -- what stands nowhere but at nodes that are alive
+  -- a part that is empty but at nodes that are alive
   part : {A : Type 0} (F : NodeState → A) (none : A) (m k : ℕ) → ((n i : ℕ) → F (first_node w.shape n i) ≡ none) → (if is_alive w m && is_live w m k then F (w.nodes m) else none) ≡ (if is_live w m k then F (w.nodes m) else none)
   part {A} F none m k empty = elim (w.alive m) as (λ a. w.alive m ≡ a → (if (has_node w m && a) && is_live w m k then F (w.nodes m) else none) ≡ (if is_live w m k then F (w.nodes m) else none)) [
     | true ↦ λ h. both (has_node w m) (k == (w.nodes m).incarnation) (F (w.nodes m)) none
@@ -90,11 +90,11 @@ module _ (w : WorldState) (rests : Rests w) where
     locks = λ file o. part (λ s. s.table.locks file o) nothing o.node o.incarnation (λ n i. refl) j;
   }
 
-  -- it has no token and remembers nothing
+  -- a node that is not alive has no token and remembers nothing
   pub rests_empty : (n file : ℕ) → w.alive n ≡ false → (w.nodes n).files file ≡ first_file
   rests_empty n file dead = ap (λ (s : NodeState). s.files file) (rests n dead)
 
--- before the first entry all are alive
+-- before the first entry all nodes are alive
 rests_first : (shape : ShapeFields) → Rests (first_world shape)
 rests_first shape n dead = absurd (cc)
 

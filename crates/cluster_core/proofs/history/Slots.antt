@@ -1,4 +1,4 @@
--- What stands at each entry of a run, as the run goes on.
+-- The slots of a run, as it goes on.
 use Rattle.std.proofs.Common.{◌≡◌, ℕ, zero, suc, ◌+◌, ◌<◌, ◌≤◌, Bool, true, false, not, cond, ◌⊎◌, inl, inr, refl, sym, ◌∙◌, ap, subst, arith, List, [], ◌∷◌, ◌++◌, length, length-append, append-nil, append_assoc, slice_get, slice_set, position, nat_lt, Option, Some, None}
 use Rattle.std.specs.Prelude.{⊤}
 use Rattle.std.specs.List.{position_or_len}
@@ -31,7 +31,7 @@ use Rattle.cluster_core.proofs.history.Entries.{entry_at-keeps, entry_at-push, e
 use Rattle.cluster_core.proofs.history.Unions.{union_first}
 use Rattle.cluster_core.proofs.history.Prefixes.{table_at, table_at-is, table_at-keeps, after_all}
 
--- the slots go on by one entry
+-- the slots of a run with one more entry
 slots_from-push : (past : List Entry) (slots : Slots) (es : List Entry) (e : Entry) → slots_from past slots (es ++ e ∷ []) ≡ slots_after (past ++ es) (slots_from past slots es) e e.reply
 slots_from-push past slots [] e = ap (λ (p : List Entry). slots_after p slots e e.reply) (sym (append-nil past))
 slots_from-push past slots (d ∷ ds) e =
@@ -70,7 +70,7 @@ module _ {A : Type 0} (p : A → Bool) (x : A) (passes : p x ≡ true) where
       let within : nat_lt k (length xs) ≡ true = grind (arith, nat_tests) in
       ap (λ (n : ℕ). cond (nat_lt n (length xs)) (Some n) None) (first_at xs k at first) ∙ ap (λ (b : Bool). cond b (Some k) None) within
 
--- what stands in a slot, and what leads from a table to the next there
+-- the item of a slot leads from one table to the next; an empty slot leaves the table
 abbrev pub SlotStep : Table → Option Item → Table → Type 0
 SlotStep t None u = t ≡ u
 SlotStep t (Some i) u = ItemStep t i u
@@ -106,7 +106,7 @@ slot_in (Some j ∷ os) zero i h = (zero, same_Some (Some j) (Some i) h)
 slot_in (None ∷ os) (suc q) i h = slot_in os q i h
 slot_in (Some j ∷ os) (suc q) i h = let later = slot_in os q i h in (suc later.0, later.1)
 
--- each item has the position of its slot, the first being that after `from`
+-- each item has the position of its slot, where the first is that after `from`
 abbrev pub ArePositions : ℕ → Slots → Type 0
 ArePositions from slots = (q : ℕ) (i : Item) → slice_get slots q ≡ Some (Some i) → position_of i ≡ from + q + 1
 
@@ -125,7 +125,7 @@ rising_slots from (Some i ∷ os) are zero (suc k) a b lt x y =
     omega arith
 rising_slots from (Some i ∷ os) are (suc j) (suc k) a b lt x y = rising_slots (suc from) os (later_positions from (Some i) os are) j k a b (omega arith) x y
 
--- why the item of a call stands at an entry: the entry answers the call, or tells of the one conflict for which it is denied
+-- the reason why the item of a call stands at an entry: the entry answers the call, or sends the conflict for which it is denied
 abbrev pub IsMark : Entry → CallId → Type 0
 IsMark e id = ((reply : Reply) × (e.reply ≡ Some (id, reply))) ⊎ ((file : ℕ) × (holder : Host) × (number : ℕ) × (lock : LockInfo) × (e.sends ≡ Conflict file number holder id lock ∷ []))
 
@@ -159,7 +159,7 @@ pub record Slotted (shape : ShapeFields) (es : List Entry) (slots : Slots) : Typ
 abbrev pub AllSlotted : List Entry → Slots → Type 0
 AllSlotted es slots = (id : CallId) (reply : Reply) (at : ℕ) → IsRepliedAt es id reply at → HasSlot slots id reply
 
--- what stands goes on standing
+-- an item that stands in a run stands in the longer run
 abbrev pub revoked-keeps : (es : List Entry) (e : Entry) (file : ℕ) (holder : Host) (number at : ℕ) → IsRevokedAt es file holder number at → IsRevokedAt (es ++ e ∷ []) file holder number at
 revoked-keeps es e file holder number at r = record {
   revoking = r.revoking;
@@ -281,7 +281,7 @@ module _ (shape : ShapeFields) (es : List Entry) (slots : Slots) (p : ℕ) (i : 
           let there : Some (Some i) ≡ Some (Some j) = sym (slice_get-set slots p (Some i) within) ∙ (ap (λ (n : ℕ). slice_get (slice_set slots p (Some i)) n) (sym same) ∙ h) in
           same_Some i j (same_Some (Some i) (Some j) there)
 
-  -- and the others stay
+  -- the other slots stay as they are
   pub has_slot-set : (id : CallId) (reply : Reply) → HasSlot slots id reply → HasSlot (slice_set slots p (Some i)) id reply
   has_slot-set id reply s = elim (cases_eq s.0 p) [
     | inl same ↦ absurd (full_or_not (sym s.4 ∙ (ap (slice_get slots) same ∙ empty)))
@@ -297,7 +297,7 @@ has_slot-keeps slots more id reply s = (s.0, s.1, s.2, s.3, slice_get-keeps slot
 pub all_slotted-push : (es : List Entry) (slots later : Slots) (e : Entry) → AllSlotted es slots → ((id : CallId) (reply : Reply) → HasSlot slots id reply → HasSlot later id reply) → ((id : CallId) (reply : Reply) → e.reply ≡ Some (id, reply) → HasSlot later id reply) → AllSlotted (es ++ e ∷ []) later
 all_slotted-push es slots later e all kept new id reply at r = elim (replied_at-push es e id reply at r) [ inl old ↦ kept id reply (all id reply at old) | inr last ↦ new id reply last.1 ]
 
--- before the first entry
+-- the slots before the first entry
 pub slotted_first : (shape : ShapeFields) → Slotted shape [] []
 slotted_first shape = record {
   long = refl;
@@ -359,7 +359,7 @@ stands_at_place : (es : List Entry) (q : ℕ) (i : Item) → Stands es q i → I
 stands_at_place es q (Answered at id pid op reply) s = s.1.place
 stands_at_place es q (Gone at node incarnation) s = s.1
 
--- the items of slots fit the run by a place where what stands in them stands there
+-- the items in the slots fit the run by `Place`, if each stands where that allows it
 module _ (es : List Entry) (slots : Slots) (stands : (q : ℕ) (i : Item) → slice_get slots q ≡ Some (Some i) → Stands es q i) where
   stands_in : (k : ℕ) (i : Item) → slice_get (items_in slots) k ≡ Some i → (q : ℕ) × Stands es q i
   stands_in k i h = let at = in_slot slots k i h in (at.0, stands at.0 i at.1)

@@ -15,7 +15,7 @@ use Rattle.cluster_core.specs.Union.{union}
 use Rattle.cluster_core.proofs.common.Choices.{if_either}
 use Rattle.model.proofs.NodeTables.{owner_at-node, owner_at-incarnation}
 
--- it depends on the nodes' incarnations and tables alone
+-- the union depends on the nodes' incarnations and tables alone
 pub union_same : (w v : WorldState) → v.shape ≡ w.shape → ((n : ℕ) → (v.nodes n).incarnation ≡ (w.nodes n).incarnation) → ((n : ℕ) → (v.nodes n).table ≡ (w.nodes n).table) → union v ≡ union w
 union_same w v shape incarnations tables = λ i. record {
   limit = most_regions (shape i).version;
@@ -23,7 +23,7 @@ union_same w v shape incarnations tables = λ i. record {
   locks = λ file owner. if is_within (shape i).nodes owner.node && (owner.incarnation == incarnations owner.node i) then (tables owner.node i).locks file owner else nothing;
 }
 
--- at first it is empty
+-- the first union is empty
 pub union_first : (shape : ShapeFields) → empty_table (most_regions shape.version) ≡ union (first_world shape)
 union_first shape = λ i. record {
   limit = most_regions shape.version;

@@ -1,4 +1,4 @@
--- What stands behind each message, and goes on standing behind it.
+-- The reason for each message, which stays one.
 use Rattle.std.proofs.Common.{◌≡◌, ℕ, ◌≤◌, true, ◌==◌, ◌⊎◌, inl, inr, sym, ◌∙◌, ap, subst, arith, List, [], ◌∷◌, ◌++◌, length, take, All, Contains, refl, Some}
 use Rattle.std.proofs.lemmas.Bool.{and_parts, eqb-true, false≢true}
 use Rattle.std.proofs.lemmas.List.Elements.{All-contains, All-weaker}
@@ -41,7 +41,7 @@ use Rattle.cluster_core.proofs.history.Joined.{is_of_host, target_of_host}
 use Rattle.cluster_core.proofs.history.Prefixes.{leads_one, after-keeps}
 use Rattle.cluster_core.proofs.history.Slots.{entry_at-one, revoked-keeps}
 
--- what a call is about: bytes of a file, and an owner of the caller's node
+-- the target of a call: bytes of a file, and an owner of the caller's node
 pub about_span : (t : Table) (p : Process) (op : Op) (mode : Mode) (c : LockTarget) → IsAbout t p op mode c → IsSpan c.span
 about_span t p op mode c a =
     let f = about_finds t p op mode c a in
@@ -55,7 +55,7 @@ about_host t p op mode c a =
 pub about_node : (t : Table) (p : Process) (op : Op) (mode : Mode) (c : LockTarget) → IsAbout t p op mode c → c.owner.node ≡ p.node
 about_node t p op mode c a = eqb-true c.owner.node p.node (and_parts (c.owner.node == p.node) (c.owner.incarnation == p.incarnation) (about_host t p op mode c a)).0
 
--- no call is about bytes after the last of a file
+-- no call asks for bytes after the last of a file
 pub asked_ends : (shape : ShapeFields) (es : List Entry) (file : ℕ) (call : CallId) (mode : Mode) (span : Range) → IsAsked shape es file call mode span → span.hi ≤ greatest
 asked_ends shape es file call mode span a = subst (λ (s : Range). s.hi ≤ greatest) a.span_is (about_span (union a.world) (caller call a.pid) a.op mode a.about a.asks).ends
 
@@ -81,7 +81,7 @@ called_one es id pid qid op oq at to one a b =
     let events : Call id.node pid op ≡ Call id.node qid oq = sym a.is_call ∙ (ap (λ (e : Entry). e.event) entries ∙ b.is_call) in
     record { at_is = same; pid_is = ap pid_in events; op_is = ap op_in events }
 
--- what was asked for a call is one thing
+-- a call asks for one thing
 pub record SameAsked (file other : ℕ) (mode another : Mode) (span also : Range) : Type 0 where
   pub file_is : file ≡ other
   pub mode_is : mode ≡ another
@@ -101,7 +101,7 @@ asked_one shape es call file other mode another span also one a b =
       span_is = sym a.span_is ∙ (ap (λ (t : LockTarget). t.span) same.1 ∙ b.span_is);
     }
 
--- the run goes on
+-- a call of the run asks in the longer run for what it asked before
 abbrev pub asked-keeps : (shape : ShapeFields) (es : List Entry) (e : Entry) (file : ℕ) (call : CallId) (mode : Mode) (span : Range) → IsAsked shape es file call mode span → IsAsked shape (es ++ e ∷ []) file call mode span
 asked-keeps shape es e file call mode span a = record {
   at = a.at;
@@ -146,15 +146,15 @@ evidence-keeps shape es e file call holder number lock h = record {
   blocks = h.blocks;
 }
 
--- an open call is about what it was asked for
+-- an open call asks for what its name was called with
 abbrev pub IsAskedBy : ShapeFields → List Entry → NodeState → OpenCall → Type 0
 IsAskedBy shape past s c = IsAsked shape past c.file (id_of s c.number) c.mode c.span
 
--- if the open call is this one, the one table of the world may refuse it for the lock, as far as it is told of it
+-- if the open call is this one, the one table of the world may refuse it for the lock that is named
 abbrev pub MayRefuse : WorldState → CallId → ℕ → Op → LockInfo → NodeState → OpenCall → Type 0
 MayRefuse w call pid op lock s c = id_of s c.number ≡ call → (reply : Reply) → refusal_of c.lock_command lock ≡ Some reply → Step (union w) (caller call pid) op reply (union w)
 
--- a call of the run, that waits where its requests may
+-- the call is one of the run, which waits if its requests may
 pub record IsOfBlocking (past : List Entry) (call : CallId) (blocking : Blocking) : Type 0 where
   pub at : ℕ
   pub pid : ℕ
@@ -171,7 +171,7 @@ for_blocking i op f = absurd f
 blocking-keeps : (past : List Entry) (e : Entry) (call : CallId) (blocking : Blocking) → IsOfBlocking past call blocking → IsOfBlocking (past ++ e ∷ []) call blocking
 blocking-keeps past e call blocking u = record { at = u.at; pid = u.pid; op = u.op; called = called_at-keeps past (e ∷ []) call u.pid u.op u.at u.called; waits = u.waits }
 
--- a request of the call that may not wait
+-- a blocking that is `No`
 is_no : (u : Blocking) → same_blocking u No ≡ true → u ≡ No
 is_no No h = refl
 is_no Yes h = absurd (false≢true h)
@@ -180,12 +180,12 @@ pub not_blocking : (past : List Entry) (call : CallId) (r : TokenRequest) → is
 not_blocking past call r its now h =
     subst (IsOfBlocking past call) (is_no r.blocking now) (subst (λ (id : CallId). IsOfBlocking past id r.blocking) (call_exact r.call call its) h)
 
--- a conflict has its evidence; and while the call is open the one table may have refused it there
+-- a conflict has its evidence, and while the call is open the one table may have refused it there
 pub record Denies (shape : ShapeFields) (past : List Entry) (w : WorldState) (file : ℕ) (call : CallId) (holder : Host) (number : ℕ) (lock : LockInfo) : Type 0 where
   pub evidence : HasEvidence shape past file call holder number lock
   pub allows : All (MayRefuse evidence.world call evidence.asked.pid evidence.asked.op lock (w.nodes call.node)) (w.nodes call.node).pending
 
--- what stands behind a message
+-- the reason for a message
 abbrev pub Backed : ShapeFields → List Entry → WorldState → Message → Type 0
 Backed shape past w (Request file call blocking mode wanted) = IsAsked shape past file call mode wanted.required × IsOfBlocking past call blocking × (wanted.desired.hi ≤ greatest)
 Backed shape past w (Revoke file number holder call mode wanted) = IsAsked shape past file call mode wanted.required × (holder.node ≡ call.node → ⊥)
@@ -198,7 +198,7 @@ Backed shape past w (Freed file holder) = Unit {0}
 Backed shape past w (Hello file number holder) = Unit {0}
 Backed shape past w (Report file number holder runs) = Unit {0}
 
--- and behind a request that a server keeps
+-- the reason for a request that a server keeps
 abbrev pub HeldFor : ShapeFields → List Entry → ℕ → TokenRequest → Type 0
 HeldFor shape past file r = IsAsked shape past file r.call r.mode r.wanted.required × IsOfBlocking past r.call r.blocking × (r.wanted.desired.hi ≤ greatest)
 

@@ -1,4 +1,4 @@
--- What holds of the cluster after each run.
+-- The facts of the cluster after each run.
 use Rattle.std.proofs.Common.{◌≡◌, ℕ, ◌+◌, ◌≤◌, Bool, true, false, if◌then◌else◌, ◌⊎◌, inl, inr, refl, sym, ◌∙◌, ap, subst, arith, List, [], ◌∷◌, ◌++◌, length, length-append, get_or, All, Contains, Some, None, Ok}
 use Rattle.std.specs.List.{list_any}
 use Rattle.std.proofs.lemmas.Bool.{eq-eqb, cases_Bool, or_parts}
@@ -52,11 +52,11 @@ use Rattle.cluster_core.proofs.history.Witnesses.{asked_ends, IsAskedBy, MayRefu
 abbrev pub Told : List Entry → List Message → Type 0
 Told past sent = (k : ℕ) (e : Entry) (test : Message → Bool) → EntryAt past k e → list_any test sent ≡ false → list_any test e.sends ≡ false
 
--- an incarnation that a node may be in: where it is alive, one of those that a node may have
+-- a node that is alive is in an incarnation that a node may have
 abbrev pub IsGiven : Bool → ℕ → Type 0
 IsGiven alive incarnation = (1 ≤ incarnation) × (alive ≡ true → incarnation ≤ most_incarnations)
 
--- the actors after a run, and the run itself
+-- the facts of the actors after a run, and of the run itself
 pub record Good (shape : ShapeFields) (past : List Entry) (w : WorldState) : Type 0 where
   pub leads : Leads (first_world shape) past w
   pub named : (n : ℕ) → (w.nodes n).node ≡ n
@@ -82,7 +82,7 @@ replied_named shape past w g id reply at r =
     let stands : Stands past s.0 (Answered s.1 id s.2 s.3 reply) = g.slotted.stands s.0 (Answered s.1 id s.2 s.3 reply) s.4 in
     named_called past id s.2 s.3 stands.1.interval.call_at stands.1.interval.called
 
--- what holds of a node still holds after an entry that neither names nor answers a call of it
+-- the facts of a node after an entry that neither names nor answers a call of it
 unmentioned : (past : List Entry) (e : Entry) (s : NodeState) → ((id : CallId) → e.call ≡ Some id → id.node ≡ s.node → ⊥) → ((id : CallId) (reply : Reply) → e.reply ≡ Some (id, reply) → id.node ≡ s.node → ⊥) → Holds past s → Holds (past ++ e ∷ []) s
 unmentioned past e s no_call no_reply holds = record {
   own = holds.own;
@@ -103,7 +103,7 @@ stays_same past s =
     let P : OpenCall → Type 0 = λ c. (Contains s.pending c × (id_of s c.number ≡ id_of s c.number)) ⊎ (IsNamed past (id_of s c.number) → ⊥) in
     All-weaker (Contains s.pending) P (λ c there. inl (there, refl)) s.pending (All-contains_itself s.pending)
 
--- what servers keep, of which one may have made a step
+-- the facts of what servers keep, of which one may have made a step
 comes-push : (shape : ShapeFields) (past : List Entry) (e : Entry) (w v : WorldState) (file : ℕ) (t : ServerState) → ((n : ℕ) → StaysOpen past (w.nodes n) (v.nodes n)) → Comes file AnyNumber (HeldFor shape past file) (Backed shape past w) t → Comes file AnyNumber (HeldFor shape (past ++ e ∷ []) file) (Backed shape (past ++ e ∷ []) v) t
 comes-push shape past e w v file t stays c = comes-weaker file AnyNumber (HeldFor shape past file) (HeldFor shape (past ++ e ∷ []) file) (Backed shape past w) (Backed shape (past ++ e ∷ []) v) t
     (held-keeps shape past e file)
@@ -141,7 +141,7 @@ module _ (shape : ShapeFields) (past : List Entry) (w : WorldState) (servers : �
         all = placed.all;
       }
 
--- one server is another
+-- the facts of the world with one server changed
 pub put_comes : (shape : ShapeFields) (past : List Entry) (w : WorldState) (file : ℕ) (t : ServerState) → Good shape past w → Comes file AnyNumber (HeldFor shape past file) (Backed shape past w) t → (f : ℕ) → Comes f AnyNumber (HeldFor shape past f) (Backed shape past w) ((with_server w file t).servers f)
 put_comes shape past w file t g comes f = at_number f file (λ b. Comes f AnyNumber (HeldFor shape past f) (Backed shape past w) (if b then t else w.servers f))
     (λ same. subst (λ (k : ℕ). Comes k AnyNumber (HeldFor shape past k) (Backed shape past w) t) (sym same) comes)
@@ -166,7 +166,7 @@ module _ (shape : ShapeFields) (past : List Entry) (w : WorldState) (n : ℕ) (u
   abbrev pub later : WorldState
   later = (recorded (with_node w n u) event incarnation o).0
 
-  -- each node is this one or another
+  -- a fact of this node and of each other node is one of each
   at_each : (P : NodeState → ℕ → Type 0) → P u n → ((m : ℕ) → (m ≡ n → ⊥) → P (w.nodes m) m) → (m : ℕ) → P (later.nodes m) m
   at_each P here there m = at_number m n (λ b. P (if b then u else w.nodes m) m) (λ same. subst (P u) (sym same) here) (there m)
 
@@ -235,7 +235,7 @@ module _ (shape : ShapeFields) (past : List Entry) (w : WorldState) (n : ℕ) (u
       here : StaysOpen past before u
       here = All-weaker P Q (λ c stay. elim stay [ inl old ↦ inl (old, same_name c.number) | inr new ↦ inr (moves.fresh (id_of u c.number) new).1 ]) u.pending moves.stay
 
-  -- what a new call is about
+  -- a new call asks for what its name was called with
   new_asked : (c : OpenCall) → has_node w n ≡ true → IsOpen run u c → (IsNamed past (id_of u c.number) → ⊥) → IsAskedBy shape run u c
   new_asked c there its new =
       let id = id_of u c.number in
@@ -274,7 +274,7 @@ module _ (shape : ShapeFields) (past : List Entry) (w : WorldState) (n : ℕ) (u
         | inr stranger ↦ All-same (IsAskedBy shape run u) u.pending [] (strange stranger).0 (All-nil (IsAskedBy shape run u))
       ]
 
-  -- what the node asks for is backed
+  -- there is a reason for each request of the node
   pub asks : AsksFor (Backed shape run later) u
   asks c wanted there same likes =
       let P : NodeState → Type 0 = λ x. All (IsAskedBy shape run x) x.pending in
@@ -285,7 +285,7 @@ module _ (shape : ShapeFields) (past : List Entry) (w : WorldState) (n : ℕ) (u
         (let last = asked_ends shape run c.file (id_of u c.number) c.mode c.span a in omega arith),
       )
 
-  -- and makes the step of the node's table
+  -- the union makes the step of the node's table
   union_steps : (pid : ℕ) (op : Op) (reply : Reply) → has_node w n ≡ true → IsFreeElsewhere w n pid op reply → Step before.table (process before pid) op reply u.table → Step (union w) (process before pid) op reply (union later)
   union_steps pid op reply there free local =
       let P : Table → Type 0 = λ t. Step before.table (process before pid) op reply t in
@@ -361,7 +361,7 @@ module _ (shape : ShapeFields) (past : List Entry) (w : WorldState) (n : ℕ) (u
           all = placed.all;
         }
 
--- an entry that names no call, answers none and sends nothing, after which each node that is not as it was begins
+-- an entry that names no call, answers none and sends nothing: each node is as it was, or begins
 module _ (shape : ShapeFields) (past : List Entry) (w v : WorldState) (event : Event) (incarnation : ℕ) (g : Good shape past w) where
   abbrev quiet_entry : Entry
   quiet_entry = (silent v event incarnation).1

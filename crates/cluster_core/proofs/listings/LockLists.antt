@@ -20,7 +20,7 @@ use Rattle.cluster_core.proofs.common.Numbered.{within_is}
 use Rattle.cluster_core.proofs.history.Unions.{live_at, none_held}
 use Rattle.cluster_core.proofs.common.Lists.{lists_map, adds_all, IsUpTo, adds_first, adds_next, adds_last}
 
--- those of owners of the first nodes in a file
+-- the locks of the first nodes' owners in a file
 abbrev pub first_locks : WorldState → ℕ → ℕ → FileLocks
 first_locks w file i o = if nat_le o.node i then (union w).locks file o else nothing
 
@@ -104,7 +104,7 @@ all_regions w file i xs past lists = subst (λ (h : FileLocks). ListsRegions h x
       | inr h ↦ rw h (sym (none_there w file o (past_all w o.node (let lt = leb-false o.node i h in omega arith))))
     ]
 
--- those of one file
+-- a lock of one file
 abbrev pub IsHeldIn : WorldState → ℕ → HeldLock → Type 0
 IsHeldIn w file h = IsHeld w h × (h.file ≡ file)
 
@@ -117,7 +117,7 @@ file_lists w file locks within l = lists_map (IsHeldIn w file) IsHeldBefore (hel
 pub adds_locks : (w : WorldState) (file : ℕ) (locks : List LockInfo) (old new : List HeldLock) → has_file w file ≡ true → IsListing ((union w).locks file) locks → new ≡ old ++ map (held_lock file) locks → Adds (IsHeldIn w file) IsHeldBefore old new
 adds_locks w file locks old new within l made = (map (held_lock file) locks, made, file_lists w file locks within l)
 
--- those of the first files
+-- a lock of one of the first files
 abbrev pub IsHeldInFirst : WorldState → ℕ → HeldLock → Type 0
 IsHeldInFirst w = IsUpTo (IsHeld w) (λ (h : HeldLock). h.file)
 

@@ -15,7 +15,7 @@ use Rattle.cluster_core.proofs.common.Numbered.{within_is}
 use Rattle.cluster_core.proofs.history.Unions.{live_at}
 use Rattle.cluster_core.proofs.common.Lists.{lists_map, adds_all, IsUpTo, adds_first, adds_next, adds_last}
 
--- a number from 1 to the most
+-- a number from 1 to the greatest is within it
 pub is_number : (most n : ℕ) → 1 ≤ n → n ≤ most → is_within most n ≡ true
 is_number most n least below = and_from (nat_le 1 n) (nat_le n most) (le-leb 1 n least) (le-leb n most below)
 
@@ -46,14 +46,14 @@ module _ (w : WorldState) (node file incarnation : ℕ) (runs : List (Range × L
       (λ t is. (l.complete t.span t.level (run_in t is), run_is t is))
       (λ i j d lt inside. inr (refl, inr (refl, l.rises i j d lt inside)))
 
--- and these at the end of a list
+-- the runs of a node's token for a file are appended to a list
 pub adds_file : (w : WorldState) (node file incarnation : ℕ) (s : NodeState) (runs : List (Range × Level)) (old new : List TokenRun) → has_node w node ≡ true → has_file w file ≡ true → s ≡ w.nodes node → incarnation ≡ s.incarnation → ListsRuns (s.files file).token runs → new ≡ old ++ map (token_run node incarnation file) runs → Adds (IsTokenOfFile w node file) IsTokenBefore old new
 adds_file w node file incarnation s runs old new there within is now l made =
     let here : incarnation ≡ (w.nodes node).incarnation = now ∙ ap (λ (x : NodeState). x.incarnation) is in
     let lists = subst (λ (x : NodeState). ListsRuns (x.files file).token runs) is l in
     (map (token_run node incarnation file) runs, made, file_tokens w node file incarnation runs there within here lists)
 
--- those of the first files of a node
+-- a run of the first files of a node
 abbrev pub IsOfFirstFiles : WorldState → ℕ → ℕ → TokenRun → Type 0
 IsOfFirstFiles w node = IsUpTo (IsTokenOf w node) (λ (t : TokenRun). t.file)
 
@@ -66,7 +66,7 @@ next_file w node i old mid new = adds_next (IsTokenOf w node) (λ (t : TokenRun)
 pub all_files : (w : WorldState) (node i : ℕ) (old new : List TokenRun) → w.shape.files ≤ i → Adds (IsOfFirstFiles w node i) IsTokenBefore old new → Adds (IsTokenOf w node) IsTokenBefore old new
 all_files w node i old new past = adds_last (IsTokenOf w node) (λ (t : TokenRun). t.file) IsTokenBefore i old new (λ t is. let most = (within_is w.shape.files t.file is.0.file_in).1 in omega arith)
 
--- those of the first nodes
+-- a run of the first nodes
 abbrev pub IsOfFirstNodes : WorldState → ℕ → TokenRun → Type 0
 IsOfFirstNodes w = IsUpTo (IsTokenRun w) (λ (t : TokenRun). t.node)
 

@@ -1,4 +1,4 @@
--- Entries that are checked, one after the other.
+-- The check of entries, one after the other.
 use Rattle.std.proofs.Common.{◌≡◌, ◌≢◌, ℕ, ◌+◌, ◌<◌, arith, refl, sym, ◌∙◌, ap, subst, List, [], ◌∷◌, ◌++◌, length, take, drop, get_or, Ok}
 use Rattle.std.proofs.lemmas.List.{length-take-le, take-append-drop}
 use Rattle.messages.specs.Shapes.{ShapeFields}

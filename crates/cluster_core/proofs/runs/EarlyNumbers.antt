@@ -40,7 +40,7 @@ use Rattle.cluster_core.proofs.steps.Steps.{next_taken, node_step, server_step, 
 use Rattle.cluster_core.proofs.tokens.Talks.{IsAnswerOf, owing_nothing}
 use Rattle.cluster_core.proofs.tokens.TalkMoves.{done_file, is_answer}
 
--- the number of the message, if it has one, is one of the first epoch; no server asks a node for its token
+-- the number of the message, if it has one, is one of the first epoch, and the message is no Hello
 abbrev pub IsEarly : Message → Type 0
 IsEarly (Request file call blocking mode wanted) = Unit {0}
 IsEarly (Grant file number call mode span) = number ≤ greatest_number
@@ -65,7 +65,7 @@ answer_early file n i k (Conflict f number holder call lock) few is of = let sam
 answer_early file n i k (Report f number holder runs) few is of = absurd (cc)
 answer_early file n i k m few is of = absurd of
 
--- what a node remembers and sends then
+-- a node remembers and sends early messages alone
 abbrev StaysEarly : Effect → Type 0
 StaysEarly e = Remembers IsEarly e.state × Only IsEarly e.sends
 
@@ -106,7 +106,7 @@ delivered_early s (Hello file number holder) to none old = absurd none
 delivered_early s (Deny file call holder number lock) to few old = asks_early s (delivered s (Deny file call holder number lock)) (denied_asks s lock (open_call s call.number)) old
 delivered_early s m to few old = asks_early s (quiet s) (quiet_asks s) old
 
--- what a server keeps
+-- a server keeps early numbers alone
 abbrev IsFew : ℕ → Type 0
 IsFew number = number ≤ greatest_number
 
@@ -121,14 +121,14 @@ tells_early file (Conflict f number holder call lock) few = λ r held own now. f
 tells_early file (Request f call blocking mode wanted) few = tt
 tells_early file m few = tt
 
--- all that is remembered, waits for an answer or was sent is so
+-- all that is remembered, waits for an answer or was sent is early
 record Early (w : WorldState) : Type 0 where
   version : may_rebuild w.shape.version ≡ false
   nodes : (n : ℕ) → Remembers IsEarly (w.nodes n)
   servers : (file : ℕ) → Comes file IsFew AnyRequest IsEarly (w.servers file)
   sent : (m : Message) → is_among w.sent m ≡ true → IsEarly m
 
--- so it is after a step, and what that sends is too
+-- after a step the world is early still, and what the step sends is early
 abbrev Goes : WorldState × Entry → Type 0
 Goes q = Early q.0 × All IsEarly q.1.sends
 
@@ -248,7 +248,7 @@ early_from (e ∷ es) w v g leads =
     let rest = early_from es leads.0 v one.0 leads.2 in
     (All-cons (λ (x : Entry). All IsEarly x.sends) e es one.1 rest.0, rest.1)
 
--- so it is in each run of such a cluster
+-- each run of a cluster whose servers can't be rebuilt is early
 pub early_run : (shape : ShapeFields) (es : List Entry) (w : WorldState) → may_rebuild shape.version ≡ false → Leads (first_world shape) es w → All (λ (e : Entry). All IsEarly e.sends) es × ((m : Message) → is_among w.sent m ≡ true → IsEarly m)
 early_run shape es w version leads =
     let done = early_from es (first_world shape) w (early_first shape version) leads in

@@ -1,4 +1,4 @@
--- Runs, one entry more at a time.
+-- Runs that grow by one entry.
 use Rattle.std.proofs.Common.{◌≡◌, ℕ, ◌+◌, ◌<◌, ◌≤◌, arith, refl, sym, ◌∙◌, ap, subst, List, [], ◌∷◌, ◌++◌, length, take, drop, get_or, Ok, Err}
 use Rattle.std.proofs.lemmas.List.{map-append, take_all, take-append-drop}
 use Rattle.messages.specs.Shapes.{ShapeFields, IsShape}
@@ -54,11 +54,11 @@ ran_more shape events i es fs w v event e lt is ran kept made =
           ∙ sym (take_read events i event lt is)));
     })
 
--- all happened
+-- all events happened
 pub ran_all : (shape : ShapeFields) (events : List Event) (i : ℕ) (es : List Entry) (w : WorldState) → length events ≤ i → Ran shape events i es w → events_of es ≡ events
 ran_all shape events i es w past ran = ran.so_far ∙ take_all i events past
 
--- the events up to one happened, and that one is refused
+-- the events before one happened, and that one is refused
 pub first_refusal : (shape : ShapeFields) (events : List Event) (i : ℕ) (es : List Entry) (w : WorldState) (event : Event) (refusal : Refused) → i < length events → event ≡ get_or events i event → Ran shape events i es w → kept_next w event ≡ Err refusal → IsFirstRefusal shape events refusal
 first_refusal shape events i es w event refusal lt is ran refused = record {
   done = es;

@@ -1,4 +1,4 @@
--- A run done again, entry by entry.
+-- A run that is repeated, entry by entry.
 use Rattle.std.proofs.Common.{◌≡◌, ℕ, ◌+◌, ◌<◌, ◌≤◌, arith, sym, ◌∙◌, ap, subst, List, length, take, drop, get_or, Result, Ok, Err}
 use Rattle.std.proofs.lemmas.List.{take_all, length-take-le}
 use Rattle.messages.specs.Shapes.{ShapeFields}
@@ -23,11 +23,11 @@ pub record Replayed (shape : ShapeFields) (es : List Entry) (i : ℕ) (w : World
 pub replayed_none : (shape : ShapeFields) (es : List Entry) (w : WorldState) → w ≡ first_world shape → IsRun shape es → Replayed shape es 0 w
 replayed_none shape es w is run = record { done = sym is; last = run.0; left = subst (λ (v : WorldState). Leads v es run.0) (sym is) run.1 }
 
--- the world has as many entries as were done
+-- the world has as many entries as were repeated
 pub replayed_count : (shape : ShapeFields) (es : List Entry) (i : ℕ) (w : WorldState) → i ≤ length es → Leads (first_world shape) (take i es) w → w.length ≡ i
 replayed_count shape es i w within leads = omega (arith, leads-count (first_world shape) w (take i es) leads, length-take-le i es within)
 
--- the entry that stands there comes next
+-- the entry at the place comes next
 pub replayed_next : (shape : ShapeFields) (es : List Entry) (i : ℕ) (w : WorldState) (e : Entry) → i < length es → e ≡ get_or es i e → Replayed shape es i w → (v : WorldState) × (next w e.event ≡ Ok (v, e))
 replayed_next shape es i w e lt is r =
     let left = subst (λ (xs : List Entry). Leads w xs r.last) (drop_read es i e lt is) r.left in
@@ -37,7 +37,7 @@ replayed_next shape es i w e lt is r =
 pub one_world : (w v u : WorldState) (e made : Entry) → next w e.event ≡ Ok (v, e) → next w e.event ≡ Ok (u, made) → v ≡ u
 one_world w v u e made is again = ap (λ (m : WorldState × Entry). m.0) (ok_is (v, e) (u, made) (sym is ∙ again))
 
--- its event makes it again, and is not refused
+-- the event of the entry makes the entry again, and is not refused
 pub made_again : (w v u : WorldState) (e made : Entry) (event : Event) → event ≡ e.event → next w e.event ≡ Ok (v, e) → next w event ≡ Ok (u, made) → next w e.event ≡ Ok (u, e)
 made_again w v u e made event of is again =
     is ∙ ap (λ (x : WorldState). Ok (x, e)) (one_world w v u e made is (subst (λ (x : Event). next w x ≡ Ok (u, made)) of again))

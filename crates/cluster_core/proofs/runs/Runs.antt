@@ -45,7 +45,7 @@ covered_heard w c = record {
 pub safe_run : (shape : ShapeFields) (es : List Entry) (w : WorldState) → IsShape shape → Leads (first_world shape) es w → IsSafe w
 safe_run shape es w is l = safe_after shape is IsCovered (covered_first shape) covered_next covered_heard es w l
 
--- its history has each call at its place
+-- the history of a run has each call at its place
 pub has_history : (shape : ShapeFields) (es : List Entry) (w : WorldState) → IsShape shape → Leads (first_world shape) es w → HasHistory shape es (history_of es) × EachAtItsPlace es (history_of es)
 has_history shape es w is l = history_after shape is IsCovered (covered_first shape) covered_next covered_heard es w l
 
@@ -63,6 +63,6 @@ every_denial shape es is at w file call holder number lock l told = evidence_aft
 pub no_wait : NoWaitIsDenied
 no_wait shape es w file call holder number lock pid op at is l sent called = no_wait_after shape is IsCovered (covered_first shape) covered_next covered_heard es w file call holder number lock pid op at l sent called
 
--- and no number is used for two commands about one file to one incarnation of a node
+-- no number is used for two commands about one file to one incarnation of a node
 pub no_number : NoNumberIsUsedTwice
 no_number shape es is w l = numbers_tell w (kept_after shape is IsCovered (covered_first shape) covered_next covered_heard es w l).present

@@ -1,4 +1,4 @@
--- What an actor's own step at an event makes of a world.
+-- What an actor's step at an event makes of a world.
 use Rattle.std.proofs.Common.{◌≡◌, ℕ, Bool, true, false, not, if◌then◌else◌, refl, sym, ◌∙◌, ap, eq-eqb, Option, Some, None, Result, Ok, Err}
 use Rattle.std.proofs.lemmas.Bool.{eqb-true}
 use Rattle.std.specs.Prelude.{◌==◌}
@@ -27,7 +27,7 @@ use Rattle.cluster_core.specs.Parts.{IsStepOf, IsServerStepOf}
 use Rattle.cluster_core.proofs.steps.Steps.{next_taken, kept_taken, restart_step, start_step}
 use Rattle.cluster_core.specs.Actors.{node_event, server_event, node_at, server_at, node_step, server_step, made_by_node, made_by_server}
 
--- one event, or none
+-- an event that is given by a test is that one
 one_event : {A : Type 0} (b : Bool) (x y : A) → ◌≡◌ {A = Option A} (if b then Some x else None) (Some y) → (b ≡ true) × (y ≡ x)
 one_event true x y e = (refl, cc)
 one_event false x y e = absurd (cc)
@@ -68,7 +68,7 @@ node_takes w (Learn file k incarnation) n step e = absurd (cc)
 node_takes w (FailServer file) n step e = absurd (cc)
 node_takes w (StartServer file) n step e = absurd (cc)
 
--- and so does a server
+-- a token server that takes an event takes it in the world
 pub record ServerTakes (w : WorldState) (event : Event) (f : ℕ) (step : ServerEvent) : Type 0 where
   pub same : IsServerStepOf event step
   pub fenced : is_fenced w event ≡ not (w.working f)
@@ -122,7 +122,7 @@ pub record ServerSteps (w : WorldState) (event : Event) (f : ℕ) (s : ServerSta
   pub working : w.working f ≡ true
   pub done : server_step f (w.servers f) event ≡ Ok (s, o)
 
--- what is taken from an actor that may step is the next of the world
+-- the step of an actor that may make it is the next one of the world
 goes : (w : WorldState) (event : Event) (r : Result (WorldState × Entry) Refused) → is_known w event ≡ true → is_fenced w event ≡ false → taken w event ≡ r → next w event ≡ r
 goes w event r known free is = λ i. if not (known i) then Err Stranger else (if free i then Err Fenced else is i)
 
@@ -138,11 +138,11 @@ server_next w event f s o known steps =
     let takes = server_takes w event f by.0 by.1 in
     goes w event _ known (takes.fenced ∙ ap not steps.working) (takes.takes ∙ ap (after_server w event f) by.2)
 
--- a node that begins again is as it was
+-- a restart keeps the state of the node
 pub restart_keeps : (w : WorldState) (n : ℕ) (q : WorldState × Entry) → kept_next w (Restart n) ≡ Ok q → q.0.nodes n ≡ w.nodes n
 restart_keeps w n q h = restart_step w (λ p. p.0.nodes n ≡ w.nodes n) n q (λ m is dead few. refl) (next_taken w (Restart n) q (kept_taken w (Restart n) q h).1).1
 
--- a server that begins again is the one that was to be
+-- a start gives the token server that was to begin
 pub start_gives : (w : WorldState) (f : ℕ) (q : WorldState × Entry) → kept_next w (StartServer f) ≡ Ok q → q.0.servers f ≡ next_server w f
 start_gives w f q h =
     start_step w (λ p. p.0.servers f ≡ next_server w f) f q (λ g is stopped few.

@@ -1,4 +1,4 @@
--- What an actor's own step refuses, the world refuses.
+-- A refusal of an actor's own step is a refusal of the world.
 use Rattle.std.specs.Prelude.{◌≢◌, Bool, true, false, cond, not, ◌&&◌, nat_le}
 use Rattle.std.proofs.Common.{◌≡◌, ℕ, refl, sym, ◌∙◌, ap, Result, Ok, Err}
 use Rattle.messages.specs.Refusals.{refused_by}
@@ -23,7 +23,7 @@ pub node_refused : (w : WorldState) (event : Event) (n : ℕ) (x : Result (NodeS
 node_refused w event n (Ok done) r refused = absurd (cc)
 node_refused w event n (Err e) r refused = (e, refl, err_is {A = WorldState × Entry} (refused_by e) r refused)
 
--- and one of a server's step the server's
+-- a refusal of a token server's step is the server's own
 pub server_refused : (w : WorldState) (event : Event) (file : ℕ) (x : Result (ServerState × Outcome) StepError) (r : Refused) → after_server w event file x ≡ Err r → (e : StepError) × (x ≡ Err e) × (refused_by e ≡ r)
 server_refused w event file (Ok done) r refused = absurd (cc)
 server_refused w event file (Err e) r refused = (e, refl, err_is {A = WorldState × Entry} (refused_by e) r refused)
@@ -49,6 +49,6 @@ unspent e false true false made h = λ spent. absurd (cc)
 pub declare-unspent : (w : WorldState) (n : ℕ) (e : Refused) → kept_next w (Declare n) ≡ Err e → e ≢ Spent
 declare-unspent w n e h = unspent e (nat_le journal_limit w.length) (has_node w n) (w.alive n) _ h
 
--- nor is a failure
+-- a failure of a token server is not refused for want of a number
 pub fail-unspent : (w : WorldState) (file : ℕ) (e : Refused) → kept_next w (FailServer file) ≡ Err e → e ≢ Spent
 fail-unspent w file e h = unspent e (nat_le journal_limit w.length) (may_rebuild w.shape.version && has_file w file) (w.working file) _ h

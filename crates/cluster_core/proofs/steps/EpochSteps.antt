@@ -32,7 +32,7 @@ failed_parts p members = record p { members = members; length = p.length + 1 }
 abbrev pub started_parts : WorldParts → ℕ → ServerParts → MembersParts → List Message → WorldParts
 started_parts p f x members sends = record p { servers = slice_set p.servers (f - 1) x; members = members; sent = p.sent ++ sends; length = p.length + 1 }
 
--- what comes of a start of a member
+-- the world after the start of a member
 abbrev after_start : WorldState → ℕ → Result (MembersState × ℕ) Refused → Result (WorldState × Entry) Refused
 after_start w f (Ok r) = Ok (recorded (started w f) (StartServer f) r.1 (sending (outstanding (next_server w f))))
 after_start w f (Err e) = Err e
@@ -77,13 +77,13 @@ module _ (p : WorldParts) (world : IsWorld p) (f : ℕ) (number : is_within p.sh
   abbrev epoch : ℕ
   epoch = ((world_state p).servers f).epoch
 
-  -- what the members say of the server is what the world does
+  -- the members say of the server whether it works in the world
   pub works_there : is_some (live_incarnation (members_state p.members.servers) f) ≡ works_at p f
   works_there =
       ap (λ (b : Bool). is_some (if b && works_at p f then Some (incarnation_in p.members.servers f) else None)) is_one
       ∙ told (works_at p f) (incarnation_in p.members.servers f)
 
-  -- and of its epochs
+  -- the members say of the server's epochs which failed in the world
   pub failed_there : (i : ℕ) → member.was_declared (members_state p.members.servers) f i ≡ has_failed (world_state p) f i
   failed_there i =
       ap (λ (b : Bool). b && (nat_le 1 i && nat_lt i (incarnation_in p.members.servers f))) is_one
@@ -116,7 +116,7 @@ module _ (p : WorldParts) (world : IsWorld p) (f : ℕ) (number : is_within p.sh
     own_kept : (m : ℕ) → (seated p.shape m (alive_in ms.nodes m) (listed p m)).incarnation ≡ incarnation_in ms.nodes m
     own_kept m = ap (λ (s : NodeState). s.incarnation) (nodes_kept m) ∙ (world.own_incarnation m ∙ ap (λ (xs : List MemberParts). incarnation_in xs m) (sym others))
 
-    -- declared failed
+    -- the server is declared failed
     module _ (k : ℕ) (done : declared_failed (members_state p.members.servers) f ≡ Ok (members_state ms.servers, k)) where
       known : (is_within (length p.members.servers) f ≡ true) × (works_at p f ≡ true) × (◌≡◌ {A = MembersState × ℕ} (with_declared (members_state p.members.servers) f, incarnation_in p.members.servers f) (members_state ms.servers, k))
       known = declaration (is_within (length p.members.servers) f) (works_at p f) (with_declared (members_state p.members.servers) f, incarnation_in p.members.servers f) (members_state ms.servers, k) done
@@ -163,7 +163,7 @@ module _ (p : WorldParts) (world : IsWorld p) (f : ℕ) (number : is_within p.sh
           ap (λ (b : Bool). if b then Ok (silent (failed (world_state p) f) (FailServer f) epoch) else Err NotAlive) known.1
           ∙ (λ j. Ok (failed_is epoch j, named j))
 
-    -- begun again
+    -- the server begins again
     module _ (x : ServerParts) (k : ℕ) (sends : List Message) (begins : server_state x ≡ next_server (world_state p) f) (asks : sends ≡ outstanding (next_server (world_state p) f)) (done : member.restarted (members_state p.members.servers) f ≡ Ok (members_state ms.servers, k)) where
       right : (is_within (length p.members.servers) f ≡ true) × (works_at p f ≡ false) × (nat_le (incarnation_in p.members.servers f) most_incarnations ≡ true) × (◌≡◌ {A = MembersState × ℕ} (with_restarted (members_state p.members.servers) f, incarnation_in p.members.servers f) (members_state ms.servers, k))
       right = restart (is_within (length p.members.servers) f) (works_at p f) (nat_le (incarnation_in p.members.servers f) most_incarnations) (with_restarted (members_state p.members.servers) f, incarnation_in p.members.servers f) (members_state ms.servers, k) done
@@ -213,7 +213,7 @@ module _ (p : WorldParts) (world : IsWorld p) (f : ℕ) (number : is_within p.sh
           let named : entry (StartServer f) k (sending (outstanding (next_server (world_state p) f))) ≡ e = (λ j. entry (StartServer f) k (sym (made ∙ ap sending asks) j)) ∙ sym entry_is in
           starts ∙ ap (after_start (world_state p) f) done ∙ (λ j. Ok (started_is j, named j))
 
-  -- planned
+  -- a start that is planned
   pub start_refused : (e : Refused) → member.restarted (members_state p.members.servers) f ≡ Err e → start_rule (world_state p) f ≡ Err e
   start_refused e refused = starts ∙ ap (after_start (world_state p) f) refused
 
@@ -222,7 +222,7 @@ module _ (p : WorldParts) (world : IsWorld p) (f : ℕ) (number : is_within p.sh
       let both : ◌≡◌ {A = Result (WorldState × Entry) Refused} (Ok (recorded (started (world_state p) f) (StartServer f) k (sending (outstanding (next_server (world_state p) f))))) (Err e) = sym (starts ∙ ap (after_start (world_state p) f) goes) ∙ refused in
       absurd (cc)
 
-  -- one that may begin is not refused
+  -- a start of a server that may begin again is not refused
   pub start_taken : works_at p f ≡ false → incarnation_in p.members.servers f ≤ most_incarnations → (e : Refused) → start_rule (world_state p) f ≡ Err e → ⊥
   start_taken stopped few e refused = start_goes (with_restarted (members_state p.members.servers) f) (incarnation_in p.members.servers f) e (may_begin stopped few) refused
 
@@ -242,6 +242,6 @@ module _ (p : WorldParts) (world : IsWorld p) (f : ℕ) (number : is_within p.sh
         asks = begins.1 ∙ ap outstanding same;
       }
 
--- of a world whose parts were opened
+-- the facts of a world whose parts were opened
 pub opened : (P : WorldParts → Type 0) (p now : WorldParts) (f : ℕ) → p ≡ now → is_within now.shape.files f ≡ true → (is_within p.shape.files f ≡ true → P p) → P now
 opened P p now f view number g = subst P view (g (subst (λ (q : WorldParts). is_within q.shape.files f ≡ true) (sym view) number))

@@ -62,7 +62,7 @@ learns = (_, refl)
 spawns : reply_of (next again (Call 1 1 Spawn)) ≡ Some (record { node = 1; incarnation = 2; number = 1 }, Done)
 spawns = refl
 
--- of two nodes the second was declared: the server that is rebuilt asks the first, and waits for it
+-- two nodes, of which the second was declared failed: the server that is rebuilt asks the first, and waits for it
 abbrev two : ShapeFields
 two = record { version = Second; nodes = 2; files = 1; policy = Wide }
 

@@ -26,7 +26,7 @@ sent_now xs ys m h = is_among-append xs ys m ∙ or_right (is_among xs m) (is_am
 pub sent_either : (xs ys : List Message) (m : Message) → is_among (xs ++ ys) m ≡ true → (is_among xs m ≡ true) ⊎ (is_among ys m ≡ true)
 sent_either xs ys m h = or_cases (is_among xs m) (is_among ys m) (sym (is_among-append xs ys m) ∙ h)
 
--- a message that stands somewhere
+-- a message at a place is among those that were sent
 pub among_there : (sent : List Message) (k : ℕ) (m : Message) → slice_get sent k ≡ Some m → is_among sent m ≡ true
 among_there [] k m there = let lt = slice_get_within [] k m there in absurd (omega arith)
 among_there (x ∷ xs) zero m there =
@@ -34,7 +34,7 @@ among_there (x ∷ xs) zero m there =
     or_left (same_message m x) (is_among xs m) ((same_message-is-equality m x).1 (sym same))
 among_there (x ∷ xs) (suc k) m there = or_right (same_message m x) (is_among xs m) (among_there xs k m there)
 
--- no message
+-- an index of no messages
 pub knows_none : (places : Places) → ((f : ℕ) → get nat_eq places f ≡ None) → KnowsFirst places [] [] 0
 knows_none places none = record {
   finds = λ q. ap (λ (o : Option ℕ). stands_at [] q o || false) (none (fingerprint q));
@@ -65,7 +65,7 @@ not_found (Some x) h = absurd (cc)
 pub read_there : (sent : List Message) (i : ℕ) (m : Message) → i < length sent → m ≡ get_or sent i m → slice_get sent i ≡ Some m
 read_there sent i m lt is = slice_get-get_or sent i m lt ∙ ap (λ (x : Message). Some x) (sym is)
 
--- and what is read there by one more name
+-- a message that is read at a place is there
 pub get_there : (sent : List Message) (i : ℕ) (m : Message) (own : Message) → i < length sent → m ≡ own → own ≡ get_or sent i own → slice_get sent i ≡ Some m
 get_there sent i m own lt same is = subst (λ (x : Message). slice_get sent i ≡ Some x) (sym same) (read_there sent i own lt is)
 
@@ -77,7 +77,7 @@ module _ (places : Places) (others : Others) (sent : List Message) (n : ℕ) (m 
   one_more : (q : Message) → is_among (take (n + 1) sent) q ≡ (is_among (take n sent) q || (same_message q m || false))
   one_more q = ap (λ (xs : List Message). is_among xs q) grown ∙ is_among-append (take n sent) (m ∷ []) q
 
-  -- one that the index has
+  -- a message that the index has
   has_it : (q : Message) (b a : Bool) → same_message q m ≡ b → is_among (take n sent) q ≡ a → (same_message q m ≡ true → a ≡ true) → a ≡ (a || (b || false))
   has_it q true a same is there_too = there_too same ∙ sym (or_right a true refl)
   has_it q false true same is there_too = refl
@@ -101,7 +101,7 @@ module _ (places : Places) (others : Others) (sent : List Message) (n : ℕ) (m 
   knows_stands first found stands =
       knows_known (or_left (stands_at sent m (get nat_eq places (fingerprint m))) (stands_among sent m others) (ap (stands_at sent m) found ∙ stands))
 
-  -- one that comes to the place of its fingerprint
+  -- a message that is put at the place for its fingerprint
   placed : (q : Message) (e b a c : Bool) (o : Option ℕ) → nat_eq (fingerprint m) (fingerprint q) ≡ e → same_message q m ≡ b → o ≡ get nat_eq places (fingerprint q) → (nat_eq (fingerprint m) (fingerprint q) ≡ true → o ≡ None) → (stands_at sent q o || c) ≡ a → (stands_at sent q (cond e (Some n) o) || c) ≡ (a || (b || false))
   placed q true b a c o at same is fresh found =
       ap (λ (x : Option Message). is_this q x || c) there
@@ -142,7 +142,7 @@ module _ (places : Places) (others : Others) (sent : List Message) (n : ℕ) (m 
       let P : ℕ → Type 0 = λ f. Places_Updates nat_eq places next f (Some n) in
       knows_at next (ap (get nat_eq places) (sym is) ∙ not_found (get nat_eq places print) fresh) (subst P is updates)
 
-  -- one more of the others
+  -- a message that is put among the others
   other : (s c e a : Bool) → (s || c) ≡ a → (s || (c || (e || false))) ≡ (a || (e || false))
   other true c e a found = ap (λ (b : Bool). b || (e || false)) found
   other false c e a found = ap (λ (b : Bool). b || (e || false)) found
@@ -164,7 +164,7 @@ module _ (places : Places) (others : Others) (sent : List Message) (n : ℕ) (m 
   pub knows_among : stands_among sent m others ≡ true → KnowsFirst places others sent (n + 1)
   knows_among stands = knows_known (or_right (stands_at sent m (get nat_eq places (fingerprint m))) (stands_among sent m others) stands)
 
--- the same index of a longer list
+-- the index of a list is one of the longer list as well
 stands_before : (sent more : List Message) (q : Message) (o : Option ℕ) → ((k : ℕ) → o ≡ Some k → k < length sent) → stands_at (sent ++ more) q o ≡ stands_at sent q o
 stands_before sent more q None within = refl
 stands_before sent more q (Some k) within = ap (is_this q) (reads sent more k (within k refl))
@@ -204,7 +204,7 @@ knows_start places others sent more known = record {
 pub knows_all : (places : Places) (others : Others) (sent : List Message) (q : Message) → Knows places others sent → has places others sent q ≡ is_among sent q
 knows_all places others sent q known = known.finds q ∙ ap (λ (xs : List Message). is_among xs q) (take_all (length sent) sent (omega arith))
 
--- an index that said the same, and then took in what was added
+-- an index with the same places and others, and then with the messages that were added
 pub knows_more : (places middle next : Places) (others between rest : Others) (sent more all slice : List Message) (start : ℕ) → SaysTheSame places others middle between → Knows places others sent → slice ≡ all → all ≡ sent ++ more → start ≡ length sent → (KnowsFirst middle between slice start → Knows next rest slice) → Knows next rest all
 knows_more places middle next others between rest sent more all slice start same known slice_is all_is start_is takes =
     let P : List Message → Type 0 = λ xs. KnowsFirst middle between xs (length sent) in

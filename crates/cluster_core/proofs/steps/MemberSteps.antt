@@ -36,7 +36,7 @@ declared_parts p members = record p { members = members; length = p.length + 1 }
 abbrev pub restarted_parts : WorldParts → ℕ → NodeParts → MembersParts → WorldParts
 restarted_parts p n x members = record p { nodes = slice_set p.nodes (n - 1) x; members = members; length = p.length + 1 }
 
--- what comes of a declaration or a restart of a member
+-- the world after the declaration or restart of a member
 abbrev after_declare : WorldState → ℕ → Result (MembersState × ℕ) Refused → Result (WorldState × Entry) Refused
 after_declare w n (Ok r) = Ok (silent (declared w n) (Declare n) r.1)
 after_declare w n (Err e) = Err e
@@ -70,7 +70,7 @@ module _ (p : WorldParts) (world : IsWorld p) (n : ℕ) (number : is_within p.sh
   is_one : is_within (length p.members.nodes) n ≡ true
   is_one = ap (λ (k : ℕ). is_within k n) world.members_there ∙ number
 
-  -- what the members say of the node is what the world does
+  -- the members say of the node whether it is alive in the world
   pub alive_there : is_some (live_incarnation (members_state p.members.nodes) n) ≡ alive_at p n
   alive_there =
       ap (λ (b : Bool). is_some (if b && alive_at p n then Some (incarnation_in p.members.nodes n) else None)) is_one
@@ -104,7 +104,7 @@ module _ (p : WorldParts) (world : IsWorld p) (n : ℕ) (number : is_within p.sh
       let goes : member.restarted (members_state p.members.nodes) n ≡ Ok (with_restarted (members_state p.members.nodes) n, incarnation_in p.members.nodes n) = λ i. if not (is_one i) then Err Stranger else (if dead i then Err NotDead else (if few_enough (incarnation_in p.members.nodes n) few i then Ok (with_restarted (members_state p.members.nodes) n, incarnation_in p.members.nodes n) else Err TooManyRestarts)) in
       let both = sym goes ∙ refused in absurd (cc)
 
-  -- the node of a member that is not alive
+  -- the node of a member that is not alive is as it will begin
   dead_seat : alive_at p n ≡ false → (world_state p).nodes n ≡ first_node p.shape n (incarnation_in p.members.nodes n)
   dead_seat dead =
       let its : (listed p n).incarnation + 1 ≡ incarnation_in p.members.nodes n = sym (ap (λ (b : Bool). (seated p.shape n b (listed p n)).incarnation) dead) ∙ world.own_incarnation n in
@@ -117,7 +117,7 @@ module _ (p : WorldParts) (world : IsWorld p) (n : ℕ) (number : is_within p.sh
   epochs_kept : (ms : MembersParts) → ms.servers ≡ p.members.servers → (f : ℕ) → incarnation_in ms.servers f ≡ incarnation_of (alive_in ms.servers f) ((world_state p).servers f).epoch
   epochs_kept ms others f = subst (λ (xs : List MemberParts). incarnation_in xs f ≡ incarnation_of (alive_in xs f) ((world_state p).servers f).epoch) (sym others) (world.own_epoch f)
 
-  -- declared
+  -- the node is declared failed
   module _ (ms : MembersParts) (others : ms.servers ≡ p.members.servers) (k : ℕ) (done : declared_failed (members_state p.members.nodes) n ≡ Ok (members_state ms.nodes, k)) where
     known : (is_within (length p.members.nodes) n ≡ true) × (alive_at p n ≡ true) × (◌≡◌ {A = MembersState × ℕ} (with_declared (members_state p.members.nodes) n, incarnation_in p.members.nodes n) (members_state ms.nodes, k))
     known = declaration (is_within (length p.members.nodes) n) (alive_at p n) (with_declared (members_state p.members.nodes) n, incarnation_in p.members.nodes n) (members_state ms.nodes, k) done
@@ -167,7 +167,7 @@ module _ (p : WorldParts) (world : IsWorld p) (n : ℕ) (number : is_within p.sh
     declared_done o items e made none entry_is =
         declares ∙ ap (after_declare (world_state p) n) done ∙ (λ j. Ok (declared_is k j, silent_is (Declare n) k k o items e refl made none entry_is j))
 
-  -- restarted
+  -- the node restarts
   module _ (x : NodeParts) (ms : MembersParts) (others : ms.servers ≡ p.members.servers) (k : ℕ) (begins : node_state x ≡ first_node p.shape n (incarnation_in p.members.nodes n)) (done : member.restarted (members_state p.members.nodes) n ≡ Ok (members_state ms.nodes, k)) where
     right : (is_within (length p.members.nodes) n ≡ true) × (alive_at p n ≡ false) × (nat_le (incarnation_in p.members.nodes n) most_incarnations ≡ true) × (◌≡◌ {A = MembersState × ℕ} (with_restarted (members_state p.members.nodes) n, incarnation_in p.members.nodes n) (members_state ms.nodes, k))
     right = restart (is_within (length p.members.nodes) n) (alive_at p n) (nat_le (incarnation_in p.members.nodes n) most_incarnations) (with_restarted (members_state p.members.nodes) n, incarnation_in p.members.nodes n) (members_state ms.nodes, k) done
@@ -212,7 +212,7 @@ module _ (p : WorldParts) (world : IsWorld p) (n : ℕ) (number : is_within p.sh
     restarted_done o items e made none entry_is =
         restarts ∙ ap (after_restart (world_state p) n) done ∙ (λ j. Ok (restarted_is k j, silent_is (Restart n) k k o items e refl made none entry_is j))
 
-  -- planned
+  -- a restart that is planned
   pub restart_refused : (e : Refused) → member.restarted (members_state p.members.nodes) n ≡ Err e → restart_rule (world_state p) n ≡ Err e
   restart_refused e refused = restarts ∙ ap (after_restart (world_state p) n) refused
 
@@ -235,7 +235,7 @@ module _ (p : WorldParts) (world : IsWorld p) (n : ℕ) (number : is_within p.sh
         begins = begins ∙ ap (λ (r : MembersState × ℕ). first_node p.shape n r.1) (sym right.3);
       }
 
--- of a world whose parts were opened
+-- the facts of a world whose parts were opened
 pub opened : (P : WorldParts → Type 0) (p now : WorldParts) (n : ℕ) → p ≡ now → is_within now.shape.nodes n ≡ true → (is_within p.shape.nodes n ≡ true → P p) → P now
 opened P p now n view number f = subst P view (f (subst (λ (q : WorldParts). is_within q.shape.nodes n ≡ true) (sym view) number))
 

@@ -1,4 +1,4 @@
--- Each step of a node keeps what holds of it.
+-- Each step of a node keeps the facts of it.
 use Rattle.std.proofs.Common.{◌≡◌, ℕ, ◌+◌, ◌≤◌, Bool, true, ◌==◌, inl, inr, refl, sym, ◌∙◌, ap, subst, arith, List, [], ◌∷◌, ◌++◌, find, All, Option, Some, None}
 use Rattle.std.proofs.lemmas.Bool.{eqb-true}
 use Rattle.std.proofs.lemmas.Option.{same_Some}
@@ -61,7 +61,7 @@ silent_moves past e s u g calls pending none silent holds = record {
   ends = inr (inr silent);
 }
 
--- what holds of the node after an open call is answered
+-- the facts of the node after an open call is answered
 closed_holds : (past : List Entry) (e : Entry) (s u : NodeState) (number : ℕ) (reply : Reply) → Continues s u → u.calls ≡ s.calls → e.call ≡ None → e.reply ≡ Some (id_of s number, reply) → All (Stays s.pending number) u.pending → Holds past s → Holds (past ++ e ∷ []) u
 closed_holds past e s u number reply g calls none is_reply closed holds = record {
   own = own_after s u g;
@@ -95,7 +95,7 @@ answer_moves past e s u c o undenied g calls none a holds = record {
   );
 }
 
--- what a message does, and that it does little where no call is open
+-- the step of a message, which does little where no call is open
 pub record Receives (past : List Entry) (s u : NodeState) (e : Entry) : Type 0 where
   pub moves : Moves past s u e
   pub idle : s.pending ≡ [] → (u.pending ≡ []) × IsSilent s u e.reply
@@ -111,14 +111,14 @@ module _ (past : List Entry) (s : NodeState) (holds : Holds past s) where
   still : Continues s s
   still = same_continues s s.pending holds.own
 
-  -- nothing happens
+  -- a message that changes nothing
   nothing_receives : (e : Entry) → e.call ≡ None → e.reply ≡ None → Receives past s s e
   nothing_receives e no_call none = record {
     moves = silent_moves past e s s still refl refl no_call (record { no_reply = none; table = refl }) holds;
     idle = λ h. (h, record { no_reply = none; table = refl });
   }
 
-  -- nothing but messages
+  -- a message that only sends messages
   pub quiet_receives : (event : Event) (e : Effect) → e.state ≡ s → e.reply ≡ None → Receives past s e.state (said event e)
   quiet_receives event e same none =
       let P : NodeState → Type 0 = λ u. Receives past s u (said event e) in
@@ -187,7 +187,7 @@ module _ (past : List Entry) (s : NodeState) (holds : Holds past s) where
         idle = λ none. (none, silent);
       }
 
-  -- a denial: the call is told of the lock
+  -- a denial: its call is told of the lock
   refused_receives : (file : ℕ) (call : CallId) (holder : Host) (number : ℕ) (lock : LockInfo) → IsTo s (Deny file call holder number lock) → (c : OpenCall) → find (λ d. d.number == call.number) s.pending ≡ Some c → (reply : Reply) → refusal_of c.lock_command lock ≡ Some reply → Receives past s (answered s c.number reply).state (said (Deliver (Deny file call holder number lock)) (answered s c.number reply))
   refused_receives file call holder number lock to c h reply refuses =
       let test : OpenCall → Bool = λ d. d.number == call.number in
@@ -226,7 +226,7 @@ module _ (past : List Entry) (s : NodeState) (holds : Holds past s) where
         idle = λ none. absurd (found_none test s.pending c none h);
       }
 
-  -- if it is open, and doesn't wait
+  -- a denial: its call is answered, if it is open and doesn't wait
   denied_receives : (file : ℕ) (call : CallId) (holder : Host) (number : ℕ) (lock : LockInfo) → IsTo s (Deny file call holder number lock) → (o : Option OpenCall) → find (λ c. c.number == call.number) s.pending ≡ o → Receives past s (denied s lock o).state (said (Deliver (Deny file call holder number lock)) (denied s lock o))
   denied_receives file call holder number lock to None h = quiet_receives (Deliver (Deny file call holder number lock)) (quiet s) refl refl
   denied_receives file call holder number lock to (Some c) h =
@@ -249,7 +249,7 @@ module _ (past : List Entry) (s : NodeState) (holds : Holds past s) where
         idle = λ empty. (empty, silent);
       })
 
-  -- it answers again
+  -- the node sends an answer again
   recalled_receives : (file number : ℕ) (event : Event) (answer : Option Message) → (let e = remembered (in_epoch s file number) answer in Receives past s e.state (said event e))
   recalled_receives file number event None = learned_receives (in_epoch s file number).files event (quiet (in_epoch s file number)) refl refl
   recalled_receives file number event (Some m) = learned_receives (in_epoch s file number).files event (remembered (in_epoch s file number) (Some m)) refl refl

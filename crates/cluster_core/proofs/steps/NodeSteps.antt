@@ -1,4 +1,4 @@
--- What a step of a node comes to, by cases.
+-- The steps of a node, by cases.
 use Rattle.std.specs.Prelude.{nat_le, nat_lt, not, ◌&&◌, ◌==◌}
 use Rattle.std.proofs.Common.{◌≡◌, ℕ, zero, suc, ◌+◌, Bool, true, false, if◌then◌else◌, ◌⊎◌, inl, inr, refl, Option, Some, None, Ok}
 use Rattle.std.proofs.lemmas.Bool.{and_parts, eqb-true, not-false}
@@ -31,13 +31,13 @@ call_done s pid op done h =
     let free = unless_refused (is_busy s pid op) _ done Busy known.1 in
     (if_ok (nat_lt s.calls greatest_number) (after_call s pid op) done Spent free.1).1
 
--- what it names can be, and its process is not busy
+-- a call that is not refused names what can be, and its process is not busy
 pub call_free : (s : NodeState) (pid : ℕ) (op : Op) (done : NodeState × Outcome) → call_rule s pid op ≡ Ok done → (is_in_shape s.shape op ≡ true) × (is_busy s pid op ≡ false)
 call_free s pid op done h =
     let known = unless_refused (not (is_pid pid && is_in_shape s.shape op)) _ done Stranger h in
     ((and_parts (is_pid pid) (is_in_shape s.shape op) (not-false (is_pid pid && is_in_shape s.shape op) known.0)).1, (unless_refused (is_busy s pid op) _ done Busy known.1).0)
 
--- what each telling that locks may be gone keeps
+-- a property that each Freed keeps, all of them keep
 freed_of_each : (P : Effect → Type 0) → ((file : ℕ) (e : Effect) → P e → P (with_freed file e)) → (passes : ℕ → Bool) (n : ℕ) (e : Effect) → P e → P (with_freed_of passes n e)
 unfolding with_freed_of
 freed_of_each P told passes zero e h = h
@@ -46,7 +46,7 @@ freed_of_each P told passes (suc n) e h =
     let so_far = freed_of_each P told passes n e h in
     if_either P (passes (suc n)) (with_freed (suc n) before) before (told (suc n) before so_far) so_far
 
--- a close or an exit keeps
+-- a property that each Freed keeps, a close or an exit keeps
 pub shut_keeps : (P : Effect → Type 0) → ((file : ℕ) (e : Effect) → P e → P (with_freed file e)) → (s : NodeState) (number : ℕ) (passes : ℕ → Bool) (answer : Table × Reply) → P (settled s number answer) → P (shut_by s number passes answer)
 shut_keeps P told s number passes answer h =
     let e = settled s number answer in
@@ -99,7 +99,7 @@ in_order_either P s file number e next again idle =
     let others : Effect = if last then remembered s (s.files file).answer else quiet s in
     at_number number ((s.files file).last + 1) (λ b. P (if b then e else others)) next (λ other. if_either P last (remembered s (s.files file).answer) (quiet s) again idle)
 
--- a question for the token: it is told where no later command is done, or nothing happens
+-- a Hello: the node reports its token if it has done no later command, or nothing happens
 pub told_either : (P : Effect → Type 0) (s : NodeState) (file number : ℕ) → (number ≡ (s.files file).last → P (sent s (Report file number (host s) (runs_of (s.files file).token)))) → P (quiet s) → P (told s file number)
 told_either P s file number tells nothing =
     at_number number (s.files file).last (λ b. P (if b then sent s (Report file number (host s) (runs_of (s.files file).token)) else quiet s)) tells (λ other. nothing)

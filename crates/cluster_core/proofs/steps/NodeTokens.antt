@@ -1,4 +1,4 @@
--- What a node's step does to its tokens, and what it sends.
+-- What a node's step does to its tokens, and the messages that it sends.
 use Rattle.std.specs.Prelude.{◌==◌}
 use Rattle.std.specs.List.{filter_map, cons_option, list_any}
 use Rattle.std.proofs.Common.{◌≡◌, ℕ, ◌+◌, Bool, true, false, if◌then◌else◌, ◌||◌, ◌⊎◌, inl, inr, refl, sym, ◌∙◌, ap, subst, List, [], ◌∷◌, ◌++◌, All, Option, Some, None, Result, Ok, Err}
@@ -38,7 +38,7 @@ use Rattle.cluster_core.proofs.steps.NodeSteps.{in_order_either, shut_keeps}
 use Rattle.cluster_core.proofs.tokens.Talks.{settled, IsHostOf, IsCommandTo, IsAnswerOf, owing_nothing}
 use Rattle.cluster_core.proofs.tokens.TalkMoves.{done_file, is_answer}
 
--- each of the messages is so
+-- P holds of each of the messages
 abbrev pub Only : (Message → Type 0) → List Message → Type 0
 Only P messages = (m : Message) → is_among messages m ≡ true → P m
 
@@ -57,7 +57,7 @@ only_one P x here = only_more P x [] here (only_none P)
 pub only_both : (P : Message → Type 0) (xs ys : List Message) → Only P xs → Only P ys → Only P (xs ++ ys)
 only_both P xs ys first rest m there = elim (sent_either xs ys m there) [ inl here ↦ first m here | inr later ↦ rest m later ]
 
--- what holds of each that a list of numbers gives
+-- P holds of each message that a list of numbers gives
 pub only_mapped : (P : Message → Type 0) (f : ℕ → Option Message) (ns : List ℕ) → ((n : ℕ) (m : Message) → f n ≡ Some m → P m) → Only P (filter_map f ns)
 only_mapped P f [] each = only_none P
 only_mapped P f (n ∷ ns) each = elim (f n) as (λ o. f n ≡ o → Only P (cons_option o (filter_map f ns))) [
@@ -65,7 +65,7 @@ only_mapped P f (n ∷ ns) each = elim (f n) as (λ o. f n ≡ o → Only P (con
   | Some m ↦ λ is. only_more P m (filter_map f ns) (each n m is) (only_mapped P f ns each)
 ] refl
 
--- what holds of all holds of each that is among them, and the other way round
+-- P holds of all messages exactly if it holds of each that is among them
 pub all_among : (P : Message → Type 0) (ms : List Message) (m : Message) → All P ms → is_among ms m ≡ true → P m
 all_among P [] m all h = absurd (false≢true h)
 all_among P (x ∷ xs) m all h =
@@ -81,13 +81,13 @@ pub only_all : (P : Message → Type 0) (ms : List Message) → Only P ms → Al
 only_all P [] each = All-nil P
 only_all P (x ∷ xs) each = All-cons P x xs (each x (first_among x xs)) (only_all P xs (λ m there. each m (or_right (same_message m x) (is_among xs m) there)))
 
--- the node in that incarnation asks for a token, or tells that locks may be gone
+-- the message is a request or a Freed of the node in that incarnation
 abbrev pub IsAsking : ℕ → ℕ → Message → Type 0
 IsAsking n incarnation (Request file call blocking mode wanted) = (call.node ≡ n) × (call.incarnation ≡ incarnation)
 IsAsking n incarnation (Freed file holder) = (holder.node ≡ n) × (holder.incarnation ≡ incarnation)
 IsAsking n incarnation _ = ⊥
 
--- that is no command and no answer
+-- a request or a Freed is of its node and incarnation, and neither a command nor an answer
 pub asking_host : (n incarnation : ℕ) (m : Message) → IsAsking n incarnation m → IsHostOf n incarnation (host_of m)
 asking_host n incarnation (Request file call blocking mode wanted) is = is
 asking_host n incarnation (Freed file holder) is = is
@@ -103,7 +103,7 @@ asking_answer n incarnation file of i k (Request f call blocking mode wanted) is
 asking_answer n incarnation file of i k (Freed f holder) is answer = answer
 asking_answer n incarnation file of i k m is answer = is
 
--- the node goes on with these tokens, and asks at most
+-- the node goes on with these tokens, and sends requests and Freed alone
 pub record Asks (node incarnation : ℕ) (files : ℕ → FileState) (e : Effect) : Type 0 where
   pub node_is : e.state.node ≡ node
   pub incarnation_is : e.state.incarnation ≡ incarnation
@@ -113,7 +113,7 @@ pub record Asks (node incarnation : ℕ) (files : ℕ → FileState) (e : Effect
 abbrev pub AsksFrom : NodeState → Effect → Type 0
 AsksFrom s e = Asks s.node s.incarnation s.files e
 
--- nothing is sent
+-- a step that sends nothing
 says_nothing : (s : NodeState) (e : Effect) → e.state.node ≡ s.node → e.state.incarnation ≡ s.incarnation → ((file : ℕ) → owing_nothing (e.state.files file) ≡ owing_nothing (s.files file)) → e.sends ≡ [] → AsksFrom s e
 says_nothing s e node incarnation files none = record {
   node_is = node;
@@ -128,7 +128,7 @@ quiet_asks s = says_nothing s (quiet s) refl refl (λ file. refl) refl
 answered_asks : (s : NodeState) (number : ℕ) (reply : Reply) → AsksFrom s (answered s number reply)
 answered_asks s number reply = says_nothing s (answered s number reply) refl refl (λ file. refl) refl
 
--- the server hears that locks may be gone
+-- a step with one Freed more
 with_freed_asks : (s : NodeState) (file : ℕ) (e : Effect) → AsksFrom s e → AsksFrom s (with_freed file e)
 with_freed_asks s file e asks = elim ((e.state.files file).owes_freed) as (λ b. AsksFrom s (told b)) [ true ↦ tells | false ↦ asks ]
   where
@@ -225,7 +225,7 @@ pub interrupted_asks : (s : NodeState) (o : Option OpenCall) → AsksFrom s (int
 interrupted_asks s None = quiet_asks s
 interrupted_asks s (Some c) = answered_if_asks s c.number (interruption_of c.lock_command)
 
--- an answer that it remembers is sent again
+-- the step sends an answer again that the node remembers
 pub record Repeats (s : NodeState) (e : Effect) : Type 0 where
   pub file : ℕ
   pub answer : Message
@@ -245,7 +245,7 @@ pub record Does (s : NodeState) (file number : ℕ) (command : Message) (e : Eff
   pub sends : Only (λ m. (m ≡ answer) ⊎ IsAsking s.node s.incarnation m) e.sends
   pub told : is_among e.sends answer ≡ true
 
--- what a command comes to
+-- the step of a command: it is done, its answer is sent again, or nothing happens
 abbrev pub Receives : NodeState → ℕ → ℕ → Message → Effect → Type 0
 Receives s file number command e = Does s file number command e ⊎ (Repeats s e ⊎ AsksFrom s e)
 
@@ -273,7 +273,7 @@ granted_does s file number call mode span node incarnation is_next =
       told = first_among answer effect.sends;
     }
 
--- what the node gives up, and how it answers
+-- the answer says what the node gives up
 answer_is : (s : NodeState) (file number : ℕ) (call : CallId) (up : GaveUp) → IsAnswerOf file s.node s.incarnation number (answer_to file number (host s) call up)
 answer_is s file number call (gives.Released span) = (refl, refl, refl, refl)
 answer_is s file number call (gives.Conflict lock) = (refl, refl, refl, refl)
@@ -318,7 +318,7 @@ pub grant_receives : (s : NodeState) (file number : ℕ) (call : CallId) (mode :
 grant_receives s file number call mode span node incarnation =
     in_order_receives s file number (Grant file number call mode span) (granted s file number call mode span) (granted_does s file number call mode span node incarnation)
 
--- and a Revoke
+-- a Revoke that is delivered to the incarnation that it is for
 pub revoke_receives : (s : NodeState) (file number : ℕ) (holder : Host) (call : CallId) (mode : Mode) (wanted : Wants) → Receives s file number (Revoke file number holder call mode wanted) (in_order s file number (revoked s file number call mode wanted))
 revoke_receives s file number holder call mode wanted =
     in_order_receives s file number (Revoke file number holder call mode wanted) (revoked s file number call mode wanted) (revoked_does s file number holder call mode wanted)

@@ -1,4 +1,4 @@
--- What a token server keeps and sends comes of what it is told.
+-- What a token server keeps and sends follows from what it is sent.
 use Rattle.std.specs.Prelude.{max, pred, IfSome, is_some, nat_le, nat_lt, ◌==◌, filter, filter_map, option_map}
 use Rattle.std.specs.List.{range_with_len, cons_option}
 use Rattle.std.proofs.Common.{◌≡◌, ℕ, ◌+◌, ◌-◌, ◌≤◌, Bool, true, false, not, ◌&&◌, if◌then◌else◌, ◌⊎◌, inl, inr, refl, sym, ◌∙◌, ap, subst, arith, List, [], ◌∷◌, ◌++◌, All, Option, Some, None, Result, Ok, Err}
@@ -48,7 +48,7 @@ change_done t m o h =
     let is = if_ours (is_server t.file (addressee m)) (is_within t.shape.nodes (host_of m).node) (nat_le (host_of m).incarnation (t.dead (host_of m).node)) None (delivered t m) o Stranger h in
     (is.1, elim is.2 [ inl dead ↦ inl dead.1 | inr live ↦ inr live ])
 
--- the node that is to give up is another than that of the call
+-- the node that is to give up bytes is another one than that of the call
 other_node : (s : ServerState) (r : TokenRequest) → nat_le (conflicting_node s r) s.shape.nodes ≡ true → conflicting_node s r ≡ r.call.node → ⊥
 other_node s r some same =
     let test : ℕ → Bool = λ n. not (n == r.call.node) && row_conflicts (s.rows n) r.wanted.required r.mode in
@@ -63,21 +63,21 @@ mapped C f (n ∷ ns) each =
     let rest = mapped C f ns each in
     elim (f n) as (λ o. f n ≡ o → All C (cons_option o (filter_map f ns))) [ None ↦ λ h. rest | Some m ↦ λ h. All-cons C m (filter_map f ns) (each n m h) rest ] refl
 
--- the largest span around what is needed ends with it, or within what is wanted
+-- the largest span ends no later than the required one or the one within which it is sought
 around_end : (barred : ℕ → Bool) (required within : Range) → (largest_around barred required within).hi ≤ max required.hi within.hi
 around_end barred required within = before (first barred (required.hi + 1) (within.hi - required.hi)) required.hi within.hi (first_is_first barred (required.hi + 1) (within.hi - required.hi)).within
   where
     before : (k r w : ℕ) → k ≤ r + 1 + (w - r) → pred k ≤ max r w
     before k r w h = omega arith
 
--- so does what a request is granted
+-- the granted span ends no later than the required or the desired one
 granted_end : (t : ServerState) (r : TokenRequest) → (granted_span t r).hi ≤ max r.wanted.required.hi r.wanted.desired.hi
 granted_end t r =
     let likes = around_end (is_needed t.active r) r.wanted.required r.wanted.desired in
     let free = around_end (is_taken t r) r.wanted.required (narrowed t.active r) in
     omega arith
 
--- the requests that a server keeps are of one kind, its commands of another, and so are the numbers of those that it makes
+-- H holds of the requests that a server keeps, C of its outstanding commands, and K of their numbers
 pub record Comes (file : ℕ) (K : ℕ → Type 0) (H : TokenRequest → Type 0) (C : Message → Type 0) (t : ServerState) : Type 0 where
   pub file_is : t.file ≡ file
   pub held : All H (requests t)
@@ -92,27 +92,27 @@ comes-weaker file K H G C D t to told c = record {
   numbers = c.numbers;
 }
 
--- where nothing is said of the numbers
+-- any number will do
 abbrev pub AnyNumber : ℕ → Type 0
 AnyNumber number = Unit {0}
 
--- the commands that it may make of them
+-- the server makes commands of which C holds, of requests of which H does
 pub record Makes (file : ℕ) (K : ℕ → Type 0) (H : TokenRequest → Type 0) (C : Message → Type 0) : Type 0 where
   pub grants : (number : ℕ) (r : TokenRequest) (span : Range) → K number → H r → span.hi ≤ max r.wanted.required.hi r.wanted.desired.hi → C (Grant file number r.call r.mode span)
   pub revokes : (number : ℕ) (holder : Host) (r : TokenRequest) (desired : Range) → K number → H r → (holder.node ≡ r.call.node → ⊥) → C (Revoke file number holder r.call r.mode (record { required = r.wanted.required; desired = desired }))
 
--- it may send the denial of a call whose request it serves, where that may not wait
+-- the denial of a call whose request the server keeps and which doesn't wait is a message of which C holds
 abbrev pub MayDeny : (TokenRequest → Type 0) → (Message → Type 0) → CallId → Message → Type 0
 MayDeny H C call deny = (r : TokenRequest) → H r → is_of_call call r ≡ true → same_blocking r.blocking No ≡ true → C deny
 
--- what a message tells it
+-- a message gives the server requests of which H holds
 abbrev pub Tells : ℕ → (TokenRequest → Type 0) → (Message → Type 0) → Message → Type 0
 Tells file H C (Request f call blocking mode wanted) = H (record { call = call; blocking = blocking; mode = mode; wanted = wanted })
 Tells file H C (Conflict f number holder call lock) = MayDeny H C call (Deny file call holder number lock)
 Tells file H C _ = Unit {0}
 
 module _ (file : ℕ) (K : ℕ → Type 0) (H : TokenRequest → Type 0) (C : Message → Type 0) (makes : Makes file K H C) where
-  -- other requests of that kind
+  -- the facts of the server with other requests of which H holds
   abbrev Holds : ServerState → Type 0
   Holds u = All H (requests u) → Comes file K H C u
 
@@ -168,7 +168,7 @@ module _ (file : ℕ) (K : ℕ → Type 0) (H : TokenRequest → Type 0) (C : Me
   freed-comes : (t : ServerState) (row : Option Row) → Comes file K H C t → Comes file K H C (freed t row)
   freed-comes t row c = freed-stays Holds t (moved-comes t c) row (freed-each H t row c.held)
 
-  -- what a message changes, and what is sent for it
+  -- the facts after a message, and of what is sent for it
   abbrev Changes : Option Change → Type 0
   Changes o = (c : Change) → o ≡ Some c → Comes file K H C c.0 × All C c.1
 
@@ -241,7 +241,7 @@ module _ (file : ℕ) (K : ℕ → Type 0) (H : TokenRequest → Type 0) (C : Me
   delivered-changes t (Revoke f number holder call mode wanted) told c = changes_none
   delivered-changes t (Deny f call holder number lock) told c = changes_none
 
-  -- serving
+  -- the facts after serving
   abbrev Serves : Result (ServerState × List Message) StepError → Type 0
   Serves r = (done : ServerState × List Message) → r ≡ Ok done → Comes file K H C done.0 × All C done.1
 
@@ -286,7 +286,7 @@ module _ (file : ℕ) (K : ℕ → Type 0) (H : TokenRequest → Type 0) (C : Me
         | false ↦ λ h. granted-serves t r (t.rows r.call.node) held c
       ] refl
 
-  -- one after the other
+  -- the facts after serving, with messages before those that it sends
   more-serves : (before : List Message) (x : Result (ServerState × List Message) StepError) → All C before → Serves x → Serves (with_more before x)
   more-serves before (Err e) told serves = serves_none e
   more-serves before (Ok done) told serves =

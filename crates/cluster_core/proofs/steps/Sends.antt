@@ -1,4 +1,4 @@
--- What a node sends.
+-- The messages that a node sends.
 use Rattle.std.specs.Prelude.{max, ◌==◌, nat_lt, if◌then◌else◌}
 use Rattle.std.proofs.Common.{◌≡◌, ℕ, ◌+◌, ◌≤◌, arith, Bool, true, false, refl, sym, ap, ◌∙◌, List, subst, [], ◌∷◌, ◌++◌, All, Contains, Option, Some, None, Result, Ok, Err}
 use Rattle.std.proofs.lemmas.Option.{none-some}
@@ -36,27 +36,27 @@ use Rattle.cluster_core.proofs.common.Choices.{if_either}
 use Rattle.cluster_core.proofs.steps.NodeSteps.{in_order_either, told_either, shut_keeps}
 use Rattle.cluster_core.proofs.history.Nodes.{found_open}
 
--- what a node would like to have ends with the file, or with what it needs
+-- the desired span of a node ends with the file, or with the required one
 desired_end : (policy : Policy) (t : Token) (span : Range) → (desired policy t span).hi ≤ max greatest span.hi
 desired_end Exact t span = omega arith
 desired_end Wide t span = if_either (λ (s : Range). s.hi ≤ max greatest span.hi) (holds_nothing t) whole (record { lo = span.lo; hi = greatest }) (omega arith) (omega arith)
 
--- the messages that need no reason
+-- P holds of the messages that need no reason
 pub record IsFreely (P : Message → Type 0) : Type 0 where
   pub taken : (file number : ℕ) (call : CallId) → P (Taken file number call)
   pub released : (file number : ℕ) (holder : Host) (call : CallId) (span : Range) → P (Released file number holder call span)
   pub freed : (file : ℕ) (holder : Host) → P (Freed file holder)
   pub report : (file number : ℕ) (holder : Host) (runs : List TokenRun) → P (Report file number holder runs)
 
--- what is asked for an open call
+-- P holds of the request for each open call
 abbrev pub AsksFor : (Message → Type 0) → NodeState → Type 0
 AsksFor P u = (c : OpenCall) (wanted : Wants) → Contains u.pending c → wanted.required ≡ c.span → wanted.desired.hi ≤ max greatest c.span.hi → P (Request c.file (id_of u c.number) (blocking_of c.lock_command) c.mode wanted)
 
--- the answers that a node remembers
+-- P holds of each answer that a node remembers
 abbrev pub Remembers : (Message → Type 0) → NodeState → Type 0
 Remembers P s = (file : ℕ) (m : Message) → (s.files file).answer ≡ Some m → P m
 
--- a node that hears of an epoch remembers no more
+-- a node that hears of an epoch remembers no more than before
 pub entered-remembers : (P : Message → Type 0) (s : NodeState) (file number : ℕ) → Remembers P s → Remembers P (in_epoch s file number)
 entered-remembers P s file number old f m h =
     let first = begin_of number in
@@ -66,7 +66,7 @@ entered-remembers P s file number old f m h =
     elim (f == file) as (λ c. (if c then renewed x number else s.files f).answer ≡ Some m → P m) [ true ↦ λ there. anew (renewed x number) refl there | false ↦ λ there. old f m there ] h
 
 module _ (P : Message → Type 0) (free : IsFreely P) where
-  -- the messages of an effect are so where what it asks for is
+  -- P holds of the messages of an effect, if it holds of the requests
   abbrev pub SendsOnly : Effect → Type 0
   SendsOnly e = AsksFor P e.state → All P e.sends
 
@@ -153,7 +153,7 @@ module _ (P : Message → Type 0) (free : IsFreely P) where
       let e = tried_if next (open_call next call.number) in
       All-cons P (Taken file number call) e.sends (free.taken file number call) (tried_if-sends next (open_call next call.number) (λ c h. (found_open test s.pending c h).0) asks)
 
-  -- a revoke that names a lock
+  -- P holds of the conflict of a revoke that a lock blocks
   abbrev pub Conflicts : NodeState → Message → Type 0
   Conflicts s (Revoke file number holder call mode wanted) = (lock : LockInfo) → number ≡ (s.files file).last + 1 → lowest_in_way (s.table.locks file) s.node s.incarnation wanted.required mode ≡ Some lock → P (Conflict file number (host s) call lock)
   Conflicts s _ = Unit {0}
@@ -176,7 +176,7 @@ module _ (P : Message → Type 0) (free : IsFreely P) where
   interrupted-sends s None = λ asks. All-nil P
   interrupted-sends s (Some c) = answered_if-sends s c.number (interruption_of c.lock_command)
 
-  -- a revoke that names a lock does so once the node has heard of its epoch
+  -- P holds of the conflict of a revoke that a lock blocks, after the node heard of its epoch
   abbrev pub EntersConflicts : NodeState → Message → Type 0
   EntersConflicts s (Revoke file number holder call mode wanted) = Conflicts (in_epoch s file number) (Revoke file number holder call mode wanted)
   EntersConflicts s _ = Unit {0}

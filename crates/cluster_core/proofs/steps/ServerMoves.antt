@@ -14,7 +14,7 @@ abbrev pub WhateverRequests : (ServerState → Type 0) → ServerState → Type 
 WhateverRequests P s = (active queue waiting : List TokenRequest) → P (record s { active = active; queue = queue; waiting = waiting })
 
 module _ (P : ServerState → Type 0) (s : ServerState) (each : WhateverRequests P s) where
-  -- as it is
+  -- the server with its own requests
   unmoved : P s
   unmoved = each s.active s.queue s.waiting
 
@@ -26,7 +26,7 @@ module _ (P : ServerState → Type 0) (s : ServerState) (each : WhateverRequests
   pub enqueued-stays : (r : TokenRequest) → P (enqueued s r)
   enqueued-stays r = if_either P (list_any (is_of_call r.call) s.active || list_any (is_of_call r.call) s.queue) _ _ unmoved (enqueued_with-stays r (request_of r.call s.waiting))
 
-  -- all that wait are
+  -- all waiting requests are queued again
   pub freed-stays : (row : Option Row) → P (freed s row)
   freed-stays None = unmoved
   freed-stays (Some row) = each s.active _ []

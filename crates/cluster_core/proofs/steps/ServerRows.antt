@@ -1,4 +1,4 @@
--- What a token server's step does to its rows, and what it sends.
+-- What a token server's step does to its rows, and the messages that it sends.
 use Rattle.std.specs.Prelude.{max, nat_le, nat_lt, ◌==◌, not, filter, is_some, option_map, IfSome}
 use Rattle.std.specs.List.{All}
 use Rattle.std.proofs.Common.{◌≡◌, ℕ, ◌+◌, ◌-◌, ◌<◌, ◌≤◌, Bool, true, false, if◌then◌else◌, ◌⊎◌, inl, inr, refl, sym, ◌∙◌, ap, subst, arith, List, [], ◌∷◌, ◌++◌, Option, Some, None, Result, Ok, Err}
@@ -50,11 +50,11 @@ use Rattle.cluster_core.proofs.tokens.TalkMoves.{is_answer}
 use Rattle.cluster_core.proofs.tokens.RowMoves.{talk-forgets, talk-row, talk-answered, talk-heard, cleared_row, answered_row, commanded_row}
 use Rattle.cluster_core.proofs.steps.NodeTokens.{Only, only_none, only_one}
 
--- what a server and the nodes know of each other
+-- the facts that a server and the nodes share
 abbrev pub TalkOf : Sent → (ℕ → NodeState) → ℕ → ServerState → ℕ → Type 0
 TalkOf was nodes file t n = Talk was file n (nodes n).incarnation (owing_nothing ((nodes n).files file)) (t.rows n) (t.dead n) (begin t)
 
--- the request is of the incarnation after those that are known as dead, of a node of the shape that has a row
+-- the request is of the incarnation after those known to be dead, of a node of the shape that has a row
 pub record IsCurrent (t : ServerState) (r : TokenRequest) : Type 0 where
   pub of : r.call.incarnation ≡ t.dead r.call.node + 1
   pub within : is_within t.shape.nodes r.call.node ≡ true
@@ -71,7 +71,7 @@ pub record Serves (was : Sent) (nodes : ℕ → NodeState) (shape : ShapeFields)
 pub outstanding_sent : (was : Sent) (nodes : ℕ → NodeState) (shape : ShapeFields) (file : ℕ) (t : ServerState) → Serves was nodes shape file t → (n : ℕ) (row : Row) (m : Message) → t.rows n ≡ Some row → row.outstanding ≡ Some m → was m
 outstanding_sent was nodes shape file t serves n row m there is = ((serves.talks n).waits row m there is).0
 
--- the row waits for this answer, of that number, to what is outstanding, and has the other token then
+-- the outstanding command of the row waits for this answer with that number, which gives the row the new token
 pub record Awaits (k : ℕ) (outstanding : Option Message) (old : Token) (answer : Message) (new : Token) : Type 0 where
   pub command : Message
   pub waiting : outstanding ≡ Some command
@@ -130,7 +130,7 @@ has_some : {A : Type 0} (o : Option A) → is_some o ≡ true → (x : A) × (o 
 has_some None h = absurd (cc)
 has_some (Some x) h = (x, refl)
 
--- a row that is above stays
+-- a row of a later incarnation stays
 above_stays : (j : ℕ) (o : Option Row) (r : Row) → o ≡ Some r → j < r.incarnation → is_some (row_above j o) ≡ true
 above_stays j None r h above = absurd (none-some r h)
 above_stays j (Some x) r h above =
@@ -175,7 +175,7 @@ module _ (was : Sent) (nodes : ℕ → NodeState) (shape : ShapeFields) (file : 
       held = All-both (IsCurrent t) (λ r. not (is_up_to n j r) ≡ true) (IsCurrent (forgotten t n j)) (λ r c young. current_forgets r c (not-true (is_up_to n j r) young)) (requests (forgotten t n j)) (forgotten-each (IsCurrent t) t n j serves.held) (forgotten-young t n j);
     }
 
-  -- another row of a node keeps its requests
+  -- a new row of a node keeps its requests current
   pub current_row : (n : ℕ) (row : Row) (r : TokenRequest) → IsCurrent t r → IsCurrent (with_row t n (Some row)) r
   current_row n row r c = record {
     of = c.of;
@@ -217,7 +217,7 @@ module _ (was : Sent) (nodes : ℕ → NodeState) (shape : ShapeFields) (file : 
         held = All-weaker (IsCurrent t) (IsCurrent u) (λ r c. record { of = c.of; within = c.within; has_row = c.has_row }) (requests u) held;
       }
 
-  -- one more request
+  -- one more request is queued
   pub queues : (r : TokenRequest) → IsCurrent t r → Serves was nodes shape file (enqueued t r)
   queues r current = enqueued-stays Holds t moves r (enqueued-each (IsCurrent t) t r current serves.held)
 
@@ -288,7 +288,7 @@ same_dead : (t : ServerState) (call : CallId) (row : Option Row) → (with_a_row
 same_dead t call None = refl
 same_dead t call (Some row) = refl
 
--- a change after which the server serves on, and that denies calls at most
+-- the change after which the server serves, with denials at most as messages
 abbrev pub IsServing : Sent → (Host → Type 0) → (ℕ → NodeState) → ShapeFields → ℕ → Change → Type 0
 IsServing was known nodes shape file x = Serves was nodes shape file x.0 × Only (IsDenial known) x.1
 
@@ -308,7 +308,7 @@ module _ (was : Sent) (known_host : Host → Type 0) (all_known : (m : Message) 
         has_row = row_made young r.call row refl;
       })
 
-  -- answers, where they fit
+  -- an answer that the row waits for
   answers_taken : (number : ℕ) (call : CallId) (row : Option Row) (x : Change) → was (Taken file number call) → row_of_host t (host_of_call call) ≡ row → taken t number call row ≡ Some x → IsServing was known_host nodes shape file x
   answers_taken number call None x told there h = absurd (none-some x h)
   answers_taken number call (Some row) x told there h =
@@ -353,7 +353,7 @@ module _ (was : Sent) (known_host : Host → Type 0) (all_known : (m : Message) 
         | None ↦ λ fits h. absurd (none-some x h)
       ] refl h
 
-  -- a question for the token that has the number
+  -- a Hello with that number
   asks_hello : (k : ℕ) (o : Option Message) → asks_token k o ≡ true → (command : Message) × (o ≡ Some command) × (is_hello (Some command) ≡ true) × ((f l i j : ℕ) → IsCommandTo f l i j command → k ≡ j)
   asks_hello k None h = absurd (cc)
   asks_hello k (Some (Hello f l holder)) h = (Hello f l holder, refl, refl, λ g n i j to. sym (eqb-true l k h) ∙ to.1)
@@ -430,12 +430,12 @@ module _ (t : ServerState) (r : TokenRequest) (unblocked : nat_le (conflicting_n
       let none : conflicts_at_byte t r n b ≡ false = some_passes-none (λ k. conflicts_at_byte t r k b) 1 t.shape.nodes n free least (omega arith) in
       false_from_ne_true (row_conflicts_at (t.rows n) b r.mode) (λ conflicts. both_ways (conflicts_at_byte t r n b) none (and_from (not (n == r.call.node)) (row_conflicts_at (t.rows n) b r.mode) (not_from_false (n == r.call.node) (ne_eqb n r.call.node other)) conflicts))
 
--- with what a Grant to the node would raise, no other node's row conflicts
+-- no other node's row conflicts with what a Grant to the node raises
 abbrev pub IsFreeFor : ServerState → ℕ → Message → Type 0
 IsFreeFor t node (Grant f k call mode span) = (n b : ℕ) → is_within t.shape.nodes n ≡ true → (n ≡ node → ⊥) → is_in span b ≡ true → row_conflicts_at (t.rows n) b mode ≡ false
 IsFreeFor t node _ = Unit {0}
 
--- each node that was asked for its token has told it
+-- each node that was asked for its token has reported it
 abbrev pub AllTold : ServerState → Type 0
 AllTold t = (n : ℕ) → is_within t.shape.nodes n ≡ true → is_awaited (t.rows n) ≡ false
 
@@ -463,7 +463,7 @@ pub record Commands (was : Sent) (nodes : ℕ → NodeState) (shape : ShapeField
   pub next : v ≡ with_row state node (Some (commanded_row row command))
   pub sent : sends ≡ command ∷ []
 
--- what comes of serving one request: nothing is sent, or one command
+-- what serving one request sends: nothing, or one command
 abbrev pub Served : Sent → (ℕ → NodeState) → ShapeFields → ℕ → ServerState → List Message → Type 0
 Served was nodes shape file v sends = (Serves was nodes shape file v × (sends ≡ [])) ⊎ Commands was nodes shape file v sends
 
@@ -471,7 +471,7 @@ none_outstanding : (o : Option Message) → is_some o ≡ false → o ≡ None
 none_outstanding None h = refl
 none_outstanding (Some m) h = absurd (cc)
 
--- requests of the one are of the other, and where each node has told the one its token, it has told the other
+-- the requests of the one server are of the other, and if each node has reported its token to the one, it has to the other
 pub record Keeps (t v : ServerState) : Type 0 where
   pub requests : (r : TokenRequest) → IsCurrent t r → IsCurrent v r
   pub told : AllTold t → AllTold v
@@ -548,12 +548,12 @@ module _ (was : Sent) (nodes : ℕ → NodeState) (shape : ShapeFields) (file : 
         | false ↦ λ unblocked h. grants r current unblocked (t.rows r.call.node) refl h
       ] refl h
 
--- a step of the server comes of no serving and sends nothing, or of serving
+-- a step of the server sends nothing, or serves
 abbrev pub Serving : Sent → (ℕ → NodeState) → ShapeFields → ℕ → ServerState → List Message → Type 0
 Serving was nodes shape file v sends =
     (Serves was nodes shape file v × (sends ≡ [])) ⊎ ((begun : ServerState) × Serves was nodes shape file begun × AllTold begun × (each_served begun.active begun ≡ Ok (v, sends)))
 
--- the server serves, once each node has told its token
+-- the server serves, after each node has reported its token
 pub serve_serves : (was : Sent) (nodes : ℕ → NodeState) (shape : ShapeFields) (file : ℕ) (t : ServerState) → Serves was nodes shape file t → (v : ServerState) (sends : List Message) → serve t ≡ Ok (v, sends) → Serving was nodes shape file v sends
 serve_serves was nodes shape file t serves v sends h =
     let next = ready t in
@@ -565,7 +565,7 @@ serve_serves was nodes shape file t serves v sends h =
       | false ↦ λ told h. inr (next, readies was nodes shape file t serves, all_told t told, h)
     ] refl h
 
--- what comes of a message: denials, and what is sent by serving
+-- the messages of a step: denials, and what serving sends
 pub record Answered (was : Sent) (known_host : Host → Type 0) (nodes : ℕ → NodeState) (shape : ShapeFields) (file : ℕ) (v : ServerState) (sends : List Message) : Type 0 where
   pub denied : List Message
   pub fresh : List Message

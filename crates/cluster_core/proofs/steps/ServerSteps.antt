@@ -27,7 +27,7 @@ use Rattle.cluster_core.proofs.common.Choices.{if_either}
 use Rattle.cluster_core.proofs.common.Refusals.{ok_is, unless_refused}
 use Rattle.cluster_core.proofs.steps.ServerMoves.{enqueued-stays}
 
--- nothing but messages
+-- the outcome only sends messages
 abbrev pub IsSending : ServerState × Outcome → Type 0
 IsSending p = (p.1.call ≡ None) × (p.1.reply ≡ None)
 
@@ -45,7 +45,7 @@ server_rule-sending s (Deliver m) p h = then_serve-sending s (change s m) p h
 server_rule-sending s Resend p h = sending_first-sending (outstanding s) (serve (requeued s)) p h
 server_rule-sending s (Learn node incarnation) p h = sending_first-sending [] (serve (requeued (forgotten s node incarnation))) p (unless_refused (not (is_within s.shape.nodes node)) _ p Stranger h).1
 
--- nor does it change the epoch: what serving makes
+-- serving does not change the epoch
 abbrev Keeps : ℕ → Result (ServerState × List Message) StepError → Type 0
 Keeps epoch r = (p : ServerState × List Message) → r ≡ Ok p → p.0.epoch ≡ epoch
 
@@ -89,7 +89,7 @@ each-epoch (r ∷ rest) s = then-epoch s.epoch (served s r) (each_served rest) (
 serve-epoch : (s : ServerState) → Keeps s.epoch (serve s)
 serve-epoch s = if_either (Keeps s.epoch) (awaits s) _ _ (one-epoch s.epoch (s, []) refl) (each-epoch (ready s).active (ready s))
 
--- what a message changes before
+-- a message does not change the epoch before the server serves
 abbrev Stays : ℕ → Option Change → Type 0
 Stays epoch c = IfSome c (λ x. x.0.epoch ≡ epoch)
 

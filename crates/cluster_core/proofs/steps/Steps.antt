@@ -33,7 +33,7 @@ next_taken w event q h =
     let free = unless_refused (is_fenced w event) (taken w event) q Fenced known.1 in
     (not-false (is_known w event) known.0, free.1)
 
--- nor is it one of a node or a server that was declared failed
+-- a step that is not refused is of no actor that was declared failed
 pub next_unfenced : (w : WorldState) (event : Event) (q : WorldState × Entry) → next w event ≡ Ok q → is_fenced w event ≡ false
 next_unfenced w event q h =
     let known = unless_refused (not (is_known w event)) _ q Stranger h in
@@ -56,7 +56,7 @@ kept_of w event r room is =
     let roomy = not_full w.length room in
     λ i. if roomy i then Err JournalFull else is i
 
--- what holds after a step of its actor holds after the step
+-- P holds after a step of the world, if it holds after the step of its actor
 module _ (w : WorldState) (P : WorldState × Entry → Type 0) where
   pub node_step : (event : Event) (n : ℕ) (r : Result (NodeState × Outcome) StepError) (q : WorldState × Entry) → ((done : NodeState × Outcome) → r ≡ Ok done → P (recorded (with_node w n done.0) event (named_incarnation (w.nodes n) event) done.1)) → after_node w event n r ≡ Ok q → P q
   node_step event n (Ok done) q good h = subst P (ok_is _ q h) (good done refl)
@@ -66,21 +66,21 @@ module _ (w : WorldState) (P : WorldState × Entry → Type 0) where
   server_step event file (Ok done) q good h = subst P (ok_is _ q h) (good done refl)
   server_step event file (Err e) q good h = absurd (cc)
 
-  -- whichever actor takes the event
+  -- P holds after the step of a node or a server at the event
   abbrev pub OnNode : Event → Type 0
   OnNode event = (n : ℕ) (step : NodeEvent) (done : NodeState × Outcome) → node_rule (w.nodes n) step ≡ Ok done → P (recorded (with_node w n done.0) event (named_incarnation (w.nodes n) event) done.1)
 
   abbrev pub OnServer : Event → Type 0
   OnServer event = (file : ℕ) (step : ServerEvent) (done : ServerState × Outcome) → server_rule (w.servers file) step ≡ Ok done → P (recorded (with_server w file done.0) event 0 done.1)
 
-  -- or a node is declared, or restarts
+  -- P holds after a declaration or a restart of a node
   abbrev pub OnDeclare : Event → Type 0
   OnDeclare event = (n : ℕ) → event ≡ Declare n → w.alive n ≡ true → P (silent (declared w n) event (w.nodes n).incarnation)
 
   abbrev pub OnRestart : Event → Type 0
   OnRestart event = (n : ℕ) → event ≡ Restart n → w.alive n ≡ false → (w.nodes n).incarnation ≤ most_incarnations → P (silent (restarted w n) event (w.nodes n).incarnation)
 
-  -- or a server is declared failed, or is rebuilt
+  -- P holds after a failure or a start of a token server
   abbrev pub OnFail : Event → Type 0
   OnFail event = (file : ℕ) → event ≡ FailServer file → w.working file ≡ true → P (silent (failed w file) event (w.servers file).epoch)
 

@@ -1,4 +1,4 @@
--- What a node makes of a call: it answers as its own table may, or leaves the call open.
+-- The calls of a node: it answers as its own table may, or leaves a call open.
 use Rattle.std.proofs.Common.{◌≡◌, ℕ, Bool, true, false, not, if◌then◌else◌, ◌==◌, ◌⊎◌, inl, inr, refl, sym, ◌∙◌, ap, subst, ℤ, nat_le, List, [], ◌∷◌, ◌++◌, filter, get_or, All, Contains, Option, Some, None, MatchOption, Result, Ok, Err}
 use Rattle.std.proofs.lemmas.Bool.{eq-eqb, both_ways, not-true}
 use Rattle.std.proofs.lemmas.Option.{none-some, same_Some}
@@ -39,7 +39,7 @@ use Rattle.cluster_core.proofs.common.Lists.{All-both}
 use Rattle.cluster_core.proofs.steps.NodeSteps.{shut_keeps, answered_if_either}
 use Rattle.cluster_core.proofs.common.Numbered.{within_is}
 
--- what an open call asks for
+-- the command of an open call and its operation
 abbrev pub IsFor : LockCommand → Op → Type 0
 IsFor lock_command.Set (Set fd kind mode start len) = Unit {0}
 IsFor lock_command.Wait (Wait fd kind mode start len) = Unit {0}
@@ -51,7 +51,7 @@ pub record IsReady (t : Table) (p : Process) (op : Op) (c : OpenCall) : Type 0 w
   pub is_for : IsFor c.lock_command op
   pub passes : IsAbout t p op c.mode (target_of c)
 
--- a call is about one thing
+-- a call has at most one target
 pub about_one : (t : Table) (p : Process) (op : Op) (m n : Mode) (c d : LockTarget) → IsAbout t p op m c → IsAbout t p op n d → (m ≡ n) × (c ≡ d)
 about_one t p (Set fd kind mode start len) m n c d a b = (sym a.0 ∙ b.0, ok_is c d (sym a.1 ∙ b.1))
 about_one t p (Wait fd kind mode start len) m n c d a b = (sym a.0 ∙ b.0, ok_is c d (sym a.1 ∙ b.1))
@@ -64,7 +64,7 @@ about_one t p (Close fd) m n c d a b = absurd a
 about_one t p Exit m n c d a b = absurd a
 about_one t p (Unlock fd kind start len) m n c d a b = absurd a
 
--- what a call is about its process finds in the table
+-- the process finds the target in the table
 pub record Finds (t : Table) (p : Process) (c : LockTarget) : Type 0 where
   pub need : Option Mode
   pub fd : ℕ
@@ -85,7 +85,7 @@ about_finds t p (Close fd) mode c a = absurd a
 about_finds t p Exit mode c a = absurd a
 about_finds t p (Unlock fd kind start len) mode c a = absurd a
 
--- and it is about the same where the process finds the same
+-- a call has the same target where its process finds the same
 pub about_maps : (t u : Table) (p : Process) (op : Op) (mode : Mode) (c : LockTarget) → ((need : Option Mode) (fd : ℕ) (kind : Kind) (start len : ℤ) → target t p need fd kind start len ≡ Ok c → target u p need fd kind start len ≡ Ok c) → IsAbout t p op mode c → IsAbout u p op mode c
 about_maps t u p (Set fd kind m start len) mode c same a = (a.0, same (Some m) fd kind start len a.1)
 about_maps t u p (Wait fd kind m start len) mode c same a = (a.0, same (Some m) fd kind start len a.1)
@@ -98,7 +98,7 @@ about_maps t u p (Close fd) mode c same a = absurd a
 about_maps t u p Exit mode c same a = absurd a
 about_maps t u p (Unlock fd kind start len) mode c same a = absurd a
 
--- what the one table may answer to it
+-- the answers of the one table to a call with this target
 abbrev pub LockStep : Table → LockCommand → Mode → Reply → Table → LockTarget → Type 0
 LockStep t lock_command.Set = SetStep t
 LockStep t lock_command.Wait = WaitStep t
@@ -129,13 +129,13 @@ about_step t p (Close fd) i mode c reply u f a step = absurd a
 about_step t p Exit i mode c reply u f a step = absurd a
 about_step t p (Unlock fd kind start len) i mode c reply u f a step = absurd a
 
--- a lock in the way is named, but to a call that waits
+-- a lock that blocks is named, unless the call waits
 pub blocked_step : (t : Table) (i : LockCommand) (mode : Mode) (lock : LockInfo) (c : LockTarget) (reply : Reply) → refusal_of i lock ≡ Some reply → Blocks (t.locks c.file) c.owner c.span mode lock → LockStep t i mode reply t c
 blocked_step t lock_command.Set mode lock c reply is b = subst (λ (r : Reply). SetStep t mode r t c) (same_Some (Again lock) reply is) (b, refl)
 blocked_step t lock_command.Wait mode lock c reply is b = absurd (none-some reply is)
 blocked_step t lock_command.Query mode lock c reply is b = subst (λ (r : Reply). QueryStep t mode r t c) (same_Some (Blocked lock) reply is) (b, refl)
 
--- the reply tells that no lock is in the way
+-- the reply says that no lock blocks
 abbrev pub IsUnhindered : Reply → Type 0
 IsUnhindered Done = Unit {0}
 IsUnhindered NoLocks = Unit {0}
@@ -147,7 +147,7 @@ hindered lock_command.Set lock reply is u = subst IsUnhindered (sym (same_Some (
 hindered lock_command.Wait lock reply is u = none-some reply is
 hindered lock_command.Query lock reply is u = subst IsUnhindered (sym (same_Some (Blocked lock) reply is)) u
 
--- the node goes on: its name stays, its table stays its own, and the processes that have an open call go on
+-- a node goes on: its name stays, its table stays its own, and processes with an open call go on
 pub record Continues (s u : NodeState) : Type 0 where
   pub node : u.node ≡ s.node
   pub incarnation : u.incarnation ≡ s.incarnation
@@ -163,7 +163,7 @@ abbrev pub IsIdle : List OpenCall → ℕ → Op → Type 0
 IsIdle calls pid Exit = Unit {0}
 IsIdle calls pid _ = All (λ (c : OpenCall). c.pid ≡ pid → ⊥) calls
 
--- where the reply tells that no lock is in the way, the token covers the bytes
+-- if the reply says that no lock blocks, the token covers the bytes
 abbrev pub IsServed : Table → Process → Op → Reply → NodeState → Type 0
 IsServed t p op reply u = (mode : Mode) (c : LockTarget) → IsUnhindered reply → IsAbout t p op mode c → covers (u.files c.file).token c.span mode ≡ true
 
@@ -189,13 +189,13 @@ pub record IsOpened (s : NodeState) (number pid : ℕ) (op : Op) (u : NodeState)
   pub ready : IsReady s.table (process s pid) op call
   pub pending : u.pending ≡ s.pending ++ call ∷ []
 
--- what a try of an open call comes to
+-- the result of a try of an open call
 pub record Tried (s : NodeState) (number pid : ℕ) (op : Op) (u : NodeState) (o : Option (CallId × Reply)) : Type 0 where
   pub continues : Continues s u
   pub calls : u.calls ≡ s.calls
   pub ends : IsAnswered s number pid op u o ⊎ (IsSilent s u o × (u.pending ≡ s.pending))
 
--- what a new call comes to
+-- the result of a new call
 pub record Taken (s : NodeState) (number pid : ℕ) (op : Op) (u : NodeState) (o : Option (CallId × Reply)) : Type 0 where
   pub continues : Continues s u
   pub calls : u.calls ≡ s.calls
@@ -206,7 +206,7 @@ pub not_busy : (s : NodeState) (pid : ℕ) (op : Op) → is_busy s pid op ≡ fa
 not_busy s pid Exit h = tt
 not_busy s pid _ h = idle-others s.pending pid h
 
--- what is left of the open calls once one is closed
+-- the open calls after one is closed are the others
 pub stays_closed : (calls : List OpenCall) (number : ℕ) → All (Stays calls number) (filter (λ c. not (c.number == number)) calls)
 stays_closed calls number =
     let test : OpenCall → Bool = λ c. not (c.number == number) in
@@ -234,7 +234,7 @@ pub record Settles (s : NodeState) (number : ℕ) (answer : Table × Reply) (e :
 settled_settles : (s : NodeState) (number : ℕ) (answer : Table × Reply) → Settles s number answer (settled s number answer)
 settled_settles s number answer = record { node = refl; incarnation = refl; calls = refl; table = refl; is_reply = refl; closed = refl; tokens = λ file. refl }
 
--- that locks may be gone is told at most
+-- the step with a Freed at most
 freed_settles : (s : NodeState) (number : ℕ) (answer : Table × Reply) (file : ℕ) (e : Effect) → Settles s number answer e → Settles s number answer (with_freed file e)
 freed_settles s number answer file e h =
     let told : Effect = record { state = with_file e.state file (record (e.state.files file) { owes_freed = false }); reply = e.reply; sends = e.sends ++ Freed file (host e.state) ∷ [] } in
@@ -290,13 +290,13 @@ module _ (s : NodeState) (number : ℕ) (answer : Table × Reply) (e : Effect) (
   settles_taken : (pid : ℕ) (op : Op) → Step s.table (process s pid) op answer.1 answer.0 → IsServed s.table (process s pid) op answer.1 s → Follows s.table answer.0 s.node s.incarnation pid → All (λ (c : OpenCall). c.pid ≡ pid → ⊥) s.pending → Taken s number pid op e.state e.reply
   settles_taken pid op step served follows idle = record { continues = others_go_on pid follows idle; calls = h.calls; ends = inl (settles_answers pid op step served) }
 
--- what the token covers is served
+-- a call whose bytes the token covers is served by the token
 served_by : (t : Table) (p : Process) (op : Op) (m : Mode) (c : LockTarget) (reply : Reply) (u : NodeState) → IsAbout t p op m c → covers (u.files c.file).token c.span m ≡ true → IsServed t p op reply u
 served_by t p op m c reply u about given mode d free other =
     let same = about_one t p op m mode c d about other in
     subst (λ (x : LockTarget). covers (u.files x.file).token x.span mode ≡ true) same.1 (subst (λ (k : Mode). covers (u.files c.file).token c.span k ≡ true) same.0 given)
 
--- where no other lock is in the way the table answers by itself, whether the call may wait or not
+-- if no other lock blocks, the table answers by itself, whether the call may wait or not
 lock_step : (t : Table) (c : LockTarget) (mode : Mode) → Unblocked t c mode → (let answer = lock_within t c (Some mode) in SetStep t mode answer.1 answer.0 c × WaitStep t mode answer.1 answer.0 c)
 lock_step t c mode free =
     let few = nat_le (regions_with t c (Some mode)) t.limit in
@@ -311,7 +311,7 @@ of_owner : (t : Table) (node incarnation file n i : ℕ) → n ≡ node → i �
 of_owner t node incarnation file n i same_node same_incarnation own =
     subst (λ (k : ℕ). IsOfNode (t.locks file) k i) (sym same_node) (subst (λ (k : ℕ). IsOfNode (t.locks file) node k) (sym same_incarnation) (own.locks file))
 
--- what a call of the node is about
+-- the target of a call of the node is of the node
 pub about_own : (t : Table) (node incarnation pid : ℕ) (op : Op) (mode : Mode) (c : LockTarget) → IsNumber most_processes pid → IsOwn t node incarnation → IsAbout t (record { node = node; incarnation = incarnation; pid = pid }) op mode c → IsTarget node incarnation c
 about_own t node incarnation pid op mode c pid_in own a =
     let f = about_finds t (record { node = node; incarnation = incarnation; pid = pid }) op mode c a in
@@ -363,7 +363,7 @@ here_ends s c op lock_command.Query is own is_for about free given =
 stays_open : (s : NodeState) (number pid : ℕ) (op : Op) → IsOwn s.table s.node s.incarnation → Tried s number pid op s None
 stays_open s number pid op own = record { continues = same_continues s s.pending own; calls = refl; ends = inr (record { no_reply = refl; table = refl }, refl) }
 
--- a lock is in its way: it is told so, unless it waits
+-- a lock blocks the call: the call is answered so, unless it waits
 blocked_ends : (s : NodeState) (c : OpenCall) (op : Op) → IsOwn s.table s.node s.incarnation → IsReady s.table (process s c.pid) op c → (lock : LockInfo) → Blocks (s.table.locks c.file) c.owner c.span c.mode lock → (let e = answered_if s c.number (refusal_of c.lock_command lock) in Tried s c.number c.pid op e.state e.reply)
 blocked_ends s c op own ready lock blocks =
     answered_if_either (λ e. Tried s c.number c.pid op e.state e.reply) s c.number (refusal_of c.lock_command lock)

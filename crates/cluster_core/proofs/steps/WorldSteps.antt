@@ -49,7 +49,7 @@ with_node_parts p n next sends = record p { nodes = slice_set p.nodes (n - 1) ne
 abbrev pub with_server_parts : WorldParts → ℕ → ServerParts → List Message → WorldParts
 with_server_parts p file next sends = record p { servers = slice_set p.servers (file - 1) next; sent = p.sent ++ sends; length = p.length + 1 }
 
--- the node that is listed there now is the one that stands there, since it is alive
+-- the node that is listed is the one in the world, since it is alive
 seat_put : (p : WorldParts) (n : ℕ) (next : NodeParts) (sends : List Message) → 1 ≤ n → n ≤ length p.nodes → alive_at p n ≡ true → (m : ℕ) → seated p.shape m (alive_at p m) (listed (with_node_parts p n next sends) m) ≡ (if m == n then node_state next else (world_state p).nodes m)
 seat_put p n next sends least most alive m =
     ap (seated p.shape m (alive_at p m)) (put_at node_state (λ k. first_node p.shape k 1) p.nodes n next least most m)
@@ -81,7 +81,7 @@ server_put p file next event o least most =
       length = p.length + 1;
     })
 
--- a node's step leaves the world one
+-- after a node's step the parts are a world
 node_world : (p : WorldParts) (n : ℕ) (step : NodeEvent) (next : NodeParts) (o : Outcome) → 1 ≤ n → n ≤ p.shape.nodes → p.length < journal_limit → IsWorld p → alive_at p n ≡ true → node_rule ((world_state p).nodes n) step ≡ Ok (node_state next, o) → IsWorld (with_node_parts p n next o.sends)
 node_world p n step next o least most room world alive done =
     let steps = node_rule-steps ((world_state p).nodes n) step (node_state next, o) done in
@@ -101,7 +101,7 @@ node_world p n step next o least most room world alive done =
       within = omega arith;
     }
 
--- a server's step leaves the world one, for it keeps the epoch
+-- after a token server's step the parts are a world: the server keeps its epoch
 server_world : (p : WorldParts) (file : ℕ) (step : ServerEvent) (next : ServerParts) (o : Outcome) → is_within p.shape.files file ≡ true → p.length < journal_limit → IsWorld p → server_rule ((world_state p).servers file) step ≡ Ok (server_state next, o) → IsWorld (with_server_parts p file next o.sends)
 server_world p file step next o number room world done =
     let bounds = within_is p.shape.files file number in
@@ -156,7 +156,7 @@ server_names (Restart n) step s next o is done = absurd is
 server_names (FailServer file) step s next o is done = absurd is
 server_names (StartServer file) step s next o is done = absurd is
 
--- the node and the server that stand at their number's place
+-- the node and the token server at the places of their numbers
 pub read_node : (p : WorldParts) (n : ℕ) (x : NodeParts) → IsWorld p → is_within p.shape.nodes n ≡ true → alive_at p n ≡ true → x ≡ slice_index_or p.nodes (n - 1) x → (world_state p).nodes n ≡ node_state x
 read_node p n x world number alive is =
     let bounds = within_is p.shape.nodes n number in
@@ -171,7 +171,7 @@ read_server p file x world number is =
     let most : file ≤ length p.servers = omega (arith, bounds.1, world.servers_there) in
     read_number server_state (first_server p.shape) p.servers file x least most is
 
--- what is planned is known of the node that stands there
+-- a planned change is of the node at its place
 pub plan_found : (r : Result NodeChange StepError) (x : NodeParts) (There : NodeParts → Type 0) (s : NodeState) (step : NodeEvent) → There x → s ≡ node_state x → IfOk r (λ change. Fits x change.edit) → IfOk r (λ change. node_rule (node_state x) step ≡ Ok (planned x change.edit, change.outcome)) → IfOk r (λ change. (y : NodeParts) × There y × Fits y change.edit × (node_rule s step ≡ Ok (planned y change.edit, change.outcome)))
 plan_found (Ok change) x There s step is here fits done = (x, is, fits, subst (λ (t : NodeState). node_rule t step ≡ Ok (planned x change.edit, change.outcome)) (sym here) done)
 plan_found (Err e) x There s step is here fits done = tt
@@ -180,7 +180,7 @@ pub server_found : (r : Result ServerChange StepError) (x : ServerParts) (There 
 server_found (Ok change) x There s step is here fits done = (x, is, fits, subst (λ (t : ServerState). server_rule t step ≡ Ok (after_edit x change.edit, change.outcome)) (sym here) done)
 server_found (Err e) x There s step is here fits done = tt
 
--- the new world and the entry are what the rules say
+-- the new world and the entry are those of the rules
 node_done : (p : WorldParts) (event : Event) (n : ℕ) (step : NodeEvent) (next : NodeParts) (o : Outcome) (fresh : WorldParts) (e : Entry) → IsWorld p → is_within p.shape.nodes n ≡ true → alive_at p n ≡ true → node_rule ((world_state p).nodes n) step ≡ Ok (node_state next, o) → fresh ≡ with_node_parts p n next o.sends → e ≡ entry event (named_incarnation ((world_state p).nodes n) event) o → after_node (world_state p) event n (node_rule ((world_state p).nodes n) step) ≡ Ok (world_state fresh, e)
 node_done p event n step next o fresh e world number alive done fresh_is e_is =
     let bounds = within_is p.shape.nodes n number in
@@ -197,7 +197,7 @@ server_done p event file step next o fresh e world number done fresh_is e_is =
     let after : (recorded (with_server (world_state p) file (server_state next)) event 0 o).0 ≡ world_state fresh = server_put p file next event o least most ∙ ap world_state (sym fresh_is) in
     ap (λ (r : Result (ServerState × Outcome) StepError). after_server (world_state p) event file r) done ∙ (λ i. Ok (after i, sym e_is i))
 
--- a world whose parts were opened, with another node or server and more messages
+-- the parts of a world, with another node or server and more messages
 module _ (p now : WorldParts) (view : p ≡ now) (world : IsWorld p) (o : Outcome) (sent ms : List Message) (sent_is : sent ≡ p.sent ++ ms) (ms_are : ms ≡ o.sends) where
   more : sent ≡ p.sent ++ o.sends
   more = sent_is ∙ ap (λ (xs : List Message). p.sent ++ xs) ms_are
@@ -254,7 +254,7 @@ module _ (p now : WorldParts) (view : p ≡ now) (world : IsWorld p) (o : Outcom
         subst (λ (q : WorldParts). after_server (world_state q) event file (server_rule ((world_state q).servers file) step) ≡ Ok (world_state with_servers, e)) view
         (server_done p event file step next o with_servers e world within before servers_made e_is)
 
--- a world whose nodes and servers are as they began
+-- parts whose nodes and servers are as they begin are a world
 pub first_is_world : (p : WorldParts) → length p.nodes ≡ p.shape.nodes → members_state p.members.nodes ≡ first_members p.shape.nodes → members_state p.members.servers ≡ first_members p.shape.files → length p.servers ≡ p.shape.files → IsRest node_state (λ n. first_node p.shape n 1) p.nodes → IsRest server_state (first_server p.shape) p.servers → p.length ≤ journal_limit → IsWorld p
 first_is_world p nodes members epochs servers first first_servers within = record {
   nodes_there = nodes;

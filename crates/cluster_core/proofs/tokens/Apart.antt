@@ -71,7 +71,7 @@ IsHeldWithin was nodes file n t = (x : Token) × Holding was nodes file n x × I
 abbrev served_by : WorldState → ℕ → ServerState → List Message → WorldState
 served_by w file v sends = record (with_server w file v) { sent = w.sent ++ sends }
 
--- a server goes on: it sends what comes of serving a request, may send again what was sent before, and may deny calls
+-- a server goes on: it sends what serving a request sends, may resend what was sent before, and may deny calls
 module _ (w : WorldState) (p : Present w) (file : ℕ) (v : ServerState) (sends fresh : List Message) (again : Only (λ m. (Was w m ⊎ IsDenial (IsBegun w) m) ⊎ (is_among fresh m ≡ true)) sends) (said : Only (λ m. is_among sends m ≡ true) fresh) where
   abbrev later : WorldState
   later = served_by w file v sends
@@ -151,7 +151,7 @@ module _ (w : WorldState) (p : Present w) (file : ℕ) (v : ServerState) (sends 
   server_present (inl s) = still s.0 s.1
   server_present (inr g) = commands g
 
--- it sends what was sent before, or denies calls, and does no more
+-- a server that resends messages or denies calls, and does no more
 quiet_told : (w : WorldState) (p : Present w) (file : ℕ) (v : ServerState) (before : List Message) → Only (λ m. Was w m ⊎ IsDenial (IsBegun w) m) before → Serves (Was w) w.nodes w.shape file v → Present (served_by w file v before)
 quiet_told w p file v before old serves =
     server_present w p file v before [] (λ m there. inl (old m there)) (only_none (λ m. is_among before m ≡ true)) (inl (serves, refl))
@@ -160,7 +160,7 @@ quiet_told w p file v before old serves =
 here : (w : WorldState) (file : ℕ) (v : ServerState) (sends : List Message) → (served_by w file v sends).servers file ≡ v
 here w file v sends = at_number file file (λ b. (if b then v else w.servers file) ≡ v) (λ same. refl) (λ other. absurd (other refl))
 
--- first the one, then the other
+-- two steps of one server
 told_twice : (w : WorldState) (file : ℕ) (u v : ServerState) (before sends : List Message) → served_by (served_by w file u before) file v sends ≡ served_by w file v (before ++ sends)
 told_twice w file u v before sends = λ i. record w { servers = λ f. either (f == file) (w.servers f) i; sent = append_assoc w.sent before sends i }
   where
@@ -178,7 +178,7 @@ each_present (r ∷ rest) w p file s v sends there heard current is = one (serve
     serves : Serves (Was w) w.nodes w.shape file s
     serves = subst (Serves (Was w) w.nodes w.shape file) there (p.serves file)
 
-    -- the others are served in the world after it
+    -- the other requests are served in the world after the first
     Others : Type 0
     Others = (x : WorldState) (q : Present x) (f : ℕ) (u z : ServerState) (ms : List Message) → x.servers f ≡ u → AllTold u → All (IsCurrent u) rest → each_served rest u ≡ Ok (z, ms) → Present (served_by x f z ms)
 
@@ -221,7 +221,7 @@ module _ (w : WorldState) (p : Present w) (n : ℕ) (u : NodeState) (event : Eve
   abbrev known : ℕ → ℕ → FileState
   known m file = owing_nothing ((w.nodes m).files file)
 
-  -- what is to be shown of it, for each file
+  -- what has to be shown of the step, for each file
   pub record Goes : Type 0 where
     pub young : (m : Message) → is_among o.sends m ≡ true → IsBegun w (host_of m)
     pub talk : (file : ℕ) → Talk (Was after) file n (w.nodes n).incarnation (owing_nothing (u.files file)) ((w.servers file).rows n) ((w.servers file).dead n) (begin (w.servers file))
@@ -266,7 +266,7 @@ module _ (w : WorldState) (p : Present w) (n : ℕ) (u : NodeState) (event : Eve
           (subst (λ (i : ℕ). MayHold (Was after) file n i (owing_nothing (u.files file)) t → IsHeldWithin (Was w) w.nodes file n t) (sym incarnation_is) (g.no_more file t)))
           (λ other h. (t, may_hold-no_news (Was w) (Was after) file m (w.nodes m).incarnation (known m file) t (g.others file m other) h, within_itself t))
 
-  -- its tokens stay, and nothing new is said of tokens
+  -- the tokens stay, and no message says anything new of tokens
   keeps : ((file : ℕ) → owing_nothing (u.files file) ≡ known n file) → ((m : Message) → is_among o.sends m ≡ true → IsBegun w (host_of m)) → ((file m : ℕ) → NoNews (Was w) (Was after) file m (w.nodes m).incarnation) → Goes
   keeps files young news =
       let i = (w.nodes n).incarnation in
@@ -281,14 +281,14 @@ module _ (w : WorldState) (p : Present w) (n : ℕ) (u : NodeState) (event : Eve
         others = λ file m other. news file m;
       }
 
-  -- what it sends is of its own incarnation
+  -- the messages of the step are of the node's own incarnation
   own_young : (m : Message) → IsHostOf (w.nodes n).node (w.nodes n).incarnation (host_of m) → IsBegun w (host_of m)
   own_young m is = known_host w (host_of m) n (w.nodes n).incarnation (is.0 ∙ p.named n, is.1) (omega arith, λ same. here)
 
   asked_young : (m : Message) → IsAsking (w.nodes n).node (w.nodes n).incarnation m → IsBegun w (host_of m)
   asked_young m is = own_young m (asking_host (w.nodes n).node (w.nodes n).incarnation m is)
 
-  -- it asks
+  -- a step that only sends requests and Freed
   pub asks_goes : ((file : ℕ) → owing_nothing (u.files file) ≡ known n file) → Only (IsAsking (w.nodes n).node (w.nodes n).incarnation) o.sends → Goes
   asks_goes files asks = keeps files (λ m new. asked_young m (asks m new)) (λ file m. record {
     kept = sent_before w.sent o.sends;
@@ -296,7 +296,7 @@ module _ (w : WorldState) (p : Present w) (n : ℕ) (u : NodeState) (event : Eve
     answers = λ k x h of. elim (sent_either w.sent o.sends x h) [ inl old ↦ old | inr new ↦ absurd (asking_answer (w.nodes n).node (w.nodes n).incarnation file m (w.nodes m).incarnation k x (asks x new) of) ];
   })
 
-  -- it answers again
+  -- a step that sends an answer again
   pub repeats_goes : (file : ℕ) (answer : Message) → ((w.nodes n).files file).answer ≡ Some answer → ((f : ℕ) → owing_nothing (u.files f) ≡ known n f) → Only (λ m. m ≡ answer) o.sends → Goes
   repeats_goes file answer there files again =
       let told : Was w answer = (((p.serves file).talks n).remembered answer there).0 in
@@ -346,7 +346,7 @@ module _ (w : WorldState) (p : Present w) (n : ℕ) (e : Effect) (event : Event)
     told = sent_now w.sent o.sends d.answer (subst (λ (xs : List Message). is_among xs d.answer ≡ true) (sym sends_are) d.told);
   }
 
-  -- of another file, or at another node
+  -- another file, or another node
   elsewhere : (f m : ℕ) → (f ≡ file → m ≡ n → ⊥) → NoNews (Was w) (Was next_world) f m (w.nodes m).incarnation
   elsewhere f m other = record {
     kept = sent_before w.sent o.sends;
@@ -383,7 +383,7 @@ module _ (w : WorldState) (p : Present w) (n : ℕ) (e : Effect) (event : Event)
   pub does_present : Present (recorded (with_node w n e.state) event 0 o).0
   does_present = node_present w p n e.state event o here d.node_is d.incarnation_is does_goes
 
--- a node tells its token
+-- a node reports its token
 module _ (w : WorldState) (p : Present w) (n file : ℕ) (event : Event) (o : Outcome) (here : is_alive w n ≡ true) (ends : Ends ((w.nodes n).files file).token) where
   abbrev own : NodeState
   own = w.nodes n
@@ -447,7 +447,7 @@ owing_nothing_if false x y = refl
 renewed_owing_nothing : (f : FileState) (number : ℕ) → owing_nothing (renewed f number) ≡ renewed (owing_nothing f) number
 renewed_owing_nothing f number = owing_nothing_if (nat_lt f.last (begin_of number)) (record f { last = begin_of number; answer = None }) f
 
--- a node hears of an epoch that its server has come to
+-- a node hears of an epoch that its server is in
 module _ (w : WorldState) (p : Present w) (n file number : ℕ) (here : is_alive w n ≡ true) (upto : begin_of number ≤ begin (w.servers file)) where
   abbrev entered : NodeState
   entered = in_epoch (w.nodes n) file number
@@ -496,7 +496,7 @@ module _ (w : WorldState) (p : Present w) (n file number : ℕ) (here : is_alive
         others = λ f m other. nothing_said f m;
       }
 
-  -- that is a step that sends nothing
+  -- hearing of an epoch is a step that sends nothing
   pub entered_present : Present (with_node w n entered)
   entered_present =
       let P : List Message → Type 0 = λ ms. Present (record (with_node w n entered) { sent = ms; length = w.length + 1 }) in
@@ -523,7 +523,7 @@ module _ (w : WorldState) (p : Present w) where
   pub try_present : (n : ℕ) (event : Event) (c : Option OpenCall) → is_alive w n ≡ true → Present (recorded (with_node w n (tried_if (w.nodes n) c).state) event 0 (outcome None (tried_if (w.nodes n) c)).1).0
   try_present n event c here = asking_present n event None (tried_if (w.nodes n) c) here (tried_if_asks (w.nodes n) c)
 
-  -- an interrupt of one
+  -- an interrupt of an open call
   interrupt_present : (n : ℕ) (event : Event) (c : Option OpenCall) → is_alive w n ≡ true → Present (recorded (with_node w n (interrupted (w.nodes n) c).state) event 0 (outcome None (interrupted (w.nodes n) c)).1).0
   interrupt_present n event c here = asking_present n event None (interrupted (w.nodes n) c) here (interrupted_asks (w.nodes n) c)
 
@@ -533,7 +533,7 @@ module _ (w : WorldState) (p : Present w) where
       let number = s.calls + 1 in
       asking_present n (Call n pid op) (after_call s pid op).1.call (called (record s { calls = number }) number pid op) here (called_asks (record s { calls = number }) number pid op)
 
-  -- what a command comes to
+  -- the step of a command
   command_present : (n file number : ℕ) (command : Message) → is_alive w n ≡ true → Was w command → is_command command ≡ true → IsCommandTo file n (w.nodes n).incarnation number command → (event : Event) (e : Effect) → Receives (w.nodes n) file number command e → Present (recorded (with_node w n e.state) event 0 (outcome None e).1).0
   command_present n file number command here sent plain to event e (inl d) = does_present w p n e event (outcome None e).1 here refl file number command sent plain to d
   command_present n file number command here sent plain to event e (inr (inl r)) =
@@ -546,7 +546,7 @@ module _ (w : WorldState) (p : Present w) where
   abbrev Done : ℕ → Event → Effect → Type 0
   Done n event e = Present (recorded (with_node w n e.state) event 0 (outcome None e).1).0
 
-  -- what a command or a question of the live incarnation comes to, in its epoch
+  -- the step of a command or a Hello to the live incarnation, in its epoch
   done_present : (n : ℕ) (event : Event) (m : Message) → EndsOf (w.nodes n) → is_alive w n ≡ true → Was w m → addressee m ≡ ANode n → (host_of m).incarnation ≡ (w.nodes n).incarnation → Done n event (done_in (w.nodes n) m)
   done_present n event (Grant file number call mode span) ends here sent to live =
       let m = Grant file number call mode span in
@@ -569,7 +569,7 @@ module _ (w : WorldState) (p : Present w) where
       (asking_present n event None (quiet s) here (quiet_asks s))
   done_present n event m ends here sent to live = asking_present n event None (quiet (w.nodes n)) here (quiet_asks (w.nodes n))
 
--- a command or a question is of an epoch that its server has come to
+-- a command or a Hello is of an epoch that its server is in
 known_epoch : (w : WorldState) → Present w → (n file number : ℕ) (m : Message) → Was w m → IsCommandTo file n (w.nodes n).incarnation number m → begin_of number ≤ begin (w.servers file)
 known_epoch w p n file number m sent to =
     let t = w.servers file in
@@ -597,7 +597,7 @@ module _ (w : WorldState) (p : Present w) (ends : (n : ℕ) → EndsOf (w.nodes 
   abbrev Delivered : ℕ → Message → NodeState × Outcome → Type 0
   Delivered n m d = Present (recorded (with_node w n d.0) (Deliver m) 0 d.1).0
 
-  -- what a message of the live incarnation comes to
+  -- the step of a message to the live incarnation
   received_present : (n : ℕ) (m : Message) → is_alive w n ≡ true → Was w m → addressee m ≡ ANode n → (host_of m).incarnation ≡ (w.nodes n).incarnation → Delivered n m (outcome None (delivered (w.nodes n) m))
   received_present n (Grant file number call mode span) here sent to live =
       let there : call.node ≡ n = cc in
@@ -695,7 +695,7 @@ module _ (w : WorldState) (p : Present w) (ends : (n : ℕ) → EndsOf (w.nodes 
   taken_present (FailServer file) q known free h = fail_step w (λ x. Present x.0) file q (λ f is works. silent_present (failed w f) (failed_present w p f) (FailServer file) (w.servers f).epoch) h
   taken_present (StartServer file) q known free h = start_step w (λ x. Present x.0) file q (λ f is stopped few. started_present w p f (StartServer file) ((w.servers f).epoch + 1)) h
 
-  -- each step keeps it
+  -- each step keeps the invariant
   pub next_present : (event : Event) (q : WorldState × Entry) → next w event ≡ Ok q → Present q.0
   next_present event q h =
       let x = next_taken w event q h in
@@ -744,7 +744,7 @@ module _ (shape : ShapeFields) where
       first_apart : (file m n : ℕ) (t u : Token) → Holding (Was begun) begun.nodes file m t → Holding (Was begun) begun.nodes file n u → Excludes t u
       first_apart file m n t u a b byte exclusive = ap (λ (x : Token). x byte) (nothing_held file n u b)
 
--- the tokens of two nodes are apart where all that they may hold is
+-- the tokens of two nodes are apart, if all that they may hold is
 pub present_apart : (w : WorldState) → Present w → AreApart w
 present_apart w p m n file m_in n_in other = p.apart file m n ((w.nodes m).files file).token ((w.nodes n).files file).token m_in n_in other (inl refl) (inl refl)
 

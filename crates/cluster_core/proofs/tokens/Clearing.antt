@@ -1,4 +1,4 @@
--- What a node gives up is clear of its locks, whatever bytes a revoke names.
+-- The bytes that a node gives up have no lock of it that excludes the mode, whatever bytes a revoke names.
 use Rattle.std.specs.Prelude.{not, MatchOption}
 use Rattle.std.proofs.Common.{◌≡◌, ℕ, pred, ◌+◌, ◌-◌, ◌<◌, ◌≤◌, Bool, true, false, inl, inr, refl, sym, ◌∙◌, ap, subst, arith, Option, Some, None}
 use Rattle.std.proofs.lemmas.Bool.{both_ways, cases_Bool, cases_lt, not-true}
@@ -17,7 +17,7 @@ use Rattle.token_set.specs.Releases.{is_in_way, given_up_span, answer_of, gave_u
 use Rattle.token_set.specs.declared.gave_up.GaveUp.TheVariants.{Released}
 use Rattle.token_set.proofs.SearchLaws.{some_passes-first, some_passes-from, all_pass-each}
 
--- no byte of the largest span around what is needed is barred, if none is of what is needed
+-- no byte of the largest span is barred, if none of the required ones is
 pub around_free : (barred : ℕ → Bool) (required within : Range) → NoneIn (λ b. barred b ≡ true) required → NoneIn (λ b. barred b ≡ true) (largest_around barred required within)
 around_free barred required within none b above below here = elim (cases_lt b required.lo) [
   | inl under ↦
@@ -48,7 +48,7 @@ fewer_answers {A} f m n fewer none =
     ] (first_answer_is f 0 m)
 
 module _ (h : FileLocks) (node incarnation : ℕ) (own : IsOfNode h node incarnation) (mode : Mode) where
-  -- no region in the way of a span is none in the way of its beginning
+  -- no region blocks the beginning of a span, if none blocks the span
   none_shorter : (s : Range) (hi : ℕ) → hi ≤ s.hi → lowest_in_way h node incarnation s mode ≡ None → lowest_in_way h node incarnation (record { lo = s.lo; hi = hi }) mode ≡ None
   unfolding lowest_in_way
   none_shorter s hi shorter none =
@@ -65,7 +65,7 @@ module _ (h : FileLocks) (node incarnation : ℕ) (own : IsOfNode h node incarna
         ap (bars mode) (sym is) ∙ clear o b above (omega arith)
   ] refl
 
-  -- a byte of a lock that excludes the mode is in the way
+  -- a byte of a lock that excludes the mode blocks
   bars_way : (o : Owner) (b : ℕ) → bars mode (h o b) ≡ true → is_in_way h node incarnation mode b ≡ true
   bars_way o b bar = elim (h o b) as (λ x. h o b ≡ x → bars mode x ≡ true → is_in_way h node incarnation mode b ≡ true) [
     | None ↦ λ is none. absurd (cc)

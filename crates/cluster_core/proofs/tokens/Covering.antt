@@ -86,11 +86,11 @@ raised_level-serves x Write mode h = refl
 raised_level-serves None Read mode h = absurd (cc)
 raised_level-serves (Some level) Read mode h = h
 
--- so does a token
+-- a token that is raised serves what it served
 pub raised-serves : (t : Token) (span : Range) (by mode : Mode) (b : ℕ) → serves (t b) mode ≡ true → serves (raised t span by b) mode ≡ true
 raised-serves t span by mode b h = elim (is_in span b) as (λ x. serves (if x then raised_level (t b) by else t b) mode ≡ true) [ true ↦ raised_level-serves (t b) by mode h | false ↦ h ]
 
--- bytes of the span
+-- a byte of the span is between its ends
 in_span : (s : Range) (b : ℕ) → is_in s b ≡ true → (s.lo ≤ b) × (b ≤ s.hi)
 in_span s b h = let parts = and_parts (nat_le s.lo b) (nat_le b s.hi) h in (leb-true s.lo b parts.0, leb-true b s.hi parts.1)
 
@@ -154,7 +154,7 @@ answered_if_covered : (s : NodeState) (number : ℕ) (o : Option Reply) → Cove
 answered_if_covered s number None old = old
 answered_if_covered s number (Some reply) old = old
 
--- an open call is tried: it is set where the token covers it
+-- a try of an open call, which is set if the token covers it
 pub tried_covered : (s : NodeState) (c : OpenCall) → Covered s → Covered (tried s c).state
 tried_covered s c old =
     elim (lowest_blocker (s.table.locks c.file) c.owner c.span c.mode) as (λ x. Covered (tried_against s c x).state) [
@@ -225,7 +225,7 @@ granted_covered s file number call mode span old =
 abbrev pub OwnLocks : NodeState → Type 0
 OwnLocks s = (file : ℕ) → IsOfNode (s.table.locks file) s.node s.incarnation
 
--- a revoke lowers the token where no lock is in the way
+-- a revoke lowers the token where no lock blocks
 given_up_covered : (s : NodeState) (file : ℕ) (mode : Mode) (wanted : Wants) (gives : GaveUp) → gave_up (s.table.locks file) s.node s.incarnation mode wanted.required wanted.desired ≡ gives → OwnLocks s → Covered s → IsCovered (after_giving_up (s.files file).token mode gives) (s.table.locks file)
 given_up_covered s file mode wanted (Released span) is own old =
     lowering_keeps_locks (s.table.locks file) (s.files file).token span mode (released_clear (s.table.locks file) s.node s.incarnation (own file) mode wanted.required wanted.desired span is) (old file)
@@ -248,7 +248,7 @@ interrupted_covered : (s : NodeState) (c : Option OpenCall) → Covered s → Co
 interrupted_covered s None old = old
 interrupted_covered s (Some c) old = answered_if_covered s c.number (interruption_of c.lock_command) old
 
--- to hear of an epoch changes no token
+-- hearing of an epoch changes no token
 entered_covered : (s : NodeState) (file number : ℕ) → Covered s → Covered (in_epoch s file number)
 entered_covered s file number old f o b mode there =
     let first = begin_of number in

@@ -1,4 +1,4 @@
--- No token of a node has a byte after the last of a file, whatever it is granted and gives up.
+-- No token of a node has a byte after the last of a file, whatever the node is granted and gives up.
 use Rattle.std.proofs.Common.{◌≡◌, ℕ, ◌≤◌, Bool, true, false, ◌==◌, if◌then◌else◌, nat_le, inl, inr, refl, sym, ap, subst, arith, Option, None}
 use Rattle.std.proofs.lemmas.Bool.{and_parts, eqb-true, leb-true}
 use Rattle.intervals.specs.Bytes.{Range, greatest, is_in}
@@ -46,7 +46,7 @@ settled_ends : (t : Token) (command answer : Message) → Ends t → Ends (settl
 settled_ends t (Revoke file number holder call mode wanted) (Released f k h c span) ends = lowered_ends t span mode ends
 settled_ends t command answer ends = ends
 
--- tokens that are the same but for what is asked
+-- two states of a file with the same token
 same_ends : (x y : FileState) → owing_nothing x ≡ owing_nothing y → Ends y.token → Ends x.token
 same_ends x y same ends = subst Ends (sym (ap (λ (z : FileState). z.token) same)) ends
 

@@ -9,7 +9,7 @@ use Rattle.node_core.specs.State.{FileState, NodeState}
 use Rattle.node_core.specs.Commands.{renewed, in_epoch as entered}
 use Rattle.cluster_core.proofs.tokens.Talks.{in_epoch}
 
--- a number of an epoch begins after the same one as the epoch, or earlier
+-- the epoch of a number begins no later than the one that the number is below the end of
 pub begin_of_upto : (number epoch : ℕ) → number < before_epoch epoch + in_epoch → begin_of number ≤ before_epoch epoch
 begin_of_upto number epoch under =
     let some : zero < 4294967296 = omega arith in
@@ -17,7 +17,7 @@ begin_of_upto number epoch under =
     let below : number / 4294967296 < epoch - 1 + 1 = (div-lt_iff_lt-mul some).1 under_all in
     omega arith
 
--- the next epoch
+-- the next epoch begins where this one ends
 pub next_epoch : (epoch : ℕ) → 1 ≤ epoch → before_epoch (epoch + 1) ≡ before_epoch epoch + in_epoch
 next_epoch epoch from = omega arith
 
@@ -25,7 +25,7 @@ next_epoch epoch from = omega arith
 abbrev pub EndsOf : NodeState → Type 0
 EndsOf s = (file : ℕ) → Ends (s.files file).token
 
--- to hear of an epoch changes no token
+-- hearing of an epoch changes no token
 pub entered_ends : (s : NodeState) (file number : ℕ) → EndsOf s → EndsOf (entered s file number)
 entered_ends s file number ends f =
     let x = s.files file in

@@ -1,4 +1,4 @@
--- What the past part of the invariant needs of the present part.
+-- The facts of tokens and answers that the history's invariant needs.
 use Rattle.std.proofs.Common.{◌≡◌, ℕ, ◌≤◌, true, Some}
 use Rattle.model.specs.declared.call.CallId.{CallId}
 use Rattle.model.specs.declared.lock_info.LockInfo.{LockInfo}

@@ -27,7 +27,7 @@ at_most-raised (Some Shared) Write = refl
 at_most-raised (Some Exclusive) Read = refl
 at_most-raised (Some Exclusive) Write = refl
 
--- what stands in the way of a mode at a lower level does so at a higher one
+-- a lower level that conflicts with a mode does so at a higher level
 at_most-conflicts : (x y : Option Level) (mode : Mode) → IsAtMost x y → level_conflicts x mode ≡ true → level_conflicts y mode ≡ true
 at_most-conflicts None y mode low h = absurd (cc)
 at_most-conflicts (Some Shared) y Read low h = absurd (cc)
@@ -48,6 +48,6 @@ within_raised t span mode b = raised-at (IsAtMost (t b)) t span mode b (λ here.
 pub within_conflicts : (t u : Token) (b : ℕ) (mode : Mode) → IsWithin t u → level_conflicts (t b) mode ≡ true → level_conflicts (u b) mode ≡ true
 within_conflicts t u b mode low h = at_most-conflicts (t b) (u b) mode (low b) h
 
--- tokens within two that exclude each other do too
+-- tokens within two that exclude each other exclude each other
 pub within_excludes : (s t u v : Token) → IsWithin s u → IsWithin t v → Excludes u v → Excludes s t
 within_excludes s t u v in_u in_v apart b exclusive = at_most-none (t b) (v b) (in_v b) (apart b (at_most-exclusive (s b) (u b) (in_u b) exclusive))

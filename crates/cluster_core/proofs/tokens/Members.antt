@@ -21,7 +21,7 @@ use Rattle.cluster_core.proofs.tokens.Present.{Was, Holding, StayApart, Present}
 abbrev pub NoneLater : Sent → ℕ → ℕ → Type 0
 NoneLater was n incarnation = (m : Message) → was m → (host_of m).node ≡ n → (host_of m).incarnation ≤ incarnation
 
--- of its next incarnation nothing was said yet: no row is of it, no command was sent to it, and it answered none
+-- of a node's next incarnation nothing was sent: no row is of it, no command went to it, and it answered none
 pub talk-begins : (was : Sent) (file n incarnation : ℕ) (f : FileState) (row : Option Row) (dead begin : ℕ) → NoneLater was n incarnation → Talk was file n incarnation f row dead begin → Talk was file n (incarnation + 1) (owing_nothing first_file) row dead begin
 talk-begins was file n incarnation f row dead begin later t = record {
   lives = let lives = t.lives in omega arith;
@@ -44,7 +44,7 @@ talk-begins was file n incarnation f row dead begin later t = record {
   remembered = λ m h. absurd (none-some m h);
 }
 
--- and it can hold nothing
+-- a node in its next incarnation can hold nothing
 pub may_hold-begins : (was : Sent) (file n incarnation : ℕ) (t : Token) → NoneLater was n incarnation → MayHold was file n (incarnation + 1) (owing_nothing first_file) t → t ≡ no_token
 may_hold-begins was file n incarnation t later (inl same) = same
 may_hold-begins was file n incarnation t later (inr p) =
@@ -82,7 +82,7 @@ module _ (w : WorldState) (p : Present w) (n : ℕ) where
         held = s.held;
       }
 
-  -- what a node may hold then is nothing, or what it may have held
+  -- a node in the new world may hold nothing, or what it may have held
   holding_either : (file m : ℕ) (t : Token) → Holding (Was w) next_nodes file m t → (t ≡ no_token) ⊎ Holding (Was w) w.nodes file m t
   holding_either file m t = at_number m n (λ b. MayHold (Was w) file m (if b then fresh else w.nodes m).incarnation (owing_nothing ((if b then fresh else w.nodes m).files file)) t → (t ≡ no_token) ⊎ Holding (Was w) w.nodes file m t)
       (λ same. subst (λ (k : ℕ). MayHold (Was w) file k (i + 1) (owing_nothing first_file) t → (t ≡ no_token) ⊎ Holding (Was w) w.nodes file k t) (sym same)
@@ -115,7 +115,7 @@ module _ (w : WorldState) (p : Present w) (n : ℕ) where
     apart = begins_apart;
   }
 
-  -- who is alive is nothing that it speaks of
+  -- the invariant says nothing of which nodes are alive
   pub restarted_present : Present (restarted w n)
   restarted_present = record {
     named = p.named;

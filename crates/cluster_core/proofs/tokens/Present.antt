@@ -27,15 +27,15 @@ use Rattle.cluster_core.proofs.steps.ServerRows.{IsCurrent, Serves, IsFreeFor, C
 abbrev pub Was : WorldState → Message → Type 0
 Was w m = is_among w.sent m ≡ true
 
--- what the node's token of the file is or may become
+-- the token is the node's, or one that it may become
 abbrev pub Holding : Sent → (ℕ → NodeState) → ℕ → ℕ → Token → Type 0
 Holding was nodes file n t = MayHold was file n (nodes n).incarnation (owing_nothing ((nodes n).files file)) t
 
--- tokens of two nodes, as they are or may become, never conflict
+-- tokens that two nodes have or may get never conflict
 abbrev pub StayApart : Sent → (ℕ → NodeState) → ShapeFields → ℕ → Type 0
 StayApart was nodes shape file = (m n : ℕ) (t u : Token) → is_within shape.nodes m ≡ true → is_within shape.nodes n ≡ true → (m ≡ n → ⊥) → Holding was nodes file m t → Holding was nodes file n u → Excludes t u
 
--- the node has come to that incarnation, and is alive if it is in it
+-- the node has been in that incarnation, and is alive if it is in it
 abbrev pub IsBegun : WorldState → Host → Type 0
 IsBegun w h = (h.incarnation ≤ (w.nodes h.node).incarnation) × (h.incarnation ≡ (w.nodes h.node).incarnation → is_alive w h.node ≡ true)
 
@@ -50,7 +50,7 @@ pub record Present (w : WorldState) : Type 0 where
   pub serves : (file : ℕ) → Serves (Was w) w.nodes w.shape file (w.servers file)
   pub apart : (file : ℕ) → StayApart (Was w) w.nodes w.shape file
 
--- what is granted without a conflict
+-- bytes that are granted without a conflict exclude the other token
 granted_excludes : (t u : Token) (span : Range) (mode : Mode) → Excludes t u → ((b : ℕ) → is_in span b ≡ true → level_conflicts (u b) mode ≡ false) → Excludes (raised t span mode) u
 granted_excludes t u span mode apart free b =
     raised-at (λ x. x ≡ Some Exclusive → u b ≡ None) t span mode b (λ here. raised_level-excludes (t b) (u b) mode (apart b) (free b here)) (apart b)
@@ -59,7 +59,7 @@ excludes_granted : (t u : Token) (span : Range) (mode : Mode) → Excludes u t �
 excludes_granted t u span mode apart free b exclusive =
     raised-at (λ x. x ≡ None) t span mode b (λ here. absurd (both_ways (level_conflicts (u b) mode) (free b here) (exclusive-conflicts (u b) mode exclusive))) (apart b exclusive)
 
--- more messages that tell a server nothing
+-- more messages that say nothing new to a server
 pub serves-no_news : (was now : Sent) (nodes : ℕ → NodeState) (shape : ShapeFields) (file : ℕ) (t : ServerState) → ((n : ℕ) → NoNews was now file n (nodes n).incarnation) → Serves was nodes shape file t → Serves now nodes shape file t
 serves-no_news was now nodes shape file t news s = record {
   file_is = s.file_is;
@@ -84,7 +84,7 @@ abbrev IsClearOf : Message → Token → Type 0
 IsClearOf (Grant f k call mode span) u = (b : ℕ) → is_in span b ≡ true → level_conflicts (u b) mode ≡ false
 IsClearOf _ u = Unit {0}
 
--- what is promised then excludes that token still
+-- a token with what the command promises excludes the other token still
 promised_excludes : (t u : Token) (command : Message) → Excludes t u → IsClearOf command u → Excludes (promised t command) u
 promised_excludes t u (Grant f k call mode span) apart free = granted_excludes t u span mode apart free
 promised_excludes t u command apart free = apart
@@ -98,7 +98,7 @@ module _ (was now : Sent) (nodes : ℕ → NodeState) (shape : ShapeFields) (fil
   abbrev heard : ℕ → FileState
   heard n = owing_nothing ((nodes n).files file)
 
-  -- it tells nothing of another file, nor to another node
+  -- a command says nothing new of another file, or to another node
   tells_no_other : (f n : ℕ) → (f ≡ file → n ≡ g.node → ⊥) → NoNews was now f n (nodes n).incarnation
   tells_no_other f n other = record {
     kept = news.kept;
@@ -141,7 +141,7 @@ module _ (was now : Sent) (nodes : ℕ → NodeState) (shape : ShapeFields) (fil
   pub commanded_serves : Serves now nodes shape file v
   commanded_serves = subst (Serves now nodes shape file) (sym g.next) later_serves
 
-  -- what another node may hold does not conflict with what is granted
+  -- a token that another node may hold does not conflict with the granted bytes
   clear_of : (n : ℕ) (u : Token) → is_within shape.nodes n ≡ true → (n ≡ g.node → ⊥) → Holding was nodes file n u → (command : Message) → IsFreeFor g.state g.node command → IsClearOf command u
   clear_of n u n_in other may (Grant f k call mode span) free = λ b here. false_from_ne_true (level_conflicts (u b) mode) (λ conflicts.
       let within : is_within g.state.shape.nodes n ≡ true = ap (λ (x : ShapeFields). is_within x.nodes n) g.serves.shape_is ∙ n_in in
@@ -152,7 +152,7 @@ module _ (was now : Sent) (nodes : ℕ → NodeState) (shape : ShapeFields) (fil
   unblocked : (n : ℕ) (u : Token) → is_within shape.nodes n ≡ true → (n ≡ g.node → ⊥) → Holding was nodes file n u → IsClearOf g.command u
   unblocked n u n_in other may = clear_of n u n_in other may g.command g.free
 
-  -- what the node that it is for may hold
+  -- the token that the command's node may hold
   its_token : (n : ℕ) (t : Token) → n ≡ g.node → Holding now nodes file n t → Holding was nodes file n t ⊎ (t ≡ promised ((nodes n).files file).token g.command)
   its_token n t same = subst (λ (k : ℕ). Holding now nodes file k t → Holding was nodes file k t ⊎ (t ≡ promised ((nodes k).files file).token g.command)) (sym same)
       (may_hold-commanded was now file g.node (nodes g.node).incarnation (heard g.node) g.row (g.state.dead g.node) (begin g.state) g.command g.idle g.plain g.few g.to news its_talk t)
@@ -160,7 +160,7 @@ module _ (was now : Sent) (nodes : ℕ → NodeState) (shape : ShapeFields) (fil
   other_token : (n : ℕ) (t : Token) → (n ≡ g.node → ⊥) → Holding now nodes file n t → Holding was nodes file n t
   other_token n t other may = may_hold-no_news was now file n (nodes n).incarnation (heard n) t (others_no_news n other) may
 
-  -- so tokens stay apart: this is where the server's rule counts
+  -- the tokens stay apart: here the server's rule counts
   pub commanded_apart : StayApart was nodes shape file → StayApart now nodes shape file
   commanded_apart apart m n t u m_in n_in other a b = elim (cases_eq m g.node) [
     | inl m_to ↦

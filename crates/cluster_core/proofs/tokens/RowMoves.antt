@@ -1,4 +1,4 @@
--- The small moves of a token server keep what it and a node know of each other.
+-- The moves of a token server keep the facts that it and a node share.
 use Rattle.std.specs.Prelude.{max, nat_le}
 use Rattle.std.proofs.Common.{◌≡◌, ℕ, ◌+◌, ◌<◌, ◌≤◌, true, false, if◌then◌else◌, ◌⊎◌, inl, inr, refl, sym, ◌∙◌, ap, subst, arith, List, Option, Some, None}
 use Rattle.std.proofs.lemmas.Bool.{cases_eq, both_ways, leb-true, leb-false}
@@ -116,7 +116,7 @@ module _ (was : Sent) (file n incarnation : ℕ) (f : FileState) (dead begin i :
     remembered = t.remembered;
   }
 
--- the server takes an answer of a row's node: the row has this token, and waits for none
+-- the row after an answer: this token, and no outstanding command
 abbrev pub cleared_row : Row → Token → Row
 cleared_row r token = record r { token = token; outstanding = None }
 
@@ -233,7 +233,7 @@ module _ (was : Sent) (file n incarnation : ℕ) (f : FileState) (r : Row) (dead
 abbrev pub commanded_row : Row → Message → Row
 commanded_row r command = record r { token = promised r.token command; number = r.number + 1; outstanding = Some command }
 
--- that is all that was sent of commands and answers
+-- one command was sent, and no other command or answer
 pub record IsCommanding (was now : Sent) (command : Message) : Type 0 where
   pub kept : (m : Message) → was m → now m
   pub commands : (f n i k : ℕ) (m : Message) → now m → IsCommandTo f n i k m → was m ⊎ (m ≡ command)
@@ -244,13 +244,13 @@ module _ (was now : Sent) (file n incarnation : ℕ) (f : FileState) (r : Row) (
   abbrev later : Row
   later = commanded_row r command
 
-  -- the command that is new is this one
+  -- a new command is this one
   new_is : (i k : ℕ) (m : Message) → IsCommandTo file n i k m → m ≡ command → (i ≡ r.incarnation) × (k ≡ r.number + 1)
   new_is i k m m_to is =
       let both = same_command file n i k file n r.incarnation (r.number + 1) command (subst (IsCommandTo file n i k) is m_to) to in
       (both.incarnation_is, both.number_is)
 
-  -- the number is above those that were sent
+  -- the number of the command is above those that were sent
   above : (i k : ℕ) (m : Message) → was m → IsCommandTo file n i k m → i ≡ r.incarnation → k ≡ r.number + 1 → ⊥
   above i k m sent m_to same is = elim (t.counted i k m sent m_to).1 [
     | inl known ↦ let aged = t.aged r refl in omega arith
@@ -335,7 +335,7 @@ module _ (was now : Sent) (file n incarnation : ℕ) (f : FileState) (r : Row) (
     remembered = λ m is. let r = t.remembered m is in (news.kept m r.0, r.1, r.2);
   }
 
-  -- what the node may hold then: what it may have held, or its token with what the command promises
+  -- the token that the node may hold then: one that it may have held, or its own with what the command promises
   pub may_hold-commanded : (u : Token) → MayHold now file n incarnation f u → MayHold was file n incarnation f u ⊎ (u ≡ promised f.token command)
   may_hold-commanded u (inl same) = inl (inl same)
   may_hold-commanded u (inr p) =

@@ -1,4 +1,4 @@
--- A server that is declared failed, and one that is rebuilt, keep what holds of tokens, rows and messages.
+-- The failure and the rebuild of a token server keep the facts of tokens, rows and messages.
 use Rattle.std.proofs.Common.{◌≡◌, ℕ, zero, suc, ◌+◌, ◌-◌, ◌<◌, ◌≤◌, Bool, true, false, ◌&&◌, if◌then◌else◌, ◌⊎◌, inl, inr, refl, sym, ◌∙◌, ap, subst, arith, List, [], ◌∷◌, length, get_or, Option, Some, None}
 use Rattle.std.specs.Prelude.{nat_le}
 use Rattle.std.specs.List.{range_with_len, filter_map, cons_option}
@@ -26,14 +26,14 @@ use Rattle.cluster_core.proofs.tokens.TalkMoves.{NoNews, may_hold-no_news}
 use Rattle.cluster_core.proofs.tokens.TalkStarts.{IsStarting, talk-starts, may_hold-starts}
 use Rattle.cluster_core.proofs.tokens.Present.{Was, Holding, IsBegun, Present, serves-no_news}
 
--- which servers work is nothing that it speaks of
+-- the invariant says nothing of which servers work
 pub failed_present : (w : WorldState) → Present w → (file : ℕ) → Present (failed w file)
 failed_present w p file = record { named = p.named; no_future = p.no_future; serves = p.serves; apart = p.apart }
 
 pred_next : (n : ℕ) → 1 ≤ n → 1 + (n - 1) ≡ n
 pred_next n least = omega arith
 
--- what a list of numbers gives for one of them is among what it gives
+-- the message for one number of a list is among those for all
 mapped_among : (f : ℕ → Option Message) (ns : List ℕ) (n : ℕ) (m : Message) → (k : ℕ) × (k < length ns) × (get_or ns k 0 ≡ n) → f n ≡ Some m → is_among (filter_map f ns) m ≡ true
 mapped_among f [] n m place is = absurd (let lt = place.1 in omega arith)
 mapped_among f (x ∷ xs) n m place is = by (λ k lt same. mapped_among f xs n m (k, lt, same) is) place.0 place.1 place.2
@@ -59,7 +59,7 @@ module _ (w : WorldState) (p : Present w) (file : ℕ) where
   abbrev hello_to : ℕ → Message
   hello_to n = Hello file (begin made) (record { node = n; incarnation = (w.nodes n).incarnation })
 
-  -- the message asks a live node for its token
+  -- the message is a Hello to a live node
   abbrev IsQuestion : Message → Type 0
   IsQuestion m = (n : ℕ) × (is_alive w n ≡ true) × (m ≡ hello_to n)
 
@@ -70,7 +70,7 @@ module _ (w : WorldState) (p : Present w) (file : ℕ) where
   questions : Only IsQuestion (outstanding made)
   questions = only_mapped IsQuestion (λ n. outstanding_of (made.rows n)) (range_with_len 1 w.shape.nodes) (λ n m h. asked_of n (has_node w n && w.alive n) m refl h)
 
-  -- each live node is asked
+  -- each live node was sent a Hello
   all_asked : (n : ℕ) → is_alive w n ≡ true → is_among (outstanding made) (hello_to n) ≡ true
   all_asked n alive =
       let within : is_within w.shape.nodes n ≡ true = (and_parts (has_node w n) (w.alive n) alive).0 in

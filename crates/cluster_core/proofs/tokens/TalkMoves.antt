@@ -1,4 +1,4 @@
--- The small moves of a node keep what it and a token server know of each other.
+-- The moves of a node keep the facts that it and a token server share.
 use Rattle.std.specs.Prelude.{nat_lt}
 use Rattle.std.proofs.Common.{◌≡◌, ℕ, ◌+◌, ◌<◌, ◌≤◌, Bool, true, false, if◌then◌else◌, ◌⊎◌, inl, inr, refl, sym, ◌∙◌, ap, subst, arith, List, Option, Some, None}
 use Rattle.std.proofs.lemmas.Bool.{ltb-true}
@@ -28,7 +28,7 @@ pub record NoNews (was now : Sent) (file n incarnation : ℕ) : Type 0 where
 pub named_kept : (was now : Sent) (n i : ℕ) → ((m : Message) → was m → now m) → (m : Message) × was m × IsHostOf n i (host_of m) → (m : Message) × now m × IsHostOf n i (host_of m)
 named_kept was now n i kept a = (a.0, kept a.0 a.1, a.2)
 
--- no command is new: what a node and a server have in step stays so
+-- no command is new: a node and a server that were in step are in step
 in_step_kept : (was now : Sent) (file n incarnation : ℕ) (f : FileState) (row : Option Row) (begin : ℕ) → ((i k : ℕ) (m : Message) → now m → IsCommandTo file n i k m → was m) → InStep was file n incarnation f row begin → InStep now file n incarnation f row begin
 in_step_kept was now file n incarnation f row begin old (inl u) = inl u
 in_step_kept was now file n incarnation f row begin old (inr (inl k)) = inr (inl (record {
@@ -128,7 +128,7 @@ module _ (was : Sent) (file n incarnation : ℕ) (f : FileState) (row : Option R
         | false ↦ λ h. t
       ] refl
 
-  -- what it may hold it might have held before
+  -- the token that the node may hold after hearing of the epoch is one that it might have held before
   pub may_hold-renewed : (u : Token) → MayHold was file n incarnation (renewed f number) u → MayHold was file n incarnation f u
   may_hold-renewed u =
       elim (nat_lt f.last first) as (λ b. nat_lt f.last first ≡ b → MayHold was file n incarnation (if b then anew else f) u → MayHold was file n incarnation f u) [
@@ -144,7 +144,7 @@ module _ (was : Sent) (file n incarnation : ℕ) (f : FileState) (row : Option R
         value = p.value;
       })
 
--- the node tells its token, and has done no later command
+-- the node reports its token, and has done no later command
 pub record IsTelling (was now : Sent) (file n incarnation number : ℕ) (token : Token) : Type 0 where
   pub kept : (m : Message) → was m → now m
   pub commands : (i k : ℕ) (m : Message) → now m → IsCommandTo file n i k m → was m
@@ -186,7 +186,7 @@ pub record IsDoing (was now : Sent) (file n incarnation : ℕ) (answer : Message
   pub answers : (k : ℕ) (m : Message) → now m → IsAnswerOf file n incarnation k m → was m ⊎ (m ≡ answer)
   pub told : now answer
 
--- what the node knows of the file once the command is done
+-- the node's state of the file after the command is done
 abbrev pub done_file : FileState → ℕ → Message → Message → FileState
 done_file f number command answer = record { token = settled (promised f.token command) command answer; last = number; answer = Some answer; owes_freed = false }
 
@@ -195,7 +195,7 @@ abbrev pub is_answer : Message → Bool
 is_answer (Report g k holder runs) = false
 is_answer m = true
 
--- which is the last where it is remembered
+-- the answer that is remembered is the last
 last_is : (f : FileState) (m : Message) → is_answer m ≡ true → f.answer ≡ Some m → IsLast f m
 last_is f (Report g k holder runs) is h = absurd (cc)
 last_is f m is h = h
@@ -272,7 +272,7 @@ module _ (was now : Sent) (file n incarnation : ℕ) (f : FileState) (row : Opti
         subst P (same_Some answer m is) (news.told, omega arith, of);
   }
 
-  -- no other command is ahead of it then
+  -- no other command is ahead after this one is done
   none_ahead : (k : ℕ) (m : Message) → was m → is_command m ≡ true → IsCommandTo file n incarnation k m → number < k → InStep was file n incarnation f row begin → ⊥
   none_ahead k m m_sent m_is m_to above (inl u) = elim (t.counted incarnation number command sent to).1 [
     | inl old ↦ let lives = t.lives in absurd (omega arith)
@@ -292,12 +292,12 @@ module _ (was now : Sent) (file n incarnation : ℕ) (f : FileState) (row : Opti
       let same = a.one number k command m sent m_sent plain m_is to m_to (omega arith) (omega arith) in
       absurd (omega arith)
 
-  -- what a message that is no command promises is nothing
+  -- a message that is no command promises nothing
   promises_none : (u : Token) (m : Message) → is_command m ≡ false → promised u m ≡ u
   promises_none u (Grant g k call mode span) h = absurd (cc)
   promises_none u m h = refl
 
-  -- it may hold no more than before
+  -- the token that the node may hold is within one that it might have held before
   pub may_hold-does : (u : Token) → MayHold now file n incarnation (done_file f number command answer) u → (v : Token) × MayHold was file n incarnation f v × IsWithin u v
   may_hold-does u may =
       let before = promised f.token command in

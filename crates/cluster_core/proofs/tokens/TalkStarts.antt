@@ -1,4 +1,4 @@
--- A token server that is rebuilt, and what it and a node know of each other.
+-- A token server that is rebuilt, and the facts that it and a node share.
 use Rattle.std.specs.Prelude.{max, ◌-◌}
 use Rattle.std.proofs.Common.{◌≡◌, ℕ, ◌+◌, ◌<◌, ◌≤◌, Bool, true, false, if◌then◌else◌, ◌⊎◌, inl, inr, refl, sym, ◌∙◌, ap, subst, arith, Option, Some, None}
 use Rattle.std.proofs.lemmas.Bool.{cases_eq, cases_lt, both_ways}
@@ -12,7 +12,7 @@ use Rattle.known_nodes.specs.Rows.{Row, awaited_row}
 use Rattle.cluster_core.specs.Numbers.{is_command}
 use Rattle.cluster_core.proofs.tokens.Talks.{Sent, IsHostOf, IsCommandTo, IsAnswerOf, same_command, command_host, promised, in_epoch, IsCountedIn, InStep, Talk, MayHold, on_the_way}
 
--- the server is rebuilt with the next epoch: it asks the live incarnation for its token, or knows it as dead
+-- the server is rebuilt in the next epoch: it sent the live incarnation a Hello, or knows it to be dead
 pub record IsStarting (was now : Sent) (file n incarnation begin : ℕ) (asks : Bool) : Type 0 where
   pub kept : (m : Message) → was m → now m
   pub commands : (i k : ℕ) (m : Message) → now m → IsCommandTo file n i k m → was m ⊎ ((asks ≡ true) × (m ≡ Hello file begin (record { node = n; incarnation = incarnation })))
@@ -52,7 +52,7 @@ module _ (was now : Sent) (file n incarnation : ℕ) (f : FileState) (row : Opti
       let up = s.begun m sent host.0 in
       omega arith
 
-  -- of a new question
+  -- a new Hello is to the live incarnation, with the epoch's base as its number
   question_is : (i k : ℕ) (m : Message) → IsCommandTo file n i k m → m ≡ hello → (i ≡ incarnation) × (k ≡ begin)
   question_is i k m to is =
       let mine : IsCommandTo file n i k hello = subst (IsCommandTo file n i k) is to in

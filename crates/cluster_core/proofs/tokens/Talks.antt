@@ -1,4 +1,4 @@
--- What a token server and a node know of each other, for one file: the invariant of their conversation.
+-- The facts that a token server and a node share, for one file: the invariant of their conversation.
 use Rattle.std.specs.Prelude.{max}
 use Rattle.std.proofs.Common.{◌≡◌, ℕ, ◌+◌, ◌<◌, ◌≤◌, true, false, ◌⊎◌, inl, inr, sym, ◌∙◌, ap, subst, arith, Option, Some, None}
 use Rattle.std.proofs.lemmas.Bool.{both_ways}
@@ -17,7 +17,7 @@ use Rattle.known_nodes.specs.Rows.{Row, is_hello, is_awaited, row_conflicts_at}
 use Rattle.cluster_core.specs.Numbers.{is_command}
 use Rattle.cluster_core.proofs.tokens.Lowering.{IsWithin, within_itself, within_same, within_raised, within_conflicts}
 
--- messages that were sent
+-- the set of messages that were sent
 abbrev pub Sent : Type 1
 Sent = Message → Type 0
 
@@ -67,7 +67,7 @@ no_answer file n i k g m j l (Revoke f number holder call mode wanted) a b = b
 no_answer file n i k g m j l (Hello f number holder) a b = b
 no_answer file n i k g m j l x a b = a
 
--- who a command is to, and whose an answer is
+-- the host of a command, and of an answer
 pub command_host : (file n i k : ℕ) (x : Message) → IsCommandTo file n i k x → IsHostOf n i (host_of x)
 command_host file n i k (Grant f number call mode span) a = (a.2, a.3)
 command_host file n i k (Revoke f number holder call mode wanted) a = (a.2, a.3)
@@ -81,28 +81,28 @@ answer_host file n i k (Conflict f number holder call lock) a = (a.2, a.3)
 answer_host file n i k (Report f number holder runs) a = (a.2, a.3)
 answer_host file n i k x a = absurd a
 
--- what the node's token is with a command: a Grant raises it
+-- the node's token with a command: a Grant raises it
 abbrev pub promised : Token → Message → Token
 promised t (Grant file number call mode span) = raised t span mode
 promised t _ = t
 
--- and with the answer to that: where a span is released for a Revoke it is lowered
+-- the node's token with a command and its answer: a span that is released for a Revoke is lowered
 abbrev pub settled : Token → Message → Message → Token
 settled t (Revoke file number holder call mode wanted) (Released f k h c span) = lowered t span mode
 settled t _ _ = t
 
--- what a server and a node speak of: all that the node knows of the file, but whether it owes a Freed
+-- the node's state of the file as the server may know it: all of it but whether it owes a Freed
 abbrev pub owing_nothing : FileState → FileState
 owing_nothing f = record f { owes_freed = false }
 
--- the server has a row of that incarnation, with a number that is as great
+-- the server has a row of that incarnation, with a number at least as great
 pub record IsCountedIn (row : Option Row) (incarnation number : ℕ) : Type 0 where
   pub counting : Row
   pub there : row ≡ Some counting
   pub of : counting.incarnation ≡ incarnation
   pub up_to : number ≤ counting.number
 
--- nothing is under way between the row and the node, whose server's epoch begins after `begin`
+-- no command is outstanding between the row and the node
 pub record IsIdle (begin : ℕ) (f : FileState) (r : Row) : Type 0 where
   pub outstanding : r.outstanding ≡ None
   pub number : r.number ≡ max f.last begin
@@ -136,7 +136,7 @@ pub record IsKnown (was : Sent) (file n incarnation : ℕ) (f : FileState) (row 
   pub states : States begin f known
   pub fresh : (k : ℕ) (m : Message) → was m → IsCommandTo file n incarnation k m → f.last < k → begin < k
 
--- the server has none, and the node has nothing of the file
+-- the server has no row of the node, and the node has nothing of the file
 pub record IsUnknown (incarnation : ℕ) (f : FileState) (row : Option Row) (begin : ℕ) : Type 0 where
   pub last : f.last ≤ begin
   pub token : f.token ≡ no_token
@@ -155,28 +155,28 @@ pub record IsAsked (was : Sent) (file n incarnation : ℕ) (f : FileState) (row 
 abbrev pub InStep : Sent → ℕ → ℕ → ℕ → FileState → Option Row → ℕ → Type 0
 InStep was file n incarnation f row begin = IsUnknown incarnation f row begin ⊎ (IsKnown was file n incarnation f row begin ⊎ IsAsked was file n incarnation f row begin)
 
--- how many numbers an epoch has
+-- the number of numbers in an epoch
 abbrev pub in_epoch : ℕ
 in_epoch = 4294967296
 
--- what an answer with the number of the last command done is: the one that is remembered, or a report of the token
+-- the answer with the number of the last command done: the one that is remembered, or a report of the token
 abbrev pub IsLast : FileState → Message → Type 0
 IsLast f (Report g k holder runs) = reported runs ≡ f.token
 IsLast f m = f.answer ≡ Some m
 
 -- what holds of the messages that were sent, of node n in its incarnation and what it knows of the file, and of the server's row of n, the incarnation of n that it knows as dead, and the number after which its epoch begins
 pub record Talk (was : Sent) (file n incarnation : ℕ) (f : FileState) (row : Option Row) (dead begin : ℕ) : Type 0 where
-  -- the node's incarnation is not known as dead
+  -- the node's incarnation is not known to be dead
   pub lives : dead < incarnation
-  -- a row is of the incarnation after those that are
+  -- a row is of the incarnation after the dead ones
   pub aged : (r : Row) → row ≡ Some r → r.incarnation ≡ dead + 1
-  -- and that incarnation sent a message, or was sent one
+  -- the row's incarnation sent a message, or was sent one
   pub named : (r : Row) → row ≡ Some r → (m : Message) × was m × IsHostOf n r.incarnation (host_of m)
-  -- its number is one of the epoch
+  -- the row's number is one of the epoch
   pub numbered : (r : Row) → row ≡ Some r → (begin ≤ r.number) × (r.number < begin + in_epoch)
-  -- a command without an answer was sent, with the row's number
+  -- the row's outstanding command was sent, with the row's number
   pub waits : (r : Row) (m : Message) → row ≡ Some r → r.outstanding ≡ Some m → was m × IsCommandTo file n r.incarnation r.number m
-  -- no command has a number above the row's, but for incarnations known as dead
+  -- no command has a number above the row's, except those to incarnations known to be dead
   pub counted : (i k : ℕ) (m : Message) → was m → IsCommandTo file n i k m → (1 ≤ k) × ((i ≤ dead) ⊎ IsCountedIn row i k)
   -- no two commands to one incarnation have one number
   pub one_number : (i k : ℕ) (m other : Message) → was m → was other → IsCommandTo file n i k m → IsCommandTo file n i k other → m ≡ other
@@ -184,7 +184,7 @@ pub record Talk (was : Sent) (file n incarnation : ℕ) (f : FileState) (row : O
   pub in_step : InStep was file n incarnation f row begin
   -- no answer has a number above the last command done, and the one with that number is remembered; a report with it tells the token
   pub answers : (k : ℕ) (m : Message) → was m → IsAnswerOf file n incarnation k m → (k ≤ f.last) × (k ≡ f.last → IsLast f m)
-  -- what is remembered was sent, and is the answer to the last command done
+  -- the answer that is remembered was sent, and is that to the last command done
   pub remembered : (m : Message) → f.answer ≡ Some m → was m × (1 ≤ f.last) × IsAnswerOf file n incarnation f.last m
 
 -- a command that the node has not done
@@ -200,7 +200,7 @@ pub record IsPromised (was : Sent) (file n incarnation : ℕ) (f : FileState) (t
   pub ahead : IsAhead was file n incarnation f.last command
   pub value : t ≡ promised f.token command
 
--- what the node's token is, or may become by messages that were sent
+-- the token is the node's, or one that it may become by messages that were sent
 abbrev pub MayHold : Sent → ℕ → ℕ → ℕ → FileState → Token → Type 0
 MayHold was file n incarnation f t = (t ≡ f.token) ⊎ IsPromised was file n incarnation f t
 
@@ -208,7 +208,7 @@ within_promised : (t : Token) (command : Message) → IsWithin t (promised t com
 within_promised t (Grant file number call mode span) = within_raised t span mode
 within_promised t m = within_itself t
 
--- an answer only lowers
+-- an answer only lowers the token
 pub settled_within : (t : Token) (command answer : Message) → IsWithin (settled t command answer) t
 settled_within t (Revoke file number holder call mode wanted) (Released f k h c span) = lowering_lowers t span mode
 settled_within t command answer = within_itself t
@@ -230,7 +230,7 @@ module _ (was : Sent) (file n incarnation : ℕ) (f : FileState) (row : Option R
     | inr counted ↦ counted
   ]
 
-  -- and where one is ahead, and the server does not wait to hear from the node, it is under way
+  -- a command ahead of the node is under way, if the server does not wait for a report
   pub on_the_way : IsKnown was file n incarnation f row begin → (command : Message) → IsAhead was file n incarnation f.last command → IsUnderWay incarnation f row begin command
   on_the_way k command a =
       let same : c.counting ≡ k.known = same_Some c.counting k.known (sym c.there ∙ k.there) in
@@ -286,7 +286,7 @@ module _ (was : Sent) (file n incarnation : ℕ) (f : FileState) (row : Option R
       let c = counted_live a.number p.command a.sent a.is in
       absurd (u.none c.counting c.there c.of)
 
-  -- what the node may hold is in its row, once it has told its token: where it stands in the way of a mode, the row does
+  -- a token that the node may hold conflicts with a mode only where its row does, after the node reported its token
   pub held : is_awaited row ≡ false → (t : Token) (b : ℕ) (mode : Mode) → MayHold was file n incarnation f t → level_conflicts (t b) mode ≡ true → row_conflicts_at row b mode ≡ true
   held heard t b mode may h = elim talk.in_step [
     | inl u ↦ unknown_held u t b mode may h

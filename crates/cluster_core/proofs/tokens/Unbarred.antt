@@ -1,4 +1,4 @@
--- What a node answers or holds under its token, no lock of another node is in the way of.
+-- No lock of another node blocks what a node answers or holds under its token.
 use Rattle.std.proofs.Common.{◌≡◌, ℕ, true, sym, ◌∙◌, subst, Some}
 use Rattle.model.specs.declared.op.Op.{Op}
 use Rattle.model.specs.declared.reply.Reply.{Reply}

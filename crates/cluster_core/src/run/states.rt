@@ -1,4 +1,4 @@
-//! How long runs are, and nodes and servers that begin again and are handed out.
+//! The length of a run, and its restarts of nodes and starts of servers, which hand out the new state.
 ghost use Rattle.std.specs.Prelude.{◌≡◌, ◌≢◌, ◌≤◌, Ok, Err, IfOk, IfErr, OnOk, OnErr, length};
 ghost use Rattle.messages.specs.declared.event.Event.TheVariants.{Restart, StartServer};
 ghost use Rattle.messages.specs.Messages.{sending};
@@ -21,7 +21,7 @@ use std::alloc::Global;
 use token_server::server::Server;
 
 impl Run {
-    /// How many entries there are so far: at most 1,048,576.
+    /// The number of entries: at most 1,048,576.
     pub fn len(&self) -> u32
         ensures value { result ≡ length self.now.entries }
         ensures of_world { result ≡ self.now.world.length }
@@ -30,11 +30,11 @@ impl Run {
         self.entries.len() as u32
     }
 
-    /// The node begins again, as `take` does it, and is handed out as it begins.
+    /// The node begins again, as `take` does it. Gives the state in which it begins.
     ///
     /// # Errors
-    /// Those of `World::step` at a restart: in this order `JournalFull`, `Stranger`, `NotDead`,
-    /// `TooManyRestarts`, `NoMemory`. The run is then as it was.
+    /// Those of `World::step` at a restart, in this order: `JournalFull`, `Stranger`, `NotDead`, `TooManyRestarts`,
+    /// `NoMemory`. The run is then as it was.
     pub fn restart(&mut self, alloc: Global, node: u8) -> Result<Box<Node>, Refused>
         ensures ok { OnOk result (GoesOn self.old (Restart node) self.new) }
         ensures begun { IfOk result (λ begun. node_state begun.value ≡ (world_state self.new.world).nodes node) }
@@ -48,11 +48,11 @@ impl Run {
         Ok(begun)
     }
 
-    /// The token server of the file, which was declared failed, begins again, as `take` does it. It is
-    /// handed out as it begins, with what it asks the nodes.
+    /// The token server of the file, which was declared failed, begins again, as `take` does it. Gives the state in
+    /// which it begins, and the messages in which it asks the nodes for their tokens.
     ///
     /// # Errors
-    /// Those of `World::step` at a start of a server: in this order `JournalFull`, `Stranger`, `NotDead`,
+    /// Those of `World::step` at a start of a server, in this order: `JournalFull`, `Stranger`, `NotDead`,
     /// `TooManyRestarts`, `NoMemory`. The run is then as it was.
     pub fn start(&mut self, alloc: Global, file: u16) -> Result<(Box<Server>, Outcome), Refused>
         ensures ok { OnOk result (GoesOn self.old (StartServer file) self.new) }

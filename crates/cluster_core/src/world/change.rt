@@ -1,4 +1,4 @@
-//! What an event will do to a world.
+//! The change that an event makes in a world, as it is planned.
 use messages::items::Items;
 use messages::message::Message;
 use node_core::change::Change as NodeChange;
@@ -6,35 +6,36 @@ use node_core::node::Node;
 use token_server::change::Change as ServerChange;
 use token_server::server::Server;
 
-/// What an event will do to a world: the change of the one actor that takes it.
+/// The change that an event makes in a world: the step of the one actor that takes it.
 #[derive(Drop)]
 pub(crate) enum Change {
-    /// The node does this step; the entry names this incarnation, 0 for none. (In a box, since a change is
-    /// handed on for each event.)
+    /// A step of the node. The entry names this incarnation, 0 for none. (In a box, because a change is handed on for
+    /// each event.)
     OfNode {
         node: u8,
         incarnation: u16,
         change: Box<NodeChange>,
     },
-    /// The token server of the file does this step.
+    /// A step of the token server of the file.
     OfServer {
         file: u16,
         change: ServerChange,
     },
-    /// The node is declared failed.
+    /// The declaration that the node failed.
     Declared {
         node: u8,
     },
-    /// The node begins again, as this one. (In a box too.)
+    /// The restart of the node, with the state in which it begins. (In a box, as above.)
     Restarted {
         node: u8,
         begun: Box<Node>,
     },
-    /// The token server of the file is declared failed.
+    /// The declaration that the token server of the file failed.
     Failed {
         file: u16,
     },
-    /// The token server of the file begins again, as this one, and asks the nodes for their tokens.
+    /// The start of the token server of the file, with the state in which it begins, and the messages in which it
+    /// asks the nodes for their tokens.
     Started {
         file: u16,
         begun: Box<Server>,

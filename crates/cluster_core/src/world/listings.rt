@@ -1,4 +1,5 @@
-//! The tokens and the locks of a cluster as lists.
+//! The tokens and the locks of a cluster as lists. A function here that gives a `Result` answers `AllocError` where a
+//! request for memory was refused.
 ghost use Rattle.std.specs.Prelude.{◌≡◌, ◌++◌, true, IfOk, OnOk, map};
 ghost use Rattle.messages.specs.Messages.{is_within};
 ghost use Rattle.lock_table.specs.Listing.{IsListing};
@@ -17,7 +18,7 @@ use model::lock_info::LockInfo;
 use node_core::node::Node;
 use std::alloc::{AllocError, Global};
 
-// Adds the runs, with whose and of which file they are.
+// Appends the runs, each with its node, incarnation and file.
 fn push_runs(
     tokens: &mut Vec<TokenRun>,
     node: u8,
@@ -39,7 +40,7 @@ fn push_runs(
     Ok(())
 }
 
-// Adds the regions, with their file.
+// Appends the regions, each with its file.
 fn push_regions(
     locks: &mut Vec<HeldLock>,
     file: u16,
@@ -54,7 +55,7 @@ fn push_regions(
 }
 
 impl World {
-    // Adds the runs of a node's token for a file.
+    // Appends the runs of the node's token for one file.
     fn push_file_tokens(
         &self,
         alloc: Global,
@@ -72,7 +73,7 @@ impl World {
         push_runs(tokens, node, holder.incarnation(), file, &runs)
     }
 
-    // Adds the runs of a node's tokens.
+    // Appends the runs of the node's tokens for all files.
     fn push_node_tokens(
         &self,
         alloc: Global,
@@ -91,11 +92,8 @@ impl World {
         Ok(())
     }
 
-    /// The tokens of the live nodes, each longest run of bytes at one level once: by node, then by
-    /// file, then by first byte.
-    ///
-    /// # Errors
-    /// `AllocError` where a request for memory was refused.
+    /// The tokens of the live nodes, each longest run of bytes at one level once, by node, then by file, then by
+    /// first byte.
     pub fn tokens(&self, alloc: Global) -> Result<Vec<TokenRun>, AllocError>
         ensures { IfOk result (λ tokens. IsTokenListing (world_state self.now) tokens.items) }
     {
@@ -106,7 +104,7 @@ impl World {
         Ok(tokens)
     }
 
-    // The regions of a file that the live nodes' owners hold, by first byte and then by owner.
+    // The regions of a file that owners on live nodes hold, by first byte, then by owner.
     fn file_locks(&self, alloc: Global, file: u16) -> Result<Vec<LockInfo>, AllocError>
         ensures { IfOk result (λ locks. IsListing ((union (world_state self.now)).locks file) locks.items) }
     {
@@ -122,11 +120,7 @@ impl World {
         Ok(locks)
     }
 
-    /// The locks of the live nodes together, each region once: by file, then by first byte, then by
-    /// owner.
-    ///
-    /// # Errors
-    /// `AllocError` where a request for memory was refused.
+    /// The locks of the live nodes together, each region once, by file, then by first byte, then by owner.
     pub fn locks(&self, alloc: Global) -> Result<Vec<HeldLock>, AllocError>
         ensures { IfOk result (λ locks. IsLockListing (world_state self.now) locks.items) }
     {

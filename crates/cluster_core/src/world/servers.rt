@@ -1,4 +1,4 @@
-//! Token servers of a world that are declared failed, and begin again.
+//! Token servers of a world that are declared failed, and start again.
 ghost use Rattle.std.specs.Prelude.{◌≡◌, ◌≢◌, ◌<◌, true, Ok, Err, IfOk, IfErr, OnErr};
 ghost use Rattle.messages.specs.declared.refusal.Refused.{Refused};
 ghost use Rattle.messages.specs.declared.refusal.Refused.TheVariants.{NoMemory};
@@ -23,7 +23,7 @@ use std::alloc::{AllocError, Global};
 use token_server::server::Server;
 
 impl World {
-    /// Whether the token server of the file works.
+    /// Whether the token server of the file works: it was not declared failed, or started again since.
     pub(super) fn works(&self, file: u16) -> bool
         requires { is_within self.now.shape.files file ≡ true }
         ensures { result ≡ (world_state self.now).working file }
@@ -31,7 +31,7 @@ impl World {
         self.members.epoch(file).is_some()
     }
 
-    /// What comes of a failure of the file's token server.
+    /// The change by which the token server of the file is declared failed, or the refusal.
     pub(super) fn plan_failure(&self, file: u16) -> Result<Change, Refused>
         requires { is_within self.now.shape.files file ≡ true }
         ensures ok { IfOk result (λ change. Makes self.now (event.FailServer file) change (fail_rule (world_state self.now) file)) }
@@ -43,7 +43,8 @@ impl World {
         Ok(Change::Failed { file })
     }
 
-    /// The file's token server as it would begin again now, and what it asks first.
+    /// The token server of the file as it would begin again now, and the messages in which it asks the nodes for
+    /// their tokens.
     pub(super) fn next_server(
         &self,
         alloc: Global,
@@ -60,7 +61,7 @@ impl World {
         Ok((begun, outcome.sends))
     }
 
-    /// What comes of a start of the file's token server.
+    /// The change by which the token server of the file starts again, or the refusal.
     pub(super) fn plan_start(&self, alloc: Global, file: u16) -> Result<Change, Refused>
         requires { is_within self.now.shape.files file ≡ true }
         ensures ok { IfOk result (λ change. Makes self.now (event.StartServer file) change (start_rule (world_state self.now) file)) }
@@ -71,7 +72,7 @@ impl World {
         Ok(Change::Started { file, begun, sends })
     }
 
-    /// The token server of the file is declared failed.
+    /// Declares the token server of the file failed. Gives the entry.
     pub(super) fn fail(&mut self, alloc: Global, file: u16) -> Entry
         requires room { self.old.length < journal_limit }
         requires file { is_within self.old.shape.files file ≡ true }
@@ -87,7 +88,8 @@ impl World {
         Entry::at_node(Event::FailServer { file }, epoch, outcome, kept)
     }
 
-    /// The token server of the file begins again, as this one, and asks the nodes for their tokens.
+    /// Starts the token server of the file again, in this state, with the messages in which it asks the nodes for
+    /// their tokens. Gives the entry.
     pub(super) fn start(
         &mut self,
         alloc: Global,

@@ -24,16 +24,16 @@ use std::alloc::{AllocError, Global};
 use token_server::server::Server;
 
 impl World {
-    /// Whether the event names nodes, processes and files of the shape, a message that was sent to one
-    /// of its actors, or an incarnation that was declared failed. A message is looked for among all that were sent, until
-    /// one was taken by `World::step` or `Run::take`: then an index is made.
+    /// Whether the event names nodes, processes and files of the shape, a message that was sent to one of its actors,
+    /// or an incarnation that was declared failed. A message is looked for by a walk, until `World::step` or
+    /// `Run::take` took a first Deliver, which builds an index.
     pub fn knows(&self, event: &Event) -> bool
         ensures { result ≡ is_known (world_state self.now) event.now }
     {
         self.is_known(event)
     }
 
-    /// Whether the node is one of the shape, and that incarnation of it was declared failed.
+    /// Whether the shape has the node, and that incarnation of it was declared failed.
     pub fn has_declared(&self, node: u8, incarnation: u16) -> bool
         ensures { result ≡ (has_node (world_state self.now) node && was_declared (world_state self.now) node incarnation) }
     {
@@ -41,7 +41,7 @@ impl World {
             && self.was_declared(node, incarnation)
     }
 
-    /// Whether the file is one of the shape, and that epoch of its token server was declared failed.
+    /// Whether the shape has the file, and that epoch of its token server was declared failed.
     pub fn has_failed(&self, file: u16, epoch: u16) -> bool
         ensures { result ≡ (has_file (world_state self.now) file && has_failed (world_state self.now) file epoch) }
     {
@@ -56,7 +56,7 @@ impl World {
         self.members.failed(file, epoch)
     }
 
-    /// Whether the node with the number is alive, and in the same state as that one.
+    /// Whether the node with that number is alive, and its state equals this one.
     pub fn has_node(&self, number: u8, node: &Node) -> bool
         ensures { IsTrue result ↔ HasNode (world_state self.now) number (node_state node.now) }
     {
@@ -69,7 +69,7 @@ impl World {
         self.node(number).same(node)
     }
 
-    // The server of the file.
+    // The token server of the file.
     fn server(&self, file: u16) -> &Server
         requires { is_within self.now.shape.files file ≡ true }
         ensures { server_state result.now ≡ (world_state self.now).servers file }
@@ -77,7 +77,7 @@ impl World {
         &self.servers[file as usize - 1]
     }
 
-    /// Whether the server of the file works, and is in the same state as that one.
+    /// Whether the token server of the file works, and its state equals this one.
     pub fn has_server(&self, file: u16, server: &Server) -> bool
         ensures { IsTrue result ↔ HasServer (world_state self.now) file (server_state server.now) }
     {
@@ -87,7 +87,7 @@ impl World {
         self.works(file) && self.server(file).same(server)
     }
 
-    /// Whether the node may begin again now.
+    /// Whether the node may restart now.
     ///
     /// # Errors
     /// In this order: `JournalFull`, `Stranger`, `NotDead`, `TooManyRestarts`, as `step` says.
@@ -106,7 +106,7 @@ impl World {
         Ok(())
     }
 
-    /// The node as it begins again: one that was declared failed, and may restart.
+    /// The state in which the node begins again. It was declared failed, and may restart.
     ///
     /// # Errors
     /// `AllocError` where a request for memory was refused.
@@ -122,7 +122,8 @@ impl World {
         Ok(Box::new(alloc, first)?)
     }
 
-    /// The token server of the file as it would begin again now, and what it asks first.
+    /// The state in which the token server of the file would begin again now, and the messages in which it asks the
+    /// nodes for their tokens.
     ///
     /// # Errors
     /// Those of `step` at a start of the server.

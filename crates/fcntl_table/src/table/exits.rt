@@ -1,4 +1,4 @@
-//! Descriptors that are closed, processes that exit, hosts that are gone.
+//! Closes of descriptors, exits of processes, and failures of hosts, on the whole table.
 ghost use Rattle.std.specs.Prelude.{◌≡◌, true};
 ghost use Rattle.model.specs.Limits.{IsNumber, most_processes};
 ghost use Rattle.model.specs.Table.{is_running, descriptor, closed_if, exited, exited_if, gone};
@@ -11,8 +11,8 @@ use model::limits::MOST_PROCESSES;
 use model::process::Process;
 
 impl FcntlTable {
-    /// The node fails: every process of that incarnation exits. Where there can be no such node no
-    /// process runs, so nothing changes. Takes no memory.
+    /// Lets all processes of the node's incarnation exit, as where the node fails. If the numbers
+    /// are out of range no process runs, and nothing changes. Takes no memory.
     pub fn gone(&mut self, node: u8, incarnation: u16)
         ensures { table_of self.new ≡ gone (table_of self.old) node incarnation }
     {
@@ -22,7 +22,7 @@ impl FcntlTable {
         }
     }
 
-    // Nothing is kept of the host from now on, if no process runs on it.
+    // Removes the entry of the host, if no process of it runs.
     #[tactic(auto, unfolding(crate::specs::Tables::table_of))]
     fn forget_idle(&mut self, host: Host)
         ensures { table_of self.new ≡ table_of self.old }
@@ -30,7 +30,7 @@ impl FcntlTable {
         self.hosts.forget_idle(host);
     }
 
-    // Every process of the node exits.
+    // Lets each process of the host exit.
     fn exit_all(&mut self, host: Host)
         ensures { table_of self.new ≡ gone (table_of self.old) host.node host.incarnation }
     {
@@ -39,7 +39,7 @@ impl FcntlTable {
         }
     }
 
-    // The process exits, if it runs.
+    // Lets the process exit, if it runs.
     #[tactic(auto, unfolding(crate::specs::Tables::table_of))]
     fn exit_if(&mut self, host: Host, pid: u16)
         requires { IsNumber most_processes pid }
@@ -50,7 +50,7 @@ impl FcntlTable {
         }
     }
 
-    // The process, which runs, exits.
+    // Lets the process, which runs, exit.
     pub(super) fn exit_of(&mut self, process: Process)
         requires { is_running (table_of self.old) process ≡ true }
         ensures { table_of self.new ≡ exited (table_of self.old) process }
@@ -58,7 +58,7 @@ impl FcntlTable {
         self.exit_on(host_of(process), process.pid);
     }
 
-    // The descriptor of the process, which runs, is closed, if there is one.
+    // Closes the descriptor of the process, which runs, if it is open.
     pub(super) fn close_of(&mut self, process: Process, fd: u8)
         requires { is_running (table_of self.old) process ≡ true }
         ensures { table_of self.new ≡ closed_if (table_of self.old) process fd (descriptor (table_of self.old) process fd) }
@@ -66,7 +66,7 @@ impl FcntlTable {
         self.close_if(host_of(process), process.pid, fd);
     }
 
-    // The process exits.
+    // Lets the process of the host exit.
     #[tactic(auto, unfolding(crate::specs::Tables::table_of))]
     fn exit_on(&mut self, host: Host, pid: u16)
         requires number { IsNumber most_processes pid }
@@ -76,7 +76,7 @@ impl FcntlTable {
         self.hosts.exit(&mut self.locks, host, pid);
     }
 
-    // The descriptor of the process is closed, if there is one.
+    // Closes the descriptor of the host's process, if it is open.
     #[tactic(auto, unfolding(crate::specs::Tables::table_of))]
     fn close_if(&mut self, host: Host, pid: u16, fd: u8)
         requires number { IsNumber most_processes pid }

@@ -1,4 +1,4 @@
-//! A node takes a call of one of its processes.
+//! How a node takes a call of one of its processes, and how it retries one.
 ghost use Rattle.std.specs.Prelude.{◌≡◌, ◌≢◌, ◌+◌, ◌≤◌, ◌<◌, ◌↔◌, true, [], Ok, Err, IfOk, IfErr, IsTrue};
 ghost use Rattle.model.specs.Limits.{IsNumber, most_processes};
 ghost use Rattle.model.specs.Table.{target};
@@ -28,7 +28,7 @@ use model::owner::Kind;
 use model::reply::Reply;
 use std::alloc::{AllocError, Global};
 
-// Whether the process exits.
+// Whether the operation is an exit.
 fn is_exit(op: &Op) -> bool
     ensures { result ≡ is_exit op.now }
 {
@@ -39,7 +39,7 @@ fn is_exit(op: &Op) -> bool
 }
 
 impl Node {
-    // Whether the file and the process that the operation names are ones that there can be.
+    // Whether the file or the process that the operation names is in range.
     #[tactic(auto, unfolding(crate::specs::Parts::node_state))]
     fn is_in_shape(&self, op: &Op) -> bool
         ensures { result ≡ is_in_shape (node_state self.now).shape op.now }
@@ -51,7 +51,7 @@ impl Node {
         }
     }
 
-    // Whether the process waits for an answer, and so may not make the call.
+    // Whether the process waits for a reply, and so may not make the call.
     #[tactic(auto, unfolding(crate::specs::Parts::node_state))]
     fn is_busy(&self, pid: u16, op: &Op) -> bool
         ensures { result ≡ is_busy (node_state self.now) pid op.now }
@@ -67,7 +67,7 @@ impl Node {
         self.calls == u32::MAX
     }
 
-    // The number that the next call takes.
+    // The number of the next call.
     #[tactic(auto, unfolding(crate::specs::Parts::node_state))]
     pub(super) fn next_number(&self) -> u32
         requires { (node_state self.now).calls < greatest_number }
@@ -76,7 +76,8 @@ impl Node {
         self.calls + 1
     }
 
-    // What the call makes of the processes, and its reply.
+    // The change of the processes by a call that concerns only processes and descriptors, and its
+    // reply.
     fn plan_process(&self, pid: u16, call: ProcessCall) -> Result<(TableEdit, Reply), AllocError>
         requires number { CanBegin pid call }
         requires file { NamesFile (node_state self.now).shape.files call }
@@ -113,7 +114,7 @@ impl Node {
         target_at(self.process(pid), need, kind, opened, segment)
     }
 
-    // The call is answered in its own step, with that change of the table.
+    // Answers a new call in its own step, with that change of the table.
     pub(super) fn answer_call(&self, alloc: Global, table: TableEdit, reply: Reply) -> Effect
         requires left { (node_state self.now).calls < greatest_number }
         requires table { TableFits self.now table }
@@ -124,7 +125,7 @@ impl Node {
         self.answer(alloc, Draft::of_call(), table, self.next_number(), reply)
     }
 
-    // A call that is about processes and descriptors alone is answered.
+    // Answers a new call that concerns only processes and descriptors.
     fn call_process(&self, alloc: Global, pid: u16, call: ProcessCall) -> Result<Effect, AllocError>
         requires left { (node_state self.now).calls < greatest_number }
         requires number { CanBegin pid call }
@@ -136,7 +137,7 @@ impl Node {
         Ok(self.answer_call(alloc, table, reply))
     }
 
-    // A call about a lock that passes its first tests is open, and is tried.
+    // Opens and tries a new lock call, if it passes its first tests; else answers it.
     fn call_lock(
         &self,
         alloc: Global,
@@ -169,7 +170,7 @@ impl Node {
         }
     }
 
-    // The bytes are freed, if the call passes its first tests.
+    // Frees the bytes of a new call, if it passes its first tests, and answers it.
     fn call_unlock(
         &self,
         alloc: Global,
@@ -188,7 +189,8 @@ impl Node {
         }
     }
 
-    // Bytes are locked, at once or when no lock is in the way any more, if the call passes its first tests.
+    // Opens and tries a new call that sets a lock, now or as soon as no lock is in the way, if it
+    // passes its first tests.
     fn call_set(&self, alloc: Global, pid: u16, op: &Op) -> Result<Effect, AllocError>
         requires left { (node_state self.now).calls < greatest_number }
         requires pid { IsNumber most_processes pid }
@@ -221,7 +223,7 @@ impl Node {
         }
     }
 
-    // The call takes the next number: all but set, wait and query are answered in the same step.
+    // Takes a new call: all but set, wait and query are answered in the same step.
     fn call(&self, alloc: Global, pid: u16, op: &Op) -> Result<Effect, AllocError>
         requires left { (node_state self.now).calls < greatest_number }
         requires pid { IsNumber most_processes pid }
@@ -258,7 +260,7 @@ impl Node {
         }
     }
 
-    // A process makes a call. A process has at most one open call.
+    // Plans the step of a process's call, if the process has no open call or exits.
     pub(super) fn plan_call(&self, alloc: Global, pid: u16, op: &Op) -> Result<Change, StepError>
         ensures ok { IfOk result (λ change. call_rule (node_state self.now) pid op.now ≡ Ok (planned self.now change.edit, change.outcome)) }
         ensures err { IfErr result (λ error. error ≢ StepError.NoMemory → call_rule (node_state self.now) pid op.now ≡ Err error) }
@@ -278,7 +280,7 @@ impl Node {
         Ok(effect.change(Some(self.id(self.next_number()))))
     }
 
-    // The open call of the process is tried again, with its own number.
+    // Plans the step that tries the open call of the process again, with its own number.
     pub(super) fn plan_retry(&self, alloc: Global, pid: u16) -> Result<Change, StepError>
         ensures ok { IfOk result (λ change. retry_rule (node_state self.now) pid ≡ Ok (planned self.now change.edit, change.outcome)) }
         ensures err { IfErr result (λ error. error ≢ StepError.NoMemory → retry_rule (node_state self.now) pid ≡ Err error) }

@@ -1,4 +1,4 @@
-//! A node takes a message of a token server.
+//! How a node takes a message of a token server.
 ghost use Rattle.std.specs.Prelude.{◌≡◌, ◌≢◌, ◌==◌, ◌+◌, true, false, Some, Ok, Err, IfOk, IfErr, IfSome};
 ghost use Rattle.model.specs.Limits.{IsNumber};
 ghost use Rattle.token_set.specs.Releases.{gave_up};
@@ -31,7 +31,8 @@ use std::alloc::{AllocError, Global};
 use token_set::gave_up::GaveUp;
 
 impl Node {
-    // What the node knows of the file, in the epoch of that number.
+    // The change by which the node enters the epoch of a command with that number, at the command's
+    // file.
     fn enter(&self, file: u16, number: u64) -> FileEdit
         requires { IsNumber (node_state self.now).shape.files file }
         ensures state { drafted self.now (record { numbered = false; command = Some result }) ≡ in_epoch (node_state self.now) file number }
@@ -42,7 +43,7 @@ impl Node {
         self.file(file).plan_renewal(file, number)
     }
 
-    // With that known of its file, the node sends the answer to the last command again.
+    // Sends the answer to the last command again, after the file is changed to `known`.
     fn remembered(&self, alloc: Global, known: FileEdit) -> Result<Effect, AllocError>
         requires { CommandFits (node_state self.now).shape.files (Some known) }
         ensures value { IfOk result (λ effect. remembered (drafted self.now (record { numbered = false; command = Some known })) (answer_of known.answer) ≡ effect_of self.now effect) }
@@ -56,7 +57,7 @@ impl Node {
         }
     }
 
-    // Whether the command is the one after the last that was done, in its epoch.
+    // Whether the command is the one after the last one that was done, in its epoch.
     fn is_next(&self, command: &Command) -> bool
         requires { IsNumber (node_state self.now).shape.files command.now.file }
         ensures { result ≡ (command.now.number == ((in_epoch (node_state self.now) command.now.file command.now.number).files command.now.file).last + 1) }
@@ -65,7 +66,8 @@ impl Node {
         number - 1 == self.enter(command.file.get(), number).last
     }
 
-    // A command that is not the next one: the last one done is answered again, others do nothing.
+    // Takes a command that isn't the next one: the last one that was done is answered again, any
+    // other does nothing.
     fn on_out_of_order(&self, alloc: Global, command: &Command) -> Result<Effect, AllocError>
         requires { IsNumber (node_state self.now).shape.files command.now.file }
         ensures value { IfOk result (λ effect. out_of_order (in_epoch (node_state self.now) command.now.file command.now.number) command.now.file command.now.number ≡ effect_of self.now effect) }
@@ -79,7 +81,8 @@ impl Node {
         self.remembered(alloc, known)
     }
 
-    // The token is raised, the command is done, and the answer to it is remembered.
+    // Plans what a grant changes: the token is raised, the command is done, and its answer is
+    // remembered.
     fn raise(&self, command: &Command, span: Span) -> Result<Draft, AllocError>
         requires { IsNumber (node_state self.now).shape.files command.now.file }
         ensures state { IfOk result (λ draft. drafted self.now draft ≡ after_grant (node_state self.now) command.now span) }
@@ -90,8 +93,8 @@ impl Node {
         Ok(Draft::of_command(edit))
     }
 
-    // A grant that is the next command: the token is raised, and the call that it was for is tried if it
-    // is still open.
+    // Takes a grant. If it is the next command the token is raised, and the call that it is for is
+    // tried if it is still open.
     fn grant(&self, alloc: Global, command: &Command, span: Span) -> Result<Effect, AllocError>
         requires { IsNumber (node_state self.now).shape.files command.now.file }
         ensures value { IfOk result (λ effect. in_order (in_epoch (node_state self.now) command.now.file command.now.number) command.now.file command.now.number (granted (in_epoch (node_state self.now) command.now.file command.now.number) command.now.file command.now.number command.now.call command.now.mode span) ≡ effect_of self.now effect) }
@@ -106,12 +109,12 @@ impl Node {
         effect.after(alloc, command.taken().message())
     }
 
-    // What the node gives up: bytes around those that are required, or nothing, with the lock in the way.
-    // Takes no memory.
+    // The answer to a revoke: a span around the required bytes that is given up, or a lock in the
+    // way. Takes no memory.
     fn gives(&self, command: &Command, wanted: Wanted) -> GaveUp
         ensures { result ≡ gave_up ((node_state self.now).table.locks command.now.file) (node_state self.now).node (node_state self.now).incarnation command.now.mode wanted.required wanted.desired }
     {
-        let _ = &wanted.required.lo; // tells the proof what each span keeps
+        let _ = &wanted.required.lo; // tells the proof that each span has a byte
         let file = command.file.get();
         GaveUp::by_locks(
             &self.locks,
@@ -122,8 +125,8 @@ impl Node {
         )
     }
 
-    // The token is given up as far as no lock is in the way, the command is done, and the answer to
-    // it is remembered.
+    // Plans what a revoke changes: the token is given up as far as no lock is in the way, the
+    // command is done, and its answer is remembered.
     fn give_up(&self, command: &Command, wanted: Wanted) -> Result<(GaveUp, Draft), AllocError>
         requires { IsNumber (node_state self.now).shape.files command.now.file }
         ensures answer { IfOk result (λ r. r.0 ≡ gave_up ((node_state self.now).table.locks command.now.file) (node_state self.now).node (node_state self.now).incarnation command.now.mode wanted.required wanted.desired) }
@@ -136,8 +139,8 @@ impl Node {
         Ok((gives, Draft::of_command(edit)))
     }
 
-    // A revoke that is the next command: the token is given up as far as no lock is in the way, and the
-    // answer is sent.
+    // Takes a revoke. If it is the next command the token is given up as far as no lock is in the
+    // way, and the answer is sent.
     fn revoke(&self, alloc: Global, command: &Command, wanted: Wanted) -> Result<Effect, AllocError>
         requires { IsNumber (node_state self.now).shape.files command.now.file }
         ensures value { IfOk result (λ effect. in_order (in_epoch (node_state self.now) command.now.file command.now.number) command.now.file command.now.number (revoked (in_epoch (node_state self.now) command.now.file command.now.number) command.now.file command.now.number command.now.call command.now.mode wanted) ≡ effect_of self.now effect) }
@@ -154,7 +157,7 @@ impl Node {
         )
     }
 
-    // The node's token for the file, as it reports it to a server that was rebuilt.
+    // The report of the node's token for the file to a rebuilt server.
     fn report(
         &self,
         alloc: Global,
@@ -172,8 +175,8 @@ impl Node {
         })
     }
 
-    // A server that was rebuilt hears which token the node has, as long as no command of its epoch is
-    // done.
+    // Takes a hello: the node reports its token to the rebuilt server, as long as it has done no
+    // command of the server's epoch.
     fn tell(
         &self,
         alloc: Global,
@@ -193,8 +196,8 @@ impl Node {
         Effect::sent(alloc, edit, self.report(alloc, file, number)?)
     }
 
-    // A call that may be open no longer is answered with the lock in its way; one that waits stays
-    // open.
+    // Takes a denial: the call, if it is still open, is answered with the lock in its way, unless
+    // it is a wait.
     fn deny(&self, alloc: Global, call: Option<OpenCall>, lock: LockInfo) -> Effect
         requires { IfSome call (IsCallOf (node_state self.now)) }
         ensures value { denied (node_state self.now) lock call ≡ effect_of self.now result }
@@ -217,7 +220,7 @@ impl Node {
         is_within(self.shape.files(), message.file())
     }
 
-    // Whether the message is for this incarnation.
+    // Whether the message is for this incarnation of the node.
     #[tactic(auto, unfolding(crate::specs::Parts::node_state))]
     fn is_for_now(&self, message: &Message) -> bool
         ensures { result ≡ ((host_of message.now).incarnation == (node_state self.now).incarnation) }
@@ -225,7 +228,7 @@ impl Node {
         message.host().incarnation == self.incarnation
     }
 
-    // A message that is for this node and this incarnation.
+    // Takes a message that is for this node in this incarnation.
     fn deliver(&self, alloc: Global, message: &Message) -> Result<Effect, AllocError>
         requires { is_within (node_state self.now).shape.files (file_of message.now) ≡ true }
         ensures value { IfOk result (λ effect. delivered (node_state self.now) message.now ≡ effect_of self.now effect) }
@@ -256,7 +259,7 @@ impl Node {
         }
     }
 
-    // What a message does. One for another incarnation of the node does nothing.
+    // Plans the step of a message. A message for another incarnation of the node does nothing.
     pub(super) fn plan_message(&self, alloc: Global, message: &Message) -> Result<Change, StepError>
         ensures ok { IfOk result (λ change. deliver_rule (node_state self.now) message.now ≡ Ok (planned self.now change.edit, change.outcome)) }
         ensures err { IfErr result (λ error. error ≢ StepError.NoMemory → deliver_rule (node_state self.now) message.now ≡ Err error) }

@@ -1,4 +1,4 @@
-//! A node interrupts the wait of a process.
+//! How a node interrupts the wait of a process.
 ghost use Rattle.std.specs.Prelude.{◌≡◌, Ok, Err, IfOk, IfErr, IfSome};
 ghost use Rattle.node_core.specs.Interrupts.{interrupted, interrupt_rule};
 ghost use Rattle.node_core.specs.Parts.{node_state, IsCallOf};
@@ -14,7 +14,7 @@ use messages::refusal::StepError;
 use std::alloc::Global;
 
 impl Node {
-    // A call that waits is answered, and open no longer; to another, or to none, nothing happens.
+    // Answers a wait, which is open no longer; nothing happens to any other call.
     fn interrupt(&self, alloc: Global, call: Option<OpenCall>) -> Effect
         requires { IfSome call (IsCallOf (node_state self.now)) }
         ensures value { interrupted (node_state self.now) call ≡ effect_of self.now result }
@@ -26,7 +26,7 @@ impl Node {
         }
     }
 
-    // The wait of the process is interrupted. Takes no memory.
+    // Plans the step that interrupts the wait of the process. Takes no memory.
     pub(super) fn plan_interrupt(&self, alloc: Global, pid: u16) -> Result<Change, StepError>
         ensures ok { IfOk result (λ change. interrupt_rule (node_state self.now) pid ≡ Ok (planned self.now change.edit, change.outcome)) }
         ensures err { IfErr result (λ error. interrupt_rule (node_state self.now) pid ≡ Err error) }

@@ -1,4 +1,4 @@
-//! A node takes a call by which a process closes descriptors.
+//! How a node takes a call that closes descriptors.
 ghost use Rattle.std.specs.Prelude.{◌≡◌, ◌<◌, ◌+◌, if◌then◌else◌, [], All, IfOk};
 ghost use Rattle.descriptors.specs.Rows.{processes};
 ghost use Rattle.model.specs.Limits.{IsNumber, most_processes};
@@ -19,7 +19,7 @@ use model::reply::Reply;
 use std::alloc::{AllocError, Global};
 
 impl Node {
-    // The exit is answered with that change of the table; no call of the process is open any longer.
+    // Answers an exit, with that change of the table; no call of the process stays open.
     fn answer_exit(&self, alloc: Global, pid: u16, table: TableEdit, reply: Reply) -> Effect
         requires left { (node_state self.now).calls < greatest_number }
         requires table { TableFits self.now table }
@@ -36,8 +36,8 @@ impl Node {
         Effect::answered(alloc, edit, self.id(number), reply)
     }
 
-    // The descriptor is closed, and the call is answered; the server of its file hears that locks may
-    // be gone.
+    // Closes the descriptor and answers the call. If a Freed is owed for the descriptor's file, it
+    // is sent.
     pub(super) fn call_close(&self, alloc: Global, pid: u16, fd: u8) -> Result<Effect, AllocError>
         requires left { (node_state self.now).calls < greatest_number }
         requires pid { IsNumber most_processes pid }
@@ -53,8 +53,7 @@ impl Node {
         }
     }
 
-    // The server of the file hears that locks may be gone, if the process has it open and a lock was
-    // named to it.
+    // Sends a Freed for the file, if the process has the file open and a Freed is owed.
     fn tell_if_open(&self, pid: u16, file: u16, effect: Effect) -> Result<Effect, AllocError>
         requires file { IsNumber (node_state self.now).shape.files file }
         requires fits { PartsFit self.now effect.edit }
@@ -72,7 +71,8 @@ impl Node {
         self.tell_freed(file, effect)
     }
 
-    // The servers of the files that the process has open hear that locks may be gone, by rising files.
+    // Sends a Freed for each file that the process has open and for which one is owed, by rising
+    // file numbers.
     fn tell_open(&self, pid: u16, effect: Effect) -> Result<Effect, AllocError>
         requires fits { PartsFit self.now effect.edit }
         requires first { effect.edit.freed ≡ [] }
@@ -86,8 +86,8 @@ impl Node {
         Ok(told)
     }
 
-    // The process exits, and the call is answered, and no other call of the process will be; the servers
-    // of the files that it has open hear that locks may be gone.
+    // Lets the process exit and answers the call; no other call of the process stays open. A Freed
+    // is sent for each file that the process had open and for which one is owed.
     pub(super) fn call_exit(&self, alloc: Global, pid: u16) -> Result<Effect, AllocError>
         requires left { (node_state self.now).calls < greatest_number }
         requires pid { IsNumber most_processes pid }

@@ -1,4 +1,4 @@
-//! A node tries an open call about a lock.
+//! How a node tries an open lock call.
 ghost use Rattle.std.specs.Prelude.{◌≡◌, ◌≤◌, ◌<◌, ◌+◌, false, Ok, [], All, IfOk, IfSome};
 ghost use Rattle.model.specs.Limits.{IsNumber};
 ghost use Rattle.model.specs.Locks.{lowest_blocker};
@@ -40,7 +40,8 @@ impl Node {
             .blocker(call.owner, call.file, call.span, call.mode)
     }
 
-    // Whether the server of the file is owed a Freed, with the draft: a lock was named to it.
+    // Whether a Freed is owed for the file after the draft: one of the node's locks was named in
+    // the way.
     pub(super) fn owes_freed(&self, draft: &Draft, file: u16) -> bool
         requires { IsNumber (node_state self.now).shape.files file }
         ensures { result ≡ ((drafted self.now draft.now).files file).owes_freed }
@@ -52,7 +53,7 @@ impl Node {
         }
     }
 
-    // Whether the node's token covers the call, with the draft.
+    // Whether the node's token covers the call after the draft.
     fn is_covered(&self, draft: &Draft, call: &OpenCall) -> Result<bool, AllocError>
         requires { IsCallOf (node_state self.now) call.now }
         ensures { IfOk result (λ yes. yes ≡ covers ((drafted self.now draft.now).files call.now.file).token call.now.span call.now.mode) }
@@ -68,7 +69,7 @@ impl Node {
         }
     }
 
-    // The bytes that the call needs, and those that the node asks for with them, by its token.
+    // The bytes that the call needs, and the ones that the node requests with them, by this token.
     fn wanted_by(&self, token: &TokenSet, call: &OpenCall) -> Wanted
         requires { IsCallOf (node_state self.now) call.now }
         ensures { result ≡ record { required = call.now.span; desired = desired (node_state self.now).shape.policy (token_of token.now) call.now.span } }
@@ -76,7 +77,8 @@ impl Node {
         Wanted::new(call.span, desired(self.shape.policy(), call.span, token))
     }
 
-    // The same by its token with the draft.
+    // The bytes that the call needs, and the ones that the node requests with them, by its token
+    // after the draft.
     fn wanted(&self, draft: &Draft, call: &OpenCall) -> Result<Wanted, AllocError>
         requires { IsCallOf (node_state self.now) call.now }
         ensures { IfOk result (λ wanted. wanted ≡ record { required = call.now.span; desired = desired (node_state self.now).shape.policy ((drafted self.now draft.now).files call.now.file).token call.now.span }) }
@@ -91,7 +93,7 @@ impl Node {
         }
     }
 
-    // A new call is open from now on; other calls stay as they are.
+    // Plans that a new call is open from now on; a call that is open already stays so.
     fn keep_open(&self, draft: &Draft, call: &OpenCall) -> Result<CallsEdit, AllocError>
         requires { IsCallOf (node_state self.now) call.now }
         ensures value { IfOk result (λ edit. pending_after (node_state self.now).pending edit ≡ opened_if draft.now.numbered (node_state self.now).pending call.now) }
@@ -103,7 +105,7 @@ impl Node {
         Ok(CallsEdit::Put(*call, self.pending.room()?))
     }
 
-    // The token does not cover the call: the server is asked.
+    // Sends a request to the server for a call that the token doesn't cover.
     fn request(&self, alloc: Global, draft: Draft, call: &OpenCall) -> Result<Effect, AllocError>
         requires own { IsCallOf (node_state self.now) call.now }
         requires draft { DraftFits self.now draft }
@@ -125,7 +127,7 @@ impl Node {
         Effect::sent(alloc, edit, request)
     }
 
-    // The call is answered with that change of the table, and open no longer.
+    // Answers the call, with that change of the table; it is open no longer.
     pub(super) fn answer(
         &self,
         alloc: Global,
@@ -149,7 +151,7 @@ impl Node {
         Effect::answered(alloc, edit, self.id(number), reply)
     }
 
-    // A call that is open already is answered, or stays open.
+    // Answers a call that is open already, if there is a reply; else it stays open.
     pub(super) fn answer_if(&self, alloc: Global, number: u32, reply: Option<Reply>) -> Effect
         requires { 1 ≤ number }
         ensures value { answered_if (node_state self.now) number reply ≡ effect_of self.now result }
@@ -161,7 +163,8 @@ impl Node {
         }
     }
 
-    // A lock of the node is in the way: the call is answered, or is open from then on.
+    // Answers a call that one of the node's locks blocks, if there is a refusal; else it is open
+    // from then on.
     fn refuse(
         &self,
         alloc: Global,
@@ -185,8 +188,8 @@ impl Node {
         Ok(Effect::quiet(alloc, edit))
     }
 
-    // What locks or frees the bytes, unless their owner would have too many regions, and the reply. That
-    // there would be too many is told without memory.
+    // The change that locks or frees the bytes, unless their owner would have too many regions, and
+    // the reply. The reply `NoLocks` takes no memory.
     #[tactic(auto, unfolding(crate::specs::Parts::node_state))]
     fn plan_lock(
         &self,
@@ -208,7 +211,7 @@ impl Node {
         }
     }
 
-    // Tells the server of the file that locks of the node may be gone.
+    // The message that says that locks of the node may be gone.
     fn freed(&self, file: u16) -> Message
         requires { IsNumber (node_state self.now).shape.files file }
         ensures { result ≡ Freed file (host (node_state self.now)) }
@@ -219,8 +222,8 @@ impl Node {
         }
     }
 
-    // The server of the file, which comes after those that hear already, hears that locks may be gone,
-    // where one was named to it.
+    // Sends a Freed for the file, if one is owed. The files of the effect so far have lower
+    // numbers.
     pub(super) fn tell_freed(&self, file: u16, effect: Effect) -> Result<Effect, AllocError>
         requires file { IsNumber (node_state self.now).shape.files file }
         requires fits { PartsFit self.now effect.edit }
@@ -235,8 +238,8 @@ impl Node {
         effect.before(file, self.freed(file))
     }
 
-    // The bytes are set to the mode or freed, and the call is answered; the server hears of it where
-    // that may help others.
+    // Sets or frees the bytes and answers the call. A Freed is sent if one is owed and other nodes'
+    // calls may be helped.
     pub(super) fn lock(
         &self,
         alloc: Global,
@@ -261,7 +264,7 @@ impl Node {
         self.tell_freed(target.file, effect)
     }
 
-    // The node's own table answers.
+    // Answers the call by the node's own table.
     fn answer_here(
         &self,
         alloc: Global,
@@ -291,8 +294,9 @@ impl Node {
         }
     }
 
-    // The node's own locks of other owners are asked first, then its token, and then the server. A new
-    // call that has no answer is open from then on.
+    // Tries a call: first against the node's own locks of other owners, then by its token; if that
+    // doesn't cover it, by a request to the server. A new call without a reply is open from then
+    // on.
     pub(super) fn try_call(
         &self,
         alloc: Global,
@@ -313,7 +317,7 @@ impl Node {
         self.request(alloc, draft, call)
     }
 
-    // A call that may be open no longer is tried.
+    // Tries a call, if it is still open.
     pub(super) fn try_if(
         &self,
         alloc: Global,

@@ -1,4 +1,4 @@
-//! Requests that come from the queue of a token server.
+//! The admission of requests from the queue of a token server.
 ghost use Rattle.std.specs.Prelude.{◌≡◌, ◌+◌, ◌<◌, ◌≤◌, ◌++◌, ◌∷◌, [], true, false, ◌&&◌, ◌||◌, take, length, Some, IfOk};
 ghost use Rattle.token_queue.specs.Requests.{meets, requests_in};
 ghost use Rattle.token_queue.specs.Actives.{requests_of};
@@ -20,8 +20,8 @@ use token_queue::line::Line;
 use token_queue::token_request::TokenRequest;
 
 impl Server {
-    // The requests that come from the queue once requests were dropped, one is served no longer and requests
-    // moved, in order: none while a node has not told its token.
+    // The requests that are admitted from the queue, in order, after the removals and moves of a step. None while a
+    // node has not reported its token.
     pub(super) fn admit(
         &self,
         alloc: Global,
@@ -50,7 +50,7 @@ impl Server {
     }
 }
 
-// Whether the request needs a byte of one that is served on.
+// Whether the request needs a byte of an active one that stays active.
 fn meets_served(held: &[Held], gone: &Gone, request: &TokenRequest) -> bool
     ensures { result ≡ meets_some request.now (served_on gone.now held.now) }
 {
@@ -59,7 +59,7 @@ fn meets_served(held: &[Held], gone: &Gone, request: &TokenRequest) -> bool
         .any(|held| gone.keeps_meeting(&held.request, span))
 }
 
-// Whether the request needs a byte of one that stands in the slots and is not dropped.
+// Whether the request needs a byte of a request in the slots that is not dropped.
 fn meets_left(slots: &[Option<TokenRequest>], gone: &Gone, request: &TokenRequest) -> bool
     ensures { result ≡ meets_some request.now (left_in gone.now slots.now) }
 {
@@ -75,8 +75,7 @@ pub(super) fn needs_all_of(request: &TokenRequest, span: Span) -> bool
     required.lo <= span.lo && span.hi <= required.hi
 }
 
-// Whether the request stays in the queue: it needs a byte of one that is served on, or of one that stands before
-// it.
+// Whether the request stays queued: it needs a byte of one that stays active, or of one before it in the queue.
 fn must_stay(
     held: &[Held],
     gone: &Gone,
@@ -90,7 +89,7 @@ fn must_stay(
         || (meets_left(front, gone, request) || meets_left(before, gone, request))
 }
 
-// One slot more: the request that stands there comes, unless it is dropped or has to stay.
+// Takes one slot more: admits its request, unless the request is dropped or stays queued.
 fn admit_slot(
     fresh: &mut Vec<TokenRequest>,
     held: &[Held],
@@ -114,7 +113,7 @@ fn admit_slot(
     Ok(())
 }
 
-// Those of the slots that come, behind those in the slots in front.
+// Takes all slots in order, behind those in `front`.
 fn admit_each(
     fresh: &mut Vec<TokenRequest>,
     held: &[Held],
@@ -132,8 +131,9 @@ fn admit_each(
     Ok(())
 }
 
-// One slot more of a queue that had settled, once a request is served no longer: only what needs a byte of that
-// one can come. Whether all behind it stay, for it needs all that the one needed.
+// Takes one slot more of a settled queue, in which each request stayed, after an active request ended. Only a request
+// that needs a byte of the ended one can be admitted. Answers whether all behind the slot stay, because its request
+// needs all that the ended one needed.
 fn admit_next(
     fresh: &mut Vec<TokenRequest>,
     held: &[Held],
@@ -163,7 +163,7 @@ fn admit_next(
     Ok(needs_all_of(request, freed))
 }
 
-// Those that come of a queue that had settled, once a request is served no longer.
+// Takes all slots of a settled queue, in which each request stayed, after an active request ended.
 fn admit_freed(
     fresh: &mut Vec<TokenRequest>,
     held: &[Held],
@@ -183,7 +183,7 @@ fn admit_freed(
     Ok(())
 }
 
-// Those that come of a queue, which had settled or not, once requests were dropped and one is served no longer.
+// Takes all slots of the queue, settled or not, after requests were dropped and an active request ended.
 fn admit_queued(
     fresh: &mut Vec<TokenRequest>,
     gone: &Gone,
@@ -209,7 +209,7 @@ fn admit_queued(
     admit_freed(fresh, active.as_slice(), call, &ended, queue.slots())
 }
 
-// The request that comes last in the queue comes from there, unless it has to stay.
+// Admits the request that moves to the end of the queue, unless it has to stay there.
 fn admit_last(
     fresh: &mut Vec<TokenRequest>,
     gone: &Gone,
@@ -228,7 +228,7 @@ fn admit_last(
     Ok(())
 }
 
-// Those of the requests that move to the end of the queue that come from there.
+// Admits those of the requests that move to the end of the queue that need not stay there.
 fn admit_moved(
     fresh: &mut Vec<TokenRequest>,
     gone: &Gone,

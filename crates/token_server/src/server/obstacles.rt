@@ -1,4 +1,4 @@
-//! What stands in the way of the requests that a token server serves.
+//! The nodes whose rows the active requests of a token server wait for.
 ghost use Rattle.std.specs.Prelude.{◌≡◌, ◌≤◌, ◌↔◌, true, false, not, ◌&&◌, ◌||◌, ◌==◌, All, length, drop, IsSome, IfOk, IfSome, Option, Some};
 ghost use Rattle.intervals.specs.Bytes.{Range};
 ghost use Rattle.model.specs.Limits.{IsNumber, most_nodes};
@@ -24,7 +24,7 @@ use token_queue::held::Held;
 use token_queue::token_request::TokenRequest;
 
 impl Server {
-    // Whether the row of another node conflicts with what the request needs.
+    // Whether the row of another node conflicts with the bytes that the request needs.
     fn stands_in_way<'a>(
         &'a self,
         rows: &'a Option<RowEdit>,
@@ -43,7 +43,7 @@ impl Server {
         }
     }
 
-    // The least other node whose row conflicts with what the request needs.
+    // The least other node whose row conflicts with the bytes that the request needs, if there is one.
     fn conflicting_node(&self, rows: &Option<RowEdit>, request: &TokenRequest) -> Option<u8>
         ensures node_in { IfSome result (λ node. IsNumber self.now.shape.nodes node × IsNumber most_nodes node) }
         ensures within { IsSome result ↔ (conflicting_node (reached self.now rows.now) request.now ≤ self.now.shape.nodes) }
@@ -57,7 +57,8 @@ impl Server {
         None
     }
 
-    // The node whose row a request waits for. No row stands in a reader's way where none has an exclusive byte.
+    // The node whose row the request waits for: the node that blocks it, or else its own. `readable` says that no row
+    // has an exclusive byte, so that none blocks a reader.
     fn obstacle(&self, rows: &Option<RowEdit>, readable: bool, request: &TokenRequest) -> u8
         requires { readable ≡ true → NoneExclusive (reached self.now rows.now).rows }
         ensures { result ≡ obstacle (reached self.now rows.now) request.now }
@@ -81,7 +82,8 @@ impl Server {
             .is_some_and(|row| row.commands.incarnation() <= incarnation)
     }
 
-    // Whether it is known at once that no request waits for another row than before.
+    // Whether a quick look says that every active request waits for the same row after the change. `false` says
+    // nothing.
     fn frees_none(&self, changed: &Changed) -> bool
         requires { IsNumber self.now.shape.nodes changed.now.node }
         ensures { result ≡ true → (s : Range) → frees changed.now.change (rows_of self.now.known_nodes changed.now.node) s ≡ false }
@@ -94,7 +96,7 @@ impl Server {
         }
     }
 
-    // How many of the requests that are served stand up to the last one that may wait for another row than before.
+    // The number of active requests up to the last one that may wait for another row after the change.
     fn freed_up_to(&self, changed: &Changed) -> usize
         requires { IsNumber self.now.shape.nodes changed.now.node }
         ensures within { result ≤ length self.now.active.held }
@@ -117,8 +119,8 @@ impl Server {
         many
     }
 
-    // The nodes whose rows the requests that are served wait for once rows changed, in order, up to the last request
-    // that may wait for another one than before.
+    // The nodes whose rows the active requests wait for after the rows changed, in order, up to the last request that
+    // may wait for another row than before.
     pub(super) fn awaited(
         &self,
         alloc: Global,
@@ -143,7 +145,7 @@ impl Server {
         Ok(ats)
     }
 
-    // The node whose row a request that is served waits for once rows changed.
+    // The node whose row the active request waits for after the rows changed.
     fn at_after(&self, rows: &Option<RowEdit>, readable: bool, changed: &Changed, held: &Held) -> u8
         requires readable { readable ≡ true → NoneExclusive (reached self.now rows.now).rows }
         requires rows { rows_overlaid self.now.known_nodes rows.now ≡ rows_after (Some changed.now) (rows_of self.now.known_nodes) }
@@ -157,7 +159,7 @@ impl Server {
         held.at
     }
 
-    // Requests that are to be served, each with the node whose row it waits for.
+    // The requests that become active, each with the node whose row it waits for.
     pub(super) fn hold(
         &self,
         alloc: Global,
@@ -180,8 +182,7 @@ impl Server {
     }
 }
 
-// Whether bytes that a request needs may stand in the way no longer, once a row changes so: it is not asked here
-// which row that is.
+// Whether the change may free bytes that the request needs. It is not asked here which row blocks the request.
 fn may_free(change: &NodeChange, request: &TokenRequest) -> bool
     ensures { result ≡ false → (row : Option Row) → frees change.now row request.now.wanted.required ≡ false }
 {
@@ -193,8 +194,8 @@ fn may_free(change: &NodeChange, request: &TokenRequest) -> bool
     }
 }
 
-// Whether a request that is served may wait for another row than before: the row that changes is the one for which
-// it waits, or may come to stand in its way.
+// Whether the active request may wait for another row after the change: the row that changes is the one that it waits
+// for, or may come to block it.
 fn may_be_freed(changed: &Changed, held: &Held) -> bool
     ensures { result ≡ false → (row : Option Row) → may_turn changed.now row held.now ≡ false }
 {
@@ -202,7 +203,7 @@ fn may_be_freed(changed: &Changed, held: &Held) -> bool
         && may_free(&changed.change, &held.request)
 }
 
-// Whether the request needs all bytes that a node gave up: then no other one that is served needs any of them.
+// Whether the request needs all bytes that the node gave up: then no other active request needs any of them.
 fn takes_all(change: &NodeChange, request: &TokenRequest) -> bool
     ensures { result ≡ true → (row : Option Row) → (s : Range) → meets request.now.wanted.required s ≡ false → frees change.now row s ≡ false }
 {

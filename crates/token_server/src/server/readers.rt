@@ -1,4 +1,5 @@
-//! What a token server holds, as lists.
+//! The readers of a token server: what it holds, as lists. A function here that gives a `Result` answers `AllocError`
+//! where a request for memory was refused.
 ghost use Rattle.std.specs.Prelude.{◌≡◌, false, All, IfOk, MatchOption, map, is_some, None};
 ghost use Rattle.token_queue.specs.Requests.{requests_in};
 ghost use Rattle.token_queue.specs.Actives.{requests_of};
@@ -16,9 +17,9 @@ use token_queue::held::Held;
 use token_queue::token_request::TokenRequest;
 
 impl Server {
-    /// The requests that are served, in the order in which they came to be, each with the node whose row it
-    /// waits for: the least other node whose token is in the way, which is told to give it up, or else its own,
-    /// which is told that it has the bytes. Takes no memory.
+    /// The active requests, in the order in which they became active, each with the node whose row it waits for: the
+    /// least other node whose token conflicts, which is to give up bytes, or else its own node, which is to take the
+    /// grant. Takes no memory.
     pub fn served(&self) -> &[Held]
         ensures requests { requests_of result.now ≡ (server_state self.now).active }
         ensures rows { All (λ h. obstacle (server_state self.now) h.request ≡ h.at) result.now }
@@ -28,31 +29,22 @@ impl Server {
         self.active.as_slice()
     }
 
-    /// The requests that are queued, in the order in which they are to be served.
-    ///
-    /// # Errors
-    /// `AllocError` where a request for memory was refused.
+    /// The queued requests, in the order in which they are to become active.
     pub fn queued(&self, alloc: Global) -> Result<Vec<TokenRequest>, AllocError>
         ensures { IfOk result (λ requests. requests.items ≡ (server_state self.now).queue) }
     {
         listed(alloc, self.queue.slots())
     }
 
-    /// The requests that wait for a lock of another node to go, in the order in which they will be asked for
+    /// The waiting requests, which wait for a lock of another node to go, in the order in which they are to be queued
     /// again.
-    ///
-    /// # Errors
-    /// `AllocError` where a request for memory was refused.
     pub fn waiting(&self, alloc: Global) -> Result<Vec<TokenRequest>, AllocError>
         ensures { IfOk result (λ requests. requests.items ≡ (server_state self.now).waiting) }
     {
         listed(alloc, self.waiting.slots())
     }
 
-    /// What the server knows of the node, if that asked it in an incarnation that is not known as dead.
-    ///
-    /// # Errors
-    /// `AllocError` where a request for memory was refused.
+    /// The row of the node, if the node asked in an incarnation that is not known to be dead.
     pub fn row(&self, alloc: Global, node: u8) -> Result<Option<ShownRow>, AllocError>
         ensures { IfOk result (λ shown. MatchOption shown ((server_state self.now).rows node ≡ None) (λ r. IsRow (server_state self.now) r × (r.node ≡ node))) }
     {
@@ -62,10 +54,7 @@ impl Server {
         }
     }
 
-    /// What the server knows of each node that asked it, by rising node.
-    ///
-    /// # Errors
-    /// `AllocError` where a request for memory was refused.
+    /// The rows of the nodes that asked, by rising node.
     pub fn rows(&self, alloc: Global) -> Result<Vec<ShownRow>, AllocError>
         ensures nodes { let s = server_state self.now in IfOk result (λ rows. map (λ r. r.node) rows.items ≡ nodes_where (λ n. is_some (s.rows n)) s.shape.nodes) }
         ensures each { IfOk result (λ rows. All (IsRow (server_state self.now)) rows.items) }
@@ -86,11 +75,8 @@ impl Server {
         self.known_nodes.dead(node)
     }
 
-    /// The nodes that a server which was rebuilt still awaits, by rising node: each has not told its token,
-    /// and is not known as dead. While there is one, no request is served.
-    ///
-    /// # Errors
-    /// `AllocError` where a request for memory was refused.
+    /// The nodes that a rebuilt server still awaits, by rising node: each has not reported its token and is not known
+    /// to be dead. While there is one, the server serves no request.
     pub fn awaited_nodes(&self, alloc: Global) -> Result<Vec<u8>, AllocError>
         ensures { let s = server_state self.now in IfOk result (λ nodes. nodes.items ≡ nodes_where (λ n. is_awaited (s.rows n)) s.shape.nodes) }
     {

@@ -1,4 +1,4 @@
-//! How a token server serves its requests.
+//! How a token server serves its active requests: which commands it sends.
 ghost use Rattle.std.specs.Prelude.{◌≡◌, ◌==◌, ◌≢◌, ℕ, ◌+◌, ◌<◌, ◌≤◌, ◌++◌, true, false, length, IfSome, All, IfOk, IfErr, OnOk, OnSome, MatchOption, slice_index_or, Some, None, Ok, Err};
 ghost use Rattle.std.specs.Option.{option_map, option_to_list};
 ghost use Rattle.model.specs.Limits.{IsNumber};
@@ -39,7 +39,8 @@ use token_queue::held::Held;
 use token_queue::token_request::TokenRequest;
 
 impl Server {
-    // What the request would like to have, without the bytes that another one that is served needs.
+    // The largest span within the desired one, around the required one, without bytes that another active request
+    // needs.
     fn narrowed(&self, draft: &Draft, request: &TokenRequest) -> Span
         ensures value { result ≡ narrowed (drafted self.now draft.now).active request.now }
         ensures starts_before { result.lo ≤ request.now.wanted.required.lo }
@@ -54,7 +55,8 @@ impl Server {
         cut_by_all(required, span, draft.lists.fresh.as_slice())
     }
 
-    // The span that a request is granted: the largest of that.
+    // The span that the request is granted: the largest within the narrowed desired span that no row of another node
+    // conflicts with.
     fn granted_span(&self, draft: &Draft, told: &[Told], request: &TokenRequest) -> Span
         requires { self.now.shape.nodes < conflicting_node (with_told told.now (drafted self.now draft.now)) request.now }
         ensures { result ≡ granted_span (with_told told.now (drafted self.now draft.now)) request.now }
@@ -72,8 +74,8 @@ impl Server {
         span
     }
 
-    // The largest span that contains `required`, lies in `within`, and has no byte at which the row of a node
-    // conflicts with the mode, once those are told.
+    // The largest span that contains `required`, lies in `within`, and has no byte at which another node's row
+    // conflicts with the mode, after the commands of `told` were sent.
     fn free_around<'a>(
         &'a self,
         draft: &'a Draft,
@@ -100,7 +102,7 @@ impl Server {
         }
     }
 
-    // The commands to a node once those are told, if it has a row.
+    // The commands to the node after those of `told` were sent, if it has a row.
     fn commands_to<'a>(&'a self, draft: &'a Draft, told: &[Told], node: u8) -> Option<Commands>
         requires { AreOfEpoch (drafted self.now draft.now) }
         ensures value { result ≡ option_map commands_of ((with_told told.now (drafted self.now draft.now)).rows node) }
@@ -116,8 +118,8 @@ impl Server {
         }
     }
 
-    // What a request comes to: the node whose row it waits for is told something. Nothing where a command to that is
-    // under way.
+    // The command that the request leads to, for the node whose row it waits for. There is none while a command to
+    // that node is outstanding.
     fn command(
         &self,
         draft: &Draft,
@@ -146,8 +148,8 @@ impl Server {
         }))
     }
 
-    // What the node whose row a request waits for is told: where that is its own, that it is granted, or else to give
-    // up what the request needs.
+    // The order for the node whose row the request waits for: a Grant, if that is its own node, or else a Revoke of
+    // the required bytes.
     fn order(
         &self,
         draft: &Draft,
@@ -183,7 +185,7 @@ impl Server {
         }
     }
 
-    // Serves a request: what it comes to is told last.
+    // Serves one active request: puts the command that it leads to behind `told`.
     fn serve_one(&self, draft: &Draft, told: &mut Vec<Told>, held: &Held) -> Result<(), StepError>
         requires waits { obstacle (with_told told.old.items (drafted self.now draft.now)) held.now.request ≡ held.now.at }
         requires counted { AreOfEpoch (drafted self.now draft.now) }
@@ -198,9 +200,9 @@ impl Server {
         Ok(())
     }
 
-    // What comes of serving in order each request that is served on. Where no row changed but that of the node
-    // that is touched, only those that wait for it, or for another row than before, can come to something, and
-    // none of those that wait for it once its node is told something.
+    // The commands for the active requests that stay active, in order. Where only the row of the node `touched`
+    // changed, only requests that wait for that row, or for another row than before, can lead to a command, and after
+    // one command to that node no other request for its row can.
     fn commands_kept(
         &self,
         draft: &Draft,
@@ -240,7 +242,7 @@ impl Server {
         Ok(told)
     }
 
-    // What comes of serving each request in order: first those that are served on, then those that come.
+    // The commands for all active requests in order: first those that stay active, then those that are admitted.
     fn commands(
         &self,
         draft: &Draft,
@@ -264,7 +266,7 @@ impl Server {
         Ok(told)
     }
 
-    // Serves the requests of a draft: what nodes are given by their commands, and the commands.
+    // Serves the requests of a draft: the new rows that the commands make, and the commands.
     pub(super) fn serve_draft(
         &self,
         draft: &Draft,
@@ -281,7 +283,7 @@ impl Server {
         Ok((given, commands_told(alloc, told.as_slice())?))
     }
 
-    // What nodes are given by their commands.
+    // The new rows that the commands make.
     fn given(&self, draft: &Draft, alloc: Global, told: &[Told]) -> Result<Vec<Given>, AllocError>
         requires { All (λ t. 1 ≤ t.node) told.now }
         ensures { IfOk result (λ given. with_given (given.items ++ given_of draft.now.rows) self.now.known_nodes (drafted self.now draft.now) ≡ with_told told.now (drafted self.now draft.now)) }
@@ -294,7 +296,7 @@ impl Server {
         Ok(given)
     }
 
-    // What one is given.
+    // The new row that one command makes.
     fn given_one(&self, draft: &Draft, told: &Told) -> Result<Given, AllocError>
         requires { 1 ≤ told.now.node }
         ensures place { IfOk result (λ given. given.place + 1 ≡ told.now.node) }
@@ -306,16 +308,16 @@ impl Server {
     }
 }
 
-// The node whose row the request at a place waits for, which waited for that of the node `before`: the first
-// requests wait for these rows.
+// The node whose row the request at an index waits for: `ats` names it for the first requests, and any other waits
+// for the row of `before`, as it did.
 fn awaited(ats: &[u8], place: usize, before: u8) -> u8
     ensures { result ≡ slice_index_or ats.now place before }
 {
     ats.get(place).copied().unwrap_or(before)
 }
 
-// Whether a command may go to the node whose row a request waits for, where none could go to the node for whose
-// row it waited before, and no row has changed but that of the node that is touched.
+// Whether a command may go to the node `at`, whose row a request waits for. None could go to the node `before`, whose
+// row it waited for, and no row has changed but that of `touched`.
 fn may_come(before: u8, at: u8, touched: Option<u8>) -> bool
     ensures same { result ≡ false → at ≡ before }
     ensures untouched { result ≡ false → touched ≢ Some at }
@@ -327,8 +329,8 @@ fn may_come(before: u8, at: u8, touched: Option<u8>) -> bool
     }
 }
 
-// Whether no command may go to the node for whose row a request waits that was served: each waits for the row for
-// which it waited before, and no row has changed.
+// Whether no command may go to a node whose row an active request waits for: each waits for the same row as before,
+// and no row has changed.
 fn none_may_come(ats: &[u8], touched: Option<u8>) -> bool
     ensures same { result ≡ true → length ats.now ≡ 0 }
     ensures untouched { result ≡ true → touched ≡ None }
@@ -336,8 +338,8 @@ fn none_may_come(ats: &[u8], touched: Option<u8>) -> bool
     ats.is_empty() && touched.is_none()
 }
 
-// What the request would like to have, without the bytes that requests need which are served on. Once no more is left
-// than it needs, none of them takes a byte away.
+// The largest span within the desired one, around the required one, without bytes that active requests need which
+// stay active. Once it is down to the required bytes, no request takes a byte away.
 fn cut_by(request: &TokenRequest, held: &[Held], lists: &Lists) -> Span
     ensures value { result ≡ narrowed (still_active lists.now.gone.ended (without lists.now.gone.dropped (requests_of held.now))) request.now }
     ensures starts_before { result.lo ≤ request.now.wanted.required.lo }
@@ -354,8 +356,8 @@ fn cut_by(request: &TokenRequest, held: &[Held], lists: &Lists) -> Span
     span
 }
 
-// The largest span that contains `required` and lies in `within` without the bytes that one request needs, if it is
-// served on. One that needs no byte of the span takes none away.
+// `required`, widened inside `within` until it meets the bytes that the other active request needs, if that one stays
+// active.
 fn cut_by_one(required: Span, within: Span, other: &Held, lists: &Lists) -> Span
     requires starts_within { within.lo ≤ required.lo }
     requires ends_within { required.hi ≤ within.hi }
@@ -374,7 +376,7 @@ fn cut_by_one(required: Span, within: Span, other: &Held, lists: &Lists) -> Span
     cut(required, within, needed)
 }
 
-// The same of requests that are all served on.
+// `required`, widened inside `within` until it meets bytes that one of the requests needs. All of them stay active.
 fn cut_by_all(required: Span, within: Span, held: &[Held]) -> Span
     requires starts_within { within.lo ≤ required.lo }
     requires ends_within { required.hi ≤ within.hi }
@@ -390,8 +392,8 @@ fn cut_by_all(required: Span, within: Span, held: &[Held]) -> Span
     span
 }
 
-// The largest span that contains `required` and lies in `free` without the bytes that a node is told it has, where those
-// stand in the way of the mode.
+// `required`, widened inside `free` until it meets bytes that the command grants its node in a mode that conflicts
+// with this one.
 fn cut_granted(told: &Told, required: Span, free: Span, mode: Mode) -> Span
     requires starts_within { free.lo ≤ required.lo }
     requires ends_within { required.hi ≤ free.hi }

@@ -1,4 +1,4 @@
--- So many mailboxes were made.
+-- The number of mailboxes made so far.
 use Rattle.std.proofs.Common.{◌≡◌, length}
 use Rattle.actors.proofs.cluster.mailboxes_of.Given as goal
 

@@ -1,4 +1,4 @@
--- So many places were made.
+-- The number of places made so far.
 use Rattle.std.proofs.Common.{◌≡◌, length}
 use Rattle.actors.proofs.cluster.places_of.Given as goal
 

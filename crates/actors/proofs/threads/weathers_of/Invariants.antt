@@ -1,4 +1,4 @@
--- So many weathers were made.
+-- The number of weathers made so far.
 use Rattle.std.proofs.Common.{◌≡◌, length}
 use Rattle.actors.proofs.threads.weathers_of.Given as goal
 

@@ -4,7 +4,7 @@ use Rattle.lock_table.specs.Rows.{held}
 use Rattle.client_history.proofs.Blocked.{blocked_is_not_free}
 use Rattle.client_history.proofs.follow.is_free.Goals as goal
 
--- src/follow.rt:50:1
+-- where the table names a blocker, the span is not free
 pub returns-in-Some : goal.returns-in-Some
 returns-in-Some c = (
   (λ h. absurd (false≢true h)),

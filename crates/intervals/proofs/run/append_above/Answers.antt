@@ -11,15 +11,15 @@ use Rattle.intervals.proofs.run.append_above.Goals as goal
 pub append-requires-clause-below : goal.append-requires-clause-below
 append-requires-clause-below g c = ends_below_le _ c.args.from _ (omega (arith, c.max.ensures)) c.requires.below
 
--- the runs are the first and the rest
+-- the runs are their first one and the rest
 all_runs : (g : Over) (c : goal.After-append_all g) → AreRuns (c.in-Some.run'.now ∷ c.in-Some.rest.now)
 all_runs g c = subst (λ (l : List (Run _)). AreRuns l) c.in-Some.ensures.cases.0 c.requires.runs
 
--- the first of them ends at `from` or above
+-- the first of the runs ends at `from` or above it
 first_reached : (g : Over) (c : goal.After-append_all g) → EndsFrom (c.in-Some.run'.now ∷ c.in-Some.rest.now) c.args.from
 first_reached g c = subst (λ (l : List (Run _)). EndsFrom l c.args.from) c.in-Some.ensures.cases.0 c.requires.reached
 
--- what stands when the first is added
+-- the values after the first run is added
 first_added : (g : Over) (c : goal.After-append_all g) (b : ℕ) → value_at c.append.new.runs.items b ≡ put (value_at c.args.new.now.items) (record { lo = max c.in-Some.run'.now.lo c.args.from; hi = c.in-Some.run'.now.hi }) (Some c.in-Some.run'.now.value) b
 first_added g c b = c.append.ensures.bytes b ∙ ap (λ (lo : ℕ). put (value_at c.args.new.now.items) (record { lo = lo; hi = c.in-Some.run'.now.hi }) (Some c.in-Some.run'.now.value) b) c.max.ensures
 

@@ -21,7 +21,7 @@ append_above-requires-clause-bounded g c =
     let all : EndsBelow (c.split_before.result.0.now ++ c.split_before.result.1.now) (greatest + 1) = rw (← c.split_before.ensures.whole) c.requires.bounded in
     ends_below-rest c.split_before.result.0.now c.split_before.result.1.now _ all
 
--- what stands before the others are added
+-- the values before the runs above the span are added
 middle : (g : Over) (c : goal.After-append_above g) (b : ℕ) → value_at c.match-value.new.items b ≡ put (value_at c.append_below.new.new.items) (record { lo = c.span.inside.lo; hi = c.span.inside.hi }) c.args.value b
 middle g c b =
     elim c.match-value.branch [

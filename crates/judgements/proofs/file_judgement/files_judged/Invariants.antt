@@ -1,4 +1,4 @@
--- What is said of the files before this one is so.
+-- The outcome of the files before this one is true.
 use Rattle.judgements.proofs.Files.{SoFar}
 use Rattle.judgements.proofs.file_judgement.files_judged.Given as goal
 

@@ -5,7 +5,7 @@ use Rattle.lock_table.specs.Rows.{row_cmp}
 use Rattle.lock_table.proofs.RowLemmas.{searched}
 use Rattle.lock_table.proofs.lock_table.position.Goals as goal
 
--- the closure compares a row's place
+-- the closure compares the place of a row
 pub returns : goal.returns
 returns c =
     let found = c.binary_search_by.ensures in

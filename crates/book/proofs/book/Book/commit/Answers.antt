@@ -35,7 +35,7 @@ advance-outcome-requires-clause-fits g c =
     let step : IsStepFrom c.args.seat.now c.args.prepared = c.requires c.in_ok-accepts.ensures.tests.0.named in
     subst (λ (e : Edit). Fits c.args.seat.now.state e) (sym c.into_parts-parts.ensures.edit) step.0
 
--- what holds of a run that went on, and of one that did not
+-- a fact of each good result holds where the result is good
 where_ok : {P : Type 0} (r : Result (Unit {0}) AllocError) → is_ok r ≡ true → OnOk r P → P
 where_ok (Ok done) is holds = holds
 where_ok (Err why) is holds = absurd (false≢true is)
@@ -44,7 +44,7 @@ where_err : {P : Type 0} (r : Result (Unit {0}) AllocError) → is_ok r ≡ fals
 where_err (Ok done) is holds = absurd (false≢true (sym is))
 where_err (Err why) is holds = holds
 
--- what was committed
+-- the facts of the commit
 made : (g : Over) (c : goal.After-new g) → Commits c.self.inside.run c.args.seat.now c.args.prepared (seen_at (option_copied c.args.seen)) c.take_next.new.run c.stand_at.new.self c.new.result
 made g c =
     let b = c.self.inside.run in

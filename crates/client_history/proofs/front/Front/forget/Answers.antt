@@ -6,7 +6,7 @@ use Rattle.client_history.specs.Explained.{Stands}
 use Rattle.client_history.proofs.Taken.{stays}
 use Rattle.client_history.proofs.front.Front.forget.Goals as goal
 
--- src/front.rt:85:5
+-- the calls taken are those that were and are not over
 pub returns-clause-taken : goal.returns-clause-taken
 returns-clause-taken c = λ i. subst
     (λ (new : List ℕ). Stands new i ↔ (Stands c.args.self.now.taken.items i × (Stands c.args.over.now i → ⊥)))

@@ -53,7 +53,7 @@ returns-then-not-branch-clause-wrong c = λ position told.
     let same : c.loop-index.index + 1 ≡ position = cc in
     subst P same wrong
 
--- the entries are all taken
+-- all entries are taken
 all_led : (shape : ShapeFields) (all es : List Entry) (index : ℕ) (w : WorldState) → es ≡ all → Leads (first_world shape) (take index es) w → length all ≤ index → Leads (first_world shape) all w
 all_led shape all es index w kept leads past =
     let led = subst (λ (xs : List Entry). Leads (first_world shape) (take index xs) w) kept leads in

@@ -11,7 +11,7 @@ use Rattle.cluster_core.proofs.steps.CertainRefusals.{node_goes}
 use Rattle.cluster_core.proofs.steps.WorldSteps.{node_settled, node_named, node_returns, one_there}
 use Rattle.cluster_core.proofs.world.World.change_node.Goals as goal
 
--- the node does what was planned
+-- the node makes the planned step
 does : (c : goal.After-self-2-1) → node_rule ((world_state c.args.self.now).nodes c.args.node) c.requires.made.step ≡ Ok (node_state c.apply-outcome.new.self, c.apply-outcome.result)
 does c =
     let plan = c.requires.made in

@@ -11,7 +11,7 @@ use Rattle.cluster_core.proofs.steps.CertainRefusals.{server_goes}
 use Rattle.cluster_core.proofs.steps.WorldSteps.{one_there, server_names, server_returns, server_settled}
 use Rattle.cluster_core.proofs.world.World.change_server.Goals as goal
 
--- the server does what was planned
+-- the token server makes the planned step
 does : (c : goal.After-self-2-1) → server_rule ((world_state c.args.self.now).servers c.args.file) c.requires.made.step ≡ Ok (server_state c.apply-outcome.new.self, c.apply-outcome.result)
 does c =
     let plan = c.requires.made in

@@ -6,7 +6,7 @@ use lib.Seq.{length-take-le}
 use Rattle.intervals.proofs.Places.{put_first, put_none, put_part, put_to, no_runs}
 use Rattle.intervals.proofs.row.Row.put.Goals as goal
 
--- how many are left where some were taken out
+-- the length of a list after n elements are taken out
 left_len : {A : Type 0} (l m : List A) (i n : ℕ) → i + n ≤ length l → m ≡ take i l ++ drop (i + n) l → length m + n ≡ length l
 left_len l m i n le is =
     let both = ap length is ∙ length-append (take i l) (drop (i + n) l) in

@@ -20,7 +20,7 @@ write_part-requires-clause-runs g c =
 pub write_part-requires-clause-bounded : goal.write_part-requires-clause-bounded
 write_part-requires-clause-bounded g c = ends_near c.args.self.now c.place-at.result (greatest + 1) (omega arith) c.requires.bounded
 
--- what ends below a byte and what begins above one, as they are called elsewhere
+-- runs that end below a byte and runs that begin above one, in the words of `write_parts`
 ended_at : {V : Type 0} (row : Row V) (at n lo : ℕ) → n ≡ pred lo → EndsBelow (runs_below row at) n → EndsBelow (runs_below row at) (pred lo)
 ended_at row at n lo is ended = subst (λ m. EndsBelow (runs_below row at) m) is ended
 
@@ -84,7 +84,7 @@ write_parts-requires-clause-ended g c =
     let same : c.place-to.result ≡ at + (c.place-to.result - at) = omega (arith, rise) in
     subst (λ n. EndsBelow (runs_below row (at + (c.place-to.result - at))) (n + 1)) hi (subst (λ n. EndsBelow (runs_below row n) (c.span.inside.hi + 1)) same c.place-to.ensures.ended)
 
--- what is written in several
+-- what a write in several parts leaves
 several : (g : Over) (c : goal.After-write_parts g) → IsWritten c.args.self.now c.write_parts.new.self c.args.span c.args.value c.write_parts.result.0 c.write_parts.result.1
 several g c =
     let row = c.args.self.now in

@@ -3,7 +3,7 @@ use Rattle.known_nodes.specs.Parts.{deaths_of}
 use Rattle.known_nodes.specs.Edits.{given_rows}
 use Rattle.known_nodes.proofs.known_nodes.KnownNodes.give_each.Given as goal
 
--- what is left leads to what all lead to
+-- making the new rows that are left leads to what making all leads to
 abbrev pub invariant-loop-last : goal.invariant-loop-last
 invariant-loop-last l =
     ((n : ℕ) → given_rows l.given.items l.self n ≡ given_rows l.fn.given.items l.fn.self n)

@@ -6,7 +6,7 @@ use Rattle.model.specs.declared.owner.Owner.{Owner}
 use Rattle.lock_table.specs.Pages.{IsKept, MayHold}
 use Rattle.lock_table.proofs.page_index.PageIndex.note_row.Given as goal
 
--- what the row holds below `from` is noted
+-- the bytes that the row holds below `from` are noted
 abbrev pub invariant-loop-run : goal.invariant-loop-run
 invariant-loop-run l = record {
   kept : IsKept l.self;

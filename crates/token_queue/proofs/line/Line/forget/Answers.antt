@@ -12,7 +12,7 @@ loop-place-init c =
     subst (λ (slots : List (Option TokenRequest)). IsForgotten c.args.node c.args.incarnation c.args.self.now (length slots) c.self.inside.slots c.self.inside.front c.self.inside.front) (sym c.as_slice-place-end.ensures)
     (IsForgotten-start c.args.node c.args.incarnation c.args.self.now c.self.inside.slots c.self.inside.front c.self.invariant c.self.view_is)
 
--- what is read at a place
+-- a read at a place within the slots gives that slot
 read : (shown slots : List (Option TokenRequest)) (place : ℕ) (d x : Option TokenRequest) → shown ≡ slots → place < length slots → get_or shown place d ≡ x → request_at slots place ≡ x
 read shown slots place d x same low is = get_or_default slots place None d low ∙ ap (λ s. get_or s place d) (sym same) ∙ is
 

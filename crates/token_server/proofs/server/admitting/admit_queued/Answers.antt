@@ -18,7 +18,7 @@ none-is : (o : Option (ℕ × ℕ)) → is_some o ≡ false → o ≡ None
 none-is None h = refl
 none-is (Some d) h = absurd (cc)
 
--- where none is dropped, and the requests that are served on are these
+-- the admission where none is dropped
 settled : (dropped : Option (ℕ × ℕ)) (ended : Option CallId) (active queue fresh : List TokenRequest) → dropped ≡ None → still_active ended active ≡ active → fresh ≡ [] → IsAdmitted active queue [] → IsAdmitted (still_active ended (without dropped active)) (without dropped queue) fresh
 settled dropped ended active queue fresh none same empty admitted =
     subst (λ (d : Option (ℕ × ℕ)). IsAdmitted (still_active ended (without d active)) (without d queue) fresh) (sym none)
