@@ -22,7 +22,7 @@ use members::members::Members;
 use messages::refusal::Refused;
 use messages::shape::Shape;
 use model::limits::MOST_PROCESSES;
-use model::op::Op;
+use model::op::{Op, ProcessCall};
 use std::alloc::{AllocError, Global};
 use std::collections::BTreeMap;
 
@@ -45,8 +45,8 @@ fn is_in_shape(shape: Shape, op: &Op) -> bool
     ensures { result ≡ is_in_shape shape op.now }
 {
     match op {
-        Op::Open { file, .. } => is_number(shape.files(), *file),
-        Op::Fork { child } => is_number(MOST_PROCESSES, *child),
+        Op::Process(ProcessCall::Open { file, .. }) => is_number(shape.files(), *file),
+        Op::Process(ProcessCall::Fork { child }) => is_number(MOST_PROCESSES, *child),
         _ => true,
     }
 }

@@ -9,7 +9,7 @@ use book::stamp::Stamp;
 use messages::event::Event;
 use messages::message::Message;
 use model::mode::Mode;
-use model::op::Op;
+use model::op::{LockCommand, Op};
 use model::process::Process;
 use std::alloc::{AllocError, Global};
 use std::mem;
@@ -79,8 +79,8 @@ impl OpenCall {
 pub(crate) fn may_release(op: &Op) -> bool {
     match op {
         Op::Unlock { .. } | Op::Close { .. } | Op::Exit => true,
-        Op::Set { mode, .. } | Op::Wait { mode, .. } => *mode == Mode::Read,
-        _ => false,
+        Op::Lock(call) => call.command != LockCommand::Query && call.mode == Mode::Read,
+        Op::Process(_) => false,
     }
 }
 

@@ -6,10 +6,12 @@ use Rattle.model.specs.declared.call.CallId.{CallId}
 use Rattle.model.specs.declared.host.Host.{Host}
 use Rattle.model.specs.declared.lock_info.LockInfo.{LockInfo}
 use Rattle.model.specs.declared.op.Op.{Op}
-use Rattle.model.specs.declared.op.Op.TheVariants.{Set, Wait, Query}
+use Rattle.model.specs.declared.op.Op.TheVariants.{Lock}
+use Rattle.model.specs.declared.op.LockCommand.{LockCommand}
+use Rattle.model.specs.declared.op.LockCommand.TheVariants.{Wait}
 use Rattle.model.specs.declared.process.Process.{Process}
 use Rattle.model.specs.Locks.{Blocks}
-use Rattle.model.specs.Table.{Table, LockTarget, target}
+use Rattle.model.specs.Table.{Table, LockTarget, call_target}
 use Rattle.messages.specs.Shapes.{ShapeFields, IsShape}
 use Rattle.messages.specs.Wants.{Wants}
 use Rattle.messages.specs.declared.message.Message.TheVariants.{Revoke, Conflict, Deny}
@@ -25,14 +27,16 @@ use Rattle.cluster_core.specs.Histories.{caller, IsCalledAt, IsRevokedAt}
 
 -- the call passes its tests in the table: it asks for a lock of that mode on that target
 abbrev pub IsAbout : Table → Process → Op → Mode → LockTarget → Type 0
-IsAbout t p (Set fd kind m start len) mode c = (m ≡ mode) × (target t p (Some m) fd kind start len ≡ Ok c)
-IsAbout t p (Wait fd kind m start len) mode c = (m ≡ mode) × (target t p (Some m) fd kind start len ≡ Ok c)
-IsAbout t p (Query fd kind m start len) mode c = (m ≡ mode) × (target t p None fd kind start len ≡ Ok c)
+IsAbout t p (Lock call) mode c = (call.mode ≡ mode) × (call_target t p call ≡ Ok c)
 IsAbout t p _ mode c = ⊥
 
 -- the call may wait for a lock to go
+abbrev pub may_wait : LockCommand → Bool
+may_wait Wait = true
+may_wait _ = false
+
 abbrev pub is_wait : Op → Bool
-is_wait (Wait fd kind mode start len) = true
+is_wait (Lock call) = may_wait call.command
 is_wait _ = false
 
 -- the world after the entry at a position

@@ -43,7 +43,7 @@ use messages::refusal::{Refused, StepError};
 use messages::shape::Shape;
 use messages::shared_message::SharedMessage;
 use model::limits::MOST_PROCESSES;
-use model::op::Op;
+use model::op::{Op, ProcessCall};
 use node_core::change::Change as NodeChange;
 use node_core::event::NodeEvent;
 use node_core::node::Node;
@@ -94,8 +94,8 @@ fn is_of_shape(shape: Shape, op: &Op) -> bool
     ensures { result ≡ is_in_shape shape op.now }
 {
     match op {
-        Op::Open { file, .. } => is_number(shape.files(), *file),
-        Op::Fork { child } => is_number(MOST_PROCESSES, *child),
+        Op::Process(ProcessCall::Open { file, .. }) => is_number(shape.files(), *file),
+        Op::Process(ProcessCall::Fork { child }) => is_number(MOST_PROCESSES, *child),
         _ => true,
     }
 }

@@ -1,3 +1,4 @@
 pub mod RowLaws
 pub mod CountLaws
 pub mod PlaceLaws
+pub mod Beginnings

@@ -2,7 +2,6 @@
 //! do to them. This crate knows nothing of locks, tokens or messages.
 #![tactic(auto)]
 
-pub mod call;
 mod counts;
 pub mod edit;
 pub mod error;

@@ -2,12 +2,11 @@
 ghost use Rattle.std.specs.Prelude.{◌≡◌, ◌≢◌, ◌≤◌, ◌<◌, ◌↔◌, ℕ, true, false, None, Some, Ok, Err, IfOk, IfErr, IfSome, OnOk, OnErr, IsTrue, MatchOption, is_none, length, not};
 ghost use Rattle.model.specs.declared.reply.Reply.TheVariants.{Done, Fd};
 ghost use Rattle.model.specs.Limits.{IsNumber, most_processes, most_descriptors, most_descriptions};
-ghost use Rattle.model.specs.Descriptors.{no_processes, with_process, with_descriptor, lowest_fd, lowest_description, has_open, is_open, after_spawn, after_fork, after_open, after_dup};
+ghost use Rattle.model.specs.Descriptors.{no_processes, with_process, with_descriptor, lowest_fd, lowest_description, has_open, is_open, after_spawn, after_fork, after_open, after_dup, after};
 ghost use Rattle.descriptors.specs.Rows.{processes, resolved, Refuses, IsClosed};
 ghost use Rattle.descriptors.specs.Edits.{edited, Fits, HasPlace, IsKnown};
-ghost use Rattle.descriptors.specs.Calls.{after, begins, CanBegin};
+ghost use Rattle.descriptors.specs.Calls.{begins, CanBegin};
 
-use crate::call::ProcessCall;
 use crate::counts::{Counts, release, share};
 use crate::edit::ProcessEdit;
 use crate::error::{FdError, ProcessError};
@@ -15,6 +14,7 @@ use crate::process_entry::{ProcessEntry, is_of_file};
 use crate::rows::{copy_row, grown, is_idle, is_running, opened_at, refer, reset, same_rows};
 use model::access::Access;
 use model::limits::MOST_DESCRIPTORS;
+use model::op::ProcessCall;
 use model::opened::Opened;
 use model::reply::Reply;
 use std::alloc::{AllocError, Global};

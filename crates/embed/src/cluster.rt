@@ -2,6 +2,7 @@
 use crate::letter::{NodeLetter, ServerLetter};
 use crate::office::Office;
 use crate::seat::Seat;
+use crate::shown::show_call;
 use crate::wire::line_of;
 use anyhow::bail;
 use members::members::Members;
@@ -52,7 +53,7 @@ impl Cluster {
 
     /// The process of the node calls, and letters are read until none is left.
     pub fn call(&mut self, rt: &HostRuntime, node: u8, op: Op) -> anyhow::Result<()> {
-        println!(rt; "node {node} calls {op:?}")?;
+        show_call(rt, node, op)?;
         self.put(node, NodeLetter::Call { pid: PROCESS, op })?;
         self.settle(rt)
     }

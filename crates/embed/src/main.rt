@@ -41,29 +41,31 @@ mod wire;
 use crate::cluster::Cluster;
 use model::access::Access;
 use model::mode::Mode;
-use model::op::Op;
+use model::op::{LockCall, LockCommand, Op, ProcessCall};
 use model::owner::Kind;
 
-const OPEN: Op = Op::Open {
+const OPEN: Op = Op::Process(ProcessCall::Open {
     file: 1,
     access: Access::ReadWrite,
-};
+});
 
-const SET: Op = Op::Set {
+const SET: Op = Op::Lock(LockCall {
+    command: LockCommand::Set,
     fd: 0,
     kind: Kind::OfProcess,
     mode: Mode::Write,
     start: 0,
     len: 100,
-};
+});
 
-const WAIT: Op = Op::Wait {
+const WAIT: Op = Op::Lock(LockCall {
+    command: LockCommand::Wait,
     fd: 0,
     kind: Kind::OfProcess,
     mode: Mode::Write,
     start: 50,
     len: 100,
-};
+});
 
 const UNLOCK: Op = Op::Unlock {
     fd: 0,
@@ -103,7 +105,7 @@ fn outlive(rt: &HostRuntime, cluster: &mut Cluster) -> anyhow::Result<()> {
 
 // The process of the node begins, and opens the file.
 fn begin(rt: &HostRuntime, cluster: &mut Cluster, node: u8) -> anyhow::Result<()> {
-    cluster.call(rt, node, Op::Spawn)?;
+    cluster.call(rt, node, Op::Process(ProcessCall::Spawn))?;
     cluster.call(rt, node, OPEN)
 }
 

@@ -6,7 +6,7 @@ use cluster_core::run::Run;
 use lockscript::script_line::{Command, ScriptLine};
 use messages::entry::Entry;
 use messages::event::Event;
-use model::op::Op;
+use model::op::{Op, ProcessCall};
 use std::alloc::{AllocError, Global};
 use std::collections::VecDeque;
 
@@ -334,7 +334,7 @@ fn push_resends(queue: &mut VecDeque<Command>, files: &[u16]) -> Result<(), Allo
 
 // A file that a process opens.
 fn note_file(files: &mut Vec<u16>, op: &Op) -> Result<(), AllocError> {
-    if let Op::Open { file, .. } = op {
+    if let Op::Process(ProcessCall::Open { file, .. }) = op {
         let known = files.iter().any(|other| *other == *file);
         if !known {
             files.push(*file)?;

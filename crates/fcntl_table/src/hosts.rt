@@ -1,15 +1,14 @@
 //! The processes of each host; a host is a node in one of its incarnations.
 ghost use Rattle.std.specs.Prelude.{◌≡◌, ◌≢◌, ℕ, true, false, Ok, IfOk, IfErr, IsOk, IsTrue, ◌↔◌, OnOk, MatchOption};
 ghost use Rattle.model.specs.Limits.{IsHost, IsNumber, most_processes, most_descriptions};
-ghost use Rattle.model.specs.Descriptors.{no_processes};
+ghost use Rattle.model.specs.Descriptors.{no_processes, after};
 ghost use Rattle.model.specs.Table.{descriptor, closed_if, exited};
 ghost use Rattle.descriptors.specs.Rows.{resolved, Refuses};
 ghost use Rattle.descriptors.specs.Edits.{edited};
-ghost use Rattle.descriptors.specs.Calls.{after, begins, CanBegin};
+ghost use Rattle.descriptors.specs.Calls.{begins, CanBegin};
 ghost use Rattle.fcntl_table.specs.Hosts.{FitsOn, IsKept, process_at, processes_of, table_with, with_host};
 
 use crate::shut::{close_at, exit_at};
-use descriptors::call::ProcessCall;
 use descriptors::edit::ProcessEdit;
 use descriptors::error::{FdError, ProcessError};
 use descriptors::processes::Processes;
@@ -17,6 +16,7 @@ use indexmap::IndexMap;
 use lock_table::lock_table::LockTable;
 use model::host::Host;
 use model::limits::MOST_NODES;
+use model::op::ProcessCall;
 use model::opened::Opened;
 use model::reply::Reply;
 use std::alloc::{AllocError, Global};

@@ -1,12 +1,12 @@
 //! The one table of a single machine, and the calls that plan and make its changes.
 ghost use Rattle.std.specs.Prelude.{◌≡◌, ◌<◌, None, false, IfOk, IsOk, IsTrue, ◌↔◌, OnOk, OnErr, MatchOption, MatchResult, Result, Ok, Err};
 ghost use Rattle.model.specs.Locks.{IsRegion, IsLowestBlocker};
-ghost use Rattle.model.specs.Descriptors.{Processes};
+ghost use Rattle.model.specs.Descriptors.{Processes, after};
 ghost use Rattle.model.specs.declared.reply.Reply.{Reply};
-ghost use Rattle.model.specs.Table.{empty_table, around, beside, target, regions_with, lock_within, after_close, after_exit};
+ghost use Rattle.model.specs.Table.{empty_table, around, beside, target, call_target, regions_with, lock_within, after_close, after_exit};
 ghost use Rattle.model.specs.Step.{Is, Unblocked};
 ghost use Rattle.descriptors.specs.Rows.{Refuses};
-ghost use Rattle.descriptors.specs.Calls.{after, begins, CanBegin};
+ghost use Rattle.descriptors.specs.Calls.{begins, CanBegin};
 ghost use Rattle.fcntl_table.specs.declared.edit.TableEdit.TheVariants.{Nothing};
 ghost use Rattle.fcntl_table.specs.Targets.{IsOwn, IsSpan};
 ghost use Rattle.fcntl_table.specs.Tables.{table_of, Keeps};
@@ -16,7 +16,6 @@ use crate::edit::{Planned, TableEdit};
 use crate::hosts::Hosts;
 use crate::locks::lock_reply;
 use crate::target::target_at;
-use descriptors::call::ProcessCall;
 use descriptors::error::ProcessError;
 use intervals::span::Span;
 use lock_table::lock_table::LockTable;
@@ -24,6 +23,7 @@ use model::host::Host;
 use model::lock_info::LockInfo;
 use model::lock_target::LockTarget;
 use model::mode::Mode;
+use model::op::{LockCall, ProcessCall};
 use model::owner::Kind;
 use model::process::Process;
 use model::reply::Reply;
@@ -111,8 +111,18 @@ impl FcntlTable {
         }
     }
 
-    /// The lowest region of another owner that blocks the call, by first byte and then by owner
-    /// (POSIX.1-2017 `fcntl()`, F_GETLK). Takes no memory.
+    /// What a call of the process about a lock is about, or the reply of the first test that fails.
+    pub fn call_target(&self, process: Process, call: LockCall) -> Result<LockTarget, Reply>
+        ensures value { result ≡ call_target (table_of self.now) process call }
+        ensures own { IfOk result (λ target. IsOwn process.node process.incarnation target.owner) }
+        ensures span { IfOk result (λ target. IsSpan target.span) }
+    {
+        let need = call.need();
+        self.target(process, need, call.fd, call.kind, call.start, call.len)
+    }
+
+    /// The lowest region of another owner that blocks the call (POSIX.1-2017 `fcntl()`, F_GETLK): by first
+    /// byte, then by owner. Takes no memory.
     #[tactic(auto, unfolding(crate::specs::Tables::table_of))]
     pub fn blocker(&self, call: LockTarget, mode: Mode) -> Option<LockInfo>
         ensures { MatchOption result (Unblocked (table_of self.now) call mode) (IsLowestBlocker ((table_of self.now).locks call.file) call.owner call.span mode) }

@@ -9,6 +9,7 @@ use Rattle.std.proofs.lemmas.List.Elements.{All-append, All-cons, All-head, All-
 use Rattle.model.specs.declared.call.CallId.{CallId}
 use Rattle.model.specs.declared.op.Op.{Op}
 use Rattle.model.specs.declared.op.Op.TheVariants as op
+use Rattle.model.specs.declared.op.ProcessCall.TheVariants.{Spawn, Fork, Open, Dup}
 use Rattle.model.specs.declared.reply.Reply.{Reply}
 use Rattle.model.specs.Limits.{IsCall, IsHost, IsNumber, most_nodes, most_processes}
 use Rattle.messages.specs.Entries.{EntryFields, NamesItsCall, NamesItsIncarnation}
@@ -52,16 +53,14 @@ within few most n room h =
 
 -- an operation that the cluster admits is within its limits
 op-served : (s : ShapeFields) (o : Op) → IsShape s → is_in_shape s o ≡ true → FitsOp o → IsServedOp o
-op-served s op.Spawn shape known fits = tt
-op-served s (op.Fork child) shape known fits = within most_processes most_processes child (omega arith) known
-op-served s (op.Open file access) shape known fits = within s.files most_files file shape.files_in.1 known
-op-served s (op.Dup fd) shape known fits = fits
+op-served s (op.Process Spawn) shape known fits = tt
+op-served s (op.Process (Fork child)) shape known fits = within most_processes most_processes child (omega arith) known
+op-served s (op.Process (Open file access)) shape known fits = within s.files most_files file shape.files_in.1 known
+op-served s (op.Process (Dup fd)) shape known fits = fits
 op-served s (op.Close fd) shape known fits = fits
 op-served s op.Exit shape known fits = tt
-op-served s (op.Set fd kind mode start len) shape known fits = fits
-op-served s (op.Wait fd kind mode start len) shape known fits = fits
+op-served s (op.Lock call) shape known fits = fits
 op-served s (op.Unlock fd kind start len) shape known fits = fits
-op-served s (op.Query fd kind mode start len) shape known fits = fits
 
 -- the number of a command is within its limits, if in version 1 it is of the first epoch
 number-served : (version : Version) (number : ℕ) → IsCommand number → (may_rebuild version ≡ false → number ≤ greatest_number) → IsCommandNumber version number

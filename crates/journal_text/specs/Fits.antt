@@ -3,7 +3,8 @@ use Rattle.std.specs.Prelude.{ℕ, ◌≤◌, All, FitsSigned, IfSome, ⊤}
 use Rattle.std.specs.Int.{w64}
 use Rattle.model.specs.declared.call.CallId.{CallId}
 use Rattle.model.specs.declared.op.Op.{Op}
-use Rattle.model.specs.declared.op.Op.TheVariants.{Dup, Close, Set, Wait, Unlock, Query}
+use Rattle.model.specs.declared.op.Op.TheVariants.{Process, Close, Lock, Unlock}
+use Rattle.model.specs.declared.op.ProcessCall.TheVariants.{Dup}
 use Rattle.model.specs.declared.reply.Reply.{Reply}
 use Rattle.model.specs.Limits.{IsCall}
 use Rattle.messages.specs.Entries.{EntryFields, NamesItsCall, NamesItsIncarnation}
@@ -17,12 +18,10 @@ use Rattle.journal_text.specs.Served.{IsServedReply}
 
 -- the numbers of an operation fit their types: 8 bits for a descriptor, 64 bits for a start and a length
 abbrev pub FitsOp : Op → Type 0
-FitsOp (Dup fd) = IsDescriptor fd
+FitsOp (Process (Dup fd)) = IsDescriptor fd
 FitsOp (Close fd) = IsDescriptor fd
-FitsOp (Set fd kind mode start len) = IsDescriptor fd × FitsSigned w64 start × FitsSigned w64 len
-FitsOp (Wait fd kind mode start len) = IsDescriptor fd × FitsSigned w64 start × FitsSigned w64 len
+FitsOp (Lock call) = IsDescriptor call.fd × FitsSigned w64 call.start × FitsSigned w64 call.len
 FitsOp (Unlock fd kind start len) = IsDescriptor fd × FitsSigned w64 start × FitsSigned w64 len
-FitsOp (Query fd kind mode start len) = IsDescriptor fd × FitsSigned w64 start × FitsSigned w64 len
 FitsOp _ = ⊤
 
 -- an incarnation fits its type, of 16 bits

@@ -1,15 +1,15 @@
-//! The operations of calls in scripts.
-ghost use Rattle.std.specs.Prelude.{◌∷◌, ◌++◌};
+//! Operations in scripts.
+ghost use Rattle.std.specs.Prelude.{◌≡◌, ◌∷◌, ◌++◌, string_bytes, OnOk};
 ghost use Rattle.texts.specs.Layout.{space};
 ghost use Rattle.texts.specs.Reads.{Lacks, Reads};
 ghost use Rattle.lockscript.specs.Served.{IsServedOp};
-ghost use Rattle.lockscript.specs.Texts.{op_text};
+ghost use Rattle.lockscript.specs.Texts.{lock_of, op_text};
 
 use message_text::numbers::{DescriptorField, FileField, PidField};
 use message_text::writing::push;
 use model::access::Access;
 use model::mode::Mode;
-use model::op::Op;
+use model::op::{LockCall, LockCommand, Op, ProcessCall};
 use model::owner::Kind;
 use std::alloc::AllocError;
 use texts::text::{Text, split_field};
@@ -40,7 +40,7 @@ impl Text for Operation {
         match split_field(text) {
             Some((word, operands)) => op_with(word, operands),
             None => match text {
-                "spawn" => Some(Op::Spawn),
+                "spawn" => Some(Op::Process(ProcessCall::Spawn)),
                 "exit" => Some(Op::Exit),
                 _ => None,
             },
@@ -49,80 +49,81 @@ impl Text for Operation {
 
     fn write(value: &Op, out: &mut String) -> Result<(), AllocError> {
         match *value {
-            Op::Spawn => out.push_str("spawn"),
-            Op::Fork { child } => push::<PidField>(out, "fork ", &child),
-            Op::Open { file, access } => push::<Opened>(out, "open ", &(file, access)),
-            Op::Dup { fd } => push::<DescriptorField>(out, "dup ", &fd),
+            Op::Process(call) => write_process_call(call, out),
             Op::Close { fd } => push::<DescriptorField>(out, "close ", &fd),
             Op::Exit => out.push_str("exit"),
-            Op::Set {
-                fd,
-                kind,
-                mode,
-                start,
-                len,
-            } => push::<AskedLock>(out, "set ", &(fd, (kind, (mode, (start, len))))),
-            Op::Wait {
-                fd,
-                kind,
-                mode,
-                start,
-                len,
-            } => push::<AskedLock>(out, "wait ", &(fd, (kind, (mode, (start, len))))),
+            Op::Lock(call) => write_lock_call(call, out),
             Op::Unlock {
                 fd,
                 kind,
                 start,
                 len,
             } => push::<Unlocked>(out, "unlock ", &(fd, (kind, (start, len)))),
-            Op::Query {
-                fd,
-                kind,
-                mode,
-                start,
-                len,
-            } => push::<AskedLock>(out, "query ", &(fd, (kind, (mode, (start, len))))),
         }
     }
 }
 
-// The operation that this word names, with these operands.
+// Writes a call about processes and descriptors alone.
+fn write_process_call(call: ProcessCall, out: &mut String) -> Result<(), AllocError>
+    ensures { OnOk result (string_bytes out.new ≡ string_bytes out.old ++ op_text (Op.Process call)) }
+{
+    match call {
+        ProcessCall::Spawn => out.push_str("spawn"),
+        ProcessCall::Fork { child } => push::<PidField>(out, "fork ", &child),
+        ProcessCall::Open { file, access } => push::<Opened>(out, "open ", &(file, access)),
+        ProcessCall::Dup { fd } => push::<DescriptorField>(out, "dup ", &fd),
+    }
+}
+
+// Writes a call about a lock.
+fn write_lock_call(call: LockCall, out: &mut String) -> Result<(), AllocError>
+    ensures { OnOk result (string_bytes out.new ≡ string_bytes out.old ++ op_text (Op.Lock call)) }
+{
+    let asked = (call.fd, (call.kind, (call.mode, (call.start, call.len))));
+    match call.command {
+        LockCommand::Set => push::<AskedLock>(out, "set ", &asked),
+        LockCommand::Wait => push::<AskedLock>(out, "wait ", &asked),
+        LockCommand::Query => push::<AskedLock>(out, "query ", &asked),
+    }
+}
+
+// The call of the command about this lock.
+fn lock_of(command: LockCommand, asked: (u8, (Kind, (Mode, Segment)))) -> Op
+    ensures { result ≡ lock_of command asked }
+{
+    let (fd, (kind, (mode, (start, len)))) = asked;
+    Op::Lock(LockCall {
+        command,
+        fd,
+        kind,
+        mode,
+        start,
+        len,
+    })
+}
+
+// The operation of this word, with these operands.
 fn op_with(word: &str, operands: &str) -> Option<Op>
     requires { Lacks space word.now }
     ensures { Reads op_text IsServedOp (word.now ++ space ∷ operands.now) result }
 {
     match word {
-        "fork" => PidField::read(operands).map(|child| Op::Fork { child }),
-        "open" => Opened::read(operands).map(|(file, access)| Op::Open { file, access }),
-        "dup" => DescriptorField::read(operands).map(|fd| Op::Dup { fd }),
+        "fork" => { PidField::read(operands).map(|child| Op::Process(ProcessCall::Fork { child })) }
+        "open" => Opened::read(operands).map(|(file, access)| Op::Process(ProcessCall::Open {
+            file,
+            access,
+        })),
+        "dup" => DescriptorField::read(operands).map(|fd| Op::Process(ProcessCall::Dup { fd })),
         "close" => DescriptorField::read(operands).map(|fd| Op::Close { fd }),
-        "set" => AskedLock::read(operands).map(|(fd, (kind, (mode, (start, len))))| Op::Set {
-            fd,
-            kind,
-            mode,
-            start,
-            len,
-        }),
-        "wait" => AskedLock::read(operands).map(|(fd, (kind, (mode, (start, len))))| Op::Wait {
-            fd,
-            kind,
-            mode,
-            start,
-            len,
-        }),
+        "set" => AskedLock::read(operands).map(|asked| lock_of(LockCommand::Set, asked)),
+        "wait" => AskedLock::read(operands).map(|asked| lock_of(LockCommand::Wait, asked)),
         "unlock" => Unlocked::read(operands).map(|(fd, (kind, (start, len)))| Op::Unlock {
             fd,
             kind,
             start,
             len,
         }),
-        "query" => AskedLock::read(operands).map(|(fd, (kind, (mode, (start, len))))| Op::Query {
-            fd,
-            kind,
-            mode,
-            start,
-            len,
-        }),
+        "query" => AskedLock::read(operands).map(|asked| lock_of(LockCommand::Query, asked)),
         _ => None,
     }
 }

@@ -11,8 +11,13 @@ use Rattle.model.specs.declared.mode.Mode.{Mode}
 use Rattle.model.specs.declared.mode.Mode.TheVariants.{Read, Write}
 use Rattle.model.specs.declared.lock_info.LockInfo.{LockInfo}
 use Rattle.model.specs.declared.op.Op.{Op}
-use Rattle.model.specs.declared.op.Op.TheVariants.{Spawn, Fork, Open, Dup, Close, Exit, Set, Wait, Unlock, Query}
+use Rattle.model.specs.declared.op.Op.TheVariants.{Process, Close, Exit, Lock, Unlock}
+use Rattle.model.specs.declared.op.ProcessCall.{ProcessCall}
+use Rattle.model.specs.declared.op.ProcessCall.TheVariants.{Spawn, Fork, Open, Dup}
+use Rattle.model.specs.declared.op.LockCall.{LockCall}
 use Rattle.model.specs.contracts.op.OpPartialEq.TheImpl as derived_of_ops
+use Rattle.model.specs.contracts.op.ProcessCallPartialEq.TheImpl as derived_of_process_calls
+use Rattle.model.specs.contracts.op.LockCallPartialEq.TheImpl as derived_of_lock_calls
 use Rattle.model.specs.declared.owner.Owner.{Owner}
 use Rattle.model.specs.Owners.{same_mode, same_owner}
 use Rattle.model.proofs.OwnerLaws.{owner_exact, owner_refl}
@@ -135,17 +140,22 @@ message_eq-Decides a b =
     subst P (sym (message_eq a b)) (same_message-is-equality a b)
 
 -- the derived `==` of calls is equality
+process_call_eq-Decides : (a b : ProcessCall) → Decides (derived_of_process_calls.ghosts.eq a b) (a ≡ b)
+process_call_eq-Decides Spawn Spawn = (λ h. refl, λ e. refl)
+process_call_eq-Decides (Fork child) (Fork other) = grind (arith, common_steps)
+process_call_eq-Decides (Open file access) (Open other way) = grind (arith, common_steps)
+process_call_eq-Decides (Dup fd) (Dup k) = grind (arith, common_steps)
+process_call_eq-Decides _ _ = (λ h. absurd (false≢true h), λ e. cc)
+
+lock_call_eq-Decides : (a b : LockCall) → Decides (derived_of_lock_calls.ghosts.eq a b) (a ≡ b)
+lock_call_eq-Decides a b = grind (arith, common_steps)
+
 pub op_eq-Decides : (a b : Op) → Decides (derived_of_ops.ghosts.eq a b) (a ≡ b)
-op_eq-Decides Spawn Spawn = (λ h. refl, λ e. refl)
-op_eq-Decides (Fork child) (Fork other) = grind (arith, common_steps)
-op_eq-Decides (Dup fd) (Dup k) = grind (arith, common_steps)
+op_eq-Decides (Process a) (Process b) = (λ h. ap Process ((process_call_eq-Decides a b).0 h), λ e. (process_call_eq-Decides a b).1 (cc))
 op_eq-Decides (Close fd) (Close k) = grind (arith, common_steps)
 op_eq-Decides Exit Exit = (λ h. refl, λ e. refl)
-op_eq-Decides (Open file access) (Open other way) = grind (arith, common_steps)
-op_eq-Decides (Set fd kind mode start len) (Set k j m s l) = grind (arith, common_steps)
-op_eq-Decides (Wait fd kind mode start len) (Wait k j m s l) = grind (arith, common_steps)
+op_eq-Decides (Lock a) (Lock b) = (λ h. ap Lock ((lock_call_eq-Decides a b).0 h), λ e. (lock_call_eq-Decides a b).1 (cc))
 op_eq-Decides (Unlock fd kind start len) (Unlock k j s l) = grind (arith, common_steps)
-op_eq-Decides (Query fd kind mode start len) (Query k j m s l) = grind (arith, common_steps)
 op_eq-Decides _ _ = (λ h. absurd (false≢true h), λ e. cc)
 
 call_events : (node pid n p : ℕ) (op o : Op) → derived_of_events.ghosts.eq (Call node pid op) (Call n p o) ≡ ((node == n) && ((pid == p) && derived_of_ops.ghosts.eq op o))

@@ -1,31 +1,32 @@
--- The laws of calls that close descriptors, exit and fork.
-use Rattle.std.proofs.Common.{◌≡◌, ℕ, Bool, true, false, if◌then◌else◌, ◌&&◌, ◌==◌, refl, sym, ◌∙◌, ap, subst, ℤ, Option, Some, None, Result, Ok, Err}
+-- The laws of closes, exits and forks.
+use Rattle.std.proofs.Common.{◌≡◌, ℕ, Bool, true, false, if◌then◌else◌, ◌&&◌, ◌==◌, refl, sym, ◌∙◌, ap, subst, Option, Some, None, Result, Ok, Err}
 use Rattle.std.proofs.lemmas.Bool.{and_from, eq-eqb, both_ways}
 use Rattle.intervals.specs.Bytes.{nothing}
 use Rattle.model.specs.declared.mode.Mode.{Mode}
 use Rattle.model.specs.declared.opened.Opened.{Opened}
-use Rattle.model.specs.declared.owner.Kind.{Kind}
 use Rattle.model.specs.declared.process.Process.{Process}
 use Rattle.model.specs.declared.op.Op.{Op}
-use Rattle.model.specs.declared.op.Op.TheVariants.{Spawn, Fork, Open, Dup, Close, Exit, Set, Wait, Unlock, Query}
+use Rattle.model.specs.declared.op.Op.TheVariants as op
+use Rattle.model.specs.declared.op.LockCall.{LockCall}
+use Rattle.model.specs.declared.op.LockCommand.{LockCommand}
+use Rattle.model.specs.declared.op.LockCommand.TheVariants.{Set, Wait, Query}
 use Rattle.model.specs.declared.reply.Reply.{Reply}
 use Rattle.model.specs.declared.reply.Reply.TheVariants.{Done, Again, Free, Blocked, Interrupted, Exists, NoProcess, NoLocks}
-use Rattle.model.specs.Limits.{IsNumber, most_processes}
 use Rattle.model.specs.Owners.{same_owner, process_owner, description_owner}
 use Rattle.model.specs.Locks.{without_owner, without_owner_anywhere}
 use Rattle.model.specs.Descriptors.{Processes, with_process, with_descriptor, is_open}
-use Rattle.model.specs.Table.{Table, LockTarget, around, descriptor, is_running, beside, with_processes, target, lock_within, closed, closed_at, exited}
+use Rattle.model.specs.Table.{Table, LockTarget, around, descriptor, is_running, beside, with_processes, need_of, call_target, lock_within, closed, closed_at, exited}
 use Rattle.model.specs.Anchors.{IsAnchored, IsOwn}
-use Rattle.model.specs.Step.{Step, AfterTests, SetStep, WaitStep, QueryStep}
+use Rattle.model.specs.Step.{Step, AfterTests, SetStep, WaitStep, QueryStep, LockStep}
 use Rattle.model.specs.Laws.{ClosedFileHasNoLock, LastCloseDropsLocks, HasGone, ExitLeavesNothing, IsChild, sibling, ForkSharesDescriptions, CallsKeepAnchors}
 use Rattle.model.proofs.OwnerLaws.{owner_refl}
 use Rattle.model.proofs.Hanging.{itself, target_hangs}
 use Rattle.model.proofs.Anchors.{exits}
-use Rattle.model.proofs.NodeTables.{spawn_follows, fork_follows, open_follows, dup_follows, unlock_follows, lock_own, target_own}
+use Rattle.model.proofs.NodeTables.{call_follows, unlock_follows, lock_own, target_own}
 use Rattle.model.proofs.Closings.{close_follows, exit_follows}
 
 -- a close that is done closes what the descriptor refers to
-close_closes : (t u : Table) (p : Process) (fd : ℕ) (o : Opened) → descriptor t p fd ≡ Some o → Step t p (Close fd) Done u → u ≡ closed t p fd o
+close_closes : (t u : Table) (p : Process) (fd : ℕ) (o : Opened) → descriptor t p fd ≡ Some o → Step t p (op.Close fd) Done u → u ≡ closed t p fd o
 close_closes t u p fd o there =
     let out : Bool → Table × Reply = λ b. if b then closed_at t p fd (descriptor t p fd) else (t, NoProcess) in
     elim (is_running t p) as (λ b. (Done ≡ (out b).1) × (u ≡ (out b).0) → u ≡ closed t p fd o) [
@@ -131,52 +132,51 @@ tested : (t u : Table) (n i : ℕ) (found : Result LockTarget Reply) (reply : Re
 tested t u n i (Err refusal) reply Answer own answers h = subst (λ (x : Table). IsOwn x n i) (sym h.1) own
 tested t u n i (Ok c) reply Answer own answers h = answers c refl h
 
-set_own : (t u : Table) (p : Process) (mode : Mode) (reply : Reply) (fd : ℕ) (kind : Kind) (start len : ℤ) (c : LockTarget) → IsNumber most_processes p.pid → IsOwn t p.node p.incarnation → target t p (Some mode) fd kind start len ≡ Ok c → SetStep t mode reply u c → IsOwn u p.node p.incarnation
-set_own t u p mode reply fd kind start len c pid_in own found = by reply
-  where
-    after : IsOwn (lock_within t c (Some mode)).0 p.node p.incarnation
-    after = lock_own t p.node p.incarnation c (Some mode) (target_own t p.node p.incarnation p.pid (Some mode) fd kind start len c pid_in own found) (target_hangs t p (Some mode) fd kind start len c found) own
+-- what a lock call that passes its tests leaves
+module _ (t u : Table) (p : Process) (c : LockTarget) (mode : Mode) (own : IsOwn t p.node p.incarnation) (locked : IsOwn (lock_within t c (Some mode)).0 p.node p.incarnation) where
+  to : (x : Table) → u ≡ x → IsOwn x p.node p.incarnation → IsOwn u p.node p.incarnation
+  to x same o = subst (λ (y : Table). IsOwn y p.node p.incarnation) (sym same) o
 
-    to : (x : Table) → u ≡ x → IsOwn x p.node p.incarnation → IsOwn u p.node p.incarnation
-    to x same o = subst (λ (y : Table). IsOwn y p.node p.incarnation) (sym same) o
+  set_own : (reply : Reply) → SetStep t mode reply u c → IsOwn u p.node p.incarnation
+  set_own (Again lock) h = to t h.1 own
+  set_own Done h = to (lock_within t c (Some mode)).0 h.1.1 locked
+  set_own NoLocks h = to (lock_within t c (Some mode)).0 h.1.1 locked
+  set_own _ h = absurd h
 
-    by : (r : Reply) → SetStep t mode r u c → IsOwn u p.node p.incarnation
-    by (Again lock) h = to t h.1 own
-    by Done h = to (lock_within t c (Some mode)).0 h.1.1 after
-    by NoLocks h = to (lock_within t c (Some mode)).0 h.1.1 after
-    by _ h = absurd h
+  wait_own : (reply : Reply) → WaitStep t mode reply u c → IsOwn u p.node p.incarnation
+  wait_own Interrupted h = to t h own
+  wait_own Done h = set_own Done h
+  wait_own NoLocks h = set_own NoLocks h
+  wait_own _ h = absurd h
 
-wait_own : (t u : Table) (p : Process) (mode : Mode) (reply : Reply) (fd : ℕ) (kind : Kind) (start len : ℤ) (c : LockTarget) → IsNumber most_processes p.pid → IsOwn t p.node p.incarnation → target t p (Some mode) fd kind start len ≡ Ok c → WaitStep t mode reply u c → IsOwn u p.node p.incarnation
-wait_own t u p mode Interrupted fd kind start len c pid_in own found h = subst (λ (x : Table). IsOwn x p.node p.incarnation) (sym h) own
-wait_own t u p mode Done fd kind start len c pid_in own found h = set_own t u p mode Done fd kind start len c pid_in own found h
-wait_own t u p mode NoLocks fd kind start len c pid_in own found h = set_own t u p mode NoLocks fd kind start len c pid_in own found h
-wait_own t u p mode _ fd kind start len c pid_in own found h = absurd h
+  query_own : (reply : Reply) → QueryStep t mode reply u c → IsOwn u p.node p.incarnation
+  query_own (Blocked lock) h = to t h.1 own
+  query_own Free h = to t h.1 own
+  query_own _ h = absurd h
 
-query_own : (t u : Table) (n i : ℕ) (mode : Mode) (reply : Reply) (c : LockTarget) → IsOwn t n i → QueryStep t mode reply u c → IsOwn u n i
-query_own t u n i mode (Blocked lock) c own h = subst (λ (x : Table). IsOwn x n i) (sym h.1) own
-query_own t u n i mode Free c own h = subst (λ (x : Table). IsOwn x n i) (sym h.1) own
-query_own t u n i mode _ c own h = absurd h
+  lock_step_own : (command : LockCommand) (reply : Reply) → LockStep t command mode reply u c → IsOwn u p.node p.incarnation
+  lock_step_own Set reply h = set_own reply h
+  lock_step_own Wait reply h = wait_own reply h
+  lock_step_own Query reply h = query_own reply h
 
 pub calls_keep : CallsKeepAnchors
-calls_keep t u p op reply pid_in own h = by op h
+calls_keep t u p o reply pid_in own h = by o h
   where
     to : (x : Table) → u ≡ x → IsOwn x p.node p.incarnation → IsOwn u p.node p.incarnation
-    to x same o = subst (λ (y : Table). IsOwn y p.node p.incarnation) (sym same) o
+    to x same own = subst (λ (y : Table). IsOwn y p.node p.incarnation) (sym same) own
+
+    locked : (call : LockCall) (c : LockTarget) → call_target t p call ≡ Ok c → IsOwn (lock_within t c (Some call.mode)).0 p.node p.incarnation
+    locked call c found =
+        let need = need_of call.command call.mode in
+        lock_own t p.node p.incarnation c (Some call.mode)
+        (target_own t p.node p.incarnation p.pid need call.fd call.kind call.start call.len c pid_in own found)
+        (target_hangs t p need call.fd call.kind call.start call.len c found) own
 
     by : (o : Op) → Step t p o reply u → IsOwn u p.node p.incarnation
-    by Spawn s = to _ s.1 (spawn_follows t p.node p.incarnation p.pid own pid_in).own
-    by (Fork child) s = to _ s.1.1 (fork_follows t p.node p.incarnation p.pid own child s.0).own
-    by (Open file access) s = to _ s.1 (open_follows t p.node p.incarnation p.pid own file access pid_in).own
-    by (Dup fd) s = to _ s.1 (dup_follows t p.node p.incarnation p.pid own fd).own
-    by (Close fd) s = to _ s.1 (close_follows t p.node p.incarnation p.pid fd own).own
-    by Exit s = to _ s.1 (exit_follows t p.node p.incarnation p.pid own).own
-    by (Unlock fd kind start len) s = to _ s.1 (unlock_follows t p.node p.incarnation p.pid fd kind start len pid_in own).own
-    by (Set fd kind mode start len) s =
-        tested t u p.node p.incarnation (target t p (Some mode) fd kind start len) reply (SetStep t mode reply u) own
-        (λ c found answer. set_own t u p mode reply fd kind start len c pid_in own found answer) s
-    by (Wait fd kind mode start len) s =
-        tested t u p.node p.incarnation (target t p (Some mode) fd kind start len) reply (WaitStep t mode reply u) own
-        (λ c found answer. wait_own t u p mode reply fd kind start len c pid_in own found answer) s
-    by (Query fd kind mode start len) s =
-        tested t u p.node p.incarnation (target t p None fd kind start len) reply (QueryStep t mode reply u) own
-        (λ c found answer. query_own t u p.node p.incarnation mode reply c own answer) s
+    by (op.Process call) s = to _ s.1.1 (call_follows t p.node p.incarnation p.pid own call pid_in s.0).own
+    by (op.Close fd) s = to _ s.1 (close_follows t p.node p.incarnation p.pid fd own).own
+    by op.Exit s = to _ s.1 (exit_follows t p.node p.incarnation p.pid own).own
+    by (op.Lock call) s =
+        tested t u p.node p.incarnation (call_target t p call) reply (LockStep t call.command call.mode reply u) own
+        (λ c found. lock_step_own t u p c call.mode own (locked call c found) call.command reply) s
+    by (op.Unlock fd kind start len) s = to _ s.1 (unlock_follows t p.node p.incarnation p.pid fd kind start len pid_in own).own

@@ -4,15 +4,17 @@ use Rattle.model.specs.declared.mode.Mode.{Mode}
 use Rattle.model.specs.declared.opened.Opened.{Opened}
 use Rattle.model.specs.declared.process.Process.{Process}
 use Rattle.model.specs.declared.op.Op.{Op}
-use Rattle.model.specs.declared.op.Op.TheVariants.{Spawn, Fork, Open, Dup, Close, Exit, Set, Wait, Unlock, Query}
+use Rattle.model.specs.declared.op.Op.TheVariants as op
+use Rattle.model.specs.declared.op.LockCommand.{LockCommand}
+use Rattle.model.specs.declared.op.LockCommand.TheVariants.{Set, Wait, Query}
 use Rattle.model.specs.declared.reply.Reply.{Reply}
 use Rattle.model.specs.declared.reply.Reply.TheVariants.{Done, Again, Free, Blocked, Interrupted, NoProcess, NoLocks}
 use Rattle.model.specs.Limits.{most_processes, most_descriptors}
 use Rattle.model.specs.Owners.{process_owner, description_owner}
 use Rattle.model.specs.Locks.{without_owner, without_owner_anywhere}
-use Rattle.model.specs.Descriptors.{Processes, with_descriptor, is_open, after_spawn, after_fork, after_open, after_dup}
-use Rattle.model.specs.Table.{Table, LockTarget, around, descriptor, is_running, beside, with_processes, target, locked, lock_within, regions_with, after_unlock, closed, closed_if, closed_at, closed_below, after_close, exited, exited_if, exited_to, gone, after_exit}
-use Rattle.model.specs.Step.{Is, AfterTests, SetStep, WaitStep, QueryStep, Step}
+use Rattle.model.specs.Descriptors.{Processes, with_descriptor, is_open, after}
+use Rattle.model.specs.Table.{Table, LockTarget, around, descriptor, is_running, beside, with_processes, target, call_target, locked, lock_within, regions_with, after_unlock, closed, closed_if, closed_at, closed_below, after_close, exited, exited_if, exited_to, gone, after_exit}
+use Rattle.model.specs.Step.{Is, AfterTests, SetStep, WaitStep, QueryStep, LockStep, Step}
 
 beside_limit : (t : Table) (p : Process) (r : Result (Processes × Reply) Reply) → (beside t p r).0.limit ≡ t.limit
 beside_limit t p (Ok answer) = refl
@@ -98,14 +100,14 @@ query_limit t u mode (Blocked lock) c h = ap (λ (x : Table). x.limit) h.1
 query_limit t u mode Free c h = ap (λ (x : Table). x.limit) h.1
 query_limit t u mode _ c h = absurd h
 
-pub step_limit : (t u : Table) (p : Process) (op : Op) (reply : Reply) → Step t p op reply u → u.limit ≡ t.limit
-step_limit t u p Spawn reply h = is_limit t u (beside t p (after_spawn (around t p) p.pid)) reply (beside_limit t p (after_spawn (around t p) p.pid)) h
-step_limit t u p (Fork child) reply h = is_limit t u (beside t p (after_fork (around t p) p.pid child)) reply (beside_limit t p (after_fork (around t p) p.pid child)) h.1
-step_limit t u p (Open file access) reply h = is_limit t u (beside t p (after_open (around t p) p.pid file access)) reply (beside_limit t p (after_open (around t p) p.pid file access)) h
-step_limit t u p (Dup fd) reply h = is_limit t u (beside t p (after_dup (around t p) p.pid fd)) reply (beside_limit t p (after_dup (around t p) p.pid fd)) h
-step_limit t u p (Close fd) reply h = is_limit t u (after_close t p fd) reply (after_close_limit t p fd) h
-step_limit t u p Exit reply h = is_limit t u (after_exit t p) reply (after_exit_limit t p) h
-step_limit t u p (Set fd kind mode start len) reply h = tested_limit t u (target t p (Some mode) fd kind start len) reply (SetStep t mode reply u) (set_limit t u mode reply) h
-step_limit t u p (Wait fd kind mode start len) reply h = tested_limit t u (target t p (Some mode) fd kind start len) reply (WaitStep t mode reply u) (wait_limit t u mode reply) h
-step_limit t u p (Unlock fd kind start len) reply h = is_limit t u (after_unlock t (target t p None fd kind start len)) reply (unlock_limit t (target t p None fd kind start len)) h
-step_limit t u p (Query fd kind mode start len) reply h = tested_limit t u (target t p None fd kind start len) reply (QueryStep t mode reply u) (query_limit t u mode reply) h
+lock_step_limit : (t u : Table) (command : LockCommand) (mode : Mode) (reply : Reply) (c : LockTarget) → LockStep t command mode reply u c → u.limit ≡ t.limit
+lock_step_limit t u Set mode reply c h = set_limit t u mode reply c h
+lock_step_limit t u Wait mode reply c h = wait_limit t u mode reply c h
+lock_step_limit t u Query mode reply c h = query_limit t u mode reply c h
+
+pub step_limit : (t u : Table) (p : Process) (o : Op) (reply : Reply) → Step t p o reply u → u.limit ≡ t.limit
+step_limit t u p (op.Process call) reply h = is_limit t u (beside t p (after (around t p) p.pid call)) reply (beside_limit t p (after (around t p) p.pid call)) h.1
+step_limit t u p (op.Close fd) reply h = is_limit t u (after_close t p fd) reply (after_close_limit t p fd) h
+step_limit t u p op.Exit reply h = is_limit t u (after_exit t p) reply (after_exit_limit t p) h
+step_limit t u p (op.Lock call) reply h = tested_limit t u (call_target t p call) reply (LockStep t call.command call.mode reply u) (lock_step_limit t u call.command call.mode reply) h
+step_limit t u p (op.Unlock fd kind start len) reply h = is_limit t u (after_unlock t (target t p None fd kind start len)) reply (unlock_limit t (target t p None fd kind start len)) h

@@ -12,14 +12,18 @@ use Rattle.model.specs.declared.owner.Kind.TheVariants.{OfProcess, OfDescription
 use Rattle.model.specs.declared.owner.Owner.{Owner}
 use Rattle.model.specs.declared.access.Access.{Access}
 use Rattle.model.specs.declared.opened.Opened.{Opened}
+use Rattle.model.specs.declared.op.Op.TheVariants as op
+use Rattle.model.specs.declared.op.ProcessCall.{ProcessCall}
+use Rattle.model.specs.declared.op.ProcessCall.TheVariants.{Spawn, Fork, Open, Dup}
 use Rattle.model.specs.declared.process.Process.{Process}
 use Rattle.model.specs.declared.reply.Reply.{Reply}
 use Rattle.model.specs.declared.reply.Reply.TheVariants.{Done, Fd, Exists, NoProcess, TooManyFiles, NoLocks}
 use Rattle.model.specs.Limits.{IsNumber, most_processes, most_descriptors, most_descriptions}
 use Rattle.model.specs.Owners.{same_owner, owner_at, most_owners}
 use Rattle.model.specs.Locks.{Locks, IsOfNode, with_lock}
-use Rattle.model.specs.Descriptors.{Processes, with_process, with_descriptor, is_of, is_open, lowest_fd, lowest_description, after_spawn, after_fork, after_open, after_dup, again_on, on_lowest_fd}
+use Rattle.model.specs.Descriptors.{Processes, with_process, with_descriptor, is_of, is_open, lowest_fd, lowest_description, after, after_spawn, after_fork, after_open, after_dup, again_on, on_lowest_fd}
 use Rattle.model.specs.Table.{Table, LockTarget, empty_table, target, beside, with_processes, lock_within, locked, regions_with, after_unlock}
+use Rattle.model.specs.Step.{IsPossible}
 use Rattle.model.specs.Anchors.{Hangs, AreAnchored, IsOwn}
 use Rattle.model.proofs.OwnerLaws.{owner_exact}
 use Rattle.model.proofs.SearchLaws.{some_passes-found}
@@ -132,7 +136,7 @@ module _ (t : Table) (node incarnation pid : ℕ) (own : IsOwn t node incarnatio
         | inr other ↦ (q, ap (λ (b : Bool). if b then fds fd else ps.opened q fd) (sym other) ∙ h)
       ]
 
-  pub spawn_follows : IsNumber most_processes pid → Follows t (beside t p (after_spawn ps pid)).0 node incarnation pid
+  spawn_follows : IsNumber most_processes pid → Follows t (beside t p (after_spawn ps pid)).0 node incarnation pid
   spawn_follows pid_in =
       let new = with_process ps pid true (λ fd. None) in
       elim (ps.runs pid) as (λ b. ps.runs pid ≡ b → Follows t (beside t p (if b then Err Exists else Ok (new, Done))).0 node incarnation pid) [
@@ -140,7 +144,7 @@ module _ (t : Table) (node incarnation pid : ℕ) (own : IsOwn t node incarnatio
         | false ↦ λ h. more_follows new (begun pid (λ fd. None) pid_in h (λ fd o none. absurd (none-some o none)))
       ] refl
 
-  pub fork_follows : (child : ℕ) → IsNumber most_processes child → Follows t (beside t p (after_fork ps pid child)).0 node incarnation pid
+  fork_follows : (child : ℕ) → IsNumber most_processes child → Follows t (beside t p (after_fork ps pid child)).0 node incarnation pid
   fork_follows child child_in =
       let new = with_process ps child true (ps.opened pid) in
       elim (ps.runs pid) as (λ b. Follows t (beside t p (if b then (if ps.runs child then Err Exists else Ok (new, Done)) else Err NoProcess)).0 node incarnation pid) [
@@ -215,7 +219,7 @@ module _ (t : Table) (node incarnation pid : ℕ) (own : IsOwn t node incarnatio
       let fds : some_passes (λ fd. is_of x.description (ps.opened q fd)) 0 most_descriptors ≡ true = some_passes-found (λ fd. is_of x.description (ps.opened q fd)) 0 most_descriptors k (omega arith) (omega arith) of in
       some_passes-found (λ pid. some_passes (λ fd. is_of x.description (ps.opened pid fd)) 0 most_descriptors) 1 most_processes q least (omega arith) fds
 
-  pub open_follows : (file : ℕ) (access : Access) → IsNumber most_processes pid → Follows t (beside t p (after_open ps pid file access)).0 node incarnation pid
+  open_follows : (file : ℕ) (access : Access) → IsNumber most_processes pid → Follows t (beside t p (after_open ps pid file access)).0 node incarnation pid
   open_follows file access pid_in =
       let o : Opened = record { file = file; description = lowest_description ps; access = access } in
       let fd = lowest_fd ps pid in
@@ -233,7 +237,7 @@ module _ (t : Table) (node incarnation pid : ℕ) (own : IsOwn t node incarnatio
           let most = number.1 in
           not-true (is_open ps (lowest_description ps)) ((first_is_first (λ d. not (is_open ps d)) 1 most_descriptions).here (up_to (lowest_description ps) most))
 
-  pub dup_follows : (fd : ℕ) → Follows t (beside t p (after_dup ps pid fd)).0 node incarnation pid
+  dup_follows : (fd : ℕ) → Follows t (beside t p (after_dup ps pid fd)).0 node incarnation pid
   dup_follows fd =
       elim (ps.runs pid) as (λ b. ps.runs pid ≡ b → Follows t (beside t p (if b then again_on ps pid (ps.opened pid fd) else Err NoProcess)).0 node incarnation pid) [
         | true ↦ λ runs. elim (ps.opened pid fd) as (λ x. ps.opened pid fd ≡ x → Follows t (beside t p (again_on ps pid x)).0 node incarnation pid) [
@@ -243,7 +247,13 @@ module _ (t : Table) (node incarnation pid : ℕ) (own : IsOwn t node incarnatio
         | false ↦ λ runs. same_follows t node incarnation pid own
       ] refl
 
--- no byte past the greatest offset is held after a span is set or freed
+  pub call_follows : (call : ProcessCall) → IsNumber most_processes pid → IsPossible (op.Process call) → Follows t (beside t p (after ps pid call)).0 node incarnation pid
+  call_follows Spawn pid_in possible = spawn_follows pid_in
+  call_follows (Fork child) pid_in possible = fork_follows child possible
+  call_follows (Open file access) pid_in possible = open_follows file access pid_in
+  call_follows (Dup fd) pid_in possible = dup_follows fd
+
+-- bytes are locked or freed
 put_ends : (f : ℕ → Option Mode) (s : Range) (mode : Option Mode) (b : ℕ) → s.hi ≤ greatest → greatest < b → f b ≡ None → put f s mode b ≡ None
 put_ends f s mode b within past none =
     let out : is_in s b ≡ false = past_end s.lo s.hi greatest b within past in

@@ -3,12 +3,16 @@ use Rattle.std.proofs.Common.{◌≡◌, ℕ, Bool, true, false, if◌then◌els
 use Rattle.model.specs.declared.mode.Mode.{Mode}
 use Rattle.model.specs.declared.opened.Opened.{Opened}
 use Rattle.model.specs.declared.process.Process.{Process}
-use Rattle.model.specs.declared.op.Op.TheVariants.{Spawn, Fork, Open, Dup, Close, Exit, Set, Wait, Unlock, Query}
+use Rattle.model.specs.declared.op.Op.TheVariants as op
+use Rattle.model.specs.declared.op.ProcessCall.{ProcessCall}
+use Rattle.model.specs.declared.op.ProcessCall.TheVariants.{Spawn, Fork, Open, Dup}
+use Rattle.model.specs.declared.op.LockCommand.{LockCommand}
+use Rattle.model.specs.declared.op.LockCommand.TheVariants.{Set, Wait, Query}
 use Rattle.model.specs.declared.reply.Reply.{Reply}
 use Rattle.model.specs.declared.reply.Reply.TheVariants.{Done, Fd, Again, Free, Blocked, Interrupted, NoProcess, Exists, TooManyFiles, NoLocks}
-use Rattle.model.specs.Descriptors.{Processes, again_on, after_spawn, after_fork, after_open, after_dup}
-use Rattle.model.specs.Table.{Table, LockTarget, around, descriptor, is_running, beside, target, locked, lock_within, regions_with, after_unlock, closed_at, after_close, exited, after_exit}
-use Rattle.model.specs.Step.{Is, AfterTests, SetStep, WaitStep, QueryStep}
+use Rattle.model.specs.Descriptors.{Processes, again_on, after}
+use Rattle.model.specs.Table.{Table, LockTarget, around, descriptor, is_running, beside, target, call_target, locked, lock_within, regions_with, after_unlock, closed_at, after_close, exited, after_exit}
+use Rattle.model.specs.Step.{Is, AfterTests, SetStep, WaitStep, QueryStep, LockStep}
 use Rattle.model.specs.Laws.{TellsNoChange, OnlyDoneCallsChange}
 
 -- a reply that says that nothing changed comes with the old table
@@ -68,22 +72,21 @@ query_stays t u mode (Blocked lock) c h = h.1
 query_stays t u mode Free c h = h.1
 query_stays t u mode _ c h = absurd h
 
+lock_step_stays : (t u : Table) (command : LockCommand) (mode : Mode) (reply : Reply) (c : LockTarget) → TellsNoChange reply → LockStep t command mode reply u c → u ≡ t
+lock_step_stays t u Set mode reply c none h = set_stays t u mode reply c none h
+lock_step_stays t u Wait mode reply c none h = wait_stays t u mode reply c none h
+lock_step_stays t u Query mode reply c none h = query_stays t u mode reply c h
+
+beside_keeps : (t : Table) (p : Process) (call : ProcessCall) → Keeps t (beside t p (after (around t p) p.pid call))
+beside_keeps t p Spawn = keeps_if t p (is_running t p) (Err Exists) _ (λ n. refl) (λ n. absurd n)
+beside_keeps t p (Fork child) = keeps_if t p (is_running t p) _ (Err NoProcess) (keeps_if t p ((around t p).runs child) (Err Exists) _ (λ n. refl) (λ n. absurd n)) (λ n. refl)
+beside_keeps t p (Open file access) = keeps_if t p (is_running t p) _ (Err NoProcess) (opened_keeps t p _ _ _) (λ n. refl)
+beside_keeps t p (Dup fd) = keeps_if t p (is_running t p) _ (Err NoProcess) (again_keeps t p (descriptor t p fd)) (λ n. refl)
+
 pub only_done_change : OnlyDoneCallsChange
-only_done_change t u p Spawn reply none h = answered t u (beside t p (after_spawn (around t p) p.pid)) reply (keeps_if t p (is_running t p) (Err Exists) _ (λ n. refl) (λ n. absurd n)) none h
-only_done_change t u p (Fork child) reply none h =
-    answered t u (beside t p (after_fork (around t p) p.pid child)) reply
-    (keeps_if t p (is_running t p) _ (Err NoProcess) (keeps_if t p ((around t p).runs child) (Err Exists) _ (λ n. refl) (λ n. absurd n)) (λ n. refl)) none h.1
-only_done_change t u p (Open file access) reply none h =
-    answered t u (beside t p (after_open (around t p) p.pid file access)) reply (keeps_if t p (is_running t p) _ (Err NoProcess) (opened_keeps t p _ _ _) (λ n. refl)) none h
-only_done_change t u p (Dup fd) reply none h =
-    answered t u (beside t p (after_dup (around t p) p.pid fd)) reply (keeps_if t p (is_running t p) _ (Err NoProcess) (again_keeps t p (descriptor t p fd)) (λ n. refl)) none h
-only_done_change t u p (Close fd) reply none h = answered t u (after_close t p fd) reply (close_keeps t p fd (is_running t p) (descriptor t p fd)) none h
-only_done_change t u p Exit reply none h = answered t u (after_exit t p) reply (exit_keeps t p (is_running t p)) none h
-only_done_change t u p (Unlock fd kind start len) reply none h =
+only_done_change t u p (op.Process call) reply none h = answered t u (beside t p (after (around t p) p.pid call)) reply (beside_keeps t p call) none h.1
+only_done_change t u p (op.Close fd) reply none h = answered t u (after_close t p fd) reply (close_keeps t p fd (is_running t p) (descriptor t p fd)) none h
+only_done_change t u p op.Exit reply none h = answered t u (after_exit t p) reply (exit_keeps t p (is_running t p)) none h
+only_done_change t u p (op.Lock call) reply none h = tested t u (call_target t p call) reply (LockStep t call.command call.mode reply u) (λ c. lock_step_stays t u call.command call.mode reply c none) h
+only_done_change t u p (op.Unlock fd kind start len) reply none h =
     answered t u (after_unlock t (target t p None fd kind start len)) reply (unlock_keeps t (target t p None fd kind start len)) none h
-only_done_change t u p (Set fd kind mode start len) reply none h =
-    tested t u (target t p (Some mode) fd kind start len) reply (SetStep t mode reply u) (λ c. set_stays t u mode reply c none) h
-only_done_change t u p (Wait fd kind mode start len) reply none h =
-    tested t u (target t p (Some mode) fd kind start len) reply (WaitStep t mode reply u) (λ c. wait_stays t u mode reply c none) h
-only_done_change t u p (Query fd kind mode start len) reply none h =
-    tested t u (target t p None fd kind start len) reply (QueryStep t mode reply u) (λ c. query_stays t u mode reply c) h

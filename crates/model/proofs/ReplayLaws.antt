@@ -15,13 +15,18 @@ use Rattle.model.specs.declared.opened.Opened.{Opened}
 use Rattle.model.specs.declared.process.Process.{Process}
 use Rattle.model.specs.declared.lock_info.LockInfo.{LockInfo}
 use Rattle.model.specs.declared.op.Op.{Op}
-use Rattle.model.specs.declared.op.Op.TheVariants.{Spawn, Fork, Open, Dup, Close, Exit, Set, Wait, Unlock, Query}
+use Rattle.model.specs.declared.op.Op.TheVariants as op
+use Rattle.model.specs.declared.op.ProcessCall.{ProcessCall}
+use Rattle.model.specs.declared.op.ProcessCall.TheVariants.{Spawn, Fork, Open, Dup}
+use Rattle.model.specs.declared.op.LockCall.{LockCall}
+use Rattle.model.specs.declared.op.LockCommand.{LockCommand}
+use Rattle.model.specs.declared.op.LockCommand.TheVariants.{Set, Wait, Query}
 use Rattle.model.specs.declared.reply.Reply.{Reply}
 use Rattle.model.specs.declared.reply.Reply.TheVariants.{Done, Fd, Again, Free, Blocked, Interrupted, NoProcess, Exists, TooManyFiles, NoLocks}
 use Rattle.model.specs.Locks.{excludes, bars}
-use Rattle.model.specs.Descriptors.{Processes, after_spawn, after_fork, after_open, after_dup, again_on}
-use Rattle.model.specs.Table.{Table, LockTarget, around, beside, is_running, descriptor, allows, target_at, target, lock_within, after_unlock, closed_at, exited}
-use Rattle.model.specs.Step.{BlocksCall, Unblocked, AfterTests, SetStep, WaitStep, QueryStep, IsPossible, Step}
+use Rattle.model.specs.Descriptors.{Processes, again_on, after, after_spawn, after_fork, after_open, after_dup}
+use Rattle.model.specs.Table.{Table, LockTarget, around, beside, is_running, descriptor, allows, target_at, target, need_of, call_target, lock_within, after_unlock, closed_at, exited}
+use Rattle.model.specs.Step.{BlocksCall, Unblocked, AfterTests, SetStep, WaitStep, QueryStep, LockStep, Step}
 use Rattle.model.specs.Replay.{NeverAnswers, NamesNoLock}
 
 -- a segment that is valid has a byte
@@ -68,7 +73,10 @@ target_at-is p need kind (Some o) (Ok span) h = target_if (allows o.access need)
 pub target-is : (t : Table) (p : Process) (need : Option Mode) (fd : ℕ) (kind : Kind) (start len : ℤ) → IsTarget (target t p need fd kind start len)
 target-is t p need fd kind start len = target_if (is_running t p) _ _ (target_at-is p need kind (descriptor t p fd) (seg start len) (seg-byte start len)) ((λ lock. (λ e. cc, λ e. cc), λ e. cc))
 
--- the answer to a call that concerns processes and descriptors names no lock and is not `Interrupted`
+call_target-is : (t : Table) (p : Process) (call : LockCall) → IsTarget (call_target t p call)
+call_target-is t p call = target-is t p (need_of call.command call.mode) call.fd call.kind call.start call.len
+
+-- a call beside the locks names none, and is not interrupted
 abbrev NamesNone : Table × Reply → Type 0
 NamesNone answer = IsSure answer.1
 
@@ -134,22 +142,19 @@ wait_is_set t mode Done n c sure h = h
 wait_is_set t mode NoLocks n c sure h = h
 wait_is_set t mode _ n c sure h = absurd h
 
--- a call that may get a reply that names no lock gets no other reply, unless it is interrupted
-pub replies_are_one : (t : Table) (p : Process) (op : Op) (a b : Reply) (n m : Table) → Interrupted ≢ a → IsSure b → Step t p op a n → Step t p op b m → a ≡ b
-replies_are_one t p Spawn a b n m sure none h k = h.0 ∙ sym k.0
-replies_are_one t p (Fork child) a b n m sure none h k = h.1.0 ∙ sym k.1.0
-replies_are_one t p (Open file access) a b n m sure none h k = h.0 ∙ sym k.0
-replies_are_one t p (Dup fd) a b n m sure none h k = h.0 ∙ sym k.0
-replies_are_one t p (Close fd) a b n m sure none h k = h.0 ∙ sym k.0
-replies_are_one t p Exit a b n m sure none h k = h.0 ∙ sym k.0
-replies_are_one t p (Set fd kind mode start len) a b n m sure none h k =
-    tests_replies (SetStep t mode) t a b n m (target t p (Some mode) fd kind start len) (target-is t p (Some mode) fd kind start len) (λ c span. set_replies t mode a b n m c span none.0) h k
-replies_are_one t p (Wait fd kind mode start len) a b n m sure none h k =
-    tests_replies (WaitStep t mode) t a b n m (target t p (Some mode) fd kind start len) (target-is t p (Some mode) fd kind start len)
-    (λ c span x y. set_replies t mode a b n m c span none.0 (wait_is_set t mode a n c sure x) (wait_is_set t mode b m c none.1 y)) h k
-replies_are_one t p (Unlock fd kind start len) a b n m sure none h k = h.0 ∙ sym k.0
-replies_are_one t p (Query fd kind mode start len) a b n m sure none h k =
-    tests_replies (QueryStep t mode) t a b n m (target t p None fd kind start len) (target-is t p None fd kind start len) (λ c span. query_replies t mode a b n m c span none.0) h k
+lock_replies : (t : Table) (command : LockCommand) (mode : Mode) (a b : Reply) (n m : Table) (c : LockTarget) → c.span.lo ≤ c.span.hi → Interrupted ≢ a → IsSure b → LockStep t command mode a n c → LockStep t command mode b m c → a ≡ b
+lock_replies t Set mode a b n m c span sure none h k = set_replies t mode a b n m c span none.0 h k
+lock_replies t Wait mode a b n m c span sure none h k = set_replies t mode a b n m c span none.0 (wait_is_set t mode a n c sure h) (wait_is_set t mode b m c none.1 k)
+lock_replies t Query mode a b n m c span sure none h k = query_replies t mode a b n m c span none.0 h k
+
+-- a call that may get an answer that names no lock gets no other, unless it is interrupted
+pub replies_are_one : (t : Table) (p : Process) (o : Op) (a b : Reply) (n m : Table) → Interrupted ≢ a → IsSure b → Step t p o a n → Step t p o b m → a ≡ b
+replies_are_one t p (op.Process call) a b n m sure none h k = h.1.0 ∙ sym k.1.0
+replies_are_one t p (op.Close fd) a b n m sure none h k = h.0 ∙ sym k.0
+replies_are_one t p op.Exit a b n m sure none h k = h.0 ∙ sym k.0
+replies_are_one t p (op.Lock call) a b n m sure none h k =
+    tests_replies (LockStep t call.command call.mode) t a b n m (call_target t p call) (call_target-is t p call) (λ c span. lock_replies t call.command call.mode a b n m c span sure none) h k
+replies_are_one t p (op.Unlock fd kind start len) a b n m sure none h k = h.0 ∙ sym k.0
 
 set_tables : (t : Table) (mode : Mode) (a : Reply) (n m : Table) (c : LockTarget) → SetStep t mode a n c → SetStep t mode a m c → n ≡ m
 set_tables t mode (Again lock) n m c h k = h.1 ∙ sym k.1
@@ -168,22 +173,22 @@ query_tables t mode (Blocked lock) n m c h k = h.1 ∙ sym k.1
 query_tables t mode Free n m c h k = h.1 ∙ sym k.1
 query_tables t mode _ n m c h k = absurd h
 
+lock_tables : (t : Table) (command : LockCommand) (mode : Mode) (a : Reply) (n m : Table) (c : LockTarget) → LockStep t command mode a n c → LockStep t command mode a m c → n ≡ m
+lock_tables t Set mode a n m c h k = set_tables t mode a n m c h k
+lock_tables t Wait mode a n m c h k = wait_tables t mode a n m c h k
+lock_tables t Query mode a n m c h k = query_tables t mode a n m c h k
+
 tests_tables : (Answer : LockAnswers) (t : Table) (a : Reply) (n m : Table) (r : Result LockTarget Reply) → ((c : LockTarget) → Answer a n c → Answer a m c → n ≡ m) → AfterTests t r a n (Answer a n) → AfterTests t r a m (Answer a m) → n ≡ m
 tests_tables Answer t a n m (Err e) one h k = h.1 ∙ sym k.1
 tests_tables Answer t a n m (Ok c) one h k = one c h k
 
--- a call with one reply leaves one table
-pub tables_are_one : (t : Table) (p : Process) (op : Op) (a : Reply) (n m : Table) → Step t p op a n → Step t p op a m → n ≡ m
-tables_are_one t p Spawn a n m h k = h.1 ∙ sym k.1
-tables_are_one t p (Fork child) a n m h k = h.1.1 ∙ sym k.1.1
-tables_are_one t p (Open file access) a n m h k = h.1 ∙ sym k.1
-tables_are_one t p (Dup fd) a n m h k = h.1 ∙ sym k.1
-tables_are_one t p (Close fd) a n m h k = h.1 ∙ sym k.1
-tables_are_one t p Exit a n m h k = h.1 ∙ sym k.1
-tables_are_one t p (Set fd kind mode start len) a n m h k = tests_tables (SetStep t mode) t a n m (target t p (Some mode) fd kind start len) (set_tables t mode a n m) h k
-tables_are_one t p (Wait fd kind mode start len) a n m h k = tests_tables (WaitStep t mode) t a n m (target t p (Some mode) fd kind start len) (wait_tables t mode a n m) h k
-tables_are_one t p (Unlock fd kind start len) a n m h k = h.1 ∙ sym k.1
-tables_are_one t p (Query fd kind mode start len) a n m h k = tests_tables (QueryStep t mode) t a n m (target t p None fd kind start len) (query_tables t mode a n m) h k
+-- one answer leaves one table
+pub tables_are_one : (t : Table) (p : Process) (o : Op) (a : Reply) (n m : Table) → Step t p o a n → Step t p o a m → n ≡ m
+tables_are_one t p (op.Process call) a n m h k = h.1.1 ∙ sym k.1.1
+tables_are_one t p (op.Close fd) a n m h k = h.1 ∙ sym k.1
+tables_are_one t p op.Exit a n m h k = h.1 ∙ sym k.1
+tables_are_one t p (op.Lock call) a n m h k = tests_tables (LockStep t call.command call.mode) t a n m (call_target t p call) (lock_tables t call.command call.mode a n m) h k
+tables_are_one t p (op.Unlock fd kind start len) a n m h k = h.1 ∙ sym k.1
 
 -- only a lock call is answered with a lock
 spawn-names_none : (t : Table) (p : Process) → NamesNone (beside t p (after_spawn (around t p) p.pid))
@@ -215,179 +220,49 @@ exit-names_none : (t : Table) (p : Process) (b : Bool) → NamesNone (if b then 
 exit-names_none t p true = (λ lock. (λ e. cc, λ e. cc), λ e. cc)
 exit-names_none t p false = (λ lock. (λ e. cc, λ e. cc), λ e. cc)
 
--- the operation is not a lock call
-abbrev IsNoLockCall : Op → Type 0
-IsNoLockCall (Set fd kind mode start len) = ⊥
-IsNoLockCall (Wait fd kind mode start len) = ⊥
-IsNoLockCall (Query fd kind mode start len) = ⊥
-IsNoLockCall _ = Unit {0}
+beside-names_none : (t : Table) (p : Process) (call : ProcessCall) → NamesNone (beside t p (after (around t p) p.pid call))
+beside-names_none t p Spawn = spawn-names_none t p
+beside-names_none t p (Fork child) = fork-names_none t p child
+beside-names_none t p (Open file access) = open-names_none t p file access
+beside-names_none t p (Dup fd) = dup-names_none t p fd
 
-other_never : (t u : Table) (p : Process) (op : Op) (reply : Reply) → IsNoLockCall op → Step t p op reply u → IsSure reply
-other_never t u p Spawn reply is h = subst IsSure (sym h.0) (spawn-names_none t p)
-other_never t u p (Fork child) reply is h = subst IsSure (sym h.1.0) (fork-names_none t p child)
-other_never t u p (Open file access) reply is h = subst IsSure (sym h.0) (open-names_none t p file access)
-other_never t u p (Dup fd) reply is h = subst IsSure (sym h.0) (dup-names_none t p fd)
-other_never t u p (Close fd) reply is h = subst IsSure (sym h.0) (closed-names_none t p fd (is_running t p) (descriptor t p fd))
-other_never t u p Exit reply is h = subst IsSure (sym h.0) (exit-names_none t p (is_running t p))
-other_never t u p (Unlock fd kind start len) reply is h = subst IsSure (sym h.0) (unlock-names_none t (target t p None fd kind start len) (target-is t p None fd kind start len))
-other_never t u p (Set fd kind mode start len) reply is h = absurd is
-other_never t u p (Wait fd kind mode start len) reply is h = absurd is
-other_never t u p (Query fd kind mode start len) reply is h = absurd is
+-- a lock call that passes its tests, and its answer
+pub record Passed (t : Table) (p : Process) (o : Op) (reply : Reply) (new : Table) : Type 0 where
+  pub call : LockCall
+  pub is : o ≡ op.Lock call
+  pub about : LockTarget
+  pub found : call_target t p call ≡ Ok about
+  pub step : LockStep t call.command call.mode reply new about
 
-pub spawn_never : (t : Table) (p : Process) (lock : LockInfo) → NeverAnswers t p Spawn (Again lock)
-spawn_never t p lock new h = ((other_never t new p Spawn (Again lock) tt h).0 lock).0 refl
+after_tests : (Answer : LockTarget → Type 0) (t new : Table) (reply : Reply) (r : Result LockTarget Reply) → IsTarget r → (IsSure reply → ⊥) → AfterTests t r reply new Answer → (c : LockTarget) × (r ≡ Ok c) × Answer c
+after_tests Answer t new reply (Err e) is tells h = absurd (tells (subst IsSure (sym h.0) is))
+after_tests Answer t new reply (Ok c) is tells h = (c, refl, h)
 
-pub spawn_never-blocked : (t : Table) (p : Process) (lock : LockInfo) → NeverAnswers t p Spawn (Blocked lock)
-spawn_never-blocked t p lock new h = ((other_never t new p Spawn (Blocked lock) tt h).0 lock).1 refl
+-- none but a lock call that passes its tests is told of a lock or interrupted
+pub passed : (t new : Table) (p : Process) (o : Op) (reply : Reply) → (IsSure reply → ⊥) → Step t p o reply new → Passed t p o reply new
+passed t new p (op.Process call) reply tells h = absurd (tells (subst IsSure (sym h.1.0) (beside-names_none t p call)))
+passed t new p (op.Close fd) reply tells h = absurd (tells (subst IsSure (sym h.0) (closed-names_none t p fd (is_running t p) (descriptor t p fd))))
+passed t new p op.Exit reply tells h = absurd (tells (subst IsSure (sym h.0) (exit-names_none t p (is_running t p))))
+passed t new p (op.Lock call) reply tells h =
+    let it = after_tests (LockStep t call.command call.mode reply new) t new reply (call_target t p call) (call_target-is t p call) tells h in
+    record { call = call; is = refl; about = it.0; found = it.1; step = it.2 }
+passed t new p (op.Unlock fd kind start len) reply tells h =
+    absurd (tells (subst IsSure (sym h.0) (unlock-names_none t (target t p None fd kind start len) (target-is t p None fd kind start len))))
 
-pub fork_never : (t : Table) (p : Process) (child : ℕ) (lock : LockInfo) → NeverAnswers t p (Fork child) (Again lock)
-fork_never t p child lock new h = ((other_never t new p (Fork child) (Again lock) tt h).0 lock).0 refl
+-- a call that waits is told of no lock
+pub wait_never : (t : Table) (p : Process) (call : LockCall) (lock : LockInfo) → call.command ≡ Wait → NeverAnswers t p (op.Lock call) (Again lock)
+wait_never t p call lock waits new h =
+    let it = after_tests (LockStep t call.command call.mode (Again lock) new) t new (Again lock) (call_target t p call) (call_target-is t p call) (λ sure. (sure.0 lock).0 refl) h in
+    let P : LockCommand → Type 0 = λ command. LockStep t command call.mode (Again lock) new it.0 in
+    subst P waits it.2
 
-pub fork_never-blocked : (t : Table) (p : Process) (child : ℕ) (lock : LockInfo) → NeverAnswers t p (Fork child) (Blocked lock)
-fork_never-blocked t p child lock new h = ((other_never t new p (Fork child) (Blocked lock) tt h).0 lock).1 refl
-
-pub open_never : (t : Table) (p : Process) (file : ℕ) (access : Access) (lock : LockInfo) → NeverAnswers t p (Open file access) (Again lock)
-open_never t p file access lock new h = ((other_never t new p (Open file access) (Again lock) tt h).0 lock).0 refl
-
-pub open_never-blocked : (t : Table) (p : Process) (file : ℕ) (access : Access) (lock : LockInfo) → NeverAnswers t p (Open file access) (Blocked lock)
-open_never-blocked t p file access lock new h = ((other_never t new p (Open file access) (Blocked lock) tt h).0 lock).1 refl
-
-pub dup_never : (t : Table) (p : Process) (fd : ℕ) (lock : LockInfo) → NeverAnswers t p (Dup fd) (Again lock)
-dup_never t p fd lock new h = ((other_never t new p (Dup fd) (Again lock) tt h).0 lock).0 refl
-
-pub dup_never-blocked : (t : Table) (p : Process) (fd : ℕ) (lock : LockInfo) → NeverAnswers t p (Dup fd) (Blocked lock)
-dup_never-blocked t p fd lock new h = ((other_never t new p (Dup fd) (Blocked lock) tt h).0 lock).1 refl
-
-pub close_never : (t : Table) (p : Process) (fd : ℕ) (lock : LockInfo) → NeverAnswers t p (Close fd) (Again lock)
-close_never t p fd lock new h = ((other_never t new p (Close fd) (Again lock) tt h).0 lock).0 refl
-
-pub close_never-blocked : (t : Table) (p : Process) (fd : ℕ) (lock : LockInfo) → NeverAnswers t p (Close fd) (Blocked lock)
-close_never-blocked t p fd lock new h = ((other_never t new p (Close fd) (Blocked lock) tt h).0 lock).1 refl
-
-pub exit_never : (t : Table) (p : Process) (lock : LockInfo) → NeverAnswers t p Exit (Again lock)
-exit_never t p lock new h = ((other_never t new p Exit (Again lock) tt h).0 lock).0 refl
-
-pub exit_never-blocked : (t : Table) (p : Process) (lock : LockInfo) → NeverAnswers t p Exit (Blocked lock)
-exit_never-blocked t p lock new h = ((other_never t new p Exit (Blocked lock) tt h).0 lock).1 refl
-
-pub unlock_never : (t : Table) (p : Process) (fd : ℕ) (kind : Kind) (start len : ℤ) (lock : LockInfo) → NeverAnswers t p (Unlock fd kind start len) (Again lock)
-unlock_never t p fd kind start len lock new h = ((other_never t new p (Unlock fd kind start len) (Again lock) tt h).0 lock).0 refl
-
-pub unlock_never-blocked : (t : Table) (p : Process) (fd : ℕ) (kind : Kind) (start len : ℤ) (lock : LockInfo) → NeverAnswers t p (Unlock fd kind start len) (Blocked lock)
-unlock_never-blocked t p fd kind start len lock new h = ((other_never t new p (Unlock fd kind start len) (Blocked lock) tt h).0 lock).1 refl
-
--- only a wait is interrupted
-pub spawn_never-interrupted : (t : Table) (p : Process) → NeverAnswers t p Spawn Interrupted
-spawn_never-interrupted t p new h = (other_never t new p Spawn Interrupted tt h).1 refl
-
-pub fork_never-interrupted : (t : Table) (p : Process) (child : ℕ) → NeverAnswers t p (Fork child) Interrupted
-fork_never-interrupted t p child new h = (other_never t new p (Fork child) Interrupted tt h).1 refl
-
-pub open_never-interrupted : (t : Table) (p : Process) (file : ℕ) (access : Access) → NeverAnswers t p (Open file access) Interrupted
-open_never-interrupted t p file access new h = (other_never t new p (Open file access) Interrupted tt h).1 refl
-
-pub dup_never-interrupted : (t : Table) (p : Process) (fd : ℕ) → NeverAnswers t p (Dup fd) Interrupted
-dup_never-interrupted t p fd new h = (other_never t new p (Dup fd) Interrupted tt h).1 refl
-
-pub close_never-interrupted : (t : Table) (p : Process) (fd : ℕ) → NeverAnswers t p (Close fd) Interrupted
-close_never-interrupted t p fd new h = (other_never t new p (Close fd) Interrupted tt h).1 refl
-
-pub exit_never-interrupted : (t : Table) (p : Process) → NeverAnswers t p Exit Interrupted
-exit_never-interrupted t p new h = (other_never t new p Exit Interrupted tt h).1 refl
-
-pub unlock_never-interrupted : (t : Table) (p : Process) (fd : ℕ) (kind : Kind) (start len : ℤ) → NeverAnswers t p (Unlock fd kind start len) Interrupted
-unlock_never-interrupted t p fd kind start len new h = (other_never t new p (Unlock fd kind start len) Interrupted tt h).1 refl
-
--- a call that names an impossible process is never answered
-pub impossible_never : (t : Table) (p : Process) (op : Op) (reply : Reply) → (IsPossible op → ⊥) → NeverAnswers t p op reply
-impossible_never t p (Fork child) reply never new h = never h.0
-impossible_never t p _ reply never new h = never tt
-
--- a refusal by a test names no lock
-tests_never : (Answer : LockTarget → Type 0) (t new : Table) (reply : Reply) (r : Result LockTarget Reply) → IsTarget r → ((e : Reply) → IsSure e → reply ≡ e → ⊥) → ((c : LockTarget) → Answer c → ⊥) → AfterTests t r reply new Answer → ⊥
-tests_never Answer t new reply (Err e) is differs none h = differs e is h.0
-tests_never Answer t new reply (Ok c) is differs none h = none c h
-
--- a set is never answered as a query is, nor a query as a set is
-pub set_never-blocked : (t : Table) (p : Process) (fd : ℕ) (kind : Kind) (mode : Mode) (start len : ℤ) (lock : LockInfo) → NeverAnswers t p (Set fd kind mode start len) (Blocked lock)
-set_never-blocked t p fd kind mode start len lock new h =
-    tests_never (SetStep t mode (Blocked lock) new) t new (Blocked lock) (target t p (Some mode) fd kind start len) (target-is t p (Some mode) fd kind start len) (λ e no is. (no.0 lock).1 is) (λ c k. k) h
-
-pub query_never-again : (t : Table) (p : Process) (fd : ℕ) (kind : Kind) (mode : Mode) (start len : ℤ) (lock : LockInfo) → NeverAnswers t p (Query fd kind mode start len) (Again lock)
-query_never-again t p fd kind mode start len lock new h =
-    tests_never (QueryStep t mode (Again lock) new) t new (Again lock) (target t p None fd kind start len) (target-is t p None fd kind start len) (λ e no is. (no.0 lock).0 is) (λ c k. k) h
-
--- a wait is never answered with a lock, and only a wait is interrupted
-pub wait_never : (t : Table) (p : Process) (fd : ℕ) (kind : Kind) (mode : Mode) (start len : ℤ) (lock : LockInfo) → NeverAnswers t p (Wait fd kind mode start len) (Again lock)
-wait_never t p fd kind mode start len lock new h =
-    tests_never (WaitStep t mode (Again lock) new) t new (Again lock) (target t p (Some mode) fd kind start len) (target-is t p (Some mode) fd kind start len) (λ e no is. (no.0 lock).0 is) (λ c k. k) h
-
-pub wait_never-blocked : (t : Table) (p : Process) (fd : ℕ) (kind : Kind) (mode : Mode) (start len : ℤ) (lock : LockInfo) → NeverAnswers t p (Wait fd kind mode start len) (Blocked lock)
-wait_never-blocked t p fd kind mode start len lock new h =
-    tests_never (WaitStep t mode (Blocked lock) new) t new (Blocked lock) (target t p (Some mode) fd kind start len) (target-is t p (Some mode) fd kind start len) (λ e no is. (no.0 lock).1 is) (λ c k. k) h
-
-pub set_never-interrupted : (t : Table) (p : Process) (fd : ℕ) (kind : Kind) (mode : Mode) (start len : ℤ) → NeverAnswers t p (Set fd kind mode start len) Interrupted
-set_never-interrupted t p fd kind mode start len new h =
-    tests_never (SetStep t mode Interrupted new) t new Interrupted (target t p (Some mode) fd kind start len) (target-is t p (Some mode) fd kind start len) (λ e no is. no.1 is) (λ c k. k) h
-
-pub query_never-interrupted : (t : Table) (p : Process) (fd : ℕ) (kind : Kind) (mode : Mode) (start len : ℤ) → NeverAnswers t p (Query fd kind mode start len) Interrupted
-query_never-interrupted t p fd kind mode start len new h =
-    tests_never (QueryStep t mode Interrupted new) t new Interrupted (target t p None fd kind start len) (target-is t p None fd kind start len) (λ e no is. no.1 is) (λ c k. k) h
-
--- a call that its tests refuse gets no other answer
-refused_names : (Answer : LockTarget → Type 0) (t new : Table) (reply : Reply) (r : Result LockTarget Reply) (e : Reply) → r ≡ Err e → IsTarget r → AfterTests t r reply new Answer → IsSure e × (reply ≡ e)
-refused_names Answer t new reply r e is target h =
-    let P : Result LockTarget Reply → Type 0 = λ x. AfterTests t x reply new Answer in
-    (subst IsTarget is target, (subst P is h).0)
-
-pub refused_never : (t : Table) (p : Process) (fd : ℕ) (kind : Kind) (mode : Mode) (start len : ℤ) (lock : LockInfo) (e : Reply) → target t p (Some mode) fd kind start len ≡ Err e → NeverAnswers t p (Set fd kind mode start len) (Again lock)
-refused_never t p fd kind mode start len lock e is new h =
-    let names = refused_names (SetStep t mode (Again lock) new) t new (Again lock) (target t p (Some mode) fd kind start len) e is (target-is t p (Some mode) fd kind start len) h in
-    (names.0.0 lock).0 names.1
-
-pub refused_never-blocked : (t : Table) (p : Process) (fd : ℕ) (kind : Kind) (mode : Mode) (start len : ℤ) (lock : LockInfo) (e : Reply) → target t p None fd kind start len ≡ Err e → NeverAnswers t p (Query fd kind mode start len) (Blocked lock)
-refused_never-blocked t p fd kind mode start len lock e is new h =
-    let names = refused_names (QueryStep t mode (Blocked lock) new) t new (Blocked lock) (target t p None fd kind start len) e is (target-is t p None fd kind start len) h in
-    (names.0.0 lock).1 names.1
-
-pub refused_never-interrupted : (t : Table) (p : Process) (fd : ℕ) (kind : Kind) (mode : Mode) (start len : ℤ) (e : Reply) → target t p (Some mode) fd kind start len ≡ Err e → NeverAnswers t p (Wait fd kind mode start len) Interrupted
-refused_never-interrupted t p fd kind mode start len e is new h =
-    let names = refused_names (WaitStep t mode Interrupted new) t new Interrupted (target t p (Some mode) fd kind start len) e is (target-is t p (Some mode) fd kind start len) h in
-    names.0.1 names.1
-
--- a wait that passes its tests may be interrupted
-pub interrupted-by : (t : Table) (p : Process) (fd : ℕ) (kind : Kind) (mode : Mode) (start len : ℤ) (c : LockTarget) → target t p (Some mode) fd kind start len ≡ Ok c → Step t p (Wait fd kind mode start len) Interrupted t
-interrupted-by t p fd kind mode start len c is =
-    let P : Result LockTarget Reply → Type 0 = λ r. AfterTests t r Interrupted t (WaitStep t mode Interrupted t) in
-    subst P (sym is) refl
-
--- a wait that a lock blocks gets no answer but an interrupt
-pub blocked-waits : (t : Table) (p : Process) (fd : ℕ) (kind : Kind) (mode : Mode) (start len : ℤ) (lock : LockInfo) (c : LockTarget) (b : Reply) → target t p (Some mode) fd kind start len ≡ Ok c → BlocksCall t c mode lock → IsSure b → NeverAnswers t p (Wait fd kind mode start len) b
-blocked-waits t p fd kind mode start len lock c b is blocks sure new h =
-    let P : Result LockTarget Reply → Type 0 = λ r. AfterTests t r b new (WaitStep t mode b new) in
-    let span : c.span.lo ≤ c.span.hi = subst IsTarget is (target-is t p (Some mode) fd kind start len) in
-    blocked_is_not_free t c mode lock span blocks (settled t mode b new c sure.0 (wait_is_set t mode b new c sure.1 (subst P is h))).0
-
--- a set or a query is never answered with a lock that doesn't block it
-pub blocked-only_by : (t : Table) (p : Process) (fd : ℕ) (kind : Kind) (mode : Mode) (start len : ℤ) (lock : LockInfo) (c : LockTarget) → target t p (Some mode) fd kind start len ≡ Ok c → (BlocksCall t c mode lock → ⊥) → NeverAnswers t p (Set fd kind mode start len) (Again lock)
-blocked-only_by t p fd kind mode start len lock c is none new h =
-    let P : Result LockTarget Reply → Type 0 = λ r. AfterTests t r (Again lock) new (SetStep t mode (Again lock) new) in
-    none (subst P is h).0
-
-pub query_blocked-only_by : (t : Table) (p : Process) (fd : ℕ) (kind : Kind) (mode : Mode) (start len : ℤ) (lock : LockInfo) (c : LockTarget) → target t p None fd kind start len ≡ Ok c → (BlocksCall t c mode lock → ⊥) → NeverAnswers t p (Query fd kind mode start len) (Blocked lock)
-query_blocked-only_by t p fd kind mode start len lock c is none new h =
-    let P : Result LockTarget Reply → Type 0 = λ r. AfterTests t r (Blocked lock) new (QueryStep t mode (Blocked lock) new) in
-    none (subst P is h).0
-
-pub blocked-by : (t : Table) (p : Process) (fd : ℕ) (kind : Kind) (mode : Mode) (start len : ℤ) (lock : LockInfo) (c : LockTarget) → target t p (Some mode) fd kind start len ≡ Ok c → BlocksCall t c mode lock → Step t p (Set fd kind mode start len) (Again lock) t
-blocked-by t p fd kind mode start len lock c is blocks =
-    let P : Result LockTarget Reply → Type 0 = λ r. AfterTests t r (Again lock) t (SetStep t mode (Again lock) t) in
-    subst P (sym is) (blocks, refl)
-
-pub query_blocked-by : (t : Table) (p : Process) (fd : ℕ) (kind : Kind) (mode : Mode) (start len : ℤ) (lock : LockInfo) (c : LockTarget) → target t p None fd kind start len ≡ Ok c → BlocksCall t c mode lock → Step t p (Query fd kind mode start len) (Blocked lock) t
-query_blocked-by t p fd kind mode start len lock c is blocks =
-    let P : Result LockTarget Reply → Type 0 = λ r. AfterTests t r (Blocked lock) t (QueryStep t mode (Blocked lock) t) in
-    subst P (sym is) (blocks, refl)
+-- while it is blocked it is answered by an interrupt alone
+pub blocked-waits : (t : Table) (p : Process) (call : LockCall) (lock : LockInfo) (c : LockTarget) (b : Reply) → call.command ≡ Wait → call_target t p call ≡ Ok c → BlocksCall t c call.mode lock → IsSure b → NeverAnswers t p (op.Lock call) b
+blocked-waits t p call lock c b waits is blocks sure new h =
+    let P : Result LockTarget Reply → Type 0 = λ r. AfterTests t r b new (LockStep t call.command call.mode b new) in
+    let Q : LockCommand → Type 0 = λ command. LockStep t command call.mode b new c in
+    let span : c.span.lo ≤ c.span.hi = subst IsTarget is (call_target-is t p call) in
+    blocked_is_not_free t c call.mode lock span blocks (settled t call.mode b new c sure.0 (wait_is_set t call.mode b new c sure.1 (subst Q waits (subst P is h)))).0
 
 -- the run that contains the first byte of a span is the one region there
 pub found-is_run : (f : ℕ → Option Mode) (s : Range) (v : Mode) (found : Option (Range × Mode)) → s.lo ≤ s.hi → MatchOption found (f s.lo ≡ None) (λ run. IsRun f run.0 run.1 × (run.0.lo ≤ s.lo) × (s.lo ≤ run.0.hi)) → (found ≡ Some (s, v)) ↔ IsRun f s v

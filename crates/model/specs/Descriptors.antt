@@ -2,6 +2,8 @@
 use Rattle.std.specs.Prelude.{ℕ, Bool, true, false, not, ◌&&◌, ◌==◌, nat_lt, if◌then◌else◌, Option, Some, None, is_none, Result, Ok, Err}
 use Rattle.intervals.specs.Search.{first, some_passes}
 use Rattle.model.specs.declared.access.Access.{Access}
+use Rattle.model.specs.declared.op.ProcessCall.{ProcessCall}
+use Rattle.model.specs.declared.op.ProcessCall.TheVariants.{Spawn, Fork, Open, Dup}
 use Rattle.model.specs.declared.opened.Opened.{Opened}
 use Rattle.model.specs.declared.reply.Reply.{Reply}
 use Rattle.model.specs.declared.reply.Reply.TheVariants.{Done, Fd, NoProcess, Exists, BadFd, TooManyFiles}
@@ -82,3 +84,10 @@ again_on ps pid (Some o) = on_lowest_fd ps pid o (lowest_fd ps pid)
 -- POSIX.1-2017 dup(): the lowest free descriptor gets to refer to the same description as fd
 abbrev pub after_dup : Processes → ℕ → ℕ → Result (Processes × Reply) Reply
 after_dup ps pid fd = if ps.runs pid then again_on ps pid (ps.opened pid fd) else Err NoProcess
+
+-- what the call of the process makes of the processes, and its reply; or the reply that refuses it
+abbrev pub after : Processes → ℕ → ProcessCall → Result (Processes × Reply) Reply
+after ps pid Spawn = after_spawn ps pid
+after ps pid (Fork child) = after_fork ps pid child
+after ps pid (Open file access) = after_open ps pid file access
+after ps pid (Dup fd) = after_dup ps pid fd

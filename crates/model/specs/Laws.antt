@@ -1,11 +1,12 @@
--- What programs may rely on: which calls change nothing, and what is left where descriptors are closed, and where processes fork and exit.
-use Rattle.std.specs.Prelude.{◌≡◌, ℕ, true, false, if◌then◌else◌, Some, None, ℤ}
+-- What programs may rely on: which calls change nothing, and what is left where descriptors close, and where processes fork and exit.
+use Rattle.std.specs.Prelude.{◌≡◌, ℕ, true, false, if◌then◌else◌, Some, None}
 use Rattle.intervals.specs.Bytes.{nothing}
 use Rattle.model.specs.declared.op.Op.{Op}
-use Rattle.model.specs.declared.op.Op.TheVariants.{Fork, Close, Exit, Wait}
+use Rattle.model.specs.declared.op.Op.TheVariants as op
+use Rattle.model.specs.declared.op.ProcessCall.TheVariants.{Fork}
+use Rattle.model.specs.declared.op.LockCall.{LockCall}
+use Rattle.model.specs.declared.op.LockCommand.TheVariants.{Wait}
 use Rattle.model.specs.declared.lock_info.LockInfo.{LockInfo}
-use Rattle.model.specs.declared.mode.Mode.{Mode}
-use Rattle.model.specs.declared.owner.Kind.{Kind}
 use Rattle.model.specs.declared.opened.Opened.{Opened}
 use Rattle.model.specs.declared.process.Process.{Process}
 use Rattle.model.specs.declared.reply.Reply.{Reply}
@@ -23,7 +24,7 @@ abbrev pub ClosedFileHasNoLock : Type 0
 ClosedFileHasNoLock =
     (t u : Table) (p : Process) (fd : ℕ) (o : Opened)
     → descriptor t p fd ≡ Some o
-    → Step t p (Close fd) Done u
+    → Step t p (op.Close fd) Done u
     → u.locks o.file (process_owner p) ≡ nothing
 
 -- Linux fcntl(2), F_OFD_SETLK: a description keeps its locks until the node's last descriptor of it is closed, and has none from then on
@@ -31,7 +32,7 @@ abbrev pub LastCloseDropsLocks : Type 0
 LastCloseDropsLocks =
     (t u : Table) (p : Process) (fd file : ℕ) (o : Opened)
     → descriptor t p fd ≡ Some o
-    → Step t p (Close fd) Done u
+    → Step t p (op.Close fd) Done u
     → u.locks file (description_owner p o.description) ≡ (if is_open (around u p) o.description then t.locks file (description_owner p o.description) else nothing)
 
 -- the process doesn't run, has no descriptor and holds no lock of its own
@@ -42,7 +43,7 @@ pub record HasGone (t : Table) (p : Process) : Type 0 where
 
 -- POSIX.1-2017 _exit(): a process that exits leaves no descriptor and no lock of its own, and its number is free
 abbrev pub ExitLeavesNothing : Type 0
-ExitLeavesNothing = (t u : Table) (p : Process) → IsAnchored t p.node p.incarnation → Step t p Exit Done u → HasGone u p
+ExitLeavesNothing = (t u : Table) (p : Process) → IsAnchored t p.node p.incarnation → Step t p op.Exit Done u → HasGone u p
 
 -- the process with the number pid on the same node, in the same incarnation, as p
 abbrev pub sibling : Process → ℕ → Process
@@ -56,7 +57,7 @@ pub record IsChild (t u : Table) (parent child : Process) : Type 0 where
 
 -- POSIX.1-2017 fork(): a child has its parent's descriptors and none of its process locks
 abbrev pub ForkSharesDescriptions : Type 0
-ForkSharesDescriptions = (t u : Table) (p : Process) (child : ℕ) → IsAnchored t p.node p.incarnation → Step t p (Fork child) Done u → IsChild t u p (sibling p child)
+ForkSharesDescriptions = (t u : Table) (p : Process) (child : ℕ) → IsAnchored t p.node p.incarnation → Step t p (op.Process (Fork child)) Done u → IsChild t u p (sibling p child)
 
 -- a call of a node's process keeps the table of that node's own processes and locks, and no lock outlives its descriptors
 abbrev pub CallsKeepAnchors : Type 0
@@ -79,5 +80,5 @@ OnlyDoneCallsChange = (t u : Table) (p : Process) (op : Op) (reply : Reply) → 
 
 -- POSIX.1-2017 fcntl(), F_SETLKW: a call that waits is never answered with a lock in its way, and an interrupted call has changed nothing
 pub record WaitsAreNotDenied : Type 0 where
-  pub never_again : (t : Table) (p : Process) (fd : ℕ) (kind : Kind) (mode : Mode) (start len : ℤ) (lock : LockInfo) → NeverAnswers t p (Wait fd kind mode start len) (Again lock)
+  pub never_again : (t : Table) (p : Process) (call : LockCall) (lock : LockInfo) → call.command ≡ Wait → NeverAnswers t p (op.Lock call) (Again lock)
   pub unchanged : (t u : Table) (p : Process) (op : Op) → Step t p op Interrupted u → u ≡ t

@@ -4,13 +4,16 @@ use Rattle.model.specs.declared.lock_info.LockInfo.{LockInfo}
 use Rattle.model.specs.declared.mode.Mode.{Mode}
 use Rattle.model.specs.declared.process.Process.{Process}
 use Rattle.model.specs.declared.op.Op.{Op}
-use Rattle.model.specs.declared.op.Op.TheVariants.{Spawn, Fork, Open, Dup, Close, Exit, Set, Wait, Unlock, Query}
+use Rattle.model.specs.declared.op.Op.TheVariants as op
+use Rattle.model.specs.declared.op.ProcessCall.TheVariants.{Fork}
+use Rattle.model.specs.declared.op.LockCommand.{LockCommand}
+use Rattle.model.specs.declared.op.LockCommand.TheVariants.{Set, Wait, Query}
 use Rattle.model.specs.declared.reply.Reply.{Reply}
 use Rattle.model.specs.declared.reply.Reply.TheVariants.{Done, Again, NoLocks, Free, Blocked, Interrupted}
 use Rattle.model.specs.Locks.{IsFree, Blocks}
 use Rattle.model.specs.Limits.{IsNumber, most_processes}
-use Rattle.model.specs.Descriptors.{after_spawn, after_fork, after_open, after_dup}
-use Rattle.model.specs.Table.{Table, LockTarget, around, beside, target, lock_within, after_unlock, after_close, after_exit}
+use Rattle.model.specs.Descriptors.{after}
+use Rattle.model.specs.Table.{Table, LockTarget, around, beside, target, call_target, lock_within, after_unlock, after_close, after_exit}
 
 -- the reply and the new table are the given answer
 abbrev pub Is : Table × Reply → Reply → Table → Type 0
@@ -49,20 +52,21 @@ QueryStep old mode (Blocked lock) new c = Blocks (old.locks c.file) c.owner c.sp
 QueryStep old mode Free new c = Unblocked old c mode × (new ≡ old)
 QueryStep old mode _ new c = ⊥
 
--- the number of the process that a fork names is in range
+-- what the command may be answered once the tests have passed
+abbrev pub LockStep : Table → LockCommand → Mode → Reply → Table → LockTarget → Type 0
+LockStep old Set = SetStep old
+LockStep old Wait = WaitStep old
+LockStep old Query = QueryStep old
+
+-- a process that the operation names has a number that a process can have
 abbrev pub IsPossible : Op → Type 0
-IsPossible (Fork child) = IsNumber most_processes child
+IsPossible (op.Process (Fork child)) = IsNumber most_processes child
 IsPossible _ = Unit {0}
 
 -- the call of process p may get this reply from the old table and leave the new one; a fork's child has a number in range
 abbrev pub Step : Table → Process → Op → Reply → Table → Type 0
-Step old p Spawn reply new = Is (beside old p (after_spawn (around old p) p.pid)) reply new
-Step old p (Fork child) reply new = IsNumber most_processes child × Is (beside old p (after_fork (around old p) p.pid child)) reply new
-Step old p (Open file access) reply new = Is (beside old p (after_open (around old p) p.pid file access)) reply new
-Step old p (Dup fd) reply new = Is (beside old p (after_dup (around old p) p.pid fd)) reply new
-Step old p (Close fd) reply new = Is (after_close old p fd) reply new
-Step old p Exit reply new = Is (after_exit old p) reply new
-Step old p (Set fd kind mode start len) reply new = AfterTests old (target old p (Some mode) fd kind start len) reply new (SetStep old mode reply new)
-Step old p (Wait fd kind mode start len) reply new = AfterTests old (target old p (Some mode) fd kind start len) reply new (WaitStep old mode reply new)
-Step old p (Unlock fd kind start len) reply new = Is (after_unlock old (target old p None fd kind start len)) reply new
-Step old p (Query fd kind mode start len) reply new = AfterTests old (target old p None fd kind start len) reply new (QueryStep old mode reply new)
+Step old p (op.Process call) reply new = IsPossible (op.Process call) × Is (beside old p (after (around old p) p.pid call)) reply new
+Step old p (op.Close fd) reply new = Is (after_close old p fd) reply new
+Step old p op.Exit reply new = Is (after_exit old p) reply new
+Step old p (op.Lock call) reply new = AfterTests old (call_target old p call) reply new (LockStep old call.command call.mode reply new)
+Step old p (op.Unlock fd kind start len) reply new = Is (after_unlock old (target old p None fd kind start len)) reply new

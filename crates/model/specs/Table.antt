@@ -11,6 +11,9 @@ use Rattle.model.specs.declared.owner.Kind.TheVariants.{OfProcess, OfDescription
 use Rattle.model.specs.declared.owner.Owner.{Owner}
 use Rattle.model.specs.declared.access.Access.{Access}
 use Rattle.model.specs.declared.access.Access.TheVariants.{ReadOnly, WriteOnly, ReadWrite}
+use Rattle.model.specs.declared.op.LockCall.{LockCall}
+use Rattle.model.specs.declared.op.LockCommand.{LockCommand}
+use Rattle.model.specs.declared.op.LockCommand.TheVariants.{Query}
 use Rattle.model.specs.declared.process.Process.{Process}
 use Rattle.model.specs.declared.opened.Opened.{Opened}
 use Rattle.model.specs.declared.reply.Reply.{Reply}
@@ -82,7 +85,15 @@ target_at p need kind (Some o) (Ok span) = if allows o.access need then Ok (reco
 abbrev pub target : Table → Process → Option Mode → ℕ → Kind → ℤ → ℤ → Result LockTarget Reply
 target t p need fd kind start len = if is_running t p then target_at p need kind (descriptor t p fd) (seg start len) else Err NoProcess
 
--- the number of regions that the owner would have after the bytes are set to the mode, or freed
+-- what the command needs the descriptor to be open for: a query for nothing
+abbrev pub need_of : LockCommand → Mode → Option Mode
+need_of Query mode = None
+need_of _ mode = Some mode
+
+abbrev pub call_target : Table → Process → LockCall → Result LockTarget Reply
+call_target t p call = target t p (need_of call.command call.mode) call.fd call.kind call.start call.len
+
+-- how many regions the owner would have with the bytes set to the mode, or freed
 abbrev pub regions_with : Table → LockTarget → Option Mode → ℕ
 regions_with t c mode = regions (put (t.locks c.file c.owner) c.span mode)
 

@@ -1,14 +1,14 @@
--- No step of a node leaves a lock without its descriptors.
-use Rattle.std.specs.Prelude.{◌≡◌, ℕ, zero, suc, ◌+◌, ◌==◌, ◌++◌, ◌∷◌, [], ◌&&◌, nat_le, nat_lt, Bool, true, false, not, if◌then◌else◌, List, All, filter, find, is_some, Option, Some, None, Result, Ok, Err, IfOk, IfSome, ℤ, refl}
-use Rattle.std.proofs.Common.{arith, ap, sym, subst, ◌∙◌, get_or, inl, inr}
+-- Whatever a node does, no lock of it outlives its descriptors.
+use Rattle.std.specs.Prelude.{◌≡◌, ℕ, zero, suc, ◌+◌, ◌==◌, ◌++◌, ◌∷◌, [], ◌&&◌, nat_le, nat_lt, Bool, true, false, not, if◌then◌else◌, List, All, filter, find, is_some, Option, Some, None, Result, Ok, Err, IfOk, IfSome, refl}
+use Rattle.std.proofs.Common.{ap, sym, subst, ◌∙◌, get_or, inl, inr}
 use Rattle.std.proofs.lemmas.Bool.{and_parts, eq-eqb, both_ways, cases_Bool, not-true}
-use Rattle.std.proofs.lemmas.Bool.Decides.{nat_tests}
 use Rattle.std.proofs.lemmas.List.Elements.{All-nil, All-cons, All-push, All-filter, All-weaker, filter_passes}
 use Rattle.intervals.specs.Segment.{seg}
 use Rattle.model.specs.declared.lock_info.LockInfo.{LockInfo}
 use Rattle.model.specs.declared.mode.Mode.{Mode}
 use Rattle.model.specs.declared.op.Op.{Op}
-use Rattle.model.specs.declared.op.Op.TheVariants.{Spawn, Fork, Open, Dup, Close, Exit, Set, Wait, Unlock, Query}
+use Rattle.model.specs.declared.op.Op.TheVariants as op
+use Rattle.model.specs.declared.op.LockCall.{LockCall}
 use Rattle.model.specs.declared.owner.Kind.{Kind}
 use Rattle.model.specs.declared.owner.Kind.TheVariants.{OfProcess, OfDescription}
 use Rattle.model.specs.declared.owner.Owner.{Owner}
@@ -19,12 +19,12 @@ use Rattle.model.specs.Limits.{IsNumber, most_processes}
 use Rattle.model.specs.Locks.{no_locks, lowest_blocker}
 use Rattle.lock_table.specs.Rows.{held}
 use Rattle.descriptors.specs.Rows.{processes}
-use Rattle.model.specs.Descriptors.{Processes, no_processes, is_of_file, has_open, after_spawn, after_fork, after_open, after_dup}
-use Rattle.model.specs.Table.{Table, LockTarget, empty_table, around, descriptor, is_running, beside, target, target_at, owner_of, lock_within, after_unlock, after_close, after_exit}
+use Rattle.model.specs.Descriptors.{Processes, no_processes, is_of_file, has_open, after}
+use Rattle.model.specs.Table.{Table, LockTarget, empty_table, around, descriptor, is_running, beside, target, need_of, call_target, target_at, owner_of, lock_within, after_unlock, after_close, after_exit}
 use Rattle.model.specs.Anchors.{Hangs, IsOwn}
 use Rattle.model.proofs.Refusals.{if_then}
 use Rattle.model.proofs.Targets.{IsOwner, IsTarget, owner_is, passes_at, target_span}
-use Rattle.model.proofs.NodeTables.{GoesOn, Follows, same_goes_on, own_empty, spawn_follows, fork_follows, open_follows, dup_follows, unlock_follows, lock_processes, lock_own}
+use Rattle.model.proofs.NodeTables.{GoesOn, Follows, same_goes_on, own_empty, call_follows, unlock_follows, lock_processes, lock_own}
 use Rattle.model.proofs.Closings.{close_follows, exit_follows}
 use Rattle.token_set.specs.Tokens.{covers}
 use Rattle.messages.specs.declared.message.Message.{Message}
@@ -36,8 +36,8 @@ use Rattle.messages.specs.declared.outcome.Outcome.{Outcome}
 use Rattle.messages.specs.Messages.{addressee, host_of, file_of, is_within, greatest_number}
 use Rattle.node_core.specs.declared.event.NodeEvent.{NodeEvent}
 use Rattle.node_core.specs.declared.event.NodeEvent.TheVariants as event
-use Rattle.node_core.specs.declared.open_call.LockCommand.{LockCommand}
-use Rattle.node_core.specs.declared.open_call.LockCommand.TheVariants as lock_command
+use Rattle.model.specs.declared.op.LockCommand.{LockCommand}
+use Rattle.model.specs.declared.op.LockCommand.TheVariants as lock_command
 use Rattle.node_core.specs.declared.open_call.OpenCall.{OpenCall}
 use Rattle.node_core.specs.State.{NodeState, Effect, answered, quiet, sent, outcome, with_file, without_call_of, open_call, open_call_of, host, process, target_of}
 use Rattle.node_core.specs.Try.{settled, requested, refusal_of, answered_if, may_free, with_freed, with_freed_of, locked_by, answered_here, tried, tried_against, tried_if}
@@ -48,7 +48,7 @@ use Rattle.node_core.specs.Retries.{retry_rule}
 use Rattle.node_core.specs.Node.{node_rule}
 use Rattle.node_core.specs.Anchors.{Waits, AreAnchored, IsAnchored}
 use Rattle.node_core.specs.Parts.{NodeParts, table_of}
-use Rattle.node_core.proofs.NodeLaws.{find-own, if-both}
+use Rattle.node_core.proofs.NodeLaws.{find-own, if-both, within, possible_call}
 
 -- the lock of an open call would depend on a descriptor that is open
 waits-hangs : (t : Table) (n i : ℕ) (c : OpenCall) → Waits t n i c → Hangs (t.on n i) c.file c.owner.kind c.owner.number
@@ -78,17 +78,18 @@ waits-on t u n i c goes w = record {
   span = w.span;
 }
 
--- a lock call that passes its tests has a descriptor, as an open call needs one
-found-waits : (t : Table) (n i pid number : ℕ) (its : LockCommand) (mode : Mode) (need : Option Mode) (fd : ℕ) (kind : Kind) (start len : ℤ) (c : LockTarget) → IsNumber most_processes pid → target t (record { node = n; incarnation = i; pid = pid }) need fd kind start len ≡ Ok c → Waits t n i (record { number = number; pid = pid; lock_command = its; file = c.file; owner = c.owner; mode = mode; span = c.span })
-found-waits t n i pid number its mode need fd kind start len c pid_in found =
+-- a call that passes its tests waits
+found-waits : (t : Table) (n i pid number : ℕ) (call : LockCall) (c : LockTarget) → IsNumber most_processes pid → call_target t (record { node = n; incarnation = i; pid = pid }) call ≡ Ok c → Waits t n i (record { number = number; pid = pid; lock_command = call.command; file = c.file; owner = c.owner; mode = call.mode; span = c.span })
+found-waits t n i pid number call c pid_in found =
     let p : Process = record { node = n; incarnation = i; pid = pid } in
-    let runs = if_then (is_running t p) (target_at p need kind (descriptor t p fd) (seg start len)) c NoProcess found in
-    let passes = passes_at p need kind (descriptor t p fd) (seg start len) c runs.1 in
-    let span = target_span t p need fd kind start len c found in
+    let need = need_of call.command call.mode in
+    let runs = if_then (is_running t p) (target_at p need call.kind (descriptor t p call.fd) (seg call.start call.len)) c NoProcess found in
+    let passes = passes_at p need call.kind (descriptor t p call.fd) (seg call.start call.len) c runs.1 in
+    let span = target_span t p need call.fd call.kind call.start call.len c found in
     record {
       pid_in = pid_in;
-      kind = kind;
-      fd = fd;
+      kind = call.kind;
+      fd = call.fd;
       opened = passes.what;
       there = passes.there;
       file = ap (λ (x : LockTarget). x.file) passes.is;
@@ -201,30 +202,21 @@ idle-others (d ∷ ds) pid h =
 
 -- the process has no open call, or it exits
 abbrev MayGo : NodeState → ℕ → Op → Type 0
-MayGo s pid Exit = Unit {0}
+MayGo s pid op.Exit = Unit {0}
 MayGo s pid _ = AreOthers s.pending pid
 
 not_busy : (s : NodeState) (pid : ℕ) (op : Op) → is_busy s pid op ≡ false → MayGo s pid op
-not_busy s pid Exit h = tt
+not_busy s pid op.Exit h = tt
 not_busy s pid _ h = idle-others s.pending pid h
 
-within : (most n : ℕ) → is_within most n ≡ true → IsNumber most n
-within most n h = (grind (arith, nat_tests, h), grind (arith, nat_tests, h))
-
--- all holds still after a call is taken
+-- a call is taken
 called-anchored : (s : NodeState) (number pid : ℕ) (op : Op) → IsNumber most_processes pid → is_in_shape s.shape op ≡ true → MayGo s pid op → IsAnchored s → IsAnchored (called s number pid op).state
-called-anchored s number pid Spawn pid_in known others h =
-    settled-anchored s number pid (beside s.table (process s pid) (after_spawn (around s.table (process s pid)) pid)) (spawn_follows s.table s.node s.incarnation pid h.own pid_in) others h
-called-anchored s number pid (Fork child) pid_in known others h =
-    settled-anchored s number pid (beside s.table (process s pid) (after_fork (around s.table (process s pid)) pid child)) (fork_follows s.table s.node s.incarnation pid h.own child (within most_processes child known)) others h
-called-anchored s number pid (Open file access) pid_in known others h =
-    settled-anchored s number pid (beside s.table (process s pid) (after_open (around s.table (process s pid)) pid file access)) (open_follows s.table s.node s.incarnation pid h.own file access pid_in) others h
-called-anchored s number pid (Dup fd) pid_in known others h =
-    settled-anchored s number pid (beside s.table (process s pid) (after_dup (around s.table (process s pid)) pid fd)) (dup_follows s.table s.node s.incarnation pid h.own fd) others h
-called-anchored s number pid (Close fd) pid_in known others h =
+called-anchored s number pid (op.Process call) pid_in known others h =
+    settled-anchored s number pid (beside s.table (process s pid) (after (around s.table (process s pid)) pid call)) (call_follows s.table s.node s.incarnation pid h.own call pid_in (possible_call s.shape call known)) others h
+called-anchored s number pid (op.Close fd) pid_in known others h =
     let answer = after_close s.table (process s pid) fd in
     shut-anchored s number (λ file. is_of_file file (descriptor s.table (process s pid) fd)) answer (settled-anchored s number pid answer (close_follows s.table s.node s.incarnation pid fd h.own) others h)
-called-anchored s number pid Exit pid_in known others h =
+called-anchored s number pid op.Exit pid_in known others h =
     let d = without_call_of s pid in
     let test : OpenCall → Bool = λ c. not (c.pid == pid) in
     let answer = after_exit s.table (process s pid) in
@@ -234,15 +226,11 @@ called-anchored s number pid Exit pid_in known others h =
   where
     not_its : (c : OpenCall) → not (c.pid == pid) ≡ true → c.pid ≡ pid → ⊥
     not_its c e same = both_ways (c.pid == pid) (not-true (c.pid == pid) e) (eq-eqb c.pid pid same)
-called-anchored s number pid (Set fd kind mode start len) pid_in known others h =
-    lock_call-anchored s number pid lock_command.Set mode (target s.table (process s pid) (Some mode) fd kind start len) (λ c found. found-waits s.table s.node s.incarnation pid number lock_command.Set mode (Some mode) fd kind start len c pid_in found) h
-called-anchored s number pid (Wait fd kind mode start len) pid_in known others h =
-    lock_call-anchored s number pid lock_command.Wait mode (target s.table (process s pid) (Some mode) fd kind start len) (λ c found. found-waits s.table s.node s.incarnation pid number lock_command.Wait mode (Some mode) fd kind start len c pid_in found) h
-called-anchored s number pid (Unlock fd kind start len) pid_in known others h =
+called-anchored s number pid (op.Lock call) pid_in known others h =
+    lock_call-anchored s number pid call.command call.mode (call_target s.table (process s pid) call) (λ c found. found-waits s.table s.node s.incarnation pid number call c pid_in found) h
+called-anchored s number pid (op.Unlock fd kind start len) pid_in known others h =
     let found = target s.table (process s pid) None fd kind start len in
     unlocked-anchored s number found (settled-anchored s number pid (after_unlock s.table found) (unlock_follows s.table s.node s.incarnation pid fd kind start len pid_in h.own) others h)
-called-anchored s number pid (Query fd kind mode start len) pid_in known others h =
-    lock_call-anchored s number pid lock_command.Query mode (target s.table (process s pid) None fd kind start len) (λ c found. found-waits s.table s.node s.incarnation pid number lock_command.Query mode None fd kind start len c pid_in found) h
 
 -- all holds after the step, if it isn't refused
 abbrev Leaves : Result (NodeState × Outcome) StepError → Type 0

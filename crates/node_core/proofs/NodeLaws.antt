@@ -2,6 +2,7 @@
 use Rattle.std.specs.Prelude.{◌≡◌, ℕ, ◌≤◌, ◌&&◌, ◌==◌, Bool, true, false, nat_lt, if◌then◌else◌, List, [], ◌∷◌, Option, Some, None, Result, Ok, Err, All, IfOk, IfSome, MatchOption, find, length, refl}
 use Rattle.std.proofs.Common.{arith, ap, sym, subst, ◌∙◌}
 use Rattle.std.proofs.lemmas.Bool.{and_from, eq-eqb}
+use Rattle.std.proofs.lemmas.Bool.Decides.{nat_tests}
 use Rattle.std.proofs.lemmas.List.Elements.{All-head, All-tail}
 use Rattle.intervals.specs.declared.span.SpanError.{SpanError}
 use Rattle.intervals.specs.declared.span.SpanError.TheVariants.{Invalid}
@@ -14,13 +15,13 @@ use Rattle.model.specs.declared.opened.Opened.{Opened}
 use Rattle.model.specs.declared.reply.Reply.{Reply}
 use Rattle.model.specs.declared.reply.Reply.TheVariants.{Done, Fd}
 use Rattle.model.specs.declared.reply.Reply.TheVariants as reply
-use Rattle.model.specs.Limits.{IsNumber, most_descriptors}
+use Rattle.model.specs.Limits.{IsNumber, most_processes, most_descriptors}
 use Rattle.model.specs.declared.lock_info.LockInfo.{LockInfo}
 use Rattle.model.specs.declared.policy.Policy.{Policy}
 use Rattle.model.specs.declared.policy.Policy.TheVariants.{Wide, Exact}
 use Rattle.model.specs.Locks.{no_locks, IsFree, IsLowestBlocker, lowest_blocker, IsRegion, IsOfNode}
 use Rattle.model.proofs.BlockerLaws.{is_lowest_blocker}
-use Rattle.model.specs.Descriptors.{Processes, no_processes, with_descriptor, lowest_fd, lowest_description, after_open, after_spawn, with_process, after_fork, after_dup, again_on}
+use Rattle.model.specs.Descriptors.{Processes, after, no_processes, with_descriptor, lowest_fd, lowest_description, after_open, after_spawn, with_process, after_fork, after_dup, again_on}
 use Rattle.model.specs.Table.{LockTarget, around, beside, with_processes, target_at}
 use Rattle.lock_table.specs.Rows.{TableParts, held, IsSameTable}
 use Rattle.messages.specs.Versions.{most_regions}
@@ -37,12 +38,15 @@ use Rattle.node_core.specs.State.{NodeState, first_file, first_node, host, proce
 use Rattle.descriptors.specs.Rows.{processes, resolved, fd_reply}
 use Rattle.fcntl_table.proofs.TargetLaws.{target_in, target-err, target-ok, resolved_ok}
 use Rattle.node_core.specs.Files.{file_state}
-use Rattle.node_core.specs.Parts.{NodeParts, node_state, IsOwnCall, IsNode, NamesFile}
+use Rattle.node_core.specs.Parts.{NodeParts, node_state, IsOwnCall, IsNode}
 use Rattle.descriptors.specs.declared.edit.ProcessEdit.{ProcessEdit}
 use Rattle.descriptors.specs.Edits.{edited, Fits as ProcessFits}
-use Rattle.descriptors.specs.declared.call.ProcessCall.{ProcessCall}
-use Rattle.descriptors.specs.declared.call.ProcessCall.TheVariants.{Spawn, Fork, Open, Dup}
-use Rattle.descriptors.specs.Calls.{after}
+use Rattle.model.specs.declared.op.Op.TheVariants.{Process}
+use Rattle.model.specs.declared.op.ProcessCall.{ProcessCall}
+use Rattle.model.specs.declared.op.ProcessCall.TheVariants.{Spawn, Fork, Open, Dup}
+use Rattle.model.specs.Step.{IsPossible}
+use Rattle.messages.specs.Messages.{is_within}
+use Rattle.node_core.specs.Calls.{is_in_shape}
 use Rattle.node_core.specs.Plans.{table_after, TableFits}
 use Rattle.node_core.specs.declared.edit.TableEdit.TheVariants.{OfProcess as OfProcessEdit}
 
@@ -169,12 +173,20 @@ unfolding node_state
 spawn-within p e pid told is fits h =
     (fits, λ q fd o some. spawned-within ((processes p.processes).runs pid) (processes p.processes) (edited (processes p.processes) e) pid told (λ o. IsNumber p.shape.files o.file) is h.opened_in q fd o some)
 
--- after each call the open descriptors are of files of the shape
-pub call-within : (p : NodeParts) (e : ProcessEdit) (pid : ℕ) (call : ProcessCall) (reply : Reply) → after (processes p.processes) pid call ≡ Ok (edited (processes p.processes) e, reply) → NamesFile (node_state p).shape.files call → ProcessFits p.processes e → IsNode p → TableFits p (OfProcessEdit e)
-call-within p e pid Spawn reply is named fits h = spawn-within p e pid reply is fits h
-call-within p e pid (Fork child) reply is named fits h = fork-within p e pid child reply is fits h
-call-within p e pid (Open file access) reply is named fits h = open-within p e pid file reply access is named fits h
-call-within p e pid (Dup fd) reply is named fits h = dup-within p e pid fd reply is fits h
+pub within : (most n : ℕ) → is_within most n ≡ true → IsNumber most n
+within most n h = (grind (arith, nat_tests, h), grind (arith, nat_tests, h))
+
+-- a process that the call names has a number that a process can have
+pub possible_call : (shape : ShapeFields) (call : ProcessCall) → is_in_shape shape (Process call) ≡ true → IsPossible (Process call)
+possible_call shape (Fork child) known = within most_processes child known
+possible_call shape _ known = tt
+
+-- what refers to a file of the shape goes on so after each call
+pub call-within : (p : NodeParts) (e : ProcessEdit) (pid : ℕ) (call : ProcessCall) (reply : Reply) → after (processes p.processes) pid call ≡ Ok (edited (processes p.processes) e, reply) → is_in_shape (node_state p).shape (Process call) ≡ true → ProcessFits p.processes e → IsNode p → TableFits p (OfProcessEdit e)
+call-within p e pid Spawn reply is known fits h = spawn-within p e pid reply is fits h
+call-within p e pid (Fork child) reply is known fits h = fork-within p e pid child reply is fits h
+call-within p e pid (Open file access) reply is known fits h = open-within p e pid file reply access is (within (node_state p).shape.files file known) fits h
+call-within p e pid (Dup fd) reply is known fits h = dup-within p e pid fd reply is fits h
 
 -- the desired range contains the required one
 pub desired-ends : (policy : Policy) (t : Token) (s : Range) → s.hi ≤ greatest → s.hi ≤ (desired policy t s).hi

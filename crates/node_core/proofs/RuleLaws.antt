@@ -1,5 +1,5 @@
--- What the rule of a node comes to, for its laws.
-use Rattle.std.specs.Prelude.{◌≡◌, ℕ, zero, suc, ◌+◌, ◌-◌, ◌≤◌, ◌<◌, Bool, true, false, not, ◌&&◌, ◌||◌, ◌==◌, nat_le, nat_lt, if◌then◌else◌, is_some, [], ◌∷◌, ◌++◌, Option, Some, None, Result, Ok, Err, IfOk, IsOkAnd, ℤ, pos, negsuc, refl}
+-- What the rule of a node comes to.
+use Rattle.std.specs.Prelude.{◌≡◌, ◌≢◌, ℕ, zero, suc, ◌+◌, ◌-◌, ◌≤◌, ◌<◌, Bool, true, false, not, ◌&&◌, ◌||◌, ◌==◌, nat_le, nat_lt, if◌then◌else◌, is_some, [], ◌∷◌, ◌++◌, Option, Some, None, Result, Ok, Err, IfOk, IsOkAnd, ℤ, pos, negsuc, refl}
 use Rattle.std.proofs.Common.{arith, ap, sym, ◌∙◌, subst}
 use Rattle.std.proofs.lemmas.Bool.{and_from, eq-eqb, le-leb, lt-ltb}
 use Rattle.std.proofs.lemmas.Bool.Decides.{nat_tests}
@@ -14,13 +14,16 @@ use Rattle.model.specs.declared.owner.Kind.TheVariants.{OfProcess, OfDescription
 use Rattle.model.specs.declared.level.Level.{Level}
 use Rattle.model.specs.declared.lock_info.LockInfo.{LockInfo}
 use Rattle.model.specs.declared.op.Op.{Op}
-use Rattle.model.specs.declared.op.Op.TheVariants.{Set, Wait}
+use Rattle.model.specs.declared.op.Op.TheVariants.{Lock}
+use Rattle.model.specs.declared.op.LockCall.{LockCall}
+use Rattle.model.specs.declared.op.LockCommand.{LockCommand}
+use Rattle.model.specs.declared.op.LockCommand.TheVariants.{Set, Wait, Query}
 use Rattle.model.specs.declared.opened.Opened.{Opened}
 use Rattle.model.specs.declared.process.Process.{Process}
 use Rattle.model.specs.declared.reply.Reply.{Reply}
 use Rattle.model.specs.declared.reply.Reply.TheVariants.{Done, NoLocks, NoProcess}
 use Rattle.model.specs.Locks.{FileLocks, IsRegion, IsFree, IsOfNode, IsClear}
-use Rattle.model.specs.Table.{Table, LockTarget, is_running, descriptor, allows, target_at, target, regions_with, locked, lock_within}
+use Rattle.model.specs.Table.{Table, LockTarget, is_running, descriptor, allows, target_at, target, need_of, call_target, regions_with, locked, lock_within}
 use Rattle.model.proofs.BlockerLaws.{is_lowest_blocker}
 use Rattle.model.proofs.WayLaws.{clear_has_none}
 use Rattle.token_set.specs.Tokens.{Token, level_conflicts, conflicts, covers}
@@ -34,8 +37,6 @@ use Rattle.messages.specs.declared.refusal.StepError.{StepError}
 use Rattle.messages.specs.declared.refusal.StepError.TheVariants.{Stranger, Busy, Spent}
 use Rattle.messages.specs.Messages.{is_within}
 use Rattle.node_core.specs.declared.open_call.OpenCall.{OpenCall}
-use Rattle.node_core.specs.declared.open_call.LockCommand.{LockCommand}
-use Rattle.node_core.specs.declared.open_call.LockCommand.TheVariants as lock_command
 use Rattle.node_core.specs.State.{FileState, NodeState, Effect, host, process, id_of, open_call_of, target_of, outcome}
 use Rattle.node_core.specs.Try.{settled, requested, answered_if, may_free, with_freed, locked_by, answered_here, tried_against}
 use Rattle.node_core.specs.Calls.{is_pid, is_in_shape, is_exit, is_busy, lock_call, after_call, call_rule}
@@ -43,7 +44,7 @@ use Rattle.node_core.specs.Commands.{in_epoch, answer_to, is_conflict, revoked}
 use Rattle.node_core.specs.Interrupts.{interruption_of, interrupted}
 use Rattle.node_core.specs.Parts.{IsSpan}
 use Rattle.node_core.proofs.EpochLaws.{in_epoch-file}
-use Rattle.node_core.specs.Laws.{MayCall, CoveredSetIsDone, CoveredWaitIsDone, IsUntouched, InterruptChangesNothing, GivesUp, ClearRevokeGivesUp}
+use Rattle.node_core.specs.Laws.{MayCall, CoveredLockIsDone, IsUntouched, InterruptChangesNothing, GivesUp, ClearRevokeGivesUp}
 
 -- a branch whose test holds is taken
 taken : {A : Type 0} (P : A → Type 0) (b : Bool) (x y : A) → b ≡ true → P x → P (if b then x else y)
@@ -127,16 +128,22 @@ tried-done s c r none locks covered few =
     ∙ locked_by-reply s c.number (target_of c) (Some c.mode)
     ∙ ap (λ (a : Reply). Some (id_of s c.number, a)) (lock_within-done s.table (target_of c) (Some c.mode) few))
 
--- a new lock call that no lock blocks and the token covers is answered Done
-lock_call-done : (s : NodeState) (number pid : ℕ) (its : LockCommand) (fd : ℕ) (kind : Kind) (mode : Mode) (start len : ℤ) (t : LockTarget) → Locks its → target s.table (process s pid) (Some mode) fd kind start len ≡ Ok t → IsOfNode (s.table.locks t.file) s.node s.incarnation → IsFree (s.table.locks t.file) t.owner t.span mode → covers (s.files t.file).token t.span mode ≡ true → regions_with s.table t (Some mode) ≤ s.table.limit → (lock_call s number pid its mode (target s.table (process s pid) (Some mode) fd kind start len)).reply ≡ Some (id_of s number, Done)
-lock_call-done s number pid its fd kind mode start len t locks is own free covered few =
-    let about : IsAbout (process s pid) t = subst (λ (r : Result LockTarget Reply). IfOk r (IsAbout (process s pid))) is (target-about s.table (process s pid) (Some mode) fd kind start len) in
+locks_of : (its : LockCommand) → its ≢ Query → Locks its
+locks_of Set asks = λ s c. refl
+locks_of Wait asks = λ s c. refl
+locks_of Query asks = absurd (asks refl)
+
+-- so such a call for a lock is answered Done
+lock_call-done : (s : NodeState) (number pid : ℕ) (call : LockCall) (t : LockTarget) → Locks call.command → call_target s.table (process s pid) call ≡ Ok t → IsOfNode (s.table.locks t.file) s.node s.incarnation → IsFree (s.table.locks t.file) t.owner t.span call.mode → covers (s.files t.file).token t.span call.mode ≡ true → regions_with s.table t (Some call.mode) ≤ s.table.limit → (lock_call s number pid call.command call.mode (call_target s.table (process s pid) call)).reply ≡ Some (id_of s number, Done)
+lock_call-done s number pid call t locks is own free covered few =
+    let mode = call.mode in
+    let about : IsAbout (process s pid) t = subst (λ (r : Result LockTarget Reply). IfOk r (IsAbout (process s pid))) is (target-about s.table (process s pid) (need_of call.command mode) call.fd call.kind call.start call.len) in
     let of_node : IsOfNode (s.table.locks t.file) t.owner.node s.incarnation = subst (λ (n : ℕ). IsOfNode (s.table.locks t.file) n s.incarnation) (sym about.of_node) own in
     let of_host : IsOfNode (s.table.locks t.file) t.owner.node t.owner.incarnation = subst (λ (n : ℕ). IsOfNode (s.table.locks t.file) t.owner.node n) (sym about.of_incarnation) of_node in
     let none = sym (is_lowest_blocker (s.table.locks t.file) t.owner t.span mode None of_host about.span.ordered about.span.ends free) in
-    let c : OpenCall = record { number = number; pid = pid; lock_command = its; file = t.file; owner = t.owner; mode = mode; span = t.span } in
+    let c : OpenCall = record { number = number; pid = pid; lock_command = call.command; file = t.file; owner = t.owner; mode = mode; span = t.span } in
     let opened : NodeState = record s { pending = s.pending ++ c ∷ [] } in
-    ap (λ (r : Result LockTarget Reply). (lock_call s number pid its mode r).reply) is ∙ tried-done opened c _ none locks covered few
+    ap (λ (r : Result LockTarget Reply). (lock_call s number pid call.command mode r).reply) is ∙ tried-done opened c _ none locks covered few
 
 -- the call of a process that may call is taken
 call-taken : (s : NodeState) (pid : ℕ) (op : Op) (P : NodeState × Outcome → Type 0) → MayCall s pid → is_in_shape s.shape op ≡ true → is_exit op ≡ false → P (after_call s pid op) → IsOkAnd (call_rule s pid op) P
@@ -147,17 +154,10 @@ call-taken s pid op P may known stays h =
     not_taken Q (is_busy s pid op) (Err Busy) _ busy (
     taken Q (nat_lt s.calls 4294967295) (Ok (after_call s pid op)) (Err Spent) (lt-ltb _ _ may.left) h))
 
-pub covered_set_is_done : CoveredSetIsDone
-covered_set_is_done s pid fd kind mode start len t may is own free covered few =
-    let locks : Locks lock_command.Set = λ n c. refl in
-    let done = lock_call-done (record s { calls = s.calls + 1 }) (s.calls + 1) pid lock_command.Set fd kind mode start len t locks is own free covered few in
-    call-taken s pid (Set fd kind mode start len) (λ r. r.1.reply ≡ Some (id_of s (s.calls + 1), Done)) may refl refl done
-
-pub covered_wait_is_done : CoveredWaitIsDone
-covered_wait_is_done s pid fd kind mode start len t may is own free covered few =
-    let locks : Locks lock_command.Wait = λ n c. refl in
-    let done = lock_call-done (record s { calls = s.calls + 1 }) (s.calls + 1) pid lock_command.Wait fd kind mode start len t locks is own free covered few in
-    call-taken s pid (Wait fd kind mode start len) (λ r. r.1.reply ≡ Some (id_of s (s.calls + 1), Done)) may refl refl done
+pub covered_lock_is_done : CoveredLockIsDone
+covered_lock_is_done s pid call t asks may is own free covered few =
+    let done = lock_call-done (record s { calls = s.calls + 1 }) (s.calls + 1) pid call t (locks_of call.command asks) is own free covered few in
+    call-taken s pid (Lock call) (λ r. r.1.reply ≡ Some (id_of s (s.calls + 1), Done)) may refl refl done
 
 -- an effect of a reply, or of none, leaves processes, locks and tokens
 answered_if-untouched : (s : NodeState) (number : ℕ) (x : Option Reply) → IsUntouched s (outcome None (answered_if s number x))

@@ -2,18 +2,18 @@
 use Rattle.std.specs.Prelude.{ℕ, ◌+◌, Bool, true, false, not, ◌&&◌, nat_lt, if◌then◌else◌, [], ◌∷◌, ◌++◌, is_some, Some, None, Result, Ok, Err}
 use Rattle.model.specs.declared.mode.Mode.{Mode}
 use Rattle.model.specs.declared.op.Op.{Op}
-use Rattle.model.specs.declared.op.Op.TheVariants.{Spawn, Fork, Open, Dup, Close, Exit, Set, Wait, Unlock, Query}
+use Rattle.model.specs.declared.op.Op.TheVariants.{Process, Close, Exit, Lock, Unlock}
+use Rattle.model.specs.declared.op.ProcessCall.TheVariants.{Fork, Open}
+use Rattle.model.specs.declared.op.LockCommand.{LockCommand}
 use Rattle.model.specs.declared.reply.Reply.{Reply}
 use Rattle.model.specs.Limits.{most_processes}
-use Rattle.model.specs.Descriptors.{is_of_file, has_open, after_spawn, after_fork, after_open, after_dup}
-use Rattle.model.specs.Table.{Table, LockTarget, around, descriptor, beside, target, after_close, after_exit}
+use Rattle.model.specs.Descriptors.{is_of_file, has_open, after}
+use Rattle.model.specs.Table.{Table, LockTarget, around, descriptor, beside, target, call_target, after_close, after_exit}
 use Rattle.messages.specs.Shapes.{ShapeFields}
 use Rattle.messages.specs.declared.refusal.StepError.{StepError}
 use Rattle.messages.specs.declared.refusal.StepError.TheVariants.{Busy, Stranger, Spent}
 use Rattle.messages.specs.declared.outcome.Outcome.{Outcome}
 use Rattle.messages.specs.Messages.{is_within, greatest_number}
-use Rattle.node_core.specs.declared.open_call.LockCommand.{LockCommand}
-use Rattle.node_core.specs.declared.open_call.LockCommand.TheVariants as lock_command
 use Rattle.node_core.specs.declared.open_call.OpenCall.{OpenCall}
 use Rattle.node_core.specs.State.{NodeState, Effect, answered, without_call_of, open_call_of, process, id_of, outcome}
 use Rattle.node_core.specs.Try.{settled, may_free, with_freed_of, locked_by, tried}
@@ -24,8 +24,8 @@ is_pid pid = is_within most_processes pid
 
 -- whether the file or the process that the operation names is in range
 abbrev pub is_in_shape : ShapeFields → Op → Bool
-is_in_shape shape (Fork child) = is_pid child
-is_in_shape shape (Open file access) = is_within shape.files file
+is_in_shape shape (Process (Fork child)) = is_pid child
+is_in_shape shape (Process (Open file access)) = is_within shape.files file
 is_in_shape shape _ = true
 
 -- a lock call that passes its first tests is open, and is tried; else it is answered
@@ -47,26 +47,15 @@ shut_by s number passes answer =
 
 -- the effect of the call with that number: all calls but set, wait and query are answered in the same step
 abbrev pub called : NodeState → ℕ → ℕ → Op → Effect
-called s number pid Spawn = settled s number (beside s.table (process s pid) (after_spawn (around s.table (process s pid)) pid))
-called s number pid (Fork child) = settled s number (beside s.table (process s pid) (after_fork (around s.table (process s pid)) pid child))
-called s number pid (Open file access) = settled s number (beside s.table (process s pid) (after_open (around s.table (process s pid)) pid file access))
-called s number pid (Dup fd) = settled s number (beside s.table (process s pid) (after_dup (around s.table (process s pid)) pid fd))
+called s number pid (Process call) = settled s number (beside s.table (process s pid) (after (around s.table (process s pid)) pid call))
 called s number pid (Close fd) = shut_by s number (λ file. is_of_file file (descriptor s.table (process s pid) fd)) (after_close s.table (process s pid) fd)
 called s number pid Exit = shut_by (without_call_of s pid) number (has_open (around s.table (process s pid)) pid) (after_exit s.table (process s pid))
-called s number pid (Set fd kind mode start len) = lock_call s number pid lock_command.Set mode (target s.table (process s pid) (Some mode) fd kind start len)
-called s number pid (Wait fd kind mode start len) = lock_call s number pid lock_command.Wait mode (target s.table (process s pid) (Some mode) fd kind start len)
+called s number pid (Lock call) = lock_call s number pid call.command call.mode (call_target s.table (process s pid) call)
 called s number pid (Unlock fd kind start len) = unlock_call s number (target s.table (process s pid) None fd kind start len)
-called s number pid (Query fd kind mode start len) = lock_call s number pid lock_command.Query mode (target s.table (process s pid) None fd kind start len)
 
 -- the step of a new call, which takes the next number
 abbrev pub after_call : NodeState → ℕ → Op → NodeState × Outcome
 after_call s pid op = outcome (Some (id_of s (s.calls + 1))) (called (record s { calls = s.calls + 1 }) (s.calls + 1) pid op)
-
--- whether the operation sets a lock, at once or as soon as no lock is in the way
-abbrev pub is_set : Op → Bool
-is_set (Set fd kind mode start len) = true
-is_set (Wait fd kind mode start len) = true
-is_set _ = false
 
 abbrev pub is_exit : Op → Bool
 is_exit Exit = true

@@ -5,8 +5,8 @@ use Rattle.model.specs.declared.reply.Reply.TheVariants.{Interrupted}
 use Rattle.messages.specs.declared.refusal.StepError.{StepError}
 use Rattle.messages.specs.declared.refusal.StepError.TheVariants.{Stranger}
 use Rattle.messages.specs.declared.outcome.Outcome.{Outcome}
-use Rattle.node_core.specs.declared.open_call.LockCommand.{LockCommand}
-use Rattle.node_core.specs.declared.open_call.LockCommand.TheVariants.{Wait}
+use Rattle.model.specs.declared.op.LockCommand.{LockCommand}
+use Rattle.model.specs.declared.op.LockCommand.TheVariants.{Wait}
 use Rattle.node_core.specs.declared.open_call.OpenCall.{OpenCall}
 use Rattle.node_core.specs.State.{NodeState, Effect, open_call_of, outcome, quiet}
 use Rattle.node_core.specs.Try.{answered_if}

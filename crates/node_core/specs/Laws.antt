@@ -1,14 +1,15 @@
 -- Laws of the rule of a node.
-use Rattle.std.specs.Prelude.{◌≡◌, ℕ, ◌+◌, ◌≤◌, ◌<◌, true, false, [], ◌∷◌, Some, None, Ok, ℤ, IsOkAnd}
+use Rattle.std.specs.Prelude.{◌≡◌, ◌≢◌, ℕ, ◌+◌, ◌≤◌, ◌<◌, true, false, [], ◌∷◌, Some, None, Ok, IsOkAnd}
 use Rattle.intervals.specs.Bytes.{Range}
 use Rattle.model.specs.declared.mode.Mode.{Mode}
-use Rattle.model.specs.declared.owner.Kind.{Kind}
 use Rattle.model.specs.declared.call.CallId.{CallId}
-use Rattle.model.specs.declared.op.Op.TheVariants.{Set, Wait}
+use Rattle.model.specs.declared.op.Op.TheVariants.{Lock}
+use Rattle.model.specs.declared.op.LockCall.{LockCall}
+use Rattle.model.specs.declared.op.LockCommand.TheVariants.{Query}
 use Rattle.model.specs.declared.reply.Reply.TheVariants.{Done}
 use Rattle.model.specs.Limits.{IsNumber, most_processes}
 use Rattle.model.specs.Locks.{IsFree, IsOfNode, IsClear}
-use Rattle.model.specs.Table.{LockTarget, target, regions_with}
+use Rattle.model.specs.Table.{LockTarget, call_target, regions_with}
 use Rattle.token_set.specs.Tokens.{covers, conflicts}
 use Rattle.token_set.specs.Releases.{IsRevocable}
 use Rattle.messages.specs.Messages.{greatest_number}
@@ -26,29 +27,18 @@ pub record MayCall (s : NodeState) (pid : ℕ) : Type 0 where
   pub idle : open_call_of s pid ≡ None
   pub left : s.calls < greatest_number
 
--- a set that no lock of the node blocks and the token covers is answered Done in its own step, if its owner stays within the limit of regions
-abbrev pub CoveredSetIsDone : Type 0
-CoveredSetIsDone =
-    (s : NodeState) (pid fd : ℕ) (kind : Kind) (mode : Mode) (start len : ℤ) (t : LockTarget)
+-- a set or a wait that no lock of another owner of the node blocks, whose bytes the token covers, and that leaves its owner within the limit of regions, is answered Done in its own step
+abbrev pub CoveredLockIsDone : Type 0
+CoveredLockIsDone =
+    (s : NodeState) (pid : ℕ) (call : LockCall) (t : LockTarget)
+    → call.command ≢ Query
     → MayCall s pid
-    → target s.table (process s pid) (Some mode) fd kind start len ≡ Ok t
+    → call_target s.table (process s pid) call ≡ Ok t
     → IsOfNode (s.table.locks t.file) s.node s.incarnation
-    → IsFree (s.table.locks t.file) t.owner t.span mode
-    → covers (s.files t.file).token t.span mode ≡ true
-    → regions_with s.table t (Some mode) ≤ s.table.limit
-    → IsOkAnd (node_rule s (Call pid (Set fd kind mode start len))) (λ r. r.1.reply ≡ Some (id_of s (s.calls + 1), Done))
-
--- a wait that no lock of the node blocks and the token covers is answered Done in its own step, if its owner stays within the limit of regions
-abbrev pub CoveredWaitIsDone : Type 0
-CoveredWaitIsDone =
-    (s : NodeState) (pid fd : ℕ) (kind : Kind) (mode : Mode) (start len : ℤ) (t : LockTarget)
-    → MayCall s pid
-    → target s.table (process s pid) (Some mode) fd kind start len ≡ Ok t
-    → IsOfNode (s.table.locks t.file) s.node s.incarnation
-    → IsFree (s.table.locks t.file) t.owner t.span mode
-    → covers (s.files t.file).token t.span mode ≡ true
-    → regions_with s.table t (Some mode) ≤ s.table.limit
-    → IsOkAnd (node_rule s (Call pid (Wait fd kind mode start len))) (λ r. r.1.reply ≡ Some (id_of s (s.calls + 1), Done))
+    → IsFree (s.table.locks t.file) t.owner t.span call.mode
+    → covers (s.files t.file).token t.span call.mode ≡ true
+    → regions_with s.table t (Some call.mode) ≤ s.table.limit
+    → IsOkAnd (node_rule s (Call pid (Lock call))) (λ r. r.1.reply ≡ Some (id_of s (s.calls + 1), Done))
 
 -- the step leaves processes, locks and tokens as they were, and sends nothing
 pub record IsUntouched (s : NodeState) (r : NodeState × Outcome) : Type 0 where

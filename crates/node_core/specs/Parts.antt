@@ -4,7 +4,7 @@ use Rattle.intervals.specs.Bytes.{Range}
 use Rattle.model.specs.declared.opened.Opened.{Opened}
 use Rattle.model.specs.declared.reply.Reply.{Reply}
 use Rattle.model.specs.Limits.{IsHost, IsNumber}
-use Rattle.model.specs.Descriptors.{no_processes}
+use Rattle.model.specs.Descriptors.{no_processes, after}
 use Rattle.model.specs.Table.{Table, around, beside}
 use Rattle.lock_table.specs.Rows.{TableParts, held}
 use Rattle.messages.specs.Shapes.{ShapeFields}
@@ -19,9 +19,7 @@ use Rattle.messages.specs.Messages.{addressee, file_of, is_within, greatest_numb
 use Rattle.descriptors.specs.declared.process_entry.ProcessEntry.{ProcessEntry}
 use Rattle.node_core.specs.declared.file_row.FileRow.{FileRow}
 use Rattle.node_core.specs.declared.open_call.OpenCall.{OpenCall}
-use Rattle.descriptors.specs.declared.call.ProcessCall.{ProcessCall}
-use Rattle.descriptors.specs.declared.call.ProcessCall.TheVariants.{Open}
-use Rattle.descriptors.specs.Calls.{after}
+use Rattle.model.specs.declared.op.ProcessCall.{ProcessCall}
 use Rattle.descriptors.specs.Rows.{processes}
 pub use Rattle.fcntl_table.specs.Targets.{IsOwn, IsSpan}
 use Rattle.node_core.specs.Files.{file_state}
@@ -77,12 +75,7 @@ pub record IsNode (p : NodeParts) : Type 0 where
 abbrev pub asked : NodeState → ℕ → ProcessCall → Table × Reply
 asked s pid call = beside s.table (process s pid) (after (around s.table (process s pid)) pid call)
 
--- the file that the call opens, if it opens one, is of the shape
-abbrev pub NamesFile : ℕ → ProcessCall → Type 0
-NamesFile files (Open file access) = IsNumber files file
-NamesFile files _ = Unit {0}
-
--- whether the message is for this node, and about a file of the shape
+-- the message is for this node, and about a file of the shape
 abbrev pub is_for : NodeState → Message → Bool
 is_for s m = is_node s.node (addressee m) && is_within s.shape.files (file_of m)
 

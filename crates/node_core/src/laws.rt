@@ -1,16 +1,10 @@
-//! Laws of the rule of a node; each is the contract of a function that does nothing.
-ghost use Rattle.node_core.specs.Laws.{CoveredSetIsDone, CoveredWaitIsDone, InterruptChangesNothing, ClearRevokeGivesUp};
+//! Laws of a node's rule, each the contract of a function that does nothing.
+ghost use Rattle.node_core.specs.Laws.{CoveredLockIsDone, InterruptChangesNothing, ClearRevokeGivesUp};
 
-/// A set is answered Done in its own step if no lock of another owner of the node blocks it, the
-/// node's token covers its bytes, and its owner stays within the limit of regions.
-pub fn a_covered_set_is_done()
-    ensures { CoveredSetIsDone }
-{}
-
-/// A wait is answered Done in its own step if no lock of another owner of the node blocks it, the
-/// node's token covers its bytes, and its owner stays within the limit of regions.
-pub fn a_covered_wait_is_done()
-    ensures { CoveredWaitIsDone }
+/// A set or a wait that no lock of another owner of the node blocks, whose bytes the node's token covers,
+/// and that leaves its owner within the limit of regions, is answered Done in its own step.
+pub fn a_covered_lock_is_done()
+    ensures { CoveredLockIsDone }
 {}
 
 /// An interrupt leaves processes, locks and tokens as they were, and sends nothing: it only changes

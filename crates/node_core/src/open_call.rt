@@ -9,51 +9,38 @@ use messages::message::Blocking;
 use model::lock_info::LockInfo;
 use model::lock_target::LockTarget;
 use model::mode::Mode;
+use model::op::LockCommand;
 use model::owner::Owner;
 use model::reply::Reply;
 
-/// What an open call wants: a lock now, a lock as soon as it is free, or to know whether it is
-/// free.
-#[derive(Clone, Copy, Debug, PartialEq, Eq)]
-pub enum LockCommand {
-    /// A lock at once, or a denial (POSIX.1-2017 `fcntl()`, F_SETLK).
-    Set,
-    /// A lock as soon as no lock is in the way (POSIX.1-2017 `fcntl()`, F_SETLKW).
-    Wait,
-    /// Whether a lock is in the way, and which one (POSIX.1-2017 `fcntl()`, F_GETLK).
-    Query,
+/// The reply that names a lock in the way; a wait stays open.
+pub fn refusal_of(command: LockCommand, lock: LockInfo) -> Option<Reply>
+    ensures { result ≡ refusal_of command lock }
+{
+    match command {
+        LockCommand::Set => Some(Reply::Again(lock)),
+        LockCommand::Wait => None,
+        LockCommand::Query => Some(Reply::Blocked(lock)),
+    }
 }
 
-impl LockCommand {
-    /// The reply that names a lock in the way; `None` for a wait, which stays open.
-    pub fn refusal(self, lock: LockInfo) -> Option<Reply>
-        ensures { result ≡ refusal_of self lock }
-    {
-        match self {
-            LockCommand::Set => Some(Reply::Again(lock)),
-            LockCommand::Wait => None,
-            LockCommand::Query => Some(Reply::Blocked(lock)),
-        }
+/// What an interrupt answers: a wait alone (POSIX.1-2017 `fcntl()`, EINTR).
+pub fn interruption_of(command: LockCommand) -> Option<Reply>
+    ensures { result ≡ interruption_of command }
+{
+    match command {
+        LockCommand::Wait => Some(Reply::Interrupted),
+        LockCommand::Set | LockCommand::Query => None,
     }
+}
 
-    /// The reply to an interrupt; `None` unless the call is a wait (POSIX.1-2017 `fcntl()`, EINTR).
-    pub fn interruption(self) -> Option<Reply>
-        ensures { result ≡ interruption_of self }
-    {
-        match self {
-            LockCommand::Wait => Some(Reply::Interrupted),
-            LockCommand::Set | LockCommand::Query => None,
-        }
-    }
-
-    /// Whether a token request of the call waits where a lock blocks it.
-    pub fn blocking(self) -> Blocking
-        ensures { result ≡ blocking_of self }
-    {
-        match self {
-            LockCommand::Wait => Blocking::Yes,
-            LockCommand::Set | LockCommand::Query => Blocking::No,
-        }
+/// Whether the request for its token waits where a lock blocks it.
+pub fn blocking_of(command: LockCommand) -> Blocking
+    ensures { result ≡ blocking_of command }
+{
+    match command {
+        LockCommand::Wait => Blocking::Yes,
+        LockCommand::Set | LockCommand::Query => Blocking::No,
     }
 }
 

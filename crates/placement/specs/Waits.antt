@@ -1,7 +1,8 @@
 -- Calls that wait, as a history is replayed.
 use Rattle.std.specs.Prelude.{◌≡◌, ◌≢◌}
 use Rattle.model.specs.declared.op.Op.{Op}
-use Rattle.model.specs.declared.op.Op.TheVariants.{Wait}
+use Rattle.model.specs.declared.op.Op.TheVariants.{Lock}
+use Rattle.model.specs.declared.op.LockCommand.TheVariants.{Wait}
 use Rattle.model.specs.declared.process.Process.{Process}
 use Rattle.model.specs.declared.reply.Reply.{Reply}
 use Rattle.model.specs.declared.reply.Reply.TheVariants.{Interrupted}
@@ -14,5 +15,5 @@ IsStuck t p op = (reply : Reply) → NamesNoLock reply → Interrupted ≢ reply
 
 -- a call that waits is answered by an interrupt only where the table has no other answer
 abbrev pub GoesOn : Table → Process → Op → Reply → Type 0
-GoesOn t p (Wait fd kind mode start len) reply = reply ≡ Interrupted → IsStuck t p (Wait fd kind mode start len)
+GoesOn t p (Lock call) reply = call.command ≡ Wait → reply ≡ Interrupted → IsStuck t p (Lock call)
 GoesOn t p _ reply = Unit {0}

@@ -1,6 +1,6 @@
 //! The answers that a single machine's table may give to a call.
 ghost use Rattle.std.specs.Prelude.{◌≡◌, ◌≢◌, true, false, IsTrue, ◌↔◌, IfOk, IsOkAnd};
-ghost use Rattle.model.specs.declared.op.Op.TheVariants.{Set, Wait, Unlock, Query};
+ghost use Rattle.model.specs.declared.op.Op.TheVariants.{Unlock};
 ghost use Rattle.model.specs.declared.reply.Reply.TheVariants.{Interrupted};
 ghost use Rattle.model.specs.Step.{BlocksCall, IsPossible, Step};
 ghost use Rattle.model.specs.Replay.{NeverAnswers, NamesNoLock};
@@ -8,13 +8,12 @@ ghost use Rattle.fcntl_table.specs.Tables.{table_of};
 ghost use Rattle.placement.specs.Waits.{GoesOn};
 ghost use Rattle.placement.specs.Blocking.{BlocksOp};
 
-use descriptors::call::ProcessCall;
 use fcntl_table::table::FcntlTable;
 use model::limits::MOST_PROCESSES;
 use model::lock_info::LockInfo;
 use model::lock_target::LockTarget;
 use model::mode::Mode;
-use model::op::Op;
+use model::op::{LockCall, LockCommand, Op, ProcessCall};
 use model::owner::Kind;
 use model::process::Process;
 use model::reply::Reply;
@@ -32,7 +31,7 @@ fn is_same(one: &Reply, other: &Reply) -> bool
 ///
 /// # Errors
 /// `AllocError` where a request for memory was refused.
-#[tactic(auto, using(crate::proofs::Waits::only_sets_are_denied, crate::proofs::Waits::only_queries_are_blocked))]
+#[tactic(auto, using(crate::proofs::Waits::denied, crate::proofs::Waits::never_denied, crate::proofs::Waits::told, crate::proofs::Waits::never_told))]
 pub(crate) fn take(
     table: &mut FcntlTable,
     process: Process,
@@ -42,12 +41,10 @@ pub(crate) fn take(
     ensures taken { IfOk result (λ yes. yes ≡ true → Step (table_of table.old) process op reply (table_of table.new)) }
     ensures never { IfOk result (λ yes. yes ≡ false → NeverAnswers (table_of table.old) process op reply) }
 {
-    match (reply, &op) {
-        (Reply::Again(lock), Op::Set { .. }) | (Reply::Blocked(lock), Op::Query { .. }) => {
-            Ok(is_blocked(table, process, op, &lock))
-        }
-        (Reply::Again(_) | Reply::Blocked(_), _) => Ok(false),
-        (Reply::Interrupted, _) => Ok(may_interrupt(table, process, op)),
+    match reply {
+        Reply::Again(lock) => Ok(is_blocked(table, process, op, LockCommand::Set, &lock)),
+        Reply::Blocked(lock) => Ok(is_blocked(table, process, op, LockCommand::Query, &lock)),
+        Reply::Interrupted => Ok(may_interrupt(table, process, op)),
         _ => take_answer(table, process, op, reply),
     }
 }
@@ -77,36 +74,24 @@ fn is_possible(op: &Op) -> bool
     ensures { IsTrue result ↔ IsPossible op.now }
 {
     match op {
-        Op::Fork { child } => 1 <= *child && *child <= MOST_PROCESSES,
+        Op::Process(ProcessCall::Fork { child }) => 1 <= *child && *child <= MOST_PROCESSES,
         _ => true,
     }
 }
 
-// Whether the operation is a set or a query that passes its tests, and the lock is a region of another owner that
-// blocks it.
-fn is_blocked(table: &FcntlTable, process: Process, op: Op, lock: &LockInfo) -> bool
-    ensures { IsTrue result ↔ BlocksOp (table_of table.now) process op lock.now }
+// Whether the call has the command and passes its tests, and the lock is a region of another owner that blocks it.
+fn is_blocked(
+    table: &FcntlTable,
+    process: Process,
+    op: Op,
+    command: LockCommand,
+    lock: &LockInfo,
+) -> bool
+    ensures { IsTrue result ↔ BlocksOp (table_of table.now) process op command lock.now }
 {
     match op {
-        Op::Set {
-            fd,
-            kind,
-            mode,
-            start,
-            len,
-        } => {
-            let target = table.target(process, Some(mode), fd, kind, start, len);
-            is_blocked_at(table, target, mode, lock)
-        }
-        Op::Query {
-            fd,
-            kind,
-            mode,
-            start,
-            len,
-        } => {
-            let target = table.target(process, None, fd, kind, start, len);
-            is_blocked_at(table, target, mode, lock)
+        Op::Lock(call) if call.command == command => {
+            is_blocked_at(table, table.call_target(process, call), call.mode, lock)
         }
         _ => false,
     }
@@ -133,19 +118,12 @@ fn may_interrupt(table: &FcntlTable, process: Process, op: Op) -> bool
     ensures may { result ≡ true → Step (table_of table.now) process op Interrupted (table_of table.now) }
     ensures never { result ≡ false → NeverAnswers (table_of table.now) process op Interrupted }
 {
-    let Op::Wait {
-        fd,
-        kind,
-        mode,
-        start,
-        len,
-    } = op
-    else {
-        return false;
-    };
-    table
-        .target(process, Some(mode), fd, kind, start, len)
-        .is_ok()
+    match op {
+        Op::Lock(call) if call.command == LockCommand::Wait => {
+            table.call_target(process, call).is_ok()
+        }
+        _ => false,
+    }
 }
 
 // Whether the lock is a region of another owner that blocks the call.
@@ -169,86 +147,37 @@ fn step(table: &mut FcntlTable, process: Process, op: Op) -> Result<Reply, Alloc
     ensures goes_on { IfOk result (GoesOn (table_of table.old) process op) }
 {
     match op {
-        Op::Spawn => table.call(process, ProcessCall::Spawn),
-        Op::Fork { child } => table.call(process, ProcessCall::Fork { child }),
-        Op::Open { file, access } => table.call(process, ProcessCall::Open { file, access }),
-        Op::Dup { fd } => table.call(process, ProcessCall::Dup { fd }),
+        Op::Process(call) => table.call(process, call),
         Op::Close { fd } => Ok(table.close(process, fd)),
         Op::Exit => Ok(table.exit(process)),
-        Op::Set {
-            fd,
-            kind,
-            mode,
-            start,
-            len,
-        } => set(table, process, fd, kind, mode, start, len),
-        Op::Wait {
-            fd,
-            kind,
-            mode,
-            start,
-            len,
-        } => wait(table, process, fd, kind, mode, start, len),
+        Op::Lock(call) => lock(table, process, call),
         Op::Unlock {
             fd,
             kind,
             start,
             len,
         } => unlock(table, process, fd, kind, start, len),
-        Op::Query {
-            fd,
-            kind,
-            mode,
-            start,
-            len,
-        } => Ok(query(table, process, fd, kind, mode, start, len)),
     }
 }
 
-// Sets a lock of that mode on a segment.
-fn set(
-    table: &mut FcntlTable,
-    process: Process,
-    fd: u8,
-    kind: Kind,
-    mode: Mode,
-    start: i64,
-    len: i64,
-) -> Result<Reply, AllocError>
-    ensures { IfOk result (λ reply.
-        Step (table_of table.old) process (Set fd kind mode start len) reply (table_of table.new)) }
+// A lock on a segment, or whether it would be in the way of another owner's. Where one is in its way, a wait goes on
+// until it is interrupted.
+fn lock(table: &mut FcntlTable, process: Process, call: LockCall) -> Result<Reply, AllocError>
+    ensures step { IfOk result (λ reply. Step (table_of table.old) process (Op.Lock call) reply (table_of table.new)) }
+    ensures goes_on { IfOk result (GoesOn (table_of table.old) process (Op.Lock call)) }
 {
-    let call = match table.target(process, Some(mode), fd, kind, start, len) {
-        Ok(call) => call,
+    let target = match table.call_target(process, call) {
+        Ok(target) => target,
         Err(refusal) => return Ok(refusal),
     };
-    match table.blocker(call, mode) {
-        Some(lock) => Ok(Reply::Again(lock)),
-        None => table.lock_within(call, Some(mode)),
-    }
-}
-
-// Sets a lock of that mode on a segment, if no lock blocks it. Else the wait goes on until it is interrupted.
-fn wait(
-    table: &mut FcntlTable,
-    process: Process,
-    fd: u8,
-    kind: Kind,
-    mode: Mode,
-    start: i64,
-    len: i64,
-) -> Result<Reply, AllocError>
-    ensures step { IfOk result (λ reply.
-        Step (table_of table.old) process (Wait fd kind mode start len) reply (table_of table.new)) }
-    ensures goes_on { IfOk result (GoesOn (table_of table.old) process (Wait fd kind mode start len)) }
-{
-    let call = match table.target(process, Some(mode), fd, kind, start, len) {
-        Ok(call) => call,
-        Err(refusal) => return Ok(refusal),
-    };
-    match table.blocker(call, mode) {
-        Some(_) => Ok(Reply::Interrupted),
-        None => table.lock_within(call, Some(mode)),
+    match (call.command, table.blocker(target, call.mode)) {
+        (LockCommand::Set, Some(lock)) => Ok(Reply::Again(lock)),
+        (LockCommand::Wait, Some(_)) => Ok(Reply::Interrupted),
+        (LockCommand::Query, Some(lock)) => Ok(Reply::Blocked(lock)),
+        (LockCommand::Query, None) => Ok(Reply::Free),
+        (LockCommand::Set | LockCommand::Wait, None) => {
+            table.lock_within(target, Some(call.mode))
+        }
     }
 }
 
@@ -267,27 +196,5 @@ fn unlock(
     match table.target(process, None, fd, kind, start, len) {
         Ok(call) => table.lock_within(call, None),
         Err(refusal) => Ok(refusal),
-    }
-}
-
-// Answers whether a lock of another owner would block a lock of that mode on a segment.
-fn query(
-    table: &FcntlTable,
-    process: Process,
-    fd: u8,
-    kind: Kind,
-    mode: Mode,
-    start: i64,
-    len: i64,
-) -> Reply
-    ensures { Step (table_of table.now) process (Query fd kind mode start len) result (table_of table.now) }
-{
-    let call = match table.target(process, None, fd, kind, start, len) {
-        Ok(call) => call,
-        Err(refusal) => return refusal,
-    };
-    match table.blocker(call, mode) {
-        Some(lock) => Reply::Blocked(lock),
-        None => Reply::Free,
     }
 }

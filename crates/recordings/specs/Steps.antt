@@ -5,7 +5,11 @@ use Rattle.messages.specs.Shapes.{most_files}
 use Rattle.model.specs.declared.access.Access.{Access}
 use Rattle.model.specs.declared.access.Access.TheVariants.{ReadWrite}
 use Rattle.model.specs.declared.op.Op.{Op}
-use Rattle.model.specs.declared.op.Op.TheVariants.{Spawn, Fork, Open, Dup, Close, Exit, Set, Wait, Unlock, Query}
+use Rattle.model.specs.declared.op.Op.TheVariants.{Process, Close, Exit, Lock, Unlock}
+use Rattle.model.specs.declared.op.ProcessCall.TheVariants.{Spawn, Fork, Open, Dup}
+use Rattle.model.specs.declared.op.LockCommand.{LockCommand}
+use Rattle.model.specs.declared.op.LockCommand.TheVariants.{Set, Wait, Query}
+use Rattle.model.specs.declared.mode.Mode.{Mode}
 use Rattle.lockscript.specs.declared.script_line.Command.TheVariants.{Call, Settle, Interrupt, Retry}
 use Rattle.recordings.specs.declared.answer.Answer.{Answer}
 use Rattle.recordings.specs.declared.asked.Asked.{Asked}
@@ -75,7 +79,7 @@ turn_after nodes next in_turn = if in_turn then node_after nodes next else next
 unfoldable pub begun : ℕ → ℕ → Bool → Option PlaceFields → KnownFields → KnownFields
 begun line pid in_turn None k = left_out line pid TooManyProcesses k
 begun line pid in_turn (Some place) k =
-    let spawned = with_running pid place (with_call place Spawn (with_line (Begins place pid) k)) in
+    let spawned = with_running pid place (with_call place (Process Spawn) (with_line (Begins place pid) k)) in
     record spawned { next = turn_after k.nodes k.next in_turn }
 
 -- the process of that PID runs, stays out, or begins
@@ -116,7 +120,7 @@ closed_in_turn place fds k = fold (then_closed place) k fds
 
 -- the process gets the descriptor; it is opened in the script where the file is one of the script's and a descriptor is free there
 abbrev pub bound : PlaceFields → ℕ → ℕ → Access → Option NumberedFile → Option ℕ → KnownFields → KnownFields
-bound place fd path access (Some file) (Some slot) k = with_held place fd path (Some slot) (with_call place (Open file.number access) k)
+bound place fd path access (Some file) (Some slot) k = with_held place fd path (Some slot) (with_call place (Process (Open file.number access)) k)
 bound place fd path access _ _ k = with_held place fd path None k
 
 unfoldable pub opened : PlaceFields → ℕ → ℕ → Access → KnownFields → KnownFields
@@ -126,7 +130,7 @@ opened place fd path access k =
 
 -- the process gets a descriptor of what another refers to; so it does in the script, where that one is there and a descriptor is free
 abbrev pub copied : PlaceFields → ℕ → ℕ → Option ℕ → Option ℕ → KnownFields → KnownFields
-copied place to path (Some from) (Some slot) k = with_held place to path (Some slot) (with_call place (Dup from) k)
+copied place to path (Some from) (Some slot) k = with_held place to path (Some slot) (with_call place (Process (Dup from)) k)
 copied place to path _ _ k = with_held place to path None k
 
 unfoldable pub duplicated : PlaceFields → Option Held → ℕ → KnownFields → KnownFields
@@ -150,7 +154,7 @@ with_shared line shares k = if shares then with_note line SharesDescriptors k el
 unfoldable pub forked : ℕ → PlaceFields → ℕ → Bool → Option PlaceFields → KnownFields → KnownFields
 forked line parent child shares None k = left_out line child TooManyProcesses k
 forked line parent child shares (Some place) k =
-    with_shared line shares (with_inherited parent place (with_running child place (with_call parent (Fork place.number) (with_line (Begins place child) k))))
+    with_shared line shares (with_inherited parent place (with_running child place (with_call parent (Process (Fork place.number)) (with_line (Begins place child) k))))
 
 -- the process is gone, with its descriptors and its waits
 unfoldable pub ended : PlaceFields → KnownFields → KnownFields
@@ -176,11 +180,14 @@ unfoldable pub freed : ℕ → KnownFields → KnownFields
 freed pid k = finished pid (without_thread pid k)
 
 -- what a call asks for through a descriptor of the script
+abbrev pub locking : ℕ → Asked → LockCommand → Mode → Op
+locking fd a command mode = Lock (record { command = command; fd = fd; kind = a.kind; mode = mode; start = a.start; len = a.len })
+
 abbrev pub op_of : ℕ → Asked → Wish → Op
-op_of fd a (wish.Set mode) = Set fd a.kind mode a.start a.len
-op_of fd a (wish.Wait mode) = Wait fd a.kind mode a.start a.len
+op_of fd a (wish.Set mode) = locking fd a Set mode
+op_of fd a (wish.Wait mode) = locking fd a Wait mode
 op_of fd a wish.Unlock = Unlock fd a.kind a.start a.len
-op_of fd a (wish.Query mode) = Query fd a.kind mode a.start a.len
+op_of fd a (wish.Query mode) = locking fd a Query mode
 
 -- there is a lock call on the file; of so many the script can have the first
 abbrev pub has_room : List NumberedFile → ℕ → Bool

@@ -3,7 +3,7 @@ ghost use Rattle.std.specs.Prelude.{◌≡◌, OnOk};
 ghost use Rattle.model.specs.Limits.{IsNumber, most_nodes};
 ghost use Rattle.lockscript.specs.Served.{IsServedOp};
 ghost use Rattle.recordings.specs.Known.{file_of, free_place, running_of};
-ghost use Rattle.recordings.specs.Steps.{arrived, asked_by, asks, begun, bound, closed, closed_in_turn, closes, closes_range, copied, duplicates, ended, executes, finished, followed, follows, forked, forked_by, forks, freed, given_up, gone, happened, held_of, left_out, op_of, opens, opens_file, refers, retried, returned, settled, shut, start, step, turn_after, why_not, with_answer, with_call, with_held, with_left, with_line, with_locked, with_note, with_running, with_shared, with_thread, with_waiting};
+ghost use Rattle.recordings.specs.Steps.{arrived, asked_by, asks, begun, bound, closed, closed_in_turn, closes, closes_range, copied, duplicates, ended, executes, finished, followed, follows, forked, forked_by, forks, freed, given_up, gone, happened, held_of, left_out, locking, op_of, opens, opens_file, refers, retried, returned, settled, shut, start, step, turn_after, why_not, with_answer, with_call, with_held, with_left, with_line, with_locked, with_note, with_running, with_shared, with_thread, with_waiting};
 
 use crate::answer::Answer;
 use crate::asked::{Asked, Wish};
@@ -26,7 +26,8 @@ use crate::thread::Thread;
 use crate::turn::{node_after, node_for};
 use messages::file_number::FileNumber;
 use model::access::Access;
-use model::op::Op;
+use model::mode::Mode;
+use model::op::{LockCall, LockCommand, Op, ProcessCall};
 use std::alloc::{AllocError, Global};
 use std::marker::Model;
 
@@ -259,7 +260,7 @@ impl<'a> Known<'a> {
             return self.leave_out(line, pid, Reason::TooManyProcesses);
         };
         self.push_line(Line::Begins { place, pid })?;
-        self.push_call(place, Op::Spawn)?;
+        self.push_call(place, Op::Process(ProcessCall::Spawn))?;
         self.push_running(pid, place)?;
         self.go_on(in_turn);
         Ok(())
@@ -353,7 +354,7 @@ impl<'a> Known<'a> {
         match (file, slot) {
             (Some(file), Some(slot)) => {
                 let file = file.number.get();
-                self.push_call(place, Op::Open { file, access })?;
+                self.push_call(place, Op::Process(ProcessCall::Open { file, access }))?;
                 self.push_held(place, fd, path, Some(slot))
             }
             _ => self.push_held(place, fd, path, None),
@@ -393,7 +394,7 @@ impl<'a> Known<'a> {
     {
         match (from, slot) {
             (Some(fd), Some(slot)) => {
-                self.push_call(place, Op::Dup { fd })?;
+                self.push_call(place, Op::Process(ProcessCall::Dup { fd }))?;
                 self.push_held(place, to, path, Some(slot))
             }
             _ => self.push_held(place, to, path, None),
@@ -522,7 +523,7 @@ impl<'a> Known<'a> {
         };
         let child = place.number();
         self.push_line(Line::Begins { place, pid })?;
-        self.push_call(parent, Op::Fork { child })?;
+        self.push_call(parent, Op::Process(ProcessCall::Fork { child }))?;
         self.push_running(pid, place)?;
         inherit(&mut self.held, parent, place)?;
         self.note_shared(line, shares)
@@ -762,36 +763,30 @@ fn op_of(fd: u8, asked: &Asked) -> Op
     ensures value { result ≡ op_of fd asked.now asked.now.wish }
     ensures served { IsServedOp result }
 {
-    let kind = asked.kind;
-    let start = asked.start;
-    let len = asked.len;
     match asked.wish {
-        Wish::Set(mode) => Op::Set {
-            fd,
-            kind,
-            mode,
-            start,
-            len,
-        },
-        Wish::Wait(mode) => Op::Wait {
-            fd,
-            kind,
-            mode,
-            start,
-            len,
-        },
+        Wish::Set(mode) => lock_call(fd, asked, LockCommand::Set, mode),
+        Wish::Wait(mode) => lock_call(fd, asked, LockCommand::Wait, mode),
         Wish::Unlock => Op::Unlock {
             fd,
-            kind,
-            start,
-            len,
+            kind: asked.kind,
+            start: asked.start,
+            len: asked.len,
         },
-        Wish::Query(mode) => Op::Query {
-            fd,
-            kind,
-            mode,
-            start,
-            len,
-        },
+        Wish::Query(mode) => lock_call(fd, asked, LockCommand::Query, mode),
     }
+}
+
+// The call of this command about the lock in this mode.
+fn lock_call(fd: u8, asked: &Asked, command: LockCommand, mode: Mode) -> Op
+    ensures value { result ≡ locking fd asked.now command mode }
+    ensures served { IsServedOp result }
+{
+    Op::Lock(LockCall {
+        command,
+        fd,
+        kind: asked.kind,
+        mode,
+        start: asked.start,
+        len: asked.len,
+    })
 }

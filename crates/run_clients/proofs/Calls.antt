@@ -12,27 +12,31 @@ use Rattle.model.specs.declared.access.Access.{Access}
 use Rattle.model.specs.declared.opened.Opened.{Opened}
 use Rattle.model.specs.declared.process.Process.{Process}
 use Rattle.model.specs.declared.op.Op.{Op}
-use Rattle.model.specs.declared.op.Op.TheVariants.{Spawn, Fork, Open, Dup, Close, Exit, Set, Wait, Unlock, Query}
+use Rattle.model.specs.declared.op.Op.TheVariants as op
+use Rattle.model.specs.declared.op.ProcessCall.{ProcessCall}
+use Rattle.model.specs.declared.op.ProcessCall.TheVariants.{Spawn, Fork, Open, Dup}
+use Rattle.model.specs.declared.op.LockCommand.{LockCommand}
+use Rattle.model.specs.declared.op.LockCommand.TheVariants.{Set, Wait, Query}
 use Rattle.model.specs.declared.reply.Reply.{Reply}
 use Rattle.model.specs.declared.reply.Reply.TheVariants.{Done, Fd, Again, NoLocks, Free, Blocked, Interrupted, NoProcess, Exists, TooManyFiles}
 use Rattle.model.specs.Limits.{IsHost, IsNumber, most_processes, most_descriptors}
 use Rattle.model.specs.Owners.{same_owner}
 use Rattle.model.specs.Locks.{no_locks}
-use Rattle.model.specs.Descriptors.{Processes, no_processes, with_process, with_descriptor, lowest_fd, lowest_description, on_lowest_fd, again_on, after_spawn, after_fork, after_open, after_dup}
-use Rattle.model.specs.Table.{Table, LockTarget, around, beside, descriptor, is_running, with_processes, target, target_at, owner_of, locked, regions_with, after_unlock, closed_at, exited}
-use Rattle.model.specs.Step.{Is, AfterTests, SetStep, WaitStep, QueryStep, Step}
+use Rattle.model.specs.Descriptors.{Processes, no_processes, with_process, with_descriptor, lowest_fd, lowest_description, on_lowest_fd, again_on, after, after_spawn, after_fork, after_open, after_dup}
+use Rattle.model.specs.Table.{Table, LockTarget, around, beside, descriptor, is_running, with_processes, target, need_of, call_target, target_at, owner_of, locked, regions_with, after_unlock, closed_at, exited}
+use Rattle.model.specs.Step.{Is, AfterTests, SetStep, WaitStep, QueryStep, LockStep, Step}
 use Rattle.model.specs.Anchors.{Hangs, AreAnchored as AreAnchoredOn, IsAnchored, IsOwn}
 use Rattle.model.proofs.OwnerLaws.{owner_exact}
 use Rattle.model.proofs.DescriptorLaws.{lowest_fd-free}
 use Rattle.model.proofs.Hanging.{hangs_on, itself, target_hangs}
-use Rattle.model.proofs.NodeTables.{spawn_follows, fork_follows, open_follows, dup_follows}
+use Rattle.model.proofs.NodeTables.{call_follows}
 use Rattle.model.proofs.Refusals.{if_then}
 use Rattle.model.proofs.Targets.{passes_at}
 use Rattle.run_clients.specs.Anchored.{AreAnchored}
 use Rattle.run_clients.specs.Deeds.{DeedsLead, call_deeds, closing, exit_deeds}
 use Rattle.run_clients.proofs.Drops.{close_leads, exit_leads}
 use Rattle.run_clients.proofs.Kept.{step_keeps, closed_keeps, exit_keeps}
-use Rattle.run_clients.proofs.LockDeeds.{same_locks, sets, set_tested, wait_tested, query_tested, unlock_tested}
+use Rattle.run_clients.proofs.LockDeeds.{same_locks, sets, lock_tested, unlock_tested}
 
 -- calls about processes and descriptors leave the locks
 beside_same : (t u : Table) (p : Process) (r : Result (Processes × Reply) Reply) (reply : Reply) → Is (beside t p r) reply u → t.locks ≡ u.locks
@@ -40,31 +44,26 @@ beside_same t u p (Ok a) reply h = ap (λ (x : Table). x.locks) (sym h.1)
 beside_same t u p (Err refusal) reply h = same_locks t u h.1
 
 module _ (t u : Table) (p : Process) (a : IsAnchored t p.node p.incarnation) where
-  closes_if : (fd : ℕ) (reply : Reply) (b : Bool) (x : Option Opened) → descriptor t p fd ≡ x → Is (if b then closed_at t p fd x else (t, NoProcess)) reply u → DeedsLead t.locks (call_deeds t p (Close fd) reply) u.locks
-  closes_if fd reply false x is h = subst (λ (r : Reply). DeedsLead t.locks (call_deeds t p (Close fd) r) u.locks) (sym h.0) (same_locks t u h.1)
-  closes_if fd reply true None is h = subst (λ (r : Reply). DeedsLead t.locks (call_deeds t p (Close fd) r) u.locks) (sym h.0) (same_locks t u h.1)
+  closes_if : (fd : ℕ) (reply : Reply) (b : Bool) (x : Option Opened) → descriptor t p fd ≡ x → Is (if b then closed_at t p fd x else (t, NoProcess)) reply u → DeedsLead t.locks (call_deeds t p (op.Close fd) reply) u.locks
+  closes_if fd reply false x is h = subst (λ (r : Reply). DeedsLead t.locks (call_deeds t p (op.Close fd) r) u.locks) (sym h.0) (same_locks t u h.1)
+  closes_if fd reply true None is h = subst (λ (r : Reply). DeedsLead t.locks (call_deeds t p (op.Close fd) r) u.locks) (sym h.0) (same_locks t u h.1)
   closes_if fd reply true (Some o) is h =
-      subst (λ (r : Reply). DeedsLead t.locks (call_deeds t p (Close fd) r) u.locks) (sym h.0)
+      subst (λ (r : Reply). DeedsLead t.locks (call_deeds t p (op.Close fd) r) u.locks) (sym h.0)
       (subst (λ (x : Option Opened). DeedsLead t.locks (closing t p fd x) u.locks) (sym is)
       (subst (λ (x : Table). DeedsLead t.locks (closing t p fd (Some o)) x.locks) (sym h.1) (close_leads t p fd o a is)))
 
-  exits_if : (reply : Reply) (b : Bool) → Is (if b then (exited t p, Done) else (t, NoProcess)) reply u → DeedsLead t.locks (call_deeds t p Exit reply) u.locks
-  exits_if reply false h = subst (λ (r : Reply). DeedsLead t.locks (call_deeds t p Exit r) u.locks) (sym h.0) (same_locks t u h.1)
+  exits_if : (reply : Reply) (b : Bool) → Is (if b then (exited t p, Done) else (t, NoProcess)) reply u → DeedsLead t.locks (call_deeds t p op.Exit reply) u.locks
+  exits_if reply false h = subst (λ (r : Reply). DeedsLead t.locks (call_deeds t p op.Exit r) u.locks) (sym h.0) (same_locks t u h.1)
   exits_if reply true h =
-      subst (λ (r : Reply). DeedsLead t.locks (call_deeds t p Exit r) u.locks) (sym h.0)
+      subst (λ (r : Reply). DeedsLead t.locks (call_deeds t p op.Exit r) u.locks) (sym h.0)
       (subst (λ (x : Table). DeedsLead t.locks (exit_deeds t p) x.locks) (sym h.1) (exit_leads p.node p.incarnation p.pid t a).leads)
 
   pub step_leads : (op : Op) (reply : Reply) → Step t p op reply u → DeedsLead t.locks (call_deeds t p op reply) u.locks
-  step_leads Spawn reply h = beside_same t u p (after_spawn (around t p) p.pid) reply h
-  step_leads (Fork child) reply h = beside_same t u p (after_fork (around t p) p.pid child) reply h.1
-  step_leads (Open file access) reply h = beside_same t u p (after_open (around t p) p.pid file access) reply h
-  step_leads (Dup fd) reply h = beside_same t u p (after_dup (around t p) p.pid fd) reply h
-  step_leads (Close fd) reply h = closes_if fd reply (is_running t p) (descriptor t p fd) refl h
-  step_leads Exit reply h = exits_if reply (is_running t p) h
-  step_leads (Set fd kind mode start len) reply h = set_tested t u mode reply (target t p (Some mode) fd kind start len) h
-  step_leads (Wait fd kind mode start len) reply h = wait_tested t u mode reply (target t p (Some mode) fd kind start len) h
-  step_leads (Unlock fd kind start len) reply h = unlock_tested t u reply (target t p None fd kind start len) h
-  step_leads (Query fd kind mode start len) reply h = query_tested t u mode reply (target t p None fd kind start len) h
+  step_leads (op.Process call) reply h = beside_same t u p (after (around t p) p.pid call) reply h.1
+  step_leads (op.Close fd) reply h = closes_if fd reply (is_running t p) (descriptor t p fd) refl h
+  step_leads op.Exit reply h = exits_if reply (is_running t p) h
+  step_leads (op.Lock call) reply h = lock_tested t u call.command call.mode reply (call_target t p call) h
+  step_leads (op.Unlock fd kind start len) reply h = unlock_tested t u reply (target t p None fd kind start len) h
 
 -- each descriptor that there was stays
 abbrev Extends : Processes → Result (Processes × Reply) Reply → Type 0
@@ -178,7 +177,13 @@ module _ (t : Table) (p : Process) (host : IsHost p.node p.incarnation) (a : Are
     | true ↦ elim (ps.opened p.pid fd) as (λ x. Extends ps (again_on ps p.pid x)) [ Some o ↦ lowest_stays o | None ↦ tt ]
   ]
 
-  -- the target of a lock call is of the caller's node
+  call_stays : (call : ProcessCall) → Extends ps (after ps p.pid call)
+  call_stays Spawn = spawn_stays
+  call_stays (Fork child) = fork_stays child
+  call_stays (Open file access) = open_stays file access
+  call_stays (Dup fd) = dup_stays fd
+
+  -- what a lock call is about is its node's
   target_owner : (need : Option Mode) (fd : ℕ) (kind : Kind) (start len : ℤ) (c : LockTarget) → target t p need fd kind start len ≡ Ok c → (c.owner.node ≡ p.node) × (c.owner.incarnation ≡ p.incarnation)
   target_owner need fd kind start len c h =
       let runs = if_then (is_running t p) (target_at p need kind (descriptor t p fd) (seg start len)) c NoProcess h in
@@ -220,30 +225,35 @@ module _ (t : Table) (p : Process) (host : IsHost p.node p.incarnation) (a : Are
         | inr other ↦ rw other refl
       ]
 
-  -- a lock call leaves the table, or locks or frees bytes of its target
-  chosen_keeps : (u : Table) (need : Option Mode) (fd : ℕ) (kind : Kind) (start len : ℤ) (c : LockTarget) (mode : Option Mode) (reply : Reply) (b : Bool) → target t p need fd kind start len ≡ Ok c → Is (sets t c mode b) reply u → AreAnchored u
-  chosen_keeps u need fd kind start len c mode reply true found h = subst AreAnchored (sym h.1) (locked_keeps need fd kind start len c mode found)
-  chosen_keeps u need fd kind start len c mode reply false found h = subst AreAnchored (sym h.1) a
+  -- so a lock call leaves the table or locks bytes
+  chosen_keeps : (u : Table) (c : LockTarget) (mode : Option Mode) (reply : Reply) (b : Bool) → AreAnchored (locked t c mode) → Is (sets t c mode b) reply u → AreAnchored u
+  chosen_keeps u c mode reply true locks h = subst AreAnchored (sym h.1) locks
+  chosen_keeps u c mode reply false locks h = subst AreAnchored (sym h.1) a
 
   same_keeps : (u : Table) → u ≡ t → AreAnchored u
   same_keeps u same = subst AreAnchored (sym same) a
 
-  set_keeps : (u : Table) (fd : ℕ) (kind : Kind) (mode : Mode) (start len : ℤ) (reply : Reply) (c : LockTarget) → target t p (Some mode) fd kind start len ≡ Ok c → SetStep t mode reply u c → AreAnchored u
-  set_keeps u fd kind mode start len (Again lock) c found h = same_keeps u h.1
-  set_keeps u fd kind mode start len Done c found h = chosen_keeps u (Some mode) fd kind start len c (Some mode) Done (nat_le (regions_with t c (Some mode)) t.limit) found h.1
-  set_keeps u fd kind mode start len NoLocks c found h = chosen_keeps u (Some mode) fd kind start len c (Some mode) NoLocks (nat_le (regions_with t c (Some mode)) t.limit) found h.1
-  set_keeps u fd kind mode start len _ c found h = absurd h
+  set_keeps : (u : Table) (mode : Mode) (reply : Reply) (c : LockTarget) → AreAnchored (locked t c (Some mode)) → SetStep t mode reply u c → AreAnchored u
+  set_keeps u mode (Again lock) c locks h = same_keeps u h.1
+  set_keeps u mode Done c locks h = chosen_keeps u c (Some mode) Done (nat_le (regions_with t c (Some mode)) t.limit) locks h.1
+  set_keeps u mode NoLocks c locks h = chosen_keeps u c (Some mode) NoLocks (nat_le (regions_with t c (Some mode)) t.limit) locks h.1
+  set_keeps u mode _ c locks h = absurd h
 
-  wait_keeps : (u : Table) (fd : ℕ) (kind : Kind) (mode : Mode) (start len : ℤ) (reply : Reply) (c : LockTarget) → target t p (Some mode) fd kind start len ≡ Ok c → WaitStep t mode reply u c → AreAnchored u
-  wait_keeps u fd kind mode start len Interrupted c found h = same_keeps u h
-  wait_keeps u fd kind mode start len Done c found h = chosen_keeps u (Some mode) fd kind start len c (Some mode) Done (nat_le (regions_with t c (Some mode)) t.limit) found h.1
-  wait_keeps u fd kind mode start len NoLocks c found h = chosen_keeps u (Some mode) fd kind start len c (Some mode) NoLocks (nat_le (regions_with t c (Some mode)) t.limit) found h.1
-  wait_keeps u fd kind mode start len _ c found h = absurd h
+  wait_keeps : (u : Table) (mode : Mode) (reply : Reply) (c : LockTarget) → AreAnchored (locked t c (Some mode)) → WaitStep t mode reply u c → AreAnchored u
+  wait_keeps u mode Interrupted c locks h = same_keeps u h
+  wait_keeps u mode Done c locks h = set_keeps u mode Done c locks h
+  wait_keeps u mode NoLocks c locks h = set_keeps u mode NoLocks c locks h
+  wait_keeps u mode _ c locks h = absurd h
 
   query_keeps : (u : Table) (mode : Mode) (reply : Reply) (c : LockTarget) → QueryStep t mode reply u c → AreAnchored u
   query_keeps u mode (Blocked lock) c h = same_keeps u h.1
   query_keeps u mode Free c h = same_keeps u h.1
   query_keeps u mode _ c h = absurd h
+
+  lock_keeps : (u : Table) (command : LockCommand) (mode : Mode) (reply : Reply) (c : LockTarget) → AreAnchored (locked t c (Some mode)) → LockStep t command mode reply u c → AreAnchored u
+  lock_keeps u Set mode reply c locks h = set_keeps u mode reply c locks h
+  lock_keeps u Wait mode reply c locks h = wait_keeps u mode reply c locks h
+  lock_keeps u Query mode reply c locks h = query_keeps u mode reply c h
 
   tested_keeps : (u : Table) (reply : Reply) (found : Result LockTarget Reply) (Answer : LockTarget → Type 0) → ((c : LockTarget) → found ≡ Ok c → Answer c → AreAnchored u) → AfterTests t found reply u Answer → AreAnchored u
   tested_keeps u reply (Err refusal) Answer keeps h = same_keeps u h.1
@@ -251,7 +261,7 @@ module _ (t : Table) (p : Process) (host : IsHost p.node p.incarnation) (a : Are
 
   unlock_keeps : (u : Table) (fd : ℕ) (kind : Kind) (start len : ℤ) (reply : Reply) (found : Result LockTarget Reply) → target t p None fd kind start len ≡ found → Is (after_unlock t found) reply u → AreAnchored u
   unlock_keeps u fd kind start len reply (Err refusal) is h = same_keeps u h.1
-  unlock_keeps u fd kind start len reply (Ok c) is h = chosen_keeps u None fd kind start len c None reply (nat_le (regions_with t c None) t.limit) is h
+  unlock_keeps u fd kind start len reply (Ok c) is h = chosen_keeps u c None reply (nat_le (regions_with t c None) t.limit) (locked_keeps None fd kind start len c None is) h
 
   closes_keep : (u : Table) (fd : ℕ) (reply : Reply) (b : Bool) (x : Option Opened) → descriptor t p fd ≡ x → Is (if b then closed_at t p fd x else (t, NoProcess)) reply u → AreAnchored u
   closes_keep u fd reply false x is h = same_keeps u h.1
@@ -263,13 +273,12 @@ module _ (t : Table) (p : Process) (host : IsHost p.node p.incarnation) (a : Are
   exits_keep_if u reply true h = subst AreAnchored (sym h.1) (exit_keeps p t a host)
 
   pub calls_keep_anchored : (u : Table) (op : Op) (reply : Reply) → IsNumber most_processes p.pid → Step t p op reply u → AreAnchored u
-  calls_keep_anchored u Spawn reply number h = beside_keeps u (after_spawn ps p.pid) reply (subst (λ (x : Processes). IsOwn (beside its p (after_spawn x p.pid)).0 p.node p.incarnation) here (spawn_follows its p.node p.incarnation p.pid is_own number).own) spawn_stays h
-  calls_keep_anchored u (Fork child) reply number h = beside_keeps u (after_fork ps p.pid child) reply (subst (λ (x : Processes). IsOwn (beside its p (after_fork x p.pid child)).0 p.node p.incarnation) here (fork_follows its p.node p.incarnation p.pid is_own child h.0).own) (fork_stays child) h.1
-  calls_keep_anchored u (Open file access) reply number h = beside_keeps u (after_open ps p.pid file access) reply (subst (λ (x : Processes). IsOwn (beside its p (after_open x p.pid file access)).0 p.node p.incarnation) here (open_follows its p.node p.incarnation p.pid is_own file access number).own) (open_stays file access) h
-  calls_keep_anchored u (Dup fd) reply number h = beside_keeps u (after_dup ps p.pid fd) reply (subst (λ (x : Processes). IsOwn (beside its p (after_dup x p.pid fd)).0 p.node p.incarnation) here (dup_follows its p.node p.incarnation p.pid is_own fd).own) (dup_stays fd) h
-  calls_keep_anchored u (Close fd) reply number h = closes_keep u fd reply (is_running t p) (descriptor t p fd) refl h
-  calls_keep_anchored u Exit reply number h = exits_keep_if u reply (is_running t p) h
-  calls_keep_anchored u (Set fd kind mode start len) reply number h = tested_keeps u reply (target t p (Some mode) fd kind start len) (SetStep t mode reply u) (λ c found step. set_keeps u fd kind mode start len reply c found step) h
-  calls_keep_anchored u (Wait fd kind mode start len) reply number h = tested_keeps u reply (target t p (Some mode) fd kind start len) (WaitStep t mode reply u) (λ c found step. wait_keeps u fd kind mode start len reply c found step) h
-  calls_keep_anchored u (Unlock fd kind start len) reply number h = unlock_keeps u fd kind start len reply (target t p None fd kind start len) refl h
-  calls_keep_anchored u (Query fd kind mode start len) reply number h = tested_keeps u reply (target t p None fd kind start len) (QueryStep t mode reply u) (λ c found step. query_keeps u mode reply c step) h
+  calls_keep_anchored u (op.Process call) reply number h =
+      let own = (call_follows its p.node p.incarnation p.pid is_own call number h.0).own in
+      beside_keeps u (after ps p.pid call) reply (subst (λ (x : Processes). IsOwn (beside its p (after x p.pid call)).0 p.node p.incarnation) here own) (call_stays call) h.1
+  calls_keep_anchored u (op.Close fd) reply number h = closes_keep u fd reply (is_running t p) (descriptor t p fd) refl h
+  calls_keep_anchored u op.Exit reply number h = exits_keep_if u reply (is_running t p) h
+  calls_keep_anchored u (op.Lock call) reply number h =
+      let locks : (c : LockTarget) → call_target t p call ≡ Ok c → AreAnchored (locked t c (Some call.mode)) = λ c. locked_keeps (need_of call.command call.mode) call.fd call.kind call.start call.len c (Some call.mode) in
+      tested_keeps u reply (call_target t p call) (LockStep t call.command call.mode reply u) (λ c found. lock_keeps u call.command call.mode reply c (locks c found)) h
+  calls_keep_anchored u (op.Unlock fd kind start len) reply number h = unlock_keeps u fd kind start len reply (target t p None fd kind start len) refl h

@@ -2,13 +2,15 @@
 use Rattle.std.proofs.Common.{◌≡◌, Bool, true, false, if◌then◌else◌, refl, sym, ap, subst, nat_le, Option, Some, None, Result, Ok, Err}
 use Rattle.model.specs.declared.lock_info.LockInfo.{LockInfo}
 use Rattle.model.specs.declared.mode.Mode.{Mode}
+use Rattle.model.specs.declared.op.LockCommand.{LockCommand}
+use Rattle.model.specs.declared.op.LockCommand.TheVariants.{Set, Wait, Query}
 use Rattle.model.specs.declared.reply.Reply.{Reply}
 use Rattle.model.specs.declared.reply.Reply.TheVariants.{Done, Again, NoLocks, Free, Blocked, Interrupted}
 use Rattle.model.specs.Locks.{Blocks, with_lock}
 use Rattle.model.specs.Table.{Table, LockTarget, locked, regions_with, after_unlock}
-use Rattle.model.specs.Step.{Is, Unblocked, AfterTests, SetStep, WaitStep, QueryStep}
+use Rattle.model.specs.Step.{Is, Unblocked, AfterTests, SetStep, WaitStep, QueryStep, LockStep}
 use Rattle.client_history.specs.Acts.{IsBlocked}
-use Rattle.run_clients.specs.Deeds.{DeedsLead, listed, locking, unlocking, asking}
+use Rattle.run_clients.specs.Deeds.{DeedsLead, listed, locking, unlocking, asking, commanding}
 
 -- a call that leaves the table leaves the locks
 pub same_locks : (t u : Table) → u ≡ t → t.locks ≡ u.locks
@@ -54,17 +56,22 @@ freed : (t u : Table) (c : LockTarget) (reply : Reply) (b : Bool) → Is (sets t
 freed t u c reply true h = subst (λ (r : Reply). DeedsLead t.locks (listed (unlocking r (Ok c))) u.locks) (sym h.0) (with_lock t.locks c.file c.owner c.span None, refl, ap (λ (x : Table). x.locks) (sym h.1))
 freed t u c reply false h = subst (λ (r : Reply). DeedsLead t.locks (listed (unlocking r (Ok c))) u.locks) (sym h.0) (same_locks t u h.1)
 
-pub set_tested : (t u : Table) (mode : Mode) (reply : Reply) (found : Result LockTarget Reply) → AfterTests t found reply u (SetStep t mode reply u) → DeedsLead t.locks (listed (locking mode reply found)) u.locks
+set_tested : (t u : Table) (mode : Mode) (reply : Reply) (found : Result LockTarget Reply) → AfterTests t found reply u (SetStep t mode reply u) → DeedsLead t.locks (listed (locking mode reply found)) u.locks
 set_tested t u mode reply (Err refusal) h = same_locks t u h.1
 set_tested t u mode reply (Ok c) h = set_leads t u mode reply c h
 
-pub wait_tested : (t u : Table) (mode : Mode) (reply : Reply) (found : Result LockTarget Reply) → AfterTests t found reply u (WaitStep t mode reply u) → DeedsLead t.locks (listed (locking mode reply found)) u.locks
+wait_tested : (t u : Table) (mode : Mode) (reply : Reply) (found : Result LockTarget Reply) → AfterTests t found reply u (WaitStep t mode reply u) → DeedsLead t.locks (listed (locking mode reply found)) u.locks
 wait_tested t u mode reply (Err refusal) h = same_locks t u h.1
 wait_tested t u mode reply (Ok c) h = wait_leads t u mode reply c h
 
-pub query_tested : (t u : Table) (mode : Mode) (reply : Reply) (found : Result LockTarget Reply) → AfterTests t found reply u (QueryStep t mode reply u) → DeedsLead t.locks (listed (asking mode reply found)) u.locks
+query_tested : (t u : Table) (mode : Mode) (reply : Reply) (found : Result LockTarget Reply) → AfterTests t found reply u (QueryStep t mode reply u) → DeedsLead t.locks (listed (asking mode reply found)) u.locks
 query_tested t u mode reply (Err refusal) h = same_locks t u h.1
 query_tested t u mode reply (Ok c) h = query_leads t u mode reply c h
+
+pub lock_tested : (t u : Table) (command : LockCommand) (mode : Mode) (reply : Reply) (found : Result LockTarget Reply) → AfterTests t found reply u (LockStep t command mode reply u) → DeedsLead t.locks (listed (commanding command mode reply found)) u.locks
+lock_tested t u Set mode reply found h = set_tested t u mode reply found h
+lock_tested t u Wait mode reply found h = wait_tested t u mode reply found h
+lock_tested t u Query mode reply found h = query_tested t u mode reply found h
 
 pub unlock_tested : (t u : Table) (reply : Reply) (found : Result LockTarget Reply) → Is (after_unlock t found) reply u → DeedsLead t.locks (listed (unlocking reply found)) u.locks
 unlock_tested t u reply (Err refusal) h = same_locks t u h.1

@@ -5,7 +5,9 @@ use Rattle.model.specs.declared.lock_info.LockInfo.{LockInfo}
 use Rattle.model.specs.declared.mode.Mode.{Mode}
 use Rattle.model.specs.declared.opened.Opened.{Opened}
 use Rattle.model.specs.declared.op.Op.{Op}
-use Rattle.model.specs.declared.op.Op.TheVariants.{Set, Wait, Unlock, Query, Close, Exit}
+use Rattle.model.specs.declared.op.Op.TheVariants.{Close, Exit, Lock, Unlock}
+use Rattle.model.specs.declared.op.LockCommand.{LockCommand}
+use Rattle.model.specs.declared.op.LockCommand.TheVariants.{Set, Wait, Query}
 use Rattle.model.specs.declared.process.Process.{Process}
 use Rattle.model.specs.declared.reply.Reply.{Reply}
 use Rattle.model.specs.declared.reply.Reply.TheVariants.{Done, Again, Free, Blocked}
@@ -13,7 +15,7 @@ use Rattle.model.specs.Limits.{most_processes, most_descriptors}
 use Rattle.model.specs.Owners.{process_owner, description_owner}
 use Rattle.model.specs.Locks.{Locks}
 use Rattle.model.specs.Descriptors.{is_open}
-use Rattle.model.specs.Table.{Table, LockTarget, target, around, descriptor, is_running, closed, closed_below, exited_to}
+use Rattle.model.specs.Table.{Table, LockTarget, target, call_target, around, descriptor, is_running, closed, closed_below, exited_to}
 use Rattle.client_history.specs.declared.act.Act.{Act}
 use Rattle.client_history.specs.declared.act.Act.TheVariants.{Locks as Takes, IsDenied, IsFree, Frees, Drops}
 use Rattle.client_history.specs.Acts.{ActStep}
@@ -47,12 +49,16 @@ asking mode Free (Ok c) = Some (deed_of c (IsFree mode c.span))
 asking mode (Blocked lock) (Ok c) = Some (deed_of c (denied mode c.span lock))
 asking mode _ (Ok c) = None
 
--- the deed of a lock call with this reply, if it passes its tests
+-- what each command does that is answered so
+abbrev pub commanding : LockCommand → Mode → Reply → Result LockTarget Reply → Option Deed
+commanding Set = locking
+commanding Wait = locking
+commanding Query = asking
+
+-- what a lock call does that is answered so, where it passes its tests
 abbrev pub lock_deed : Table → Process → Op → Reply → Option Deed
-lock_deed t p (Set fd kind mode start len) reply = locking mode reply (target t p (Some mode) fd kind start len)
-lock_deed t p (Wait fd kind mode start len) reply = locking mode reply (target t p (Some mode) fd kind start len)
+lock_deed t p (Lock call) reply = commanding call.command call.mode reply (call_target t p call)
 lock_deed t p (Unlock fd kind start len) reply = unlocking reply (target t p None fd kind start len)
-lock_deed t p (Query fd kind mode start len) reply = asking mode reply (target t p None fd kind start len)
 lock_deed t p _ reply = None
 
 -- the list of the deed, or the empty list

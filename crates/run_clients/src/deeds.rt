@@ -12,7 +12,7 @@ use intervals::span::Span;
 use model::lock_info::LockInfo;
 use model::lock_target::LockTarget;
 use model::mode::Mode;
-use model::op::Op;
+use model::op::{LockCall, LockCommand, Op};
 use model::process::Process;
 use model::reply::Reply;
 use std::alloc::AllocError;
@@ -29,30 +29,7 @@ pub(crate) fn push_lock_deed(
     ensures { OnOk result (deeds.new.items ≡ deeds.old.items ++ listed (lock_deed (table_of table.now) process op.now reply.now)) }
 {
     match *op {
-        Op::Set {
-            fd,
-            kind,
-            mode,
-            start,
-            len,
-        } => push_locking(
-            deeds,
-            mode,
-            reply,
-            table.target(process, Some(mode), fd, kind, start, len),
-        ),
-        Op::Wait {
-            fd,
-            kind,
-            mode,
-            start,
-            len,
-        } => push_locking(
-            deeds,
-            mode,
-            reply,
-            table.target(process, Some(mode), fd, kind, start, len),
-        ),
+        Op::Lock(call) => push_commanded(deeds, table, process, call, reply),
         Op::Unlock {
             fd,
             kind,
@@ -63,23 +40,28 @@ pub(crate) fn push_lock_deed(
             reply,
             table.target(process, None, fd, kind, start, len),
         ),
-        Op::Query {
-            fd,
-            kind,
-            mode,
-            start,
-            len,
-        } => push_asking(
-            deeds,
-            mode,
-            reply,
-            table.target(process, None, fd, kind, start, len),
-        ),
         _ => Ok(()),
     }
 }
 
-// Adds the deed of a set or a wait in the mode with this reply, if it has one.
+// What a set, a wait or a query does that is answered so.
+fn push_commanded(
+    deeds: &mut Vec<Deed>,
+    table: &FcntlTable,
+    process: Process,
+    call: LockCall,
+    reply: &Reply,
+) -> Result<(), AllocError>
+    ensures { OnOk result (deeds.new.items ≡ deeds.old.items ++ listed (lock_deed (table_of table.now) process (Op.Lock call) reply.now)) }
+{
+    let target = table.call_target(process, call);
+    match call.command {
+        LockCommand::Set | LockCommand::Wait => push_locking(deeds, call.mode, reply, target),
+        LockCommand::Query => push_asking(deeds, call.mode, reply, target),
+    }
+}
+
+// What a set or a wait in the mode does that is answered so.
 fn push_locking(
     deeds: &mut Vec<Deed>,
     mode: Mode,

@@ -5,7 +5,7 @@ use client_history::act::Act;
 use client_history::told_lock::ToldLock;
 use intervals::span::{GREATEST, Span};
 use model::mode::Mode;
-use model::op::Op;
+use model::op::{LockCommand, Op};
 use model::owner::{Kind, Owner};
 use std::alloc::AllocError;
 use std::fmt::Write;
@@ -68,8 +68,11 @@ fn push_asked(out: &mut String, file: u16, op: &Op, act: &Act) -> Result<(), All
 // The word of a set, a wait or a query.
 fn verb_of(op: &Op) -> &'static str {
     match op {
-        Op::Wait { .. } => "wait",
-        Op::Query { .. } => "query",
+        Op::Lock(call) => match call.command {
+            LockCommand::Set => "set",
+            LockCommand::Wait => "wait",
+            LockCommand::Query => "query",
+        },
         _ => "set",
     }
 }
@@ -90,7 +93,7 @@ fn push_answer(out: &mut String, op: &Op, act: &Act) -> Result<(), AllocError> {
 // The word of a denial.
 fn denial_of(op: &Op) -> &'static str {
     match op {
-        Op::Query { .. } => "blocked",
+        Op::Lock(call) if call.command == LockCommand::Query => "blocked",
         _ => "again",
     }
 }

@@ -12,7 +12,7 @@ use cluster_core::journal::Journal;
 use messages::shape::Shape;
 use model::access::Access;
 use model::mode::Mode;
-use model::op::Op;
+use model::op::{LockCall, LockCommand, Op, ProcessCall};
 use model::owner::Kind;
 use model::policy::Policy;
 use std::alloc::Global;
@@ -32,22 +32,23 @@ pub type Caller<'a> = Client<'a, Brand, OpenGate>;
 
 /// A lock of a process on descriptor 0.
 pub fn lock(mode: Mode, start: i64, len: i64) -> Op {
-    Op::Set {
+    Op::Lock(LockCall {
+        command: LockCommand::Set,
         fd: 0,
         kind: Kind::OfProcess,
         mode,
         start,
         len,
-    }
+    })
 }
 
 /// The process begins, opens file 1 and sets a lock.
 pub fn begin<R: Wait>(rt: &R, client: &mut Caller<'_>, op: Op) -> Option<Receipt> {
-    client.call(rt, Op::Spawn).ok()?;
-    let open = Op::Open {
+    client.call(rt, Op::Process(ProcessCall::Spawn)).ok()?;
+    let open = Op::Process(ProcessCall::Open {
         file: 1,
         access: Access::ReadWrite,
-    };
+    });
     client.call(rt, open).ok()?;
     client.call(rt, op).ok()
 }

@@ -9,7 +9,7 @@ use book::receipt::Receipt;
 use cluster_core::journal::Journal;
 use messages::event::Event;
 use model::mode::Mode;
-use model::op::Op;
+use model::op::{LockCall, LockCommand, Op, ProcessCall};
 use model::owner::Kind;
 use std::alloc::Global;
 use std::sync::Wait;
@@ -34,13 +34,14 @@ fn unlock(start: i64, len: i64) -> Op {
 }
 
 // A wait of a process for the first ten bytes.
-const WAIT: Op = Op::Wait {
+const WAIT: Op = Op::Lock(LockCall {
+    command: LockCommand::Wait,
     fd: 0,
     kind: Kind::OfProcess,
     mode: Mode::Write,
     start: 0,
     len: 10,
-};
+});
 
 // The same as `runs_right`, in fair weather.
 fn runs_fairly<
@@ -135,7 +136,7 @@ fn declare_beside<R: Threads + Wait + Clock + Sync>(
 ) -> bool {
     let (refused, is_declared) = thread::join(
         rt,
-        || client.call(rt, Op::Spawn).err(),
+        || client.call(rt, Op::Process(ProcessCall::Spawn)).err(),
         || {
             let came = gate.wait_for_node();
             let is_declared = cluster.declare(rt, 1).is_ok();
@@ -189,7 +190,11 @@ fn begin_again<R: Wait + Clock>(rt: &R, cluster: &Lent<'_>) -> Option<Receipt> {
     thread::sleep(rt, Duration::from_millis(5));
     cluster.declare(rt, 1).ok()?;
     cluster.restart(rt, 1).ok()?;
-    cluster.client(rt, 1, 1).ok()?.call(rt, Op::Spawn).ok()
+    cluster
+        .client(rt, 1, 1)
+        .ok()?
+        .call(rt, Op::Process(ProcessCall::Spawn))
+        .ok()
 }
 
 // Both processes of node 1 call until it fails: their last receipts, and the first of the next incarnation.
@@ -242,7 +247,10 @@ fn is_wait_at(journal: &Journal, why: Option<CallError>) -> bool {
             Event::Call {
                 node: 2,
                 pid: 2,
-                op: Op::Wait { .. }
+                op: Op::Lock(LockCall {
+                    command: LockCommand::Wait,
+                    ..
+                })
             }
         ),
         None => false,
@@ -268,7 +276,7 @@ fn declare_beside_wait<R: Threads + Wait + Clock + Sync>(
 
 // Whether a call of the declared node is refused.
 fn is_fenced<R: Wait>(rt: &R, client: &mut Caller<'_>) -> bool {
-    client.call(rt, Op::Spawn).err() == Some(CallError::Fenced)
+    client.call(rt, Op::Process(ProcessCall::Spawn)).err() == Some(CallError::Fenced)
 }
 
 // Node 2 fails while a process waits for a lock of node 1, which is refused then and later, and begins again: why the wait ended, and the
@@ -287,7 +295,11 @@ fn wait_until_failure<R: Threads + Wait + Clock + Sync>(
         return None;
     }
     cluster.restart(rt, 2).ok()?;
-    let receipt = cluster.client(rt, 2, 2).ok()?.call(rt, Op::Spawn).ok()?;
+    let receipt = cluster
+        .client(rt, 2, 2)
+        .ok()?
+        .call(rt, Op::Process(ProcessCall::Spawn))
+        .ok()?;
     is_fenced(rt, two).then_some((ended, receipt))
 }
 

@@ -13,7 +13,7 @@ use book::stamp::Stamp;
 use messages::event::Event;
 use messages::refusal::{Refused, StepError};
 use messages::shape::Shape;
-use model::op::Op;
+use model::op::{Op, ProcessCall};
 use model::policy::Policy;
 use std::alloc::Global;
 use std::marker::Brand;
@@ -37,7 +37,7 @@ fn spawn_of(node: u8, pid: u16) -> Event {
     Event::Call {
         node,
         pid,
-        op: Op::Spawn,
+        op: Op::Process(ProcessCall::Spawn),
     }
 }
 

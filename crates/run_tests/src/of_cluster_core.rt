@@ -3,7 +3,7 @@ use cluster_core::journal::run;
 use messages::event::Event;
 use messages::refusal::Refused;
 use messages::shape::Shape;
-use model::op::Op;
+use model::op::{Op, ProcessCall};
 use model::policy::Policy;
 use std::alloc::Global;
 use std::test::Fail;
@@ -12,7 +12,7 @@ fn spawn(pid: u16) -> Event {
     Event::Call {
         node: 1,
         pid,
-        op: Op::Spawn,
+        op: Op::Process(ProcessCall::Spawn),
     }
 }
 

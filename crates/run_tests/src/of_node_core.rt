@@ -4,7 +4,7 @@ use messages::event::Event;
 use messages::outcome::Outcome;
 use messages::refusal::StepError;
 use messages::shape::Shape;
-use model::op::Op;
+use model::op::{Op, ProcessCall};
 use model::policy::Policy;
 use node_core::event::NodeEvent;
 use node_core::node::Node;
@@ -99,7 +99,7 @@ fn lacks<M: Machine>(alloc: Global, node: &M, pid: u16) -> bool {
     let spawn = Event::Call {
         node: 1,
         pid,
-        op: Op::Spawn,
+        op: Op::Process(ProcessCall::Spawn),
     };
     is_foreign(alloc, node, &spawn)
         && is_foreign(alloc, node, &Event::Retry { node: 1, pid })

@@ -9,7 +9,7 @@ use messages::version::Version;
 use model::call::CallId;
 use model::host::Host;
 use model::mode::Mode;
-use model::op::Op;
+use model::op::{LockCall, LockCommand, Op, ProcessCall};
 use model::owner::Kind;
 use model::reply::Reply;
 use placement::history::History;
@@ -219,7 +219,12 @@ fn put_gone(items: &mut Vec<Item>, node: u8, fd: u8) -> Option<()> {
         incarnation: 1,
     };
     put(items, item)?;
-    put_call(items, 1, Op::Dup { fd: 0 }, Reply::Fd(fd))
+    put_call(
+        items,
+        1,
+        Op::Process(ProcessCall::Dup { fd: 0 }),
+        Reply::Fd(fd),
+    )
 }
 
 // Whether that call may be done.
@@ -239,10 +244,10 @@ fn may_go(alloc: Global) -> Option<bool> {
 
 // Whether there are no processes but 1 to 256, and no nodes but 1 to 64.
 fn lacks_strangers(alloc: Global) -> bool {
-    may_be_done(alloc, 0, Op::Spawn) == Some(false)
-        && may_be_done(alloc, 257, Op::Spawn) == Some(false)
-        && may_be_done(alloc, 2, Op::Fork { child: 0 }) == Some(false)
-        && may_be_done(alloc, 2, Op::Fork { child: 257 }) == Some(false)
+    may_be_done(alloc, 0, Op::Process(ProcessCall::Spawn)) == Some(false)
+        && may_be_done(alloc, 257, Op::Process(ProcessCall::Spawn)) == Some(false)
+        && may_be_done(alloc, 2, Op::Process(ProcessCall::Fork { child: 0 })) == Some(false)
+        && may_be_done(alloc, 2, Op::Process(ProcessCall::Fork { child: 257 })) == Some(false)
         && may_go(alloc) == Some(true)
 }
 
@@ -254,13 +259,14 @@ fn allows_no_strangers(rt: HostRuntime) {
 
 // A read lock of one byte, with one free byte between it and that of the next place.
 fn byte_at(place: u16) -> Op {
-    Op::Set {
+    Op::Lock(LockCall {
+        command: LockCommand::Set,
         fd: 0,
         kind: Kind::OfProcess,
         mode: Mode::Read,
         start: 100 + 2 * place as i64,
         len: 1,
-    }
+    })
 }
 
 // Whether that may be in a cluster of the version: the second process locks so many bytes, and is then refused one more.
@@ -290,7 +296,7 @@ fn allows_as_many_regions_as_the_version_has(rt: HostRuntime) {
 }
 
 fn spawned_at(position: u32) -> Item {
-    answered(position, 7, Op::Spawn, Reply::Done)
+    answered(position, 7, Op::Process(ProcessCall::Spawn), Reply::Done)
 }
 
 // Whether two calls at these places make a history.

@@ -7,7 +7,7 @@ use Rattle.std.proofs.lemmas.Bool.Decides.{nat_tests}
 use Rattle.std.proofs.lemmas.List.{append-nil, reverse-append}
 use Rattle.model.specs.declared.call.CallId.{CallId}
 use Rattle.model.specs.declared.op.Op.{Op}
-use Rattle.model.specs.declared.op.Op.TheVariants.{Spawn, Fork, Open, Dup, Close, Exit, Set, Wait, Unlock, Query}
+use Rattle.model.specs.declared.op.Op.TheVariants.{Exit}
 use Rattle.messages.specs.declared.event.Event.{Event}
 use Rattle.messages.specs.declared.event.Event.TheVariants.{Call, Deliver, Interrupt, Retry, Resend, Declare, Restart, Learn, FailServer, StartServer}
 use Rattle.messages.specs.Entries.{EntryFields}
@@ -79,15 +79,7 @@ ends-by_ending made e = by e.event
         ≡ (option_map_or (λ (one : Ending). derived.ghosts.eq one (exit_on made.call made.pid)) (ending_by e (Call node pid op)) false
         || option_map_or (λ (one : Ending). derived.ghosts.eq one (failure_of made.call)) (ending_by e (Call node pid op)) false)
     calls node pid Exit = exits pid e.call
-    calls node pid Spawn = refl
-    calls node pid (Fork child) = refl
-    calls node pid (Open file access) = refl
-    calls node pid (Dup fd) = refl
-    calls node pid (Close fd) = refl
-    calls node pid (Set fd kind mode start len) = refl
-    calls node pid (Wait fd kind mode start len) = refl
-    calls node pid (Unlock fd kind start len) = refl
-    calls node pid (Query fd kind mode start len) = refl
+    calls node pid _ = refl
 
     by : (event : Event) →
         ends made e event

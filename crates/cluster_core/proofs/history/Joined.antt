@@ -11,15 +11,17 @@ use Rattle.model.specs.declared.owner.Owner.{Owner}
 use Rattle.model.specs.declared.opened.Opened.{Opened}
 use Rattle.model.specs.declared.process.Process.{Process}
 use Rattle.model.specs.declared.op.Op.{Op}
-use Rattle.model.specs.declared.op.Op.TheVariants.{Spawn, Fork, Open, Dup, Close, Exit, Set, Wait, Unlock, Query}
+use Rattle.model.specs.declared.op.Op.TheVariants as op
+use Rattle.model.specs.declared.op.LockCommand.{LockCommand}
+use Rattle.model.specs.declared.op.LockCommand.TheVariants.{Set, Wait, Query}
 use Rattle.model.specs.declared.reply.Reply.{Reply}
 use Rattle.model.specs.declared.reply.Reply.TheVariants.{Done, Again, NoProcess, NoLocks, Free, Blocked, Interrupted}
 use Rattle.model.specs.Limits.{most_descriptors}
 use Rattle.model.specs.Owners.{same_owner, process_owner, description_owner}
 use Rattle.model.specs.Locks.{bars, replace, without_owner, without_owner_anywhere, regions, IsFree, Blocks}
-use Rattle.model.specs.Descriptors.{Processes, with_process, with_descriptor, is_open, after_spawn, after_fork, after_open, after_dup}
-use Rattle.model.specs.Table.{Table, LockTarget, around, is_running, descriptor, beside, with_processes, target, target_at, owner_of, locked, lock_within, regions_with, after_unlock, after_last_close, closed, closed_at, closed_if, closed_below, after_close, exited, after_exit}
-use Rattle.model.specs.Step.{Is, AfterTests, SetStep, WaitStep, QueryStep, Step}
+use Rattle.model.specs.Descriptors.{Processes, with_process, with_descriptor, is_open, after}
+use Rattle.model.specs.Table.{Table, LockTarget, around, is_running, descriptor, beside, with_processes, target, need_of, call_target, target_at, owner_of, locked, lock_within, regions_with, after_unlock, after_last_close, closed, closed_at, closed_if, closed_below, after_close, exited, after_exit}
+use Rattle.model.specs.Step.{Is, AfterTests, SetStep, WaitStep, QueryStep, LockStep, Step}
 use Rattle.model.proofs.OwnerLaws.{owner_exact}
 use Rattle.cluster_core.specs.Evidence.{IsAbout}
 use Rattle.cluster_core.proofs.common.Refusals.{if_then}
@@ -261,50 +263,30 @@ module _ (others : Table) (p : Process) where
   query-joined t u mode Free c own elsewhere h = (free-joined t c.file c.owner c.span mode (elsewhere tt) h.0, ap all h.1)
   query-joined t u mode _ c own elsewhere h = absurd h
 
-  -- if a call is not blocked, no lock beside the node's table blocks it
+  lock-joined : (t u : Table) (command : LockCommand) (mode : Mode) (reply : Reply) (c : LockTarget) → t.limit ≡ others.limit → IsOwn t p.node p.incarnation → is_own c.owner ≡ true → (IsUnhindered reply → IsFreeAt mode c) → LockStep t command mode reply u c → LockStep (all t) command mode reply (all u) c
+  lock-joined t u Set mode reply c limit own of elsewhere h = set-joined t u mode reply c limit own of elsewhere h
+  lock-joined t u Wait mode reply c limit own of elsewhere h = wait-joined t u mode reply c limit own of elsewhere h
+  lock-joined t u Query mode reply c limit own of elsewhere h = query-joined t u mode reply c own elsewhere h
+
+  -- where a call goes unhindered, no lock beside the table is in its way
   abbrev pub IsFreeBeside : Table → Op → Reply → Type 0
   IsFreeBeside t op reply = (mode : Mode) (c : LockTarget) → IsUnhindered reply → IsAbout t p op mode c → IsFreeAt mode c
 
   -- a step of the node's table is a step of all together
   pub step-joined : (t u : Table) (op : Op) (reply : Reply) → t.limit ≡ others.limit → IsOwn t p.node p.incarnation → IsFreeBeside t op reply → Step t p op reply u → Step (all t) p op reply (all u)
-  step-joined t u Spawn reply limit own elsewhere h =
-      let r : Processes → Result (Processes × Reply) Reply = λ ps. after_spawn ps p.pid in
-      is-joined (beside t p (r (around t p))) (beside (all t) p (r (around (all t) p))) reply u (ap (λ ps. beside (all t) p (r ps)) (around-joined t) ∙ beside-joined t (r (around t p))) h
-  step-joined t u (Open file access) reply limit own elsewhere h =
-      let r : Processes → Result (Processes × Reply) Reply = λ ps. after_open ps p.pid file access in
-      is-joined (beside t p (r (around t p))) (beside (all t) p (r (around (all t) p))) reply u (ap (λ ps. beside (all t) p (r ps)) (around-joined t) ∙ beside-joined t (r (around t p))) h
-  step-joined t u (Fork child) reply limit own elsewhere h =
-      let r : Processes → Result (Processes × Reply) Reply = λ ps. after_fork ps p.pid child in
+  step-joined t u (op.Process call) reply limit own elsewhere h =
+      let r : Processes → Result (Processes × Reply) Reply = λ ps. after ps p.pid call in
       (h.0, is-joined (beside t p (r (around t p))) (beside (all t) p (r (around (all t) p))) reply u (ap (λ ps. beside (all t) p (r ps)) (around-joined t) ∙ beside-joined t (r (around t p))) h.1)
-  step-joined t u (Dup fd) reply limit own elsewhere h =
-      let r : Processes → Result (Processes × Reply) Reply = λ ps. after_dup ps p.pid fd in
-      is-joined (beside t p (r (around t p))) (beside (all t) p (r (around (all t) p))) reply u (ap (λ ps. beside (all t) p (r ps)) (around-joined t) ∙ beside-joined t (r (around t p))) h
-  step-joined t u (Close fd) reply limit own elsewhere h = is-joined (after_close t p fd) (after_close (all t) p fd) reply u (after_close-joined t fd) h
-  step-joined t u Exit reply limit own elsewhere h = is-joined (after_exit t p) (after_exit (all t) p) reply u (after_exit-joined t) h
-  step-joined t u (Set fd kind mode start len) reply limit own elsewhere h =
-      let found = target t p (Some mode) fd kind start len in
-      let P : Result LockTarget Reply → Type 0 = λ x. AfterTests (all t) x reply (all u) (SetStep (all t) mode reply (all u)) in
-      subst P (sym (target-joined t (Some mode) fd kind start len))
-      (elim found as (λ x. found ≡ x → AfterTests t x reply u (SetStep t mode reply u) → P x) [
+  step-joined t u (op.Close fd) reply limit own elsewhere h = is-joined (after_close t p fd) (after_close (all t) p fd) reply u (after_close-joined t fd) h
+  step-joined t u op.Exit reply limit own elsewhere h = is-joined (after_exit t p) (after_exit (all t) p) reply u (after_exit-joined t) h
+  step-joined t u (op.Lock call) reply limit own elsewhere h =
+      let need = need_of call.command call.mode in
+      let P : Result LockTarget Reply → Type 0 = λ x. AfterTests (all t) x reply (all u) (LockStep (all t) call.command call.mode reply (all u)) in
+      subst P (sym (target-joined t need call.fd call.kind call.start call.len))
+      (elim (call_target t p call) as (λ x. call_target t p call ≡ x → AfterTests t x reply u (LockStep t call.command call.mode reply u) → P x) [
         | Err refusal ↦ λ is step. (step.0, ap all step.1)
-        | Ok c ↦ λ is step. set-joined t u mode reply c limit own (target_of_host t p (Some mode) fd kind start len c is) (λ unhindered. elsewhere mode c unhindered (refl, is)) step
+        | Ok c ↦ λ is step. lock-joined t u call.command call.mode reply c limit own (target_of_host t p need call.fd call.kind call.start call.len c is) (λ unhindered. elsewhere call.mode c unhindered (refl, is)) step
       ] refl h)
-  step-joined t u (Wait fd kind mode start len) reply limit own elsewhere h =
-      let found = target t p (Some mode) fd kind start len in
-      let P : Result LockTarget Reply → Type 0 = λ x. AfterTests (all t) x reply (all u) (WaitStep (all t) mode reply (all u)) in
-      subst P (sym (target-joined t (Some mode) fd kind start len))
-      (elim found as (λ x. found ≡ x → AfterTests t x reply u (WaitStep t mode reply u) → P x) [
-        | Err refusal ↦ λ is step. (step.0, ap all step.1)
-        | Ok c ↦ λ is step. wait-joined t u mode reply c limit own (target_of_host t p (Some mode) fd kind start len c is) (λ unhindered. elsewhere mode c unhindered (refl, is)) step
-      ] refl h)
-  step-joined t u (Query fd kind mode start len) reply limit own elsewhere h =
-      let found = target t p None fd kind start len in
-      let P : Result LockTarget Reply → Type 0 = λ x. AfterTests (all t) x reply (all u) (QueryStep (all t) mode reply (all u)) in
-      subst P (sym (target-joined t None fd kind start len))
-      (elim found as (λ x. found ≡ x → AfterTests t x reply u (QueryStep t mode reply u) → P x) [
-        | Err refusal ↦ λ is step. (step.0, ap all step.1)
-        | Ok c ↦ λ is step. query-joined t u mode reply c own (λ unhindered. elsewhere mode c unhindered (refl, is)) step
-      ] refl h)
-  step-joined t u (Unlock fd kind start len) reply limit own elsewhere h =
+  step-joined t u (op.Unlock fd kind start len) reply limit own elsewhere h =
       let found = target t p None fd kind start len in
       is-joined (after_unlock t found) (after_unlock (all t) (target (all t) p None fd kind start len)) reply u (ap (after_unlock (all t)) (target-joined t None fd kind start len) ∙ after_unlock-joined t found limit (λ c is. target_of_host t p None fd kind start len c is)) h

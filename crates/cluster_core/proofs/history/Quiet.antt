@@ -10,8 +10,8 @@ use Rattle.model.specs.Replay.{NamesNoLock}
 use Rattle.model.specs.Table.{Table}
 use Rattle.model.specs.Step.{Step}
 use Rattle.model.proofs.ReadOnly.{only_done_change}
-use Rattle.node_core.specs.declared.open_call.LockCommand.{LockCommand}
-use Rattle.node_core.specs.declared.open_call.LockCommand.TheVariants as lock_command
+use Rattle.model.specs.declared.op.LockCommand.{LockCommand}
+use Rattle.model.specs.declared.op.LockCommand.TheVariants as lock_command
 use Rattle.node_core.specs.Try.{refusal_of}
 use Rattle.cluster_core.specs.declared.item.Item.{Item}
 use Rattle.cluster_core.specs.Histories.{caller, ItemStep, Legal, IsReadOnly, moved, QuietItemsMayStandEarlier}

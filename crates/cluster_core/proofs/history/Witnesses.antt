@@ -8,7 +8,9 @@ use Rattle.model.specs.declared.host.Host.{Host}
 use Rattle.model.specs.declared.lock_info.LockInfo.{LockInfo}
 use Rattle.model.specs.declared.mode.Mode.{Mode}
 use Rattle.model.specs.declared.op.Op.{Op}
-use Rattle.model.specs.declared.op.Op.TheVariants.{Spawn, Set, Wait, Query}
+use Rattle.model.specs.declared.op.Op.TheVariants.{Exit, Lock}
+use Rattle.model.specs.declared.op.LockCommand.{LockCommand}
+use Rattle.model.specs.declared.op.LockCommand.TheVariants.{Set, Wait, Query}
 use Rattle.model.specs.declared.process.Process.{Process}
 use Rattle.model.specs.declared.reply.Reply.{Reply}
 use Rattle.model.specs.Table.{Table, LockTarget}
@@ -23,8 +25,6 @@ use Rattle.messages.specs.declared.message.Message.TheVariants.{Request, Grant, 
 use Rattle.messages.specs.declared.event.Event.{Event}
 use Rattle.messages.specs.declared.event.Event.TheVariants.{Call}
 use Rattle.messages.specs.declared.entry.Entry.{Entry}
-use Rattle.node_core.specs.declared.open_call.LockCommand.{LockCommand}
-use Rattle.node_core.specs.declared.open_call.LockCommand.TheVariants as lock_command
 use Rattle.node_core.specs.declared.open_call.OpenCall.{OpenCall}
 use Rattle.node_core.specs.State.{NodeState, id_of}
 use Rattle.node_core.specs.Try.{blocking_of, refusal_of}
@@ -33,7 +33,7 @@ use Rattle.token_queue.specs.Requests.{is_of_call}
 use Rattle.cluster_core.specs.World.{WorldState, first_world}
 use Rattle.cluster_core.specs.Union.{union}
 use Rattle.cluster_core.specs.Histories.{caller, EntryAt, IsCalledAt, OneCall}
-use Rattle.cluster_core.specs.Evidence.{IsAbout, IsAsked, IsWorldAfter, IsFirstDone, HasEvidence, is_wait}
+use Rattle.cluster_core.specs.Evidence.{IsAbout, IsAsked, IsWorldAfter, IsFirstDone, HasEvidence, may_wait, is_wait}
 use Rattle.model.proofs.Targets.{IsSpan, target_span}
 use Rattle.cluster_core.proofs.history.Entries.{IsNamed, named_called, entry_at-within, called_at-keeps}
 use Rattle.cluster_core.proofs.steps.Tries.{IsFor, about_finds, about_one}
@@ -72,7 +72,7 @@ pid_in _ = 0
 
 abbrev op_in : Event → Op
 op_in (Call node pid op) = op
-op_in _ = Spawn
+op_in _ = Exit
 
 pub called_one : (es : List Entry) (id : CallId) (pid qid : ℕ) (op oq : Op) (at to : ℕ) → OneCall es → IsCalledAt es id pid op at → IsCalledAt es id qid oq to → SameCall at to pid qid op oq
 called_one es id pid qid op oq at to one a b =
@@ -163,10 +163,13 @@ pub record IsOfBlocking (past : List Entry) (call : CallId) (blocking : Blocking
   pub waits : is_wait op ≡ same_blocking blocking Yes
 
 pub for_blocking : (i : LockCommand) (op : Op) → IsFor i op → is_wait op ≡ same_blocking (blocking_of i) Yes
-for_blocking lock_command.Set (Set fd kind mode start len) f = refl
-for_blocking lock_command.Wait (Wait fd kind mode start len) f = refl
-for_blocking lock_command.Query (Query fd kind mode start len) f = refl
-for_blocking i op f = absurd f
+for_blocking i (Lock call) f = ap may_wait f ∙ by i
+  where
+    by : (i : LockCommand) → may_wait i ≡ same_blocking (blocking_of i) Yes
+    by Set = refl
+    by Wait = refl
+    by Query = refl
+for_blocking i _ f = absurd f
 
 blocking-keeps : (past : List Entry) (e : Entry) (call : CallId) (blocking : Blocking) → IsOfBlocking past call blocking → IsOfBlocking (past ++ e ∷ []) call blocking
 blocking-keeps past e call blocking u = record { at = u.at; pid = u.pid; op = u.op; called = called_at-keeps past (e ∷ []) call u.pid u.op u.at u.called; waits = u.waits }

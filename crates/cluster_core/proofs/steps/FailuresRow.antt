@@ -3,7 +3,8 @@ use Rattle.std.proofs.Common.{◌≡◌, true, refl, List, [], ◌∷◌, Option
 use Rattle.intervals.specs.Search.{first}
 use Rattle.model.specs.declared.policy.Policy.TheVariants.{Wide}
 use Rattle.model.specs.declared.call.CallId.{CallId}
-use Rattle.model.specs.declared.op.Op.TheVariants.{Spawn}
+use Rattle.model.specs.declared.op.Op.TheVariants.{Process}
+use Rattle.model.specs.declared.op.ProcessCall.TheVariants.{Spawn}
 use Rattle.model.specs.declared.reply.Reply.{Reply}
 use Rattle.model.specs.declared.reply.Reply.TheVariants.{Done}
 use Rattle.messages.specs.declared.version.Version.TheVariants.{First, Second}
@@ -46,7 +47,7 @@ declares = refl
 not_alive : next stopped (Declare 1) ≡ Err NotAlive
 not_alive = refl
 
-fenced : next stopped (Call 1 1 Spawn) ≡ Err Fenced
+fenced : next stopped (Call 1 1 (Process Spawn)) ≡ Err Fenced
 fenced = refl
 
 not_declared : next stopped (Learn 1 1 2) ≡ Err Stranger
@@ -59,7 +60,7 @@ learns : (p : WorldState × Entry) × (next again (Learn 1 1 1) ≡ Ok p)
 unfolding first
 learns = (_, refl)
 
-spawns : reply_of (next again (Call 1 1 Spawn)) ≡ Some (record { node = 1; incarnation = 2; number = 1 }, Done)
+spawns : reply_of (next again (Call 1 1 (Process Spawn))) ≡ Some (record { node = 1; incarnation = 2; number = 1 }, Done)
 spawns = refl
 
 -- two nodes, of which the second was declared failed: the server that is rebuilt asks the first, and waits for it

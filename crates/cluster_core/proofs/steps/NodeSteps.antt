@@ -12,8 +12,8 @@ use Rattle.messages.specs.Reports.{runs_of}
 use Rattle.messages.specs.declared.outcome.Outcome.{Outcome}
 use Rattle.messages.specs.declared.refusal.StepError.TheVariants.{Busy, Stranger, Spent}
 use Rattle.messages.specs.Messages.{addressee, host_of, file_of, is_within, greatest_number}
-use Rattle.node_core.specs.declared.open_call.LockCommand.{LockCommand}
-use Rattle.node_core.specs.declared.open_call.LockCommand.TheVariants as lock_command
+use Rattle.model.specs.declared.op.LockCommand.{LockCommand}
+use Rattle.model.specs.declared.op.LockCommand.TheVariants as lock_command
 use Rattle.node_core.specs.declared.open_call.OpenCall.{OpenCall}
 use Rattle.node_core.specs.State.{NodeState, Effect, host, quiet, sent, answered, outcome, open_call_of}
 use Rattle.node_core.specs.Try.{settled, may_free, with_freed, with_freed_of, answered_if, tried_if}

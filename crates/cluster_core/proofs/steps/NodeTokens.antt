@@ -10,11 +10,11 @@ use Rattle.model.specs.declared.host.Host.{Host}
 use Rattle.model.specs.declared.lock_info.LockInfo.{LockInfo}
 use Rattle.model.specs.declared.mode.Mode.{Mode}
 use Rattle.model.specs.declared.op.Op.{Op}
-use Rattle.model.specs.declared.op.Op.TheVariants.{Spawn, Fork, Open, Dup, Close, Exit, Set, Wait, Unlock, Query}
+use Rattle.model.specs.declared.op.Op.TheVariants as op
 use Rattle.model.specs.declared.reply.Reply.{Reply}
 use Rattle.model.specs.Locks.{lowest_blocker}
 use Rattle.model.specs.Descriptors.{is_of_file, has_open}
-use Rattle.model.specs.Table.{Table, LockTarget, around, descriptor, target, lock_within, after_close, after_exit}
+use Rattle.model.specs.Table.{Table, LockTarget, around, descriptor, target, call_target, lock_within, after_close, after_exit}
 use Rattle.token_set.specs.Tokens.{Token, covers, raised}
 use Rattle.token_set.specs.Releases.{gave_up, after_giving_up}
 use Rattle.token_set.specs.declared.gave_up.GaveUp.{GaveUp}
@@ -24,8 +24,8 @@ use Rattle.messages.specs.declared.message.Message.{Message}
 use Rattle.messages.specs.declared.message.Message.TheVariants.{Request, Grant, Revoke, Taken, Freed}
 use Rattle.messages.specs.Messages.{same_message, is_among, host_of}
 use Rattle.messages.proofs.SameMessages.{same_message-is-equality}
-use Rattle.node_core.specs.declared.open_call.LockCommand.{LockCommand}
-use Rattle.node_core.specs.declared.open_call.LockCommand.TheVariants as lock_command
+use Rattle.model.specs.declared.op.LockCommand.{LockCommand}
+use Rattle.model.specs.declared.op.LockCommand.TheVariants as lock_command
 use Rattle.node_core.specs.declared.open_call.OpenCall.{OpenCall}
 use Rattle.node_core.specs.State.{FileState, NodeState, Effect, quiet, answered, without_call_of, host, open_call, process, target_of}
 use Rattle.node_core.specs.Try.{settled as after_settling, may_free, with_freed, locked_by, answered_here, refusal_of, answered_if, tried, tried_against, tried_if, requested}
@@ -202,18 +202,13 @@ shut_asks s number passes answer =
 
 -- a call
 pub called_asks : (s : NodeState) (number pid : ℕ) (op : Op) → AsksFrom s (called s number pid op)
-called_asks s number pid Spawn = says_nothing s _ refl refl (λ file. refl) refl
-called_asks s number pid (Open file access) = says_nothing s _ refl refl (λ file. refl) refl
-called_asks s number pid (Fork child) = says_nothing s _ refl refl (λ file. refl) refl
-called_asks s number pid (Dup fd) = says_nothing s _ refl refl (λ file. refl) refl
-called_asks s number pid (Close fd) = shut_asks s number (λ file. is_of_file file (descriptor s.table (process s pid) fd)) (after_close s.table (process s pid) fd)
-called_asks s number pid Exit =
+called_asks s number pid (op.Process call) = says_nothing s _ refl refl (λ file. refl) refl
+called_asks s number pid (op.Close fd) = shut_asks s number (λ file. is_of_file file (descriptor s.table (process s pid) fd)) (after_close s.table (process s pid) fd)
+called_asks s number pid op.Exit =
     let a = shut_asks (without_call_of s pid) number (has_open (around s.table (process s pid)) pid) (after_exit s.table (process s pid)) in
     record { node_is = a.node_is; incarnation_is = a.incarnation_is; files_are = a.files_are; sends = a.sends }
-called_asks s number pid (Set fd kind mode start len) = lock_call_asks s number pid lock_command.Set mode (target s.table (process s pid) (Some mode) fd kind start len)
-called_asks s number pid (Wait fd kind mode start len) = lock_call_asks s number pid lock_command.Wait mode (target s.table (process s pid) (Some mode) fd kind start len)
-called_asks s number pid (Unlock fd kind start len) = unlock_call_asks s number (target s.table (process s pid) None fd kind start len)
-called_asks s number pid (Query fd kind mode start len) = lock_call_asks s number pid lock_command.Query mode (target s.table (process s pid) None fd kind start len)
+called_asks s number pid (op.Lock call) = lock_call_asks s number pid call.command call.mode (call_target s.table (process s pid) call)
+called_asks s number pid (op.Unlock fd kind start len) = unlock_call_asks s number (target s.table (process s pid) None fd kind start len)
 
 -- a call is denied
 pub denied_asks : (s : NodeState) (lock : LockInfo) (o : Option OpenCall) → AsksFrom s (denied s lock o)

@@ -9,11 +9,11 @@ use Rattle.model.specs.declared.host.Host.{Host}
 use Rattle.model.specs.declared.lock_info.LockInfo.{LockInfo}
 use Rattle.model.specs.declared.mode.Mode.{Mode}
 use Rattle.model.specs.declared.op.Op.{Op}
-use Rattle.model.specs.declared.op.Op.TheVariants.{Spawn, Fork, Open, Dup, Close, Exit, Set, Wait, Unlock, Query}
+use Rattle.model.specs.declared.op.Op.TheVariants as op
 use Rattle.model.specs.declared.reply.Reply.{Reply}
 use Rattle.model.specs.Locks.{lowest_blocker, lowest_in_way}
 use Rattle.model.specs.Descriptors.{is_of_file, has_open}
-use Rattle.model.specs.Table.{Table, LockTarget, around, descriptor, target, lock_within, after_close, after_exit}
+use Rattle.model.specs.Table.{Table, LockTarget, around, descriptor, target, call_target, lock_within, after_close, after_exit}
 use Rattle.model.specs.declared.policy.Policy.{Policy}
 use Rattle.model.specs.declared.policy.Policy.TheVariants.{Wide, Exact}
 use Rattle.token_set.specs.Tokens.{Token, holds_nothing, covers, desired, raised}
@@ -24,8 +24,8 @@ use Rattle.messages.specs.declared.message.Message.TheVariants.{Request, Grant, 
 use Rattle.messages.specs.declared.token_run.TokenRun.{TokenRun}
 use Rattle.messages.specs.Epochs.{begin_of}
 use Rattle.messages.specs.Reports.{runs_of}
-use Rattle.node_core.specs.declared.open_call.LockCommand.{LockCommand}
-use Rattle.node_core.specs.declared.open_call.LockCommand.TheVariants as lock_command
+use Rattle.model.specs.declared.op.LockCommand.{LockCommand}
+use Rattle.model.specs.declared.op.LockCommand.TheVariants as lock_command
 use Rattle.node_core.specs.declared.open_call.OpenCall.{OpenCall}
 use Rattle.node_core.specs.State.{FileState, NodeState, Effect, quiet, with_file, without_call_of, host, process, id_of, target_of, open_call}
 use Rattle.node_core.specs.Try.{settled, blocking_of, requested, refusal_of, answered_if, may_free, with_freed, locked_by, answered_here, tried, tried_against, tried_if}
@@ -125,16 +125,11 @@ module _ (P : Message → Type 0) (free : IsFreely P) where
   shut-sends s number passes answer = shut_keeps SendsOnly with_freed-sends s number passes answer (nothing_sent (settled s number answer) refl)
 
   pub called-sends : (s : NodeState) (number pid : ℕ) (op : Op) → SendsOnly (called s number pid op)
-  called-sends s number pid Spawn = λ asks. All-nil P
-  called-sends s number pid (Open file access) = λ asks. All-nil P
-  called-sends s number pid (Fork child) = λ asks. All-nil P
-  called-sends s number pid (Dup fd) = λ asks. All-nil P
-  called-sends s number pid (Close fd) = shut-sends s number (λ file. is_of_file file (descriptor s.table (process s pid) fd)) (after_close s.table (process s pid) fd)
-  called-sends s number pid Exit = shut-sends (without_call_of s pid) number (has_open (around s.table (process s pid)) pid) (after_exit s.table (process s pid))
-  called-sends s number pid (Set fd kind mode start len) = lock_call-sends s number pid lock_command.Set mode (target s.table (process s pid) (Some mode) fd kind start len)
-  called-sends s number pid (Wait fd kind mode start len) = lock_call-sends s number pid lock_command.Wait mode (target s.table (process s pid) (Some mode) fd kind start len)
-  called-sends s number pid (Unlock fd kind start len) = unlock_call-sends s number (target s.table (process s pid) None fd kind start len)
-  called-sends s number pid (Query fd kind mode start len) = lock_call-sends s number pid lock_command.Query mode (target s.table (process s pid) None fd kind start len)
+  called-sends s number pid (op.Process call) = λ asks. All-nil P
+  called-sends s number pid (op.Close fd) = shut-sends s number (λ file. is_of_file file (descriptor s.table (process s pid) fd)) (after_close s.table (process s pid) fd)
+  called-sends s number pid op.Exit = shut-sends (without_call_of s pid) number (has_open (around s.table (process s pid)) pid) (after_exit s.table (process s pid))
+  called-sends s number pid (op.Lock call) = lock_call-sends s number pid call.command call.mode (call_target s.table (process s pid) call)
+  called-sends s number pid (op.Unlock fd kind start len) = unlock_call-sends s number (target s.table (process s pid) None fd kind start len)
 
   remembered-sends : (s : NodeState) (file : ℕ) → Remembers P s → SendsOnly (remembered s (s.files file).answer)
   remembered-sends s file old = each (s.files file).answer refl

@@ -9,7 +9,9 @@ use Rattle.model.specs.declared.lock_info.LockInfo.{LockInfo}
 use Rattle.model.specs.declared.process.Process.{Process}
 use Rattle.model.specs.declared.call.CallId.{CallId}
 use Rattle.model.specs.declared.op.Op.{Op}
-use Rattle.model.specs.declared.op.Op.TheVariants.{Spawn, Fork, Open, Dup, Close, Exit, Set, Wait, Unlock, Query}
+use Rattle.model.specs.declared.op.Op.TheVariants as op
+use Rattle.model.specs.declared.op.LockCommand.{LockCommand}
+use Rattle.model.specs.declared.op.LockCommand.TheVariants as lock_command
 use Rattle.model.specs.declared.reply.Reply.{Reply}
 use Rattle.model.specs.declared.reply.Reply.TheVariants.{Done, Again, NoLocks, Free, Blocked, Interrupted}
 use Rattle.model.specs.Limits.{IsNumber, most_processes}
@@ -18,33 +20,29 @@ use Rattle.model.specs.Anchors.{Hangs, IsOwn}
 use Rattle.model.proofs.BlockerLaws.{lowest_is_lowest}
 use Rattle.model.proofs.Targets.{IsTarget}
 use Rattle.model.proofs.Hanging.{target_hangs}
-use Rattle.model.proofs.NodeTables.{GoesOn, same_goes_on, Follows, spawn_follows, fork_follows, open_follows, dup_follows, unlock_follows, lock_processes, lock_own, target_own}
+use Rattle.model.proofs.NodeTables.{GoesOn, same_goes_on, Follows, call_follows, unlock_follows, lock_processes, lock_own, target_own}
 use Rattle.model.proofs.Closings.{close_follows, exit_follows}
-use Rattle.model.specs.Descriptors.{Processes, is_of_file, has_open, after_spawn, after_fork, after_open, after_dup}
-use Rattle.model.specs.Table.{Table, LockTarget, around, descriptor, beside, target, lock_within, locked, regions_with, after_unlock, after_close, after_exit}
-use Rattle.model.specs.Step.{Step, SetStep, WaitStep, QueryStep, Is, AfterTests, Unblocked}
+use Rattle.model.specs.Descriptors.{Processes, is_of_file, has_open, after}
+use Rattle.model.specs.Table.{Table, LockTarget, around, descriptor, beside, target, need_of, call_target, lock_within, locked, regions_with, after_unlock, after_close, after_exit}
+use Rattle.model.specs.Step.{Step, SetStep, WaitStep, QueryStep, LockStep, Is, AfterTests, Unblocked}
 use Rattle.token_set.specs.Tokens.{Token, covers}
 use Rattle.messages.specs.declared.message.Message.TheVariants.{Freed}
-use Rattle.node_core.specs.declared.open_call.LockCommand.{LockCommand}
-use Rattle.node_core.specs.declared.open_call.LockCommand.TheVariants as lock_command
 use Rattle.node_core.specs.declared.open_call.OpenCall.{OpenCall}
 use Rattle.node_core.specs.State.{NodeState, Effect, answered, without_call, without_call_of, with_file, host, process, id_of, target_of}
 use Rattle.node_core.specs.Try.{settled, requested, refusal_of, answered_if, may_free, with_freed, locked_by, answered_here, tried, tried_against}
 use Rattle.node_core.specs.Calls.{is_in_shape, is_busy, called, lock_call, unlock_call, shut_by}
+use Rattle.node_core.proofs.NodeLaws.{possible_call}
 use Rattle.node_core.proofs.AnchorLaws.{idle-others}
 use Rattle.cluster_core.specs.Evidence.{IsAbout}
 use Rattle.cluster_core.proofs.common.Choices.{at_number}
 use Rattle.cluster_core.proofs.common.Refusals.{ok_is}
 use Rattle.cluster_core.proofs.common.Lists.{All-both}
 use Rattle.cluster_core.proofs.steps.NodeSteps.{shut_keeps, answered_if_either}
-use Rattle.cluster_core.proofs.common.Numbered.{within_is}
 
 -- the command of an open call and its operation
 abbrev pub IsFor : LockCommand → Op → Type 0
-IsFor lock_command.Set (Set fd kind mode start len) = Unit {0}
-IsFor lock_command.Wait (Wait fd kind mode start len) = Unit {0}
-IsFor lock_command.Query (Query fd kind mode start len) = Unit {0}
-IsFor _ _ = ⊥
+IsFor command (op.Lock call) = call.command ≡ command
+IsFor command _ = ⊥
 
 -- the open call is this call of its process, and passes its tests
 pub record IsReady (t : Table) (p : Process) (op : Op) (c : OpenCall) : Type 0 where
@@ -53,16 +51,8 @@ pub record IsReady (t : Table) (p : Process) (op : Op) (c : OpenCall) : Type 0 w
 
 -- a call has at most one target
 pub about_one : (t : Table) (p : Process) (op : Op) (m n : Mode) (c d : LockTarget) → IsAbout t p op m c → IsAbout t p op n d → (m ≡ n) × (c ≡ d)
-about_one t p (Set fd kind mode start len) m n c d a b = (sym a.0 ∙ b.0, ok_is c d (sym a.1 ∙ b.1))
-about_one t p (Wait fd kind mode start len) m n c d a b = (sym a.0 ∙ b.0, ok_is c d (sym a.1 ∙ b.1))
-about_one t p (Query fd kind mode start len) m n c d a b = (sym a.0 ∙ b.0, ok_is c d (sym a.1 ∙ b.1))
-about_one t p Spawn m n c d a b = absurd a
-about_one t p (Open file access) m n c d a b = absurd a
-about_one t p (Fork child) m n c d a b = absurd a
-about_one t p (Dup fd) m n c d a b = absurd a
-about_one t p (Close fd) m n c d a b = absurd a
-about_one t p Exit m n c d a b = absurd a
-about_one t p (Unlock fd kind start len) m n c d a b = absurd a
+about_one t p (op.Lock call) m n c d a b = (sym a.0 ∙ b.0, ok_is c d (sym a.1 ∙ b.1))
+about_one t p _ m n c d a b = absurd a
 
 -- the process finds the target in the table
 pub record Finds (t : Table) (p : Process) (c : LockTarget) : Type 0 where
@@ -74,60 +64,22 @@ pub record Finds (t : Table) (p : Process) (c : LockTarget) : Type 0 where
   pub found : target t p need fd kind start len ≡ Ok c
 
 pub about_finds : (t : Table) (p : Process) (op : Op) (mode : Mode) (c : LockTarget) → IsAbout t p op mode c → Finds t p c
-about_finds t p (Set fd kind m start len) mode c a = record { need = Some m; fd = fd; kind = kind; start = start; len = len; found = a.1 }
-about_finds t p (Wait fd kind m start len) mode c a = record { need = Some m; fd = fd; kind = kind; start = start; len = len; found = a.1 }
-about_finds t p (Query fd kind m start len) mode c a = record { need = None; fd = fd; kind = kind; start = start; len = len; found = a.1 }
-about_finds t p Spawn mode c a = absurd a
-about_finds t p (Open file access) mode c a = absurd a
-about_finds t p (Fork child) mode c a = absurd a
-about_finds t p (Dup fd) mode c a = absurd a
-about_finds t p (Close fd) mode c a = absurd a
-about_finds t p Exit mode c a = absurd a
-about_finds t p (Unlock fd kind start len) mode c a = absurd a
+about_finds t p (op.Lock call) mode c a = record { need = need_of call.command call.mode; fd = call.fd; kind = call.kind; start = call.start; len = call.len; found = a.1 }
+about_finds t p _ mode c a = absurd a
 
 -- a call has the same target where its process finds the same
 pub about_maps : (t u : Table) (p : Process) (op : Op) (mode : Mode) (c : LockTarget) → ((need : Option Mode) (fd : ℕ) (kind : Kind) (start len : ℤ) → target t p need fd kind start len ≡ Ok c → target u p need fd kind start len ≡ Ok c) → IsAbout t p op mode c → IsAbout u p op mode c
-about_maps t u p (Set fd kind m start len) mode c same a = (a.0, same (Some m) fd kind start len a.1)
-about_maps t u p (Wait fd kind m start len) mode c same a = (a.0, same (Some m) fd kind start len a.1)
-about_maps t u p (Query fd kind m start len) mode c same a = (a.0, same None fd kind start len a.1)
-about_maps t u p Spawn mode c same a = absurd a
-about_maps t u p (Open file access) mode c same a = absurd a
-about_maps t u p (Fork child) mode c same a = absurd a
-about_maps t u p (Dup fd) mode c same a = absurd a
-about_maps t u p (Close fd) mode c same a = absurd a
-about_maps t u p Exit mode c same a = absurd a
-about_maps t u p (Unlock fd kind start len) mode c same a = absurd a
-
--- the answers of the one table to a call with this target
-abbrev pub LockStep : Table → LockCommand → Mode → Reply → Table → LockTarget → Type 0
-LockStep t lock_command.Set = SetStep t
-LockStep t lock_command.Wait = WaitStep t
-LockStep t lock_command.Query = QueryStep t
+about_maps t u p (op.Lock call) mode c same a = (a.0, same (need_of call.command call.mode) call.fd call.kind call.start call.len a.1)
+about_maps t u p _ mode c same a = absurd a
 
 -- a call that passes its tests is answered as its answer says
 pub about_step : (t : Table) (p : Process) (op : Op) (i : LockCommand) (mode : Mode) (c : LockTarget) (reply : Reply) (u : Table) → IsFor i op → IsAbout t p op mode c → LockStep t i mode reply u c → Step t p op reply u
-about_step t p (Set fd kind m start len) lock_command.Set mode c reply u f a step =
-    let P : Mode → Type 0 = λ k. SetStep t k reply u c in
-    let Q : Result LockTarget Reply → Type 0 = λ x. AfterTests t x reply u (SetStep t m reply u) in
-    subst Q (sym a.1) (subst P (sym a.0) step)
-about_step t p (Wait fd kind m start len) lock_command.Wait mode c reply u f a step =
-    let P : Mode → Type 0 = λ k. WaitStep t k reply u c in
-    let Q : Result LockTarget Reply → Type 0 = λ x. AfterTests t x reply u (WaitStep t m reply u) in
-    subst Q (sym a.1) (subst P (sym a.0) step)
-about_step t p (Query fd kind m start len) lock_command.Query mode c reply u f a step =
-    let P : Mode → Type 0 = λ k. QueryStep t k reply u c in
-    let Q : Result LockTarget Reply → Type 0 = λ x. AfterTests t x reply u (QueryStep t m reply u) in
-    subst Q (sym a.1) (subst P (sym a.0) step)
-about_step t p (Set fd kind m start len) i mode c reply u f a step = absurd f
-about_step t p (Wait fd kind m start len) i mode c reply u f a step = absurd f
-about_step t p (Query fd kind m start len) i mode c reply u f a step = absurd f
-about_step t p Spawn i mode c reply u f a step = absurd a
-about_step t p (Open file access) i mode c reply u f a step = absurd a
-about_step t p (Fork child) i mode c reply u f a step = absurd a
-about_step t p (Dup fd) i mode c reply u f a step = absurd a
-about_step t p (Close fd) i mode c reply u f a step = absurd a
-about_step t p Exit i mode c reply u f a step = absurd a
-about_step t p (Unlock fd kind start len) i mode c reply u f a step = absurd a
+about_step t p (op.Lock call) i mode c reply u f a step =
+    let P : LockCommand → Type 0 = λ k. LockStep t k mode reply u c in
+    let Q : Mode → Type 0 = λ k. LockStep t call.command k reply u c in
+    let R : Result LockTarget Reply → Type 0 = λ x. AfterTests t x reply u (LockStep t call.command call.mode reply u) in
+    subst R (sym a.1) (subst Q (sym a.0) (subst P (sym f) step))
+about_step t p _ i mode c reply u f a step = absurd a
 
 -- a lock that blocks is named, unless the call waits
 pub blocked_step : (t : Table) (i : LockCommand) (mode : Mode) (lock : LockInfo) (c : LockTarget) (reply : Reply) → refusal_of i lock ≡ Some reply → Blocks (t.locks c.file) c.owner c.span mode lock → LockStep t i mode reply t c
@@ -160,7 +112,7 @@ Stays calls number c = Contains calls c × (c.number ≡ number → ⊥)
 
 -- the process has no open call, unless it exits
 abbrev pub IsIdle : List OpenCall → ℕ → Op → Type 0
-IsIdle calls pid Exit = Unit {0}
+IsIdle calls pid op.Exit = Unit {0}
 IsIdle calls pid _ = All (λ (c : OpenCall). c.pid ≡ pid → ⊥) calls
 
 -- if the reply says that no lock blocks, the token covers the bytes
@@ -203,7 +155,7 @@ pub record Taken (s : NodeState) (number pid : ℕ) (op : Op) (u : NodeState) (o
 
 -- a process is not busy where no open call is its own
 pub not_busy : (s : NodeState) (pid : ℕ) (op : Op) → is_busy s pid op ≡ false → IsIdle s.pending pid op
-not_busy s pid Exit h = tt
+not_busy s pid op.Exit h = tt
 not_busy s pid _ h = idle-others s.pending pid h
 
 -- the open calls after one is closed are the others
@@ -459,27 +411,21 @@ shut_settles s number passes answer = shut_keeps (Settles s number answer) (free
 
 -- a call is taken
 pub called_ends : (s : NodeState) (number pid : ℕ) (op : Op) → IsNumber most_processes pid → is_in_shape s.shape op ≡ true → IsIdle s.pending pid op → IsOwn s.table s.node s.incarnation → Taken s number pid op (called s number pid op).state (called s number pid op).reply
-called_ends s number pid Spawn pid_in known idle own =
-    beside_taken s number pid Spawn (beside s.table (process s pid) (after_spawn (around s.table (process s pid)) pid)) (refl, refl) (λ mode c about. about) (spawn_follows s.table s.node s.incarnation pid own pid_in) idle
-called_ends s number pid (Fork child) pid_in known idle own =
-    let child_in = within_is most_processes child known in
-    beside_taken s number pid (Fork child) (beside s.table (process s pid) (after_fork (around s.table (process s pid)) pid child)) (child_in, (refl, refl)) (λ mode c about. about) (fork_follows s.table s.node s.incarnation pid own child child_in) idle
-called_ends s number pid (Open file access) pid_in known idle own =
-    beside_taken s number pid (Open file access) (beside s.table (process s pid) (after_open (around s.table (process s pid)) pid file access)) (refl, refl) (λ mode c about. about) (open_follows s.table s.node s.incarnation pid own file access pid_in) idle
-called_ends s number pid (Dup fd) pid_in known idle own =
-    beside_taken s number pid (Dup fd) (beside s.table (process s pid) (after_dup (around s.table (process s pid)) pid fd)) (refl, refl) (λ mode c about. about) (dup_follows s.table s.node s.incarnation pid own fd) idle
-called_ends s number pid (Close fd) pid_in known idle own =
+called_ends s number pid (op.Process call) pid_in known idle own =
+    let possible = possible_call s.shape call known in
+    beside_taken s number pid (op.Process call) (beside s.table (process s pid) (after (around s.table (process s pid)) pid call)) (possible, (refl, refl)) (λ mode c about. about) (call_follows s.table s.node s.incarnation pid own call pid_in possible) idle
+called_ends s number pid (op.Close fd) pid_in known idle own =
     let answer = after_close s.table (process s pid) fd in
     let passes : ℕ → Bool = λ file. is_of_file file (descriptor s.table (process s pid) fd) in
-    settles_taken s number answer (shut_by s number passes answer) (shut_settles s number passes answer) pid (Close fd) (refl, refl) (λ mode c free about. absurd about) (close_follows s.table s.node s.incarnation pid fd own) idle
-called_ends s number pid Exit pid_in known idle own =
+    settles_taken s number answer (shut_by s number passes answer) (shut_settles s number passes answer) pid (op.Close fd) (refl, refl) (λ mode c free about. absurd about) (close_follows s.table s.node s.incarnation pid fd own) idle
+called_ends s number pid op.Exit pid_in known idle own =
     let d = without_call_of s pid in
     let test : OpenCall → Bool = λ c. not (c.pid == pid) in
     let answer = after_exit s.table (process s pid) in
     let passes = has_open (around s.table (process s pid)) pid in
     let e = shut_by d number passes answer in
     let h = shut_settles d number passes answer in
-    let a = settles_answers d number answer e h pid Exit (refl, refl) (λ mode c free about. absurd about) in
+    let a = settles_answers d number answer e h pid op.Exit (refl, refl) (λ mode c free about. absurd about) in
     let dropped = All-weaker (λ c. test c ≡ true) (λ (c : OpenCall). c.pid ≡ pid → ⊥) (not_its pid) d.pending (filter_passes test s.pending) in
     let g = others_go_on d number answer e h pid (exit_follows s.table s.node s.incarnation pid own) dropped in
     record {
@@ -493,27 +439,12 @@ called_ends s number pid Exit pid_in known idle own =
 
     was_open : (calls : List OpenCall) (test : OpenCall → Bool) (c : OpenCall) → Contains (filter test calls) c → Contains calls c
     was_open calls test c there = All-contains (Contains calls) (filter test calls) c (All-filter test (Contains calls) calls (All-contains_itself calls)) there
-called_ends s number pid (Set fd kind mode start len) pid_in known idle own =
-    let p = process s pid in
-    let found = target s.table p (Some mode) fd kind start len in
-    let Q : Reply → Result LockTarget Reply → Type 0 = λ reply x. AfterTests s.table x reply s.table (SetStep s.table mode reply s.table) in
-    lock_taken s number pid (Set fd kind mode start len) lock_command.Set mode found pid_in own
+called_ends s number pid (op.Lock call) pid_in known idle own =
+    let found = call_target s.table (process s pid) call in
+    let Q : Reply → Result LockTarget Reply → Type 0 = λ reply x. AfterTests s.table x reply s.table (LockStep s.table call.command call.mode reply s.table) in
+    lock_taken s number pid (op.Lock call) call.command call.mode found pid_in own
     (λ refusal h. record { step = subst (Q refusal) (sym h) (refl, refl); about_none = λ m c a. found_err found refusal c h a.1 })
-    (λ c h. (tt, (refl, h)))
-called_ends s number pid (Wait fd kind mode start len) pid_in known idle own =
-    let p = process s pid in
-    let found = target s.table p (Some mode) fd kind start len in
-    let Q : Reply → Result LockTarget Reply → Type 0 = λ reply x. AfterTests s.table x reply s.table (WaitStep s.table mode reply s.table) in
-    lock_taken s number pid (Wait fd kind mode start len) lock_command.Wait mode found pid_in own
-    (λ refusal h. record { step = subst (Q refusal) (sym h) (refl, refl); about_none = λ m c a. found_err found refusal c h a.1 })
-    (λ c h. (tt, (refl, h)))
-called_ends s number pid (Query fd kind mode start len) pid_in known idle own =
-    let p = process s pid in
-    let found = target s.table p None fd kind start len in
-    let Q : Reply → Result LockTarget Reply → Type 0 = λ reply x. AfterTests s.table x reply s.table (QueryStep s.table mode reply s.table) in
-    lock_taken s number pid (Query fd kind mode start len) lock_command.Query mode found pid_in own
-    (λ refusal h. record { step = subst (Q refusal) (sym h) (refl, refl); about_none = λ m c a. found_err found refusal c h a.1 })
-    (λ c h. (tt, (refl, h)))
-called_ends s number pid (Unlock fd kind start len) pid_in known idle own =
+    (λ c h. (refl, (refl, h)))
+called_ends s number pid (op.Unlock fd kind start len) pid_in known idle own =
     let found = target s.table (process s pid) None fd kind start len in
-    settles_taken s number (after_unlock s.table found) (unlock_call s number found) (unlock_settles s number found) pid (Unlock fd kind start len) (refl, refl) (λ mode c free about. absurd about) (unlock_follows s.table s.node s.incarnation pid fd kind start len pid_in own) idle
+    settles_taken s number (after_unlock s.table found) (unlock_call s number found) (unlock_settles s number found) pid (op.Unlock fd kind start len) (refl, refl) (λ mode c free about. absurd about) (unlock_follows s.table s.node s.incarnation pid fd kind start len pid_in own) idle

@@ -12,13 +12,13 @@ use Rattle.model.specs.declared.owner.Owner.{Owner}
 use Rattle.model.specs.declared.process.Process.{Process}
 use Rattle.model.specs.declared.call.CallId.{CallId}
 use Rattle.model.specs.declared.op.Op.{Op}
-use Rattle.model.specs.declared.op.Op.TheVariants.{Spawn, Fork, Open, Dup, Close, Exit, Set, Wait, Unlock, Query}
+use Rattle.model.specs.declared.op.Op.TheVariants as op
 use Rattle.model.specs.declared.reply.Reply.{Reply}
 use Rattle.model.specs.declared.reply.Reply.TheVariants.{Done, NoLocks}
 use Rattle.model.specs.Owners.{same_owner}
 use Rattle.model.specs.Locks.{FileLocks, Locks, IsOfNode, bars, with_lock, lowest_blocker}
-use Rattle.model.specs.Descriptors.{Processes, is_of_file, has_open, after_spawn, after_fork, after_open, after_dup}
-use Rattle.model.specs.Table.{Table, LockTarget, around, descriptor, beside, target, lock_within, locked, regions_with, after_close, after_exit}
+use Rattle.model.specs.Descriptors.{Processes, is_of_file, has_open, after}
+use Rattle.model.specs.Table.{Table, LockTarget, around, descriptor, beside, target, call_target, lock_within, locked, regions_with, after_close, after_exit}
 use Rattle.model.proofs.Closings.{AreFewer, fewer_after_close, fewer_after_exit}
 use Rattle.token_set.specs.Tokens.{Token, serves, covers, raised, raised_level}
 use Rattle.token_set.specs.Releases.{gave_up, after_giving_up}
@@ -34,8 +34,8 @@ use Rattle.messages.specs.Epochs.{begin_of}
 use Rattle.messages.specs.declared.outcome.Outcome.{Outcome}
 use Rattle.node_core.specs.declared.event.NodeEvent.{NodeEvent}
 use Rattle.node_core.specs.declared.event.NodeEvent.TheVariants.{Call, Deliver, Interrupt, Retry}
-use Rattle.node_core.specs.declared.open_call.LockCommand.{LockCommand}
-use Rattle.node_core.specs.declared.open_call.LockCommand.TheVariants as lock_command
+use Rattle.model.specs.declared.op.LockCommand.{LockCommand}
+use Rattle.model.specs.declared.op.LockCommand.TheVariants as lock_command
 use Rattle.node_core.specs.declared.open_call.OpenCall.{OpenCall}
 use Rattle.node_core.specs.State.{NodeState, FileState, Effect, first_node, process, host, open_call, open_call_of, without_call_of, target_of}
 use Rattle.node_core.specs.Try.{requested, refusal_of, answered_if, locked_by, answered_here, tried, tried_against, tried_if}
@@ -188,16 +188,11 @@ shut_covered s number passes answer fewer old file o b m held =
 
 -- a call is taken
 pub called_covered : (s : NodeState) (number pid : ℕ) (op : Op) → Covered s → Covered (called s number pid op).state
-called_covered s number pid Spawn old = beside_covered s.files s.table (process s pid) (after_spawn (around s.table (process s pid)) pid) old
-called_covered s number pid (Open file access) old = beside_covered s.files s.table (process s pid) (after_open (around s.table (process s pid)) pid file access) old
-called_covered s number pid (Fork child) old = beside_covered s.files s.table (process s pid) (after_fork (around s.table (process s pid)) pid child) old
-called_covered s number pid (Dup fd) old = beside_covered s.files s.table (process s pid) (after_dup (around s.table (process s pid)) pid fd) old
-called_covered s number pid (Close fd) old = shut_covered s number (λ file. is_of_file file (descriptor s.table (process s pid) fd)) (after_close s.table (process s pid) fd) (fewer_after_close (process s pid) s.table fd) old
-called_covered s number pid Exit old = shut_covered (without_call_of s pid) number (has_open (around s.table (process s pid)) pid) (after_exit s.table (process s pid)) (fewer_after_exit (process s pid) s.table) old
-called_covered s number pid (Set fd kind mode start len) old = lock_call_covered s number pid lock_command.Set mode (target s.table (process s pid) (Some mode) fd kind start len) old
-called_covered s number pid (Wait fd kind mode start len) old = lock_call_covered s number pid lock_command.Wait mode (target s.table (process s pid) (Some mode) fd kind start len) old
-called_covered s number pid (Unlock fd kind start len) old = unlock_call_covered s number (target s.table (process s pid) None fd kind start len) old
-called_covered s number pid (Query fd kind mode start len) old = lock_call_covered s number pid lock_command.Query mode (target s.table (process s pid) None fd kind start len) old
+called_covered s number pid (op.Process call) old = beside_covered s.files s.table (process s pid) (after (around s.table (process s pid)) pid call) old
+called_covered s number pid (op.Close fd) old = shut_covered s number (λ file. is_of_file file (descriptor s.table (process s pid) fd)) (after_close s.table (process s pid) fd) (fewer_after_close (process s pid) s.table fd) old
+called_covered s number pid op.Exit old = shut_covered (without_call_of s pid) number (has_open (around s.table (process s pid)) pid) (after_exit s.table (process s pid)) (fewer_after_exit (process s pid) s.table) old
+called_covered s number pid (op.Lock call) old = lock_call_covered s number pid call.command call.mode (call_target s.table (process s pid) call) old
+called_covered s number pid (op.Unlock fd kind start len) old = unlock_call_covered s number (target s.table (process s pid) None fd kind start len) old
 
 pub after_call_covered : (s : NodeState) (pid : ℕ) (op : Op) → Covered s → Covered (after_call s pid op).0
 after_call_covered s pid op old = called_covered (record s { calls = s.calls + 1 }) (s.calls + 1) pid op old

@@ -5,10 +5,9 @@ ghost use Rattle.model.specs.Table.{target};
 ghost use Rattle.messages.specs.Messages.{greatest_number};
 ghost use Rattle.node_core.specs.State.{host, process, open_call_of};
 ghost use Rattle.node_core.specs.Try.{settled};
-ghost use Rattle.node_core.specs.Calls.{is_in_shape, is_exit, is_set, is_busy, lock_call, unlock_call, called, call_rule};
+ghost use Rattle.node_core.specs.Calls.{is_in_shape, is_exit, is_busy, lock_call, unlock_call, called, call_rule};
 ghost use Rattle.node_core.specs.Retries.{retry_rule};
-ghost use Rattle.descriptors.specs.Calls.{CanBegin};
-ghost use Rattle.node_core.specs.Parts.{node_state, asked, NamesFile, IsOwn, IsSpan};
+ghost use Rattle.node_core.specs.Parts.{node_state, asked, IsOwn, IsSpan};
 ghost use Rattle.node_core.specs.Plans.{numbered, table_after, planned, effect_of, TableFits, PartsFit};
 
 use super::Node;
@@ -16,14 +15,13 @@ use crate::change::Change;
 use crate::edit::{Draft, TableEdit};
 use crate::effect::Effect;
 use crate::numbers::is_pid;
-use crate::open_call::{LockCommand, OpenCall};
-use descriptors::call::ProcessCall;
+use crate::open_call::OpenCall;
 use fcntl_table::target::target_at;
 use intervals::span::Span;
 use messages::refusal::StepError;
 use model::lock_target::LockTarget;
 use model::mode::Mode;
-use model::op::Op;
+use model::op::{LockCall, LockCommand, Op, ProcessCall};
 use model::owner::Kind;
 use model::reply::Reply;
 use std::alloc::{AllocError, Global};
@@ -45,8 +43,10 @@ impl Node {
         ensures { result ≡ is_in_shape (node_state self.now).shape op.now }
     {
         match op {
-            Op::Open { file, .. } => 1 <= *file && *file <= self.shape.files(),
-            Op::Fork { child } => is_pid(*child),
+            Op::Process(ProcessCall::Open { file, .. }) => {
+                1 <= *file && *file <= self.shape.files()
+            }
+            Op::Process(ProcessCall::Fork { child }) => is_pid(*child),
             _ => true,
         }
     }
@@ -79,8 +79,8 @@ impl Node {
     // The change of the processes by a call that concerns only processes and descriptors, and its
     // reply.
     fn plan_process(&self, pid: u16, call: ProcessCall) -> Result<(TableEdit, Reply), AllocError>
-        requires number { CanBegin pid call }
-        requires file { NamesFile (node_state self.now).shape.files call }
+        requires pid { IsNumber most_processes pid }
+        requires file { is_in_shape (node_state self.now).shape (Op.Process call) ≡ true }
         ensures value { IfOk result (λ r. asked (node_state self.now) pid call ≡ (table_after (host (node_state self.now)) (node_state self.now).table r.0, r.1)) }
         ensures fits { IfOk result (λ r. TableFits self.now r.0) }
     {
@@ -128,8 +128,8 @@ impl Node {
     // Answers a new call that concerns only processes and descriptors.
     fn call_process(&self, alloc: Global, pid: u16, call: ProcessCall) -> Result<Effect, AllocError>
         requires left { (node_state self.now).calls < greatest_number }
-        requires number { CanBegin pid call }
-        requires file { NamesFile (node_state self.now).shape.files call }
+        requires pid { IsNumber most_processes pid }
+        requires file { is_in_shape (node_state self.now).shape (Op.Process call) ≡ true }
         ensures value { IfOk result (λ effect. settled (numbered (node_state self.now)) ((node_state self.now).calls + 1) (asked (node_state self.now) pid call) ≡ effect_of self.now effect) }
         ensures fits { IfOk result (λ effect. PartsFit self.now effect.edit) }
     {
@@ -137,8 +137,8 @@ impl Node {
         Ok(self.answer_call(alloc, table, reply))
     }
 
-    // Opens and tries a new lock call, if it passes its first tests; else answers it.
-    fn call_lock(
+    // A call about a lock that passes its first tests is open, and is tried.
+    fn open_lock(
         &self,
         alloc: Global,
         pid: u16,
@@ -189,38 +189,15 @@ impl Node {
         }
     }
 
-    // Opens and tries a new call that sets a lock, now or as soon as no lock is in the way, if it
-    // passes its first tests.
-    fn call_set(&self, alloc: Global, pid: u16, op: &Op) -> Result<Effect, AllocError>
+    // The call about a lock is open, and is tried, if it passes its first tests.
+    fn call_lock(&self, alloc: Global, pid: u16, call: LockCall) -> Result<Effect, AllocError>
         requires left { (node_state self.now).calls < greatest_number }
         requires pid { IsNumber most_processes pid }
-        requires set { is_set op.now ≡ true }
-        ensures value { IfOk result (λ effect. called (numbered (node_state self.now)) ((node_state self.now).calls + 1) pid op.now ≡ effect_of self.now effect) }
+        ensures value { IfOk result (λ effect. called (numbered (node_state self.now)) ((node_state self.now).calls + 1) pid (Op.Lock call) ≡ effect_of self.now effect) }
         ensures fits { IfOk result (λ effect. PartsFit self.now effect.edit) }
     {
-        match *op {
-            Op::Set {
-                fd,
-                kind,
-                mode,
-                start,
-                len,
-            } => {
-                let target = self.target(pid, Some(mode), fd, kind, start, len);
-                self.call_lock(alloc, pid, LockCommand::Set, mode, target)
-            }
-            Op::Wait {
-                fd,
-                kind,
-                mode,
-                start,
-                len,
-            } => {
-                let target = self.target(pid, Some(mode), fd, kind, start, len);
-                self.call_lock(alloc, pid, LockCommand::Wait, mode, target)
-            }
-            _ => unreachable!(),
-        }
+        let target = self.target(pid, call.need(), call.fd, call.kind, call.start, call.len);
+        self.open_lock(alloc, pid, call.command, call.mode, target)
     }
 
     // Takes a new call: all but set, wait and query are answered in the same step.
@@ -232,31 +209,16 @@ impl Node {
         ensures fits { IfOk result (λ effect. PartsFit self.now effect.edit) }
     {
         match *op {
-            Op::Spawn => self.call_process(alloc, pid, ProcessCall::Spawn),
-            Op::Fork { child } => self.call_process(alloc, pid, ProcessCall::Fork { child }),
-            Op::Open { file, access } => {
-                self.call_process(alloc, pid, ProcessCall::Open { file, access })
-            }
-            Op::Dup { fd } => self.call_process(alloc, pid, ProcessCall::Dup { fd }),
+            Op::Process(call) => self.call_process(alloc, pid, call),
             Op::Close { fd } => self.call_close(alloc, pid, fd),
             Op::Exit => self.call_exit(alloc, pid),
-            Op::Set { .. } | Op::Wait { .. } => self.call_set(alloc, pid, op),
+            Op::Lock(call) => self.call_lock(alloc, pid, call),
             Op::Unlock {
                 fd,
                 kind,
                 start,
                 len,
             } => self.call_unlock(alloc, self.target(pid, None, fd, kind, start, len)),
-            Op::Query {
-                fd,
-                kind,
-                mode,
-                start,
-                len,
-            } => {
-                let target = self.target(pid, None, fd, kind, start, len);
-                self.call_lock(alloc, pid, LockCommand::Query, mode, target)
-            }
         }
     }
 

@@ -18,7 +18,7 @@ use crate::edit::{Draft, Edit};
 use crate::effect::Effect;
 use crate::file_row::FileEdit;
 use crate::numbers::{is_node, is_within};
-use crate::open_call::OpenCall;
+use crate::open_call::{OpenCall, refusal_of};
 use crate::report::runs_of;
 use intervals::span::Span;
 use messages::epoch_number::EpochNumber;
@@ -205,7 +205,7 @@ impl Node {
     {
         match call {
             None => Effect::quiet(alloc, Edit::none(alloc)),
-            Some(call) => self.answer_if(alloc, call.number, call.lock_command.refusal(lock)),
+            Some(call) => self.answer_if(alloc, call.number, refusal_of(call.lock_command, lock)),
         }
     }
 

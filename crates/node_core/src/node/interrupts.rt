@@ -9,7 +9,7 @@ use crate::change::Change;
 use crate::edit::Edit;
 use crate::effect::Effect;
 use crate::numbers::is_pid;
-use crate::open_call::OpenCall;
+use crate::open_call::{OpenCall, interruption_of};
 use messages::refusal::StepError;
 use std::alloc::Global;
 
@@ -22,7 +22,7 @@ impl Node {
     {
         match call {
             None => Effect::quiet(alloc, Edit::none(alloc)),
-            Some(call) => self.answer_if(alloc, call.number, call.lock_command.interruption()),
+            Some(call) => self.answer_if(alloc, call.number, interruption_of(call.lock_command)),
         }
     }
 

@@ -17,7 +17,7 @@ use super::Node;
 use crate::edit::{Draft, Edit, TableEdit};
 use crate::effect::Effect;
 use crate::locks::may_free;
-use crate::open_call::{LockCommand, OpenCall};
+use crate::open_call::{OpenCall, blocking_of, refusal_of};
 use crate::open_calls::CallsEdit;
 use fcntl_table::locks::lock_reply;
 use messages::message::Message;
@@ -25,6 +25,7 @@ use messages::wanted::Wanted;
 use model::lock_info::LockInfo;
 use model::lock_target::LockTarget;
 use model::mode::Mode;
+use model::op::LockCommand;
 use model::reply::Reply;
 use std::alloc::{AllocError, Global};
 use token_set::desired::desired;
@@ -115,7 +116,7 @@ impl Node {
         let request = Message::Request {
             file: self.file_number(call.file),
             call: self.id(call.number),
-            blocking: call.lock_command.blocking(),
+            blocking: blocking_of(call.lock_command),
             mode: call.mode,
             wanted: self.wanted(&draft, call)?,
         };
@@ -309,7 +310,7 @@ impl Node {
         ensures fits { IfOk result (λ effect. PartsFit self.now effect.edit) }
     {
         if let Some(lock) = self.blocker(call) {
-            return self.refuse(alloc, draft, call, call.lock_command.refusal(lock));
+            return self.refuse(alloc, draft, call, refusal_of(call.lock_command, lock));
         }
         if self.is_covered(&draft, call)? {
             return self.answer_here(alloc, draft, call);

@@ -1,5 +1,6 @@
 use Rattle.std.proofs.Common.{string_bytes}
-use Rattle.model.specs.declared.op.Op.TheVariants.{Spawn}
+use Rattle.model.specs.declared.op.Op.TheVariants.{Process}
+use Rattle.model.specs.declared.op.ProcessCall.TheVariants.{Spawn}
 use Rattle.lockscript.specs.declared.script_line.Command.TheVariants.{Call}
 use Rattle.explorer.specs.Texts.{command_line}
 use Rattle.explorer.proofs.Walks.{flat-next}
@@ -7,4 +8,4 @@ use Rattle.explorer.proofs.text.script_text.Goals as goal
 
 pub loop-command-preserved : goal.loop-command-preserved
 loop-command-preserved c =
-    flat-next command_line c.args.commands.now c.loop-command.command-index (Call 0 0 Spawn) (string_bytes c.loop-command.out) (string_bytes c.push_line.new.out) _ c.loop-command-test.true c.in_ok-push_line.ensures c.loop-command.invariant
+    flat-next command_line c.args.commands.now c.loop-command.command-index (Call 0 0 (Process Spawn)) (string_bytes c.loop-command.out) (string_bytes c.push_line.new.out) _ c.loop-command-test.true c.in_ok-push_line.ensures c.loop-command.invariant

@@ -2,10 +2,9 @@ use Rattle.std.proofs.Common.{◌≡◌}
 use Rattle.std.specs.Prelude.{Ok, Err, IfOk, IfErr}
 use Rattle.std.proofs.lemmas.Result.{IfOk-weaker}
 use Rattle.model.specs.declared.reply.Reply.TheVariants.{NoProcess}
-use Rattle.model.specs.Descriptors.{Processes}
+use Rattle.model.specs.Descriptors.{Processes, after}
 use Rattle.descriptors.specs.Rows.{Refuses}
 use Rattle.descriptors.specs.Edits.{edited}
-use Rattle.descriptors.specs.Calls.{after}
 use Rattle.fcntl_table.proofs.HostLaws.{by_found, by_not_found, fits_on, none-refused}
 use Rattle.fcntl_table.proofs.hosts.Hosts.plan.Goals as goal
 
