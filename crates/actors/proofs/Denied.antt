@@ -12,9 +12,9 @@ use Rattle.actors.specs.declared.line_outcome.LineOutcome.{LineOutcome}
 use Rattle.actors.specs.declared.line_outcome.LineOutcome.TheVariants.{Answered, Denied, Made, Refused, Settled, Open, Left}
 use Rattle.actors.specs.declared.played_line.PlayedLine.{PlayedLine}
 use Rattle.model.specs.declared.op.Op.{Op}
-use Rattle.messages.specs.Shapes.{ShapeFields}
-use Rattle.actors.specs.Awaited.{AreMet}
-use Rattle.actors.specs.Denials.{ClusterMembers, MayAllCome, MayCallCome, MayCome, after_line, declares, fails_in}
+use Rattle.messages.specs.rule.Shapes.{ShapeFields}
+use Rattle.actors.specs.code.Awaited.{AreMet}
+use Rattle.actors.specs.rule.Denials.{ClusterMembers, MayAllCome, MayCallCome, MayCome, after_line, declares, fails_in}
 
 lt_trans : (a b c : ℕ) → nat_lt b c ≡ true → a ≤ b → nat_lt a c ≡ true
 lt_trans a b c h le = grind (arith, nat_tests)

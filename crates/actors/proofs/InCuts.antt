@@ -7,8 +7,8 @@ use Rattle.std.proofs.lemmas.List.Elements.{All-contains, All-nil, All-push}
 use Rattle.lockscript.specs.declared.script_line.Command.{Command}
 use Rattle.actors.specs.declared.line_outcome.LineOutcome.TheVariants.{Left}
 use Rattle.actors.specs.declared.played_line.PlayedLine.{PlayedLine}
-use Rattle.actors.specs.Cuts.{IsBarred, is_open}
-use Rattle.actors.specs.Lines.{asker}
+use Rattle.actors.specs.rule.Cuts.{IsBarred, is_open}
+use Rattle.actors.specs.rule.Lines.{asker}
 
 -- one of the first lines is an open call of this process
 abbrev pub Opened : List PlayedLine → ℕ → ℕ × ℕ → Type 0

@@ -5,7 +5,7 @@ use Rattle.std.proofs.Common.{ap, sym, ◌∙◌, ◌⊎◌, arith, ⊎_elim, in
 use Rattle.std.proofs.lemmas.Bool.{cases_order, cases_Bool}
 use Rattle.lockscript.specs.declared.script_line.Command.{Command}
 use Rattle.actors.specs.declared.played_line.PlayedLine.{PlayedLine}
-use Rattle.actors.specs.Lines.{begins, ends, Precedes}
+use Rattle.actors.specs.rule.Lines.{begins, ends, Precedes}
 
 -- the first lines stand in phases: the greatest position of their entries, and that up to the last line that separates phases
 pub record Passed (is_between : Command → Bool) (lines : List PlayedLine) (count all earlier : ℕ) : Type 0 where

@@ -11,7 +11,7 @@ use Rattle.lockscript.specs.declared.script_line.Command.{Command}
 use Rattle.lockscript.specs.declared.script_line.Command.TheVariants.{Call, Deliver, Lose, Settle, Interrupt, Retry, Resend, Declare, Restart, Learn, FailServer, StartServer}
 use Rattle.lockscript.specs.contracts.script_line.CommandPartialEq.TheImpl as derived
 use Rattle.lockscript.specs.contracts.script_line.ScriptLinePartialEq.TheImpl as derived_of_lines
-use Rattle.lockscript.specs.Scripts.{LineFields}
+use Rattle.lockscript.specs.rule.Scripts.{LineFields}
 use Rattle.actors.specs.declared.asked.Asked.{Asked}
 use Rattle.actors.specs.contracts.asked.AskedPartialEq.TheImpl as derived_of_asked
 

@@ -1,10 +1,2 @@
-pub mod Numbers
-pub mod Clients
-pub mod Lines
-pub mod Cuts
-pub mod Denials
-pub mod Awaited
-pub mod Runs
-pub mod Weathers
-pub mod Refusals
-pub mod Distances
+pub mod rule
+pub mod code

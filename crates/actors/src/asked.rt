@@ -3,7 +3,7 @@ ghost use Rattle.std.specs.Prelude.{◌≡◌, ◌↔◌, true, IfOk, IsTrue, fi
 ghost use Rattle.std.specs.List.Sorted.{IsSortedByKey};
 ghost use Rattle.std.specs.Ordering.{nat_cmp, ordering_then};
 ghost use Rattle.lockscript.specs.declared.script_line.Command.{Command};
-ghost use Rattle.actors.specs.Lines.{AreMade, asked_at, asked_by, asked_in, asker, has_asker, made_by};
+ghost use Rattle.actors.specs.rule.Lines.{AreMade, asked_at, asked_by, asked_in, asker, has_asker, made_by};
 
 use crate::played_line::PlayedLine;
 use lockscript::script_line::Command;

@@ -1,6 +1,6 @@
 //! The reasons why a call has no receipt.
 ghost use Rattle.std.specs.Prelude.{◌≡◌};
-ghost use Rattle.actors.specs.Numbers.{number_of, rejected_by, refused_by};
+ghost use Rattle.actors.specs.rule.Numbers.{number_of, rejected_by, refused_by};
 
 use book::commit_error::CommitError;
 use messages::refusal::StepError;

@@ -1,6 +1,6 @@
 //! The client of a process: it makes the process's calls and gets receipts.
 ghost use Rattle.std.specs.Prelude.{◌≡◌, ◌↔◌, IsTrue, IfOk, IfSome, OnErr, max, unwrap_or};
-ghost use Rattle.actors.specs.Clients.{ClientFields, IsMadeBy};
+ghost use Rattle.actors.specs.rule.Clients.{ClientFields, IsMadeBy};
 
 use crate::call_error::CallError;
 use crate::direct::Direct;
@@ -31,7 +31,7 @@ pub struct Client<'a, J: Name, G: Gate> {
 
 impl<'a, J: Name, G: Gate> Model for Client<'a, J, G> {
     ghost use Rattle.std.specs.Prelude.{unwrap_or};
-    ghost use Rattle.actors.specs.Clients.{ClientFields};
+    ghost use Rattle.actors.specs.rule.Clients.{ClientFields};
 
     ghost Value = { ClientFields };
 

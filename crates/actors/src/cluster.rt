@@ -1,11 +1,11 @@
 //! A cluster that runs on threads.
 ghost use Rattle.std.specs.Prelude.{◌≡◌, ◌+◌, ◌≤◌, ◌↔◌, IfOk, IfErr, true, IsErrOf, length};
 ghost use Rattle.actors.specs.declared.call_error.CallError.TheVariants.{Stranger};
-ghost use Rattle.model.specs.Limits.{IsNumber, most_nodes, most_processes};
+ghost use Rattle.model.specs.rule.Limits.{IsNumber, most_nodes, most_processes};
 ghost use Rattle.messages.specs.declared.event.Event.TheVariants.{Declare, FailServer};
-ghost use Rattle.cluster_core.specs.Histories.{HasOneHistory};
-ghost use Rattle.cluster_core.specs.World.{journal_limit};
-ghost use Rattle.actors.specs.Refusals.{may_refuse_failure, may_refuse_start};
+ghost use Rattle.cluster_core.specs.rule.Histories.{HasOneHistory};
+ghost use Rattle.cluster_core.specs.rule.World.{journal_limit};
+ghost use Rattle.actors.specs.code.Refusals.{may_refuse_failure, may_refuse_start};
 
 use crate::call_error::CallError;
 use crate::client::Client;

@@ -1,6 +1,6 @@
 //! The commit of a step to the book that threads share.
 ghost use Rattle.std.specs.Prelude.{◌≡◌, IfOk};
-ghost use Rattle.book.specs.Commits.{Names, IsStepFrom};
+ghost use Rattle.book.specs.rule.Commits.{Names, IsStepFrom};
 
 use crate::gate::{Gate, Point};
 use crate::halt::Halt;

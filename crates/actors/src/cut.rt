@@ -2,8 +2,8 @@
 ghost use Rattle.std.specs.Prelude.{◌≡◌, ◌≢◌, ◌⊎◌, ◌↔◌, ◌++◌, ◌∷◌, [], true, IfOk, IsTrue, Some, if◌then◌else◌};
 ghost use Rattle.std.specs.List.{Contains};
 ghost use Rattle.actors.specs.declared.line_outcome.LineOutcome.TheVariants.{Left};
-ghost use Rattle.actors.specs.Cuts.{AreBarred, is_open, name_at};
-ghost use Rattle.actors.specs.Lines.{asker, parts};
+ghost use Rattle.actors.specs.rule.Cuts.{AreBarred, is_open, name_at};
+ghost use Rattle.actors.specs.rule.Lines.{asker, parts};
 
 use crate::played_line::PlayedLine;
 use messages::entry::Entry;

@@ -3,15 +3,15 @@
 ghost use Rattle.std.specs.Prelude.{◌≡◌, ◌⊎◌, ℕ, Bool, List, ◌∷◌, Some, None, Ok, Err, max, unwrap_or, if◌then◌else◌, ◌==◌, true, false, IfOk, IfErr, OnOk, OnErr, IsTrue};
 ghost use Rattle.std.specs.BTreeMap as tree;
 ghost use Rattle.std.specs.Ordering.{nat_cmp};
-ghost use Rattle.actors.specs.Lines.{parts};
+ghost use Rattle.actors.specs.rule.Lines.{parts};
 ghost use Rattle.lockscript.specs.declared.script_line.Command.{Command};
 ghost use Rattle.actors.specs.declared.line_outcome.LineOutcome.TheVariants.{Denied};
 ghost use Rattle.actors.specs.declared.played_line.PlayedLine.{PlayedLine};
-ghost use Rattle.actors.specs.Awaited.{AreMet, members_of};
-ghost use Rattle.actors.specs.Denials.{MayAllCome, MayCallCome, MayChangeCome, MayCome, after_line, changed_by, declares, first_of, has_call, has_process, if_made};
-ghost use Rattle.node_core.specs.Calls.{is_in_shape};
-ghost use Rattle.messages.specs.Messages.{is_within};
-ghost use Rattle.messages.specs.Versions.{may_rebuild};
+ghost use Rattle.actors.specs.code.Awaited.{AreMet, members_of};
+ghost use Rattle.actors.specs.rule.Denials.{MayAllCome, MayCallCome, MayChangeCome, MayCome, after_line, changed_by, declares, first_of, has_call, has_process, if_made};
+ghost use Rattle.node_core.specs.rule.Calls.{is_in_shape};
+ghost use Rattle.messages.specs.rule.Messages.{is_within};
+ghost use Rattle.messages.specs.rule.Versions.{may_rebuild};
 ghost use Rattle.messages.specs.declared.refusal.Refused.TheVariants as refusal;
 
 use crate::call_error::CallError;

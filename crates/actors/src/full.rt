@@ -1,9 +1,9 @@
 //! The test whether a journal is that of a script and has no room for another entry.
 ghost use Rattle.std.specs.Prelude.{◌≡◌, true, List, IfOk};
 ghost use Rattle.actors.specs.declared.played_line.PlayedLine.{PlayedLine};
-ghost use Rattle.actors.specs.Lines.{AreLinesOf};
-ghost use Rattle.actors.specs.Runs.{IsFullJournal};
-ghost use Rattle.cluster_core.specs.Histories.{HasOneHistory};
+ghost use Rattle.actors.specs.rule.Lines.{AreLinesOf};
+ghost use Rattle.actors.specs.rule.Runs.{IsFullJournal};
+ghost use Rattle.cluster_core.specs.rule.Histories.{HasOneHistory};
 
 use crate::asked::{Asked, asked_in, by_asker};
 use crate::call_error::CallError;

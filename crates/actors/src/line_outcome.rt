@@ -1,7 +1,7 @@
 //! The outcome of a script's line.
 ghost use Rattle.std.specs.Prelude.{◌≡◌};
-ghost use Rattle.actors.specs.Cuts.{is_cut, is_open, killed_by, open_by};
-ghost use Rattle.actors.specs.Lines.{begins, code_of, ends, receipt_of};
+ghost use Rattle.actors.specs.rule.Cuts.{is_cut, is_open, killed_by, open_by};
+ghost use Rattle.actors.specs.rule.Lines.{begins, code_of, ends, receipt_of};
 
 use crate::call_error::CallError;
 use crate::cut::name_at;

@@ -1,6 +1,6 @@
 //! The time after which an actor tries something again, counted in ticks.
 ghost use Rattle.std.specs.Prelude.{◌≡◌};
-ghost use Rattle.actors.specs.Distances.{after_tick, at_first, is_due, next_distance};
+ghost use Rattle.actors.specs.code.Distances.{after_tick, at_first, is_due, next_distance};
 
 // The number of ticks before the first try, and the greatest number between two tries.
 const FIRST_TICKS: u32 = 16;

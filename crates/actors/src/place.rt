@@ -1,6 +1,6 @@
 //! The place of a node: what a running cluster knows of it.
 ghost use Rattle.std.specs.Prelude.{◌≡◌, ◌≢◌, ◌≤◌, Err, None, Some, [], false, true, IfErr, IfOk};
-ghost use Rattle.book.specs.States.{incarnation_of};
+ghost use Rattle.book.specs.rule.States.{incarnation_of};
 ghost use Rattle.actors.specs.declared.call_error.CallError.TheVariants.{Fenced, Stranger};
 
 use crate::call_error::CallError;

@@ -1,7 +1,7 @@
 //! A line of a script with its outcome.
 ghost use Rattle.std.specs.Prelude.{◌≡◌, ◌↔◌, IsTrue};
 ghost use Rattle.actors.specs.declared.line_outcome.LineOutcome.TheVariants.{Left};
-ghost use Rattle.actors.specs.Lines.{Fits, asker, is_call, is_change, made_by, may_be_denied, may_be_refused, parts, receipt_in, refused_in};
+ghost use Rattle.actors.specs.rule.Lines.{Fits, asker, is_call, is_change, made_by, may_be_denied, may_be_refused, parts, receipt_in, refused_in};
 ghost use Rattle.lockscript.specs.declared.script_line.Command.TheVariants.{Call, Settle};
 
 use crate::asked::{Asked, asker_of};

@@ -1,6 +1,6 @@
 //! The time at which a token server sends its commands again.
 ghost use Rattle.std.specs.Prelude.{◌≡◌, ◌&&◌, false};
-ghost use Rattle.actors.specs.Distances.{at_first, is_answer, is_due, noted, rests, ticked};
+ghost use Rattle.actors.specs.code.Distances.{at_first, is_answer, is_due, noted, rests, ticked};
 
 use crate::patience::Patience;
 use messages::event::Event;

@@ -1,10 +1,10 @@
 //! The result of running a script on threads.
 ghost use Rattle.std.specs.Prelude.{◌≡◌, ◌↔◌, true, false, All, IfOk, IsTrue, filter_map, map};
-ghost use Rattle.lockscript.specs.Scripts.{LineFields};
-ghost use Rattle.actors.specs.Cuts.{AreBarred, IsUnanswered, is_cut, killed_by, open_by};
-ghost use Rattle.actors.specs.Denials.{MayAllCome, first_of};
-ghost use Rattle.actors.specs.Lines.{AreLinesOf, ArePhases, Fits, parts, receipt_in, refused_in};
-ghost use Rattle.actors.specs.Runs.{IsOfScript};
+ghost use Rattle.lockscript.specs.rule.Scripts.{LineFields};
+ghost use Rattle.actors.specs.rule.Cuts.{AreBarred, IsUnanswered, is_cut, killed_by, open_by};
+ghost use Rattle.actors.specs.rule.Denials.{MayAllCome, first_of};
+ghost use Rattle.actors.specs.rule.Lines.{AreLinesOf, ArePhases, Fits, parts, receipt_in, refused_in};
+ghost use Rattle.actors.specs.rule.Runs.{IsOfScript};
 
 use crate::asked::are_made;
 use crate::cut::are_barred;
@@ -36,7 +36,7 @@ pub struct ThreadRun {
 }
 
 impl Model for ThreadRun {
-    ghost use Rattle.actors.specs.Runs.{ThreadRunFields};
+    ghost use Rattle.actors.specs.rule.Runs.{ThreadRunFields};
 
     ghost Value = { ThreadRunFields };
 

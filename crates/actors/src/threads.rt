@@ -1,14 +1,14 @@
 //! The run of a script on threads.
 ghost use Rattle.std.specs.Prelude.{◌≡◌, ◌+◌, ◌↔◌, Some, IsErrOf, IsTrue, IfOk, length};
-ghost use Rattle.actors.specs.Runs.{IsFullJournal, IsOfScript};
+ghost use Rattle.actors.specs.rule.Runs.{IsFullJournal, IsOfScript};
 ghost use Rattle.actors.specs.declared.run_error.RunError.{RunError};
-ghost use Rattle.cluster_core.specs.Histories.{HasOneHistory};
-ghost use Rattle.cluster_core.specs.Journals.{JournalFields};
-ghost use Rattle.cluster_core.specs.Parts.{world_state};
-ghost use Rattle.cluster_core.specs.Runs.{Leads};
-ghost use Rattle.cluster_core.specs.Safe.{IsSafe};
-ghost use Rattle.cluster_core.specs.World.{first_world};
-ghost use Rattle.lockscript.specs.ThreadLines.{bad_line};
+ghost use Rattle.cluster_core.specs.rule.Histories.{HasOneHistory};
+ghost use Rattle.cluster_core.specs.rule.Journals.{JournalFields};
+ghost use Rattle.cluster_core.specs.rule.Parts.{world_state};
+ghost use Rattle.cluster_core.specs.rule.Runs.{Leads};
+ghost use Rattle.cluster_core.specs.rule.Safe.{IsSafe};
+ghost use Rattle.cluster_core.specs.rule.World.{first_world};
+ghost use Rattle.lockscript.specs.rule.ThreadLines.{bad_line};
 
 use crate::cluster::{Cluster, begin, start_all};
 use crate::full::is_full;

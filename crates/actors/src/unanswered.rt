@@ -4,7 +4,7 @@ ghost use Rattle.std.specs.HashSet.{contains};
 ghost use Rattle.model.specs.declared.call.CallId.{CallId};
 ghost use Rattle.model.specs.declared.reply.Reply.{Reply};
 ghost use Rattle.model.specs.contracts.call.CallIdPartialEq.TheImpl as derived;
-ghost use Rattle.actors.specs.Cuts.{IsUnanswered};
+ghost use Rattle.actors.specs.rule.Cuts.{IsUnanswered};
 
 use messages::entry::Entry;
 use model::call::CallId;

@@ -1,7 +1,7 @@
 //! The worker of an actor: the thread that takes its letters and makes its steps.
 ghost use Rattle.std.specs.Prelude.{◌<◌, vec_len, OnOk};
 ghost use Rattle.std.specs.Vec.{vec_capacity};
-ghost use Rattle.book.specs.Commits.{Names, IsStepFrom};
+ghost use Rattle.book.specs.rule.Commits.{Names, IsStepFrom};
 
 use crate::call_error::CallError;
 use crate::commits::commit;

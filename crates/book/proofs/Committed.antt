@@ -1,6 +1,6 @@
 -- Commits, declarations, failures and restarts of a book: each with all that it makes.
 use Rattle.std.proofs.Common.{◌≡◌, ◌≢◌, ℕ, ◌+◌, ◌<◌, true, [], ◌∷◌, ◌++◌, length, sym, ap, ◌∙◌, subst, Result, Ok, Err}
-use Rattle.messages.specs.Messages.{sending}
+use Rattle.messages.specs.rule.Messages.{sending}
 use Rattle.messages.specs.declared.actor.Actor.{Actor}
 use Rattle.messages.specs.declared.actor.Actor.TheVariants.{Node as ANode, Server as AServer}
 use Rattle.messages.specs.declared.event.Event.{Event}
@@ -8,20 +8,20 @@ use Rattle.messages.specs.declared.event.Event.TheVariants.{Declare, Restart, Fa
 use Rattle.messages.specs.declared.entry.Entry.{Entry}
 use Rattle.messages.specs.declared.refusal.Refused.{Refused}
 use Rattle.messages.specs.declared.outcome.Outcome.{Outcome}
-use Rattle.token_server.specs.Resends.{outstanding}
-use Rattle.cluster_core.specs.World.{WorldState, journal_limit}
-use Rattle.cluster_core.specs.Next.{entry, next_server, next, kept_next}
-use Rattle.cluster_core.specs.Parts.{world_state}
-use Rattle.cluster_core.specs.Journals.{RunFields, GoesOn}
+use Rattle.token_server.specs.rule.Resends.{outstanding}
+use Rattle.cluster_core.specs.rule.World.{WorldState, journal_limit}
+use Rattle.cluster_core.specs.rule.Next.{entry, next_server, next, kept_next}
+use Rattle.cluster_core.specs.rule.Parts.{world_state}
+use Rattle.cluster_core.specs.rule.Journals.{RunFields, GoesOn}
 use Rattle.cluster_core.proofs.common.Refusals.{ok_is}
 use Rattle.cluster_core.proofs.steps.Steps.{kept_taken, kept_of}
-use Rattle.cluster_core.specs.Actors.{Records}
+use Rattle.cluster_core.specs.rule.Actors.{Records}
 use Rattle.book.specs.declared.state.State.{State}
-use Rattle.book.specs.States.{actor_of, Becomes, HasState, StepsTo, is_declared, made_by}
-use Rattle.book.specs.Fields.{SeatFields, PreparedFields, StampFields}
-use Rattle.book.specs.Commits.{IsStepFrom, IsSeatOf, Accepts, Commits}
-use Rattle.book.specs.Turns.{Turns, IsLastStamp, Declared, Restarted, Failed, Started}
-use Rattle.book.specs.LastSpots.{LastSpots, AreReached, Noted, Forgotten}
+use Rattle.book.specs.rule.States.{actor_of, Becomes, HasState, StepsTo, is_declared, made_by}
+use Rattle.book.specs.rule.Fields.{SeatFields, PreparedFields, StampFields}
+use Rattle.book.specs.rule.Commits.{IsStepFrom, IsSeatOf, Accepts, Commits}
+use Rattle.book.specs.code.Turns.{Turns, IsLastStamp, Declared, Restarted, Failed, Started}
+use Rattle.book.specs.code.LastSpots.{LastSpots, AreReached, Noted, Forgotten}
 use Rattle.book.proofs.Fences.{stays_declared}
 use Rattle.book.proofs.Reached.{reached_noted, reached_forgotten}
 use Rattle.book.proofs.Stamps.{stays, new_stamp}

@@ -5,18 +5,18 @@ use Rattle.std.proofs.lemmas.Bool.{and_parts, and_from}
 use Rattle.std.proofs.lemmas.Bool.Decides.{nat_tests}
 use Rattle.messages.specs.declared.event.Event.{Event}
 use Rattle.messages.specs.declared.entry.Entry.{Entry}
-use Rattle.node_core.specs.State.{first_node}
-use Rattle.node_core.specs.Parts.{node_state}
-use Rattle.token_server.specs.Parts.{server_state}
-use Rattle.cluster_core.specs.World.{WorldState, has_node, has_file}
-use Rattle.cluster_core.specs.Next.{next, next_server}
+use Rattle.node_core.specs.rule.State.{first_node}
+use Rattle.node_core.specs.rule.Parts.{node_state}
+use Rattle.token_server.specs.rule.Parts.{server_state}
+use Rattle.cluster_core.specs.rule.World.{WorldState, has_node, has_file}
+use Rattle.cluster_core.specs.rule.Next.{next, next_server}
 use Rattle.cluster_core.proofs.common.Choices.{at_number}
 use Rattle.cluster_core.proofs.steps.NodeNumbers.{node_rule-steps}
 use Rattle.cluster_core.proofs.steps.ServerSteps.{server_rule-epoch}
 use Rattle.cluster_core.proofs.steps.Steps.{next_step}
 use Rattle.book.specs.declared.state.State.{State}
 use Rattle.book.specs.declared.state.State.TheVariants.{OfNode, OfServer}
-use Rattle.book.specs.States.{is_declared}
+use Rattle.book.specs.rule.States.{is_declared}
 
 -- a number below another is below a greater one
 below_more : (i n m : ℕ) → m ≡ n → nat_lt i n ≡ true → nat_lt i (m + 1) ≡ true

@@ -1,12 +1,12 @@
 -- The spots after commits and failures.
 use Rattle.std.proofs.Common.{◌≡◌, ◌≢◌, ◌⊎◌, inl, inr, ℕ, None, Some, [], ◌∷◌, ◌++◌, ap, sym, ◌∙◌}
 use Rattle.messages.specs.declared.actor.Actor.{Actor}
-use Rattle.cluster_core.specs.World.{WorldState}
+use Rattle.cluster_core.specs.rule.World.{WorldState}
 use Rattle.cluster_core.proofs.common.Places.{slice_get-push}
-use Rattle.trail.specs.Spots.{SpotFields}
+use Rattle.trail.specs.code.Spots.{SpotFields}
 use Rattle.book.specs.declared.state.State.{State}
-use Rattle.book.specs.States.{actor_of, HasState}
-use Rattle.book.specs.LastSpots.{LastSpots, place_of, IsLastSpot, AreReached, Noted, Forgotten}
+use Rattle.book.specs.rule.States.{actor_of, HasState}
+use Rattle.book.specs.code.LastSpots.{LastSpots, place_of, IsLastSpot, AreReached, Noted, Forgotten}
 
 -- the state that stands at a spot is that of its actor in the world
 abbrev Stands : WorldState → ℕ → SpotFields State → Type 0

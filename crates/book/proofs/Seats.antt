@@ -1,14 +1,14 @@
 -- The first seats of a book, one by one.
 use Rattle.std.proofs.Common.{◌≡◌, ℕ, ◌+◌, ◌-◌, ◌<◌, inl, inr, true, false, nat_lt, if◌then◌else◌, List, [], ◌∷◌, ◌++◌, length, refl, sym, ap, ◌∙◌, subst, arith, length-append}
 use Rattle.std.proofs.lemmas.Bool.Decides.{nat_tests}
-use Rattle.messages.specs.Shapes.{ShapeFields}
+use Rattle.messages.specs.rule.Shapes.{ShapeFields}
 use Rattle.messages.specs.declared.actor.Actor.TheVariants.{Node as ANode, Server as AServer}
-use Rattle.cluster_core.specs.World.{first_world}
+use Rattle.cluster_core.specs.rule.World.{first_world}
 use Rattle.cluster_core.proofs.common.Places.{slice_get-push}
 use Rattle.book.specs.declared.state.State.{State}
-use Rattle.book.specs.Fields.{SeatFields}
-use Rattle.book.specs.States.{actor_of, HasState}
-use Rattle.book.specs.Seats.{actor_at, IsFirstSeat, AreFirst}
+use Rattle.book.specs.rule.Fields.{SeatFields}
+use Rattle.book.specs.rule.States.{actor_of, HasState}
+use Rattle.book.specs.code.Seats.{actor_at, IsFirstSeat, AreFirst}
 
 pub none_first : (shape : ShapeFields) → AreFirst shape []
 none_first shape k s e = absurd (cc)

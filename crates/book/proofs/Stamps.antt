@@ -1,10 +1,10 @@
 -- The stamps of a journal with one more entry.
 use Rattle.std.proofs.Common.{◌≡◌, ℕ, ◌+◌, ◌-◌, ◌<◌, List, [], ◌∷◌, ◌++◌, length, Some, sym, ap, ◌∙◌, arith, slice_get, length-append, subst}
 use Rattle.messages.specs.declared.entry.Entry.{Entry}
-use Rattle.cluster_core.specs.Next.{entry}
+use Rattle.cluster_core.specs.rule.Next.{entry}
 use Rattle.cluster_core.proofs.common.Places.{slice_get-keeps, slice_get-last}
-use Rattle.book.specs.Fields.{StampFields}
-use Rattle.book.specs.Receipts.{IsStampOf}
+use Rattle.book.specs.rule.Fields.{StampFields}
+use Rattle.book.specs.code.Receipts.{IsStampOf}
 
 -- a stamp of the journal is one of the longer journal
 pub stays : (entries fs : List Entry) (e : Entry) (o : StampFields) → fs ≡ entries ++ e ∷ [] → IsStampOf entries o → IsStampOf fs o

@@ -4,22 +4,22 @@ use Rattle.messages.specs.declared.actor.Actor.TheVariants.{Node as ANode, Serve
 use Rattle.messages.specs.declared.event.Event.{Event}
 use Rattle.messages.specs.declared.entry.Entry.{Entry}
 use Rattle.messages.specs.declared.outcome.Outcome.{Outcome}
-use Rattle.node_core.specs.State.{NodeState}
-use Rattle.node_core.specs.Parts.{node_state}
-use Rattle.node_core.specs.Plans.{planned as reached}
-use Rattle.token_server.specs.State.{ServerState}
-use Rattle.token_server.specs.Parts.{server_state}
-use Rattle.token_server.specs.Edits.{planned}
-use Rattle.cluster_core.specs.World.{WorldState}
-use Rattle.cluster_core.specs.Next.{entry, named_incarnation, is_known, next}
-use Rattle.cluster_core.specs.Actors.{node_step, server_step, made_by_node, made_by_server}
+use Rattle.node_core.specs.rule.State.{NodeState}
+use Rattle.node_core.specs.rule.Parts.{node_state}
+use Rattle.node_core.specs.code.Plans.{planned as reached}
+use Rattle.token_server.specs.rule.State.{ServerState}
+use Rattle.token_server.specs.rule.Parts.{server_state}
+use Rattle.token_server.specs.code.Edits.{planned}
+use Rattle.cluster_core.specs.rule.World.{WorldState}
+use Rattle.cluster_core.specs.rule.Next.{entry, named_incarnation, is_known, next}
+use Rattle.cluster_core.specs.rule.Actors.{node_step, server_step, made_by_node, made_by_server}
 use Rattle.cluster_core.proofs.common.Choices.{at_number}
 use Rattle.cluster_core.proofs.steps.Actors.{NodeSteps, ServerSteps, node_next, server_next}
 use Rattle.book.specs.declared.edit.Edit.{Edit}
 use Rattle.book.specs.declared.edit.Edit.TheVariants.{Node as OnNode, Server as OnServer}
 use Rattle.book.specs.declared.state.State.{State}
 use Rattle.book.specs.declared.state.State.TheVariants.{OfNode, OfServer}
-use Rattle.book.specs.States.{actor_of, Becomes, Plans, StepsTo, HasState, made_by}
+use Rattle.book.specs.rule.States.{actor_of, Becomes, Plans, StepsTo, HasState, made_by}
 
 -- a step keeps its actor
 pub actor_kept : (s : State) (event : Event) (t : State) (o : Outcome) → StepsTo s event t o → actor_of t ≡ actor_of s

@@ -3,24 +3,24 @@ use Rattle.std.proofs.Common.{◌≡◌, ◌≢◌, ℕ, ◌+◌, ◌≤◌, tru
 use Rattle.std.specs.Prelude.{◌==◌}
 use Rattle.std.proofs.lemmas.Bool.{and_parts}
 use Rattle.std.proofs.lemmas.Bool.Decides.{nat_tests}
-use Rattle.messages.specs.Versions.{may_rebuild}
-use Rattle.messages.specs.Messages.{sending}
+use Rattle.messages.specs.rule.Versions.{may_rebuild}
+use Rattle.messages.specs.rule.Messages.{sending}
 use Rattle.messages.specs.declared.actor.Actor.TheVariants.{Node as ANode, Server as AServer}
 use Rattle.messages.specs.declared.event.Event.TheVariants.{Declare, Restart, FailServer, StartServer}
 use Rattle.messages.specs.declared.entry.Entry.{Entry}
-use Rattle.node_core.specs.State.{NodeState, first_node}
-use Rattle.node_core.specs.Parts.{node_state}
-use Rattle.token_server.specs.State.{ServerState}
-use Rattle.token_server.specs.Parts.{server_state}
-use Rattle.token_server.specs.Resends.{outstanding}
-use Rattle.cluster_core.specs.World.{WorldState, has_node, has_file}
-use Rattle.cluster_core.specs.Next.{entry, next, next_server}
-use Rattle.cluster_core.specs.Actors.{HasNode, HasServer}
+use Rattle.node_core.specs.rule.State.{NodeState, first_node}
+use Rattle.node_core.specs.rule.Parts.{node_state}
+use Rattle.token_server.specs.rule.State.{ServerState}
+use Rattle.token_server.specs.rule.Parts.{server_state}
+use Rattle.token_server.specs.rule.Resends.{outstanding}
+use Rattle.cluster_core.specs.rule.World.{WorldState, has_node, has_file}
+use Rattle.cluster_core.specs.rule.Next.{entry, next, next_server}
+use Rattle.cluster_core.specs.rule.Actors.{HasNode, HasServer}
 use Rattle.cluster_core.proofs.common.Choices.{at_number}
 use Rattle.cluster_core.proofs.steps.Steps.{next_taken, declare_step, restart_step, fail_step, start_step}
 use Rattle.book.specs.declared.state.State.{State}
 use Rattle.book.specs.declared.state.State.TheVariants.{OfNode, OfServer}
-use Rattle.book.specs.States.{actor_of, incarnation_of, HasState, is_declared}
+use Rattle.book.specs.rule.States.{actor_of, incarnation_of, HasState, is_declared}
 
 -- the entry of a declaration
 pub declared_entry : (w : WorldState) (n : ℕ) (q : WorldState × Entry) → next w (Declare n) ≡ Ok q → (k : ℕ) × (q.1 ≡ entry (Declare n) k (sending []))

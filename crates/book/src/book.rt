@@ -3,21 +3,21 @@ ghost use Rattle.std.specs.Prelude.{◌≡◌, ◌≢◌, ◌+◌, ◌-◌, ◌<
 ghost use Rattle.messages.specs.declared.event.Event.TheVariants.{Declare, Restart, FailServer, StartServer};
 ghost use Rattle.messages.specs.declared.refusal.Refused.{Refused};
 ghost use Rattle.messages.specs.declared.entry.Entry.{Entry};
-ghost use Rattle.messages.specs.Shapes.{ShapeFields};
-ghost use Rattle.cluster_core.specs.World.{WorldState, first_world, journal_limit};
-ghost use Rattle.cluster_core.specs.Next.{next, kept_next};
-ghost use Rattle.cluster_core.specs.Parts.{world_state};
-ghost use Rattle.cluster_core.specs.Runs.{Leads};
-ghost use Rattle.cluster_core.specs.Journals.{RunFields, GoesOn, journal_of};
-ghost use Rattle.cluster_core.specs.Histories.{HasOneHistory};
-ghost use Rattle.cluster_core.specs.Safe.{IsSafe};
-ghost use Rattle.book.specs.Fields.{SeatFields, StampFields};
-ghost use Rattle.book.specs.States.{actor_of, HasState};
-ghost use Rattle.book.specs.Receipts.{Holds, IsStampOf, IsReceiptOf};
-ghost use Rattle.book.specs.Commits.{Names, IsStepFrom, IsSeatOf, Accepts, Refuses, Commits, seen_at};
-ghost use Rattle.book.specs.Turns.{Declared, Restarted, Failed, Started};
-ghost use Rattle.book.specs.Seats.{IsFirstSeat, AreFirst};
-ghost use Rattle.model.specs.Limits.{IsNumber};
+ghost use Rattle.messages.specs.rule.Shapes.{ShapeFields};
+ghost use Rattle.cluster_core.specs.rule.World.{WorldState, first_world, journal_limit};
+ghost use Rattle.cluster_core.specs.rule.Next.{next, kept_next};
+ghost use Rattle.cluster_core.specs.rule.Parts.{world_state};
+ghost use Rattle.cluster_core.specs.rule.Runs.{Leads};
+ghost use Rattle.cluster_core.specs.rule.Journals.{RunFields, GoesOn, journal_of};
+ghost use Rattle.cluster_core.specs.rule.Histories.{HasOneHistory};
+ghost use Rattle.cluster_core.specs.rule.Safe.{IsSafe};
+ghost use Rattle.book.specs.rule.Fields.{SeatFields, StampFields};
+ghost use Rattle.book.specs.rule.States.{actor_of, HasState};
+ghost use Rattle.book.specs.code.Receipts.{Holds, IsStampOf, IsReceiptOf};
+ghost use Rattle.book.specs.rule.Commits.{Names, IsStepFrom, IsSeatOf, Accepts, Refuses, Commits, seen_at};
+ghost use Rattle.book.specs.code.Turns.{Declared, Restarted, Failed, Started};
+ghost use Rattle.book.specs.code.Seats.{IsFirstSeat, AreFirst};
+ghost use Rattle.model.specs.rule.Limits.{IsNumber};
 ghost use Rattle.messages.specs.declared.actor.Actor.TheVariants.{Node as ANode, Server as AServer};
 
 use crate::commit_error::CommitError;
@@ -57,9 +57,9 @@ pub struct Book<J: Name> {
 }
 
 impl<J: Name> Model for Book<J> {
-    ghost use Rattle.cluster_core.specs.Journals.{RunFields};
-    ghost use Rattle.cluster_core.specs.Parts.{world_state};
-    ghost use Rattle.book.specs.LastSpots.{AreReached};
+    ghost use Rattle.cluster_core.specs.rule.Journals.{RunFields};
+    ghost use Rattle.cluster_core.specs.rule.Parts.{world_state};
+    ghost use Rattle.book.specs.code.LastSpots.{AreReached};
 
     ghost Value = { RunFields };
 

@@ -1,7 +1,7 @@
 //! The spots of the actors' last states in a book's trail.
 ghost use Rattle.std.specs.Prelude.{◌≡◌, IfOk, IfSome, Some};
-ghost use Rattle.book.specs.LastSpots.{IsLastSpot, Noted, Forgotten, place_of, AreReached};
-ghost use Rattle.book.specs.States.{actor_of};
+ghost use Rattle.book.specs.code.LastSpots.{IsLastSpot, Noted, Forgotten, place_of, AreReached};
+ghost use Rattle.book.specs.rule.States.{actor_of};
 
 use crate::state::State;
 use messages::actor::Actor;
@@ -21,7 +21,7 @@ pub(crate) struct LastSpots<J: Name> {
 }
 
 impl<J: Name> Model for LastSpots<J> {
-    ghost use Rattle.book.specs.LastSpots.{LastSpots};
+    ghost use Rattle.book.specs.code.LastSpots.{LastSpots};
 
     ghost Value = { LastSpots };
 

@@ -1,7 +1,7 @@
 //! A prepared step: planned from a seat's state, not yet committed.
 ghost use Rattle.std.specs.Prelude.{◌≡◌, ◌<◌, ◌↔◌, IsTrue};
-ghost use Rattle.book.specs.Commits.{Names};
-ghost use Rattle.book.specs.States.{actor_of, incarnation_of};
+ghost use Rattle.book.specs.rule.Commits.{Names};
+ghost use Rattle.book.specs.rule.States.{actor_of, incarnation_of};
 
 use crate::edit::Edit;
 use crate::seat::Seat;
@@ -27,7 +27,7 @@ pub struct Prepared {
 
 impl Model for Prepared {
     ghost use Rattle.std.specs.Prelude.{◌≡◌, ◌<◌};
-    ghost use Rattle.book.specs.Fields.{PreparedFields};
+    ghost use Rattle.book.specs.rule.Fields.{PreparedFields};
 
     ghost Value = { PreparedFields };
 

@@ -1,7 +1,7 @@
 //! A seat: the right to commit the steps of one actor.
 ghost use Rattle.std.specs.Prelude.{◌≡◌, ◌≢◌, ◌<◌, ◌≤◌, ◌+◌, IfOk, IfErr, IfSome, Err, Some};
-ghost use Rattle.book.specs.Commits.{Names, IsStepFrom};
-ghost use Rattle.book.specs.States.{actor_of, incarnation_of, Fits, Becomes, Rejects};
+ghost use Rattle.book.specs.rule.Commits.{Names, IsStepFrom};
+ghost use Rattle.book.specs.rule.States.{actor_of, incarnation_of, Fits, Becomes, Rejects};
 
 use crate::edit::Edit;
 use crate::prepared::Prepared;
@@ -26,7 +26,7 @@ pub struct Seat<J: Name> {
 
 impl<J: Name> Model for Seat<J> {
     ghost use Rattle.std.specs.Prelude.{◌≡◌, IfSome, Some};
-    ghost use Rattle.book.specs.Fields.{SeatFields};
+    ghost use Rattle.book.specs.rule.Fields.{SeatFields};
 
     ghost Value = { SeatFields };
 

@@ -18,7 +18,7 @@ pub struct Stamp {
 
 impl Model for Stamp {
     ghost use Rattle.std.specs.Prelude.{◌<◌};
-    ghost use Rattle.book.specs.Fields.{StampFields};
+    ghost use Rattle.book.specs.rule.Fields.{StampFields};
 
     ghost Value = { StampFields };
 

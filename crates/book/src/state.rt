@@ -1,13 +1,13 @@
 //! The state of one actor, a node or a token server.
 ghost use Rattle.std.specs.Prelude.{◌≡◌, ◌≢◌, ◌≤◌, ◌↔◌, Ok, Err, IfOk, IfErr, IsTrue};
-ghost use Rattle.node_core.specs.Parts.{node_state};
-ghost use Rattle.token_server.specs.Parts.{server_state};
-ghost use Rattle.cluster_core.specs.Parts.{world_state};
-ghost use Rattle.node_core.specs.Commands.{is_node};
-ghost use Rattle.token_server.specs.Server.{is_server};
-ghost use Rattle.cluster_core.specs.Actors.{node_step, server_step};
-ghost use Rattle.node_core.specs.Plans.{planned as reached, Fits as NodeFits};
-ghost use Rattle.token_server.specs.Edits.{planned, Fits as ServerFits};
+ghost use Rattle.node_core.specs.rule.Parts.{node_state};
+ghost use Rattle.token_server.specs.rule.Parts.{server_state};
+ghost use Rattle.cluster_core.specs.rule.Parts.{world_state};
+ghost use Rattle.node_core.specs.rule.Commands.{is_node};
+ghost use Rattle.token_server.specs.rule.Server.{is_server};
+ghost use Rattle.cluster_core.specs.rule.Actors.{node_step, server_step};
+ghost use Rattle.node_core.specs.code.Plans.{planned as reached, Fits as NodeFits};
+ghost use Rattle.token_server.specs.code.Edits.{planned, Fits as ServerFits};
 
 use crate::edit::Edit;
 use cluster_core::world::World;
@@ -112,7 +112,7 @@ fn planned_server(
 }
 
 impl State {
-    ghost use Rattle.book.specs.States.{actor_of, incarnation_of, Fits, Plans, Becomes, Rejects, HasState, is_declared};
+    ghost use Rattle.book.specs.rule.States.{actor_of, incarnation_of, Fits, Plans, Becomes, Rejects, HasState, is_declared};
 
     /// The actor of the state.
     pub(crate) fn actor(&self) -> Actor

@@ -1,9 +1,9 @@
 //! The tests that a commit makes.
 ghost use Rattle.std.specs.Prelude.{◌≡◌, ◌<◌, ◌≤◌, ◌≢◌, ◌↔◌, Err, IsTrue, MatchResult, option_copied};
-ghost use Rattle.cluster_core.specs.Parts.{world_state};
-ghost use Rattle.book.specs.Commits.{Accepts, Refuses, seen_at};
-ghost use Rattle.book.specs.LastSpots.{AreReached};
-ghost use Rattle.book.specs.States.{HasState};
+ghost use Rattle.cluster_core.specs.rule.Parts.{world_state};
+ghost use Rattle.book.specs.rule.Commits.{Accepts, Refuses, seen_at};
+ghost use Rattle.book.specs.code.LastSpots.{AreReached};
+ghost use Rattle.book.specs.rule.States.{HasState};
 
 use crate::commit_error::CommitError;
 use crate::last_spots::LastSpots;

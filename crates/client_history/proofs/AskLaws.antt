@@ -2,17 +2,17 @@
 use Rattle.std.specs.Prelude.{IfSome}
 use Rattle.std.proofs.Common.{◌≡◌, ℕ, ◌+◌, ◌<◌, ◌≤◌, ◌⊎◌, inl, inr, ⊎_elim, Bool, true, false, List, length, slice_get, Option, None, Some, refl, sym, ap, subst, ◌∙◌, arith}
 use Rattle.std.proofs.lemmas.Option.{same_Some, slice_get_within}
-use Rattle.model.specs.Locks.{Locks}
-use Rattle.lock_table.specs.Rows.{held}
+use Rattle.model.specs.rule.Locks.{Locks}
+use Rattle.lock_table.specs.code.Rows.{held}
 use Rattle.client_history.specs.declared.open_call.OpenCall.{OpenCall}
 use Rattle.client_history.specs.declared.front.Front.{Front}
-use Rattle.client_history.specs.Acts.{ActStep}
-use Rattle.client_history.specs.Explained.{the_file, Stands}
-use Rattle.client_history.specs.Moves.{AsksOnly}
-use Rattle.client_history.specs.OpenCalls.{IsLeft}
-use Rattle.client_history.specs.Search.{IsAskedOf}
-use Rattle.client_history.specs.Taken.{IsAlsoTaken}
-use Rattle.client_history.specs.Asked.{IsAsked}
+use Rattle.client_history.specs.rule.Acts.{ActStep}
+use Rattle.client_history.specs.rule.Explained.{the_file, Stands}
+use Rattle.client_history.specs.code.Moves.{AsksOnly}
+use Rattle.client_history.specs.code.OpenCalls.{IsLeft}
+use Rattle.client_history.specs.code.Search.{IsAskedOf}
+use Rattle.client_history.specs.code.Taken.{IsAlsoTaken}
+use Rattle.client_history.specs.code.Asked.{IsAsked}
 use Rattle.client_history.proofs.Orders.{last_place}
 use Rattle.client_history.proofs.OwnQuestions.{asks_same}
 

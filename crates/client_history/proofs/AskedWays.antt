@@ -1,16 +1,16 @@
 -- Calls that only ask, taken on a way.
 use Rattle.std.proofs.Common.{◌≡◌, ℕ, ◌⊎◌, inl, inr, ⊎_elim, true, List, [], ◌∷◌, ◌++◌, slice_get, Some, refl, sym, subst, append_assoc, append-nil, arith}
 use Rattle.std.proofs.lemmas.Option.{none-some}
-use Rattle.model.specs.Locks.{Locks, no_locks}
+use Rattle.model.specs.rule.Locks.{Locks, no_locks}
 use Rattle.client_history.specs.declared.act.Act.{Act}
 use Rattle.client_history.specs.declared.client_call.ClientCall.{ClientCall}
 use Rattle.client_history.specs.declared.open_call.OpenCall.{OpenCall}
-use Rattle.client_history.specs.Acts.{ActStep}
-use Rattle.client_history.specs.Explained.{the_file, Leads, Stands, IsExplainedBy}
-use Rattle.client_history.specs.Moves.{AsksOnly}
-use Rattle.client_history.specs.Prefixes.{NoneEnded, FollowsNone, AreOfOthers}
-use Rattle.client_history.specs.FirstCalls.{Changes}
-use Rattle.client_history.specs.Search.{AreSound, IsDropped, AreOpenCalls, IsWay}
+use Rattle.client_history.specs.rule.Acts.{ActStep}
+use Rattle.client_history.specs.rule.Explained.{the_file, Leads, Stands, IsExplainedBy}
+use Rattle.client_history.specs.code.Moves.{AsksOnly}
+use Rattle.client_history.specs.code.Prefixes.{NoneEnded, FollowsNone, AreOfOthers}
+use Rattle.client_history.specs.code.FirstCalls.{Changes}
+use Rattle.client_history.specs.code.Search.{AreSound, IsDropped, AreOpenCalls, IsWay}
 use Rattle.client_history.proofs.Exchange.{leads_on, legal_explained}
 use Rattle.client_history.proofs.Orders.{get_one}
 use Rattle.client_history.proofs.OwnQuestions.{asks_same}

@@ -3,21 +3,21 @@ use Rattle.std.specs.Prelude.{IfSome}
 use Rattle.std.proofs.Common.{◌≡◌, ℕ, ◌+◌, ◌<◌, ◌≤◌, ◌⊎◌, inl, inr, ⊎_elim, ◌↔◌, List, [], ◌∷◌, ◌++◌, length, slice_get, Option, Some, sym, ap, subst, ◌∙◌, arith}
 use Rattle.std.proofs.lemmas.Bool.{cases_order}
 use Rattle.std.proofs.lemmas.Option.{same_Some, slice_get_within}
-use Rattle.model.specs.Locks.{Locks}
-use Rattle.lock_table.specs.Rows.{held}
+use Rattle.model.specs.rule.Locks.{Locks}
+use Rattle.lock_table.specs.code.Rows.{held}
 use Rattle.client_history.specs.declared.client_call.ClientCall.{ClientCall}
 use Rattle.client_history.specs.declared.open_call.OpenCall.{OpenCall}
 use Rattle.client_history.specs.declared.front.Front.{Front}
 use Rattle.client_history.specs.declared.moment.Moment.{Moment}
-use Rattle.client_history.specs.Acts.{ActStep}
-use Rattle.client_history.specs.Asked.{IsAsked}
-use Rattle.client_history.specs.Explained.{the_file, Stands}
-use Rattle.client_history.specs.Moments.{AreByTime}
-use Rattle.client_history.specs.Moves.{AsksOnly}
-use Rattle.client_history.specs.OpenCalls.{IsIn, IsLeft, AreAsked}
-use Rattle.client_history.specs.Reached.{IsPast, AreTimed, IsReached, GoesTo}
-use Rattle.client_history.specs.Search.{AreSound, IsExitOf, AreOpenCalls, IsOn, IsCovered}
-use Rattle.client_history.specs.Steps.{AreAskedFor}
+use Rattle.client_history.specs.rule.Acts.{ActStep}
+use Rattle.client_history.specs.code.Asked.{IsAsked}
+use Rattle.client_history.specs.rule.Explained.{the_file, Stands}
+use Rattle.client_history.specs.code.Moments.{AreByTime}
+use Rattle.client_history.specs.code.Moves.{AsksOnly}
+use Rattle.client_history.specs.code.OpenCalls.{IsIn, IsLeft, AreAsked}
+use Rattle.client_history.specs.code.Reached.{IsPast, AreTimed, IsReached, GoesTo}
+use Rattle.client_history.specs.code.Search.{AreSound, IsExitOf, AreOpenCalls, IsOn, IsCovered}
+use Rattle.client_history.specs.code.Steps.{AreAskedFor}
 use Rattle.client_history.proofs.AskLaws.{left_before}
 use Rattle.client_history.proofs.AskedWays.{MayBeAsked, way_asked}
 use Rattle.client_history.proofs.Orders.{last_place, get_one}

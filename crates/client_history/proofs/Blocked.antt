@@ -2,15 +2,15 @@
 use Rattle.std.specs.Prelude.{◌≢◌}
 use Rattle.std.proofs.Common.{◌≡◌, ℕ, ◌+◌, ◌<◌, ◌≤◌, ⊎_elim, List, length, slice_get, get_or, Some, subst, ◌∙◌, ap, arith}
 use Rattle.std.proofs.lemmas.Option.{slice_get-get_or}
-use Rattle.intervals.specs.Bytes.{Range}
+use Rattle.intervals.specs.rule.Bytes.{Range}
 use Rattle.model.specs.declared.mode.Mode.{Mode}
 use Rattle.model.specs.declared.owner.Owner.{Owner}
 use Rattle.model.specs.declared.lock_info.LockInfo.{LockInfo}
-use Rattle.model.specs.Locks.{FileLocks, Locks, IsFree, IsInWay, IsLowestBlocker, IsRegion}
+use Rattle.model.specs.rule.Locks.{FileLocks, Locks, IsFree, IsInWay, IsLowestBlocker, IsRegion}
 use Rattle.model.proofs.BlockerLaws.{blocks_bars}
-use Rattle.lock_table.specs.Listing.{IsListing}
+use Rattle.lock_table.specs.code.Listing.{IsListing}
 use Rattle.client_history.specs.declared.told_lock.ToldLock.{ToldLock}
-use Rattle.client_history.specs.Acts.{IsTold, IsBlocked}
+use Rattle.client_history.specs.rule.Acts.{IsTold, IsBlocked}
 use Rattle.client_history.proofs.Orders.{last_place, get_one}
 
 -- where a lock blocks, the span is not free

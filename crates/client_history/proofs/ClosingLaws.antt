@@ -2,8 +2,8 @@
 use Rattle.std.proofs.Common.{◌≡◌, ℕ, ◌+◌, ◌<◌, ◌≤◌, ⊎_elim, List, [], ◌∷◌, ◌++◌, length, slice_get, Some, sym, subst, arith}
 use Rattle.std.proofs.lemmas.Option.{none-some, slice_get_within}
 use Rattle.client_history.specs.declared.open_call.OpenCall.{OpenCall}
-use Rattle.client_history.specs.Explained.{Stands}
-use Rattle.client_history.specs.Closings.{IsOverWith, AreOver, AreWithout}
+use Rattle.client_history.specs.rule.Explained.{Stands}
+use Rattle.client_history.specs.code.Closings.{IsOverWith, AreOver, AreWithout}
 use Rattle.client_history.proofs.Orders.{last_place, get_one}
 use Rattle.client_history.proofs.Standing.{has_left, has_last, has_push}
 

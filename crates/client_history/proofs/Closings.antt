@@ -3,12 +3,12 @@ use Rattle.std.specs.Prelude.{◌≢◌}
 use Rattle.std.proofs.Common.{◌≡◌, ℕ, ◌<◌, ◌⊎◌, inl, inr, ⊎_elim, true, List, ◌∷◌, ◌++◌, slice_get, Option, Some, None, IfSome, refl, sym, ap, subst, ◌∙◌}
 use Rattle.std.proofs.lemmas.Bool.{cases_order}
 use Rattle.std.proofs.lemmas.Option.{none-some, same_Some}
-use Rattle.model.specs.Locks.{Locks}
+use Rattle.model.specs.rule.Locks.{Locks}
 use Rattle.client_history.specs.declared.client_call.ClientCall.{ClientCall}
 use Rattle.client_history.specs.declared.open_call.OpenCall.{OpenCall}
-use Rattle.client_history.specs.Explained.{EndedBy, Stands, IsAt}
-use Rattle.client_history.specs.OpenCalls.{IsLeft, IsIn, AreAsked}
-use Rattle.client_history.specs.Search.{AreSound, IsExitOf, IsDropped, AreOpenCalls, IsWay}
+use Rattle.client_history.specs.rule.Explained.{EndedBy, Stands, IsAt}
+use Rattle.client_history.specs.code.OpenCalls.{IsLeft, IsIn, AreAsked}
+use Rattle.client_history.specs.code.Search.{AreSound, IsExitOf, IsDropped, AreOpenCalls, IsWay}
 use Rattle.client_history.proofs.Exchange.{get_left}
 use Rattle.client_history.proofs.FirstOfWay.{for_exit}
 use Rattle.client_history.proofs.Orders.{get_one}

@@ -2,17 +2,17 @@
 use Rattle.std.specs.Prelude.{◌≢◌, IfSome}
 use Rattle.std.proofs.Common.{◌≡◌, ℕ, ◌≤◌, ◌⊎◌, inl, inr, ⊎_elim, List, Option, Some, None, refl, sym, ap, subst, ◌∙◌}
 use Rattle.std.proofs.lemmas.Option.{none-some}
-use Rattle.intervals.specs.Bytes.{Range}
+use Rattle.intervals.specs.rule.Bytes.{Range}
 use Rattle.model.specs.declared.mode.Mode.{Mode}
 use Rattle.model.specs.declared.owner.Owner.{Owner}
-use Rattle.model.specs.Locks.{Locks, IsFree, bars}
+use Rattle.model.specs.rule.Locks.{Locks, IsFree, bars}
 use Rattle.client_history.specs.declared.told_lock.ToldLock.{ToldLock}
 use Rattle.client_history.specs.declared.act.Act.{Act}
 use Rattle.client_history.specs.declared.act.Act.TheVariants.{Locks as Takes, IsDenied, IsFree as FindsFree, Frees, Drops}
 use Rattle.client_history.specs.declared.client_call.ClientCall.{ClientCall}
-use Rattle.client_history.specs.Acts.{IsBlocked}
-use Rattle.client_history.specs.Explained.{the_file, Leads, IsAt}
-use Rattle.client_history.specs.FirstCalls.{Changes, IsUntold, MayDeny}
+use Rattle.client_history.specs.rule.Acts.{IsBlocked}
+use Rattle.client_history.specs.rule.Explained.{the_file, Leads, IsAt}
+use Rattle.client_history.specs.code.FirstCalls.{Changes, IsUntold, MayDeny}
 use Rattle.client_history.proofs.MoveLaws.{in_both}
 use Rattle.client_history.proofs.OwnQuestions.{blocked_still}
 use Rattle.client_history.proofs.Passed.{common_byte}

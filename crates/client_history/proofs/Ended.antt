@@ -4,20 +4,20 @@ use Rattle.std.proofs.Common.{◌≡◌, ℕ, ◌+◌, ◌<◌, ◌≤◌, inl, 
 use Rattle.std.proofs.lemmas.Bool.{cases_lt}
 use Rattle.std.proofs.lemmas.List.{drop_all, take_all, append-nil}
 use Rattle.std.proofs.lemmas.Option.{none-some, slice_get_within}
-use Rattle.model.specs.Locks.{Locks, no_locks}
-use Rattle.lock_table.specs.Rows.{held}
+use Rattle.model.specs.rule.Locks.{Locks, no_locks}
+use Rattle.lock_table.specs.code.Rows.{held}
 use Rattle.client_history.specs.declared.client_call.ClientCall.{ClientCall}
 use Rattle.client_history.specs.declared.open_call.OpenCall.{OpenCall}
 use Rattle.client_history.specs.declared.front.Front.{Front}
 use Rattle.client_history.specs.declared.moment.Moment.{Moment}
-use Rattle.client_history.specs.Closings.{AreOver, AreWithout, HasForgotten, AreForgotten}
-use Rattle.client_history.specs.Explained.{EndedBy, Stands, IsExplainedBy}
-use Rattle.client_history.specs.Moments.{AreByTime, IsBehindAnother, IsBeginOf}
-use Rattle.client_history.specs.OpenCalls.{IsIn, AreAsked}
-use Rattle.client_history.specs.Reached.{IsPast, AreTimed, IsReached, GoesTo, GoesPast}
-use Rattle.client_history.specs.Search.{AreOpenCalls, IsWay, IsCovered}
-use Rattle.client_history.specs.Steps.{IsEnding, AreSettled}
-use Rattle.client_history.specs.Verdicts.{IsUnexplainedFrom}
+use Rattle.client_history.specs.code.Closings.{AreOver, AreWithout, HasForgotten, AreForgotten}
+use Rattle.client_history.specs.rule.Explained.{EndedBy, Stands, IsExplainedBy}
+use Rattle.client_history.specs.code.Moments.{AreByTime, IsBehindAnother, IsBeginOf}
+use Rattle.client_history.specs.code.OpenCalls.{IsIn, AreAsked}
+use Rattle.client_history.specs.code.Reached.{IsPast, AreTimed, IsReached, GoesTo, GoesPast}
+use Rattle.client_history.specs.code.Search.{AreOpenCalls, IsWay, IsCovered}
+use Rattle.client_history.specs.code.Steps.{IsEnding, AreSettled}
+use Rattle.client_history.specs.rule.Verdicts.{IsUnexplainedFrom}
 use Rattle.client_history.proofs.Closings.{AreGone, AreTakenStill, AreOpenStill, gone_by_exits, open_closed, way_closed, asked_closed}
 use Rattle.client_history.proofs.Orders.{last_place, get_one}
 use Rattle.client_history.proofs.Places.{call_of, stands_first, stands_more, stands_cases}

@@ -5,7 +5,7 @@ use Rattle.std.proofs.lemmas.Bool.{false≢true}
 use Rattle.std.proofs.lemmas.Option.{slice_get_within}
 use Rattle.model.specs.declared.owner.Owner.{Owner}
 use Rattle.client_history.specs.declared.client_call.ClientCall.{ClientCall}
-use Rattle.client_history.specs.Explained.{IsAt, Stands, ExitsAreLast, ExitsAreWhole}
+use Rattle.client_history.specs.rule.Explained.{IsAt, Stands, ExitsAreLast, ExitsAreWhole}
 use Rattle.client_history.proofs.Orders.{last_place, get_one, is_at_one, at_within}
 
 -- the owners of the exits before the k-th place

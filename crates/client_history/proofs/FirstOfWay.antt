@@ -1,15 +1,15 @@
 -- The call that comes first on a way, up to the end of some call.
 use Rattle.std.proofs.Common.{◌≡◌, ℕ, ◌+◌, ◌≤◌, ⊎_elim, true, List, [], ◌∷◌, ◌++◌, length, slice_get, Option, Some, None, IfSome, refl, sym, ap, subst, ◌∙◌, append_assoc, length-append, arith}
 use Rattle.std.proofs.lemmas.Option.{none-some, slice_get_within}
-use Rattle.model.specs.Locks.{Locks, no_locks}
+use Rattle.model.specs.rule.Locks.{Locks, no_locks}
 use Rattle.client_history.specs.declared.client_call.ClientCall.{ClientCall}
 use Rattle.client_history.specs.declared.open_call.OpenCall.{OpenCall}
-use Rattle.client_history.specs.Acts.{ActStep}
-use Rattle.client_history.specs.Explained.{the_file, EndedBy, Stands, IsAt, IsExplainedBy}
-use Rattle.client_history.specs.Moves.{AsksOnly}
-use Rattle.client_history.specs.FirstCalls.{Calls, Changes, AreOpen, ComesFirst, ClosedSetsComeFirst}
-use Rattle.client_history.specs.OpenCalls.{IsLeft, IsIn, IsLeftOf, AreAsked, AreOthersTaken, IsFirstTaken, AreFirst}
-use Rattle.client_history.specs.Search.{AreSound, IsExitOf, AreOpenCalls, IsWay}
+use Rattle.client_history.specs.rule.Acts.{ActStep}
+use Rattle.client_history.specs.rule.Explained.{the_file, EndedBy, Stands, IsAt, IsExplainedBy}
+use Rattle.client_history.specs.code.Moves.{AsksOnly}
+use Rattle.client_history.specs.code.FirstCalls.{Calls, Changes, AreOpen, ComesFirst, ClosedSetsComeFirst}
+use Rattle.client_history.specs.code.OpenCalls.{IsLeft, IsIn, IsLeftOf, AreAsked, AreOthersTaken, IsFirstTaken, AreFirst}
+use Rattle.client_history.specs.code.Search.{AreSound, IsExitOf, AreOpenCalls, IsWay}
 use Rattle.client_history.proofs.Exchange.{get_left, get_right}
 use Rattle.client_history.proofs.Orders.{get_one}
 use Rattle.client_history.proofs.Places.{stands_split, split_at, call_of}

@@ -1,7 +1,7 @@
 -- The first of a set in a list.
 use Rattle.std.proofs.Common.{◌≡◌, ℕ, zero, suc, ◌⊎◌, inl, inr, ⊎_elim, List, [], ◌∷◌, ◌++◌, slice_get, Some, refl, sym, ap, subst}
 use Rattle.std.proofs.lemmas.Option.{none-some, same_Some}
-use Rattle.client_history.specs.Explained.{Stands}
+use Rattle.client_history.specs.rule.Explained.{Stands}
 
 -- an element of a list is its first, or stands behind it
 stands_behind : (y : ℕ) (ys : List ℕ) (i k : ℕ) → slice_get (y ∷ ys) k ≡ Some i → (y ≡ i) ⊎ Stands ys i

@@ -3,12 +3,12 @@ use Rattle.std.proofs.Common.{◌≡◌, ℕ, zero, suc, ◌+◌, ◌<◌, ◌�
 use Rattle.std.proofs.lemmas.Bool.{cases_lt}
 use Rattle.std.proofs.lemmas.List.{take-append-drop}
 use Rattle.std.proofs.lemmas.Option.{none-some, same_Some}
-use Rattle.model.specs.Locks.{Locks, no_locks}
+use Rattle.model.specs.rule.Locks.{Locks, no_locks}
 use Rattle.client_history.specs.declared.client_call.ClientCall.{ClientCall}
-use Rattle.client_history.specs.Acts.{ActStep}
-use Rattle.client_history.specs.Explained.{the_file, Leads, IsAt, EndedBy, HaveBegun, AreAnswered, ExitsAreWhole, AreBehindTheirFirst, IsExplainedBy}
-use Rattle.client_history.specs.Prefixes.{AreOrdered, Passes}
-use Rattle.client_history.specs.Verdicts.{AreExplainedBefore}
+use Rattle.client_history.specs.rule.Acts.{ActStep}
+use Rattle.client_history.specs.rule.Explained.{the_file, Leads, IsAt, EndedBy, HaveBegun, AreAnswered, ExitsAreWhole, AreBehindTheirFirst, IsExplainedBy}
+use Rattle.client_history.specs.code.Prefixes.{AreOrdered, Passes}
+use Rattle.client_history.specs.rule.Verdicts.{AreExplainedBefore}
 use Rattle.client_history.proofs.OwnQuestions.{may_move}
 use Rattle.client_history.proofs.Orders.{get_one, is_at_one, at_within}
 use Rattle.client_history.proofs.Steps.{leads_split}

@@ -1,18 +1,18 @@
 -- The fronts on which the search goes on.
 use Rattle.std.proofs.Common.{◌≡◌, ℕ, ◌≤◌, ◌⊎◌, inl, inr, ⊎_elim, List, [], ◌∷◌, ◌++◌, length, slice_get, Some, sym, ap, subst, ◌∙◌, arith}
 use Rattle.std.proofs.lemmas.Option.{slice_get_within}
-use Rattle.model.specs.Locks.{Locks}
-use Rattle.lock_table.specs.Rows.{held}
+use Rattle.model.specs.rule.Locks.{Locks}
+use Rattle.lock_table.specs.code.Rows.{held}
 use Rattle.client_history.specs.declared.client_call.ClientCall.{ClientCall}
 use Rattle.client_history.specs.declared.open_call.OpenCall.{OpenCall}
 use Rattle.client_history.specs.declared.front.Front.{Front}
-use Rattle.client_history.specs.Acts.{ActStep}
-use Rattle.client_history.specs.Explained.{the_file, Stands, IsAt}
-use Rattle.client_history.specs.FirstCalls.{ComesFirst}
-use Rattle.client_history.specs.OpenCalls.{IsIn, IsLeftOf, AreAsked, AreFirst}
-use Rattle.client_history.specs.Search.{IsWay, IsOn, IsCovered, IsAskedOf}
-use Rattle.client_history.specs.Steps.{HasOnly, HasEqual, HasNext, IsGone, GoesOnFrom, AreTaken}
-use Rattle.client_history.specs.Taken.{IsAlsoTaken}
+use Rattle.client_history.specs.rule.Acts.{ActStep}
+use Rattle.client_history.specs.rule.Explained.{the_file, Stands, IsAt}
+use Rattle.client_history.specs.code.FirstCalls.{ComesFirst}
+use Rattle.client_history.specs.code.OpenCalls.{IsIn, IsLeftOf, AreAsked, AreFirst}
+use Rattle.client_history.specs.code.Search.{IsWay, IsOn, IsCovered, IsAskedOf}
+use Rattle.client_history.specs.code.Steps.{HasOnly, HasEqual, HasNext, IsGone, GoesOnFrom, AreTaken}
+use Rattle.client_history.specs.code.Taken.{IsAlsoTaken}
 use Rattle.client_history.proofs.FirstCalls.{closed_sets_first}
 use Rattle.client_history.proofs.FirstOfWay.{first_of_way}
 use Rattle.client_history.proofs.Standing.{has_push}

@@ -3,7 +3,7 @@ use Rattle.std.proofs.Common.{◌≡◌, ℕ, ◌+◌, ◌<◌, ◌≤◌, ⊎_e
 use Rattle.std.proofs.lemmas.Bool.{cases_eq}
 use Rattle.std.proofs.lemmas.Option.{slice_get_within}
 use Rattle.client_history.specs.declared.client_call.ClientCall.{ClientCall}
-use Rattle.client_history.specs.Explained.{IsAt, AreBehindTheirFirst}
+use Rattle.client_history.specs.rule.Explained.{IsAt, AreBehindTheirFirst}
 use Rattle.client_history.proofs.Orders.{last_place, get_one, is_at_one, at_within}
 
 -- the marks of the places before the k-th, at each of which a call stands behind the one that it follows

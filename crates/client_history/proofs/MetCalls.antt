@@ -1,18 +1,18 @@
 -- A call that no lock blocks, behind calls of which none is in the closed set.
 use Rattle.std.specs.Prelude.{◌≢◌}
 use Rattle.std.proofs.Common.{◌≡◌, ℕ, ◌⊎◌, inl, inr, ⊎_elim, true, List, Some, None, refl, sym, subst, arith}
-use Rattle.intervals.specs.Bytes.{Range}
+use Rattle.intervals.specs.rule.Bytes.{Range}
 use Rattle.model.specs.declared.mode.Mode.{Mode}
 use Rattle.model.specs.declared.owner.Owner.{Owner}
-use Rattle.model.specs.Locks.{Locks, with_lock, without_owner}
+use Rattle.model.specs.rule.Locks.{Locks, with_lock, without_owner}
 use Rattle.client_history.specs.declared.act.Act.{Act}
 use Rattle.client_history.specs.declared.act.Act.TheVariants.{Locks as Takes, IsDenied, IsFree as FindsFree, Frees, Drops}
 use Rattle.client_history.specs.declared.client_call.ClientCall.{ClientCall}
-use Rattle.client_history.specs.Acts.{ActStep}
-use Rattle.client_history.specs.Explained.{the_file, Leads, IsOnce, IsAt}
-use Rattle.client_history.specs.FirstCalls.{Calls, Changes, MeetsOther, MayComeBefore, IsUnbarred, IsMet, AreOpen}
-use Rattle.client_history.specs.Moves.{AsksOnly, Releases, IsDeniedIn}
-use Rattle.client_history.specs.Prefixes.{Passes, NoneEnded, FollowsNone, AreOfOthers, OwnAskOnly, NoneDenied}
+use Rattle.client_history.specs.rule.Acts.{ActStep}
+use Rattle.client_history.specs.rule.Explained.{the_file, Leads, IsOnce, IsAt}
+use Rattle.client_history.specs.code.FirstCalls.{Calls, Changes, MeetsOther, MayComeBefore, IsUnbarred, IsMet, AreOpen}
+use Rattle.client_history.specs.code.Moves.{AsksOnly, Releases, IsDeniedIn}
+use Rattle.client_history.specs.code.Prefixes.{Passes, NoneEnded, FollowsNone, AreOfOthers, OwnAskOnly, NoneDenied}
 use Rattle.client_history.proofs.Denials.{some_denies}
 use Rattle.client_history.proofs.Passed.{ArePassed}
 use Rattle.client_history.proofs.Places.{call_of}

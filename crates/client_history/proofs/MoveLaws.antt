@@ -2,19 +2,19 @@
 use Rattle.std.specs.Prelude.{◌≢◌, ⊤, nat_le}
 use Rattle.std.proofs.Common.{◌≡◌, ℕ, ◌≤◌, ⊎_elim, Bool, true, false, ◌&&◌, if◌then◌else◌, eqb, eq-eqb, Option, Some, None, refl, sym, ap, subst, ◌∙◌, arith}
 use Rattle.std.proofs.lemmas.Bool.{and_parts, and_from, and_right, cases_Bool, false_from_ne_true, leb-true, le-leb}
-use Rattle.intervals.specs.Bytes.{Range, is_in, nothing, put, IsRun}
+use Rattle.intervals.specs.rule.Bytes.{Range, is_in, nothing, put, IsRun}
 use Rattle.model.specs.declared.mode.Mode.{Mode}
 use Rattle.model.specs.declared.mode.Mode.TheVariants.{Read, Write}
 use Rattle.model.specs.declared.owner.Owner.{Owner}
-use Rattle.model.specs.Locks.{Locks, replace, excludes, bars, IsFree}
-use Rattle.model.specs.Owners.{same_owner}
+use Rattle.model.specs.rule.Locks.{Locks, replace, excludes, bars, IsFree}
+use Rattle.model.specs.rule.Owners.{same_owner}
 use Rattle.model.proofs.OwnerLaws.{owner_exact, owner_refl}
 use Rattle.client_history.specs.declared.told_lock.ToldLock.{ToldLock}
 use Rattle.client_history.specs.declared.act.Act.{Act}
 use Rattle.client_history.specs.declared.act.Act.TheVariants.{Locks as Takes, IsDenied, IsFree as FindsFree, Frees, Drops}
-use Rattle.client_history.specs.Acts.{ActStep, IsBlocked}
-use Rattle.client_history.specs.Explained.{the_file}
-use Rattle.client_history.specs.Moves.{MovesBefore, LetsBefore, Meet, IsDeniedByOther}
+use Rattle.client_history.specs.rule.Acts.{ActStep, IsBlocked}
+use Rattle.client_history.specs.rule.Explained.{the_file}
+use Rattle.client_history.specs.code.Moves.{MovesBefore, LetsBefore, Meet, IsDeniedByOther}
 
 -- owners that are not equal fail the test of equality
 apart : (p q : Owner) → p ≢ q → same_owner p q ≡ false

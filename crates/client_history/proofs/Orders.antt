@@ -3,7 +3,7 @@ use Rattle.std.proofs.Common.{◌≡◌, ℕ, ◌+◌, ◌<◌, ◌⊎◌, inl, 
 use Rattle.std.proofs.lemmas.Bool.{cases_order}
 use Rattle.std.proofs.lemmas.Option.{same_Some, slice_get-get_or, slice_get_read, slice_get_within}
 use Rattle.client_history.specs.declared.client_call.ClientCall.{ClientCall}
-use Rattle.client_history.specs.Explained.{AreWithin, IsAt}
+use Rattle.client_history.specs.rule.Explained.{AreWithin, IsAt}
 
 -- a place below k + 1 is below k, or is k
 pub last_place : (j k : ℕ) → j < k + 1 → (j < k) ⊎ (j ≡ k)

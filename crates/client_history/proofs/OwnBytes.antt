@@ -1,19 +1,19 @@
 -- What calls change between two tables of a way.
 use Rattle.std.proofs.Common.{◌≡◌, ℕ, zero, suc, ◌≤◌, ◌⊎◌, inl, inr, ⊎_elim, true, false, List, [], ◌∷◌, Option, Some, None, refl, sym, ap, subst, ◌∙◌}
 use Rattle.std.proofs.lemmas.Bool.{cases_Bool, false≢true}
-use Rattle.intervals.specs.Bytes.{Range, is_in, nothing, put}
+use Rattle.intervals.specs.rule.Bytes.{Range, is_in, nothing, put}
 use Rattle.model.specs.declared.mode.Mode.{Mode}
 use Rattle.model.specs.declared.mode.Mode.TheVariants.{Read, Write}
 use Rattle.model.specs.declared.owner.Owner.{Owner}
 use Rattle.model.specs.declared.lock_info.LockInfo.{LockInfo}
-use Rattle.model.specs.Locks.{Locks, bars, excludes, with_lock}
+use Rattle.model.specs.rule.Locks.{Locks, bars, excludes, with_lock}
 use Rattle.client_history.specs.declared.act.Act.{Act}
 use Rattle.client_history.specs.declared.act.Act.TheVariants.{Locks as Takes, IsDenied, IsFree as FindsFree, Frees, Drops}
 use Rattle.client_history.specs.declared.client_call.ClientCall.{ClientCall}
-use Rattle.client_history.specs.Acts.{ActStep}
-use Rattle.client_history.specs.Explained.{the_file, Leads, IsAt}
-use Rattle.client_history.specs.FirstCalls.{Changes, LetsGo}
-use Rattle.client_history.specs.Moves.{AsksOnly}
+use Rattle.client_history.specs.rule.Acts.{ActStep}
+use Rattle.client_history.specs.rule.Explained.{the_file, Leads, IsAt}
+use Rattle.client_history.specs.code.FirstCalls.{Changes, LetsGo}
+use Rattle.client_history.specs.code.Moves.{AsksOnly}
 use Rattle.client_history.proofs.MoveLaws.{choice_true, choice_false, own_is, in_both}
 use Rattle.client_history.proofs.OwnQuestions.{one_or_two, leaves_other, leaves_same}
 

@@ -2,18 +2,18 @@
 use Rattle.std.specs.Prelude.{◌≢◌}
 use Rattle.std.proofs.Common.{◌≡◌, ℕ, ◌⊎◌, inl, inr, ⊎_elim, true, false, Option, Some, None, sym, ap, subst, ◌∙◌}
 use Rattle.std.proofs.lemmas.Bool.{cases_Bool, false≢true}
-use Rattle.intervals.specs.Bytes.{Range, nothing, put, IsRun}
+use Rattle.intervals.specs.rule.Bytes.{Range, nothing, put, IsRun}
 use Rattle.model.specs.declared.mode.Mode.{Mode}
 use Rattle.model.specs.declared.owner.Owner.{Owner}
-use Rattle.model.specs.Locks.{Locks, bars}
-use Rattle.model.specs.Owners.{same_owner}
+use Rattle.model.specs.rule.Locks.{Locks, bars}
+use Rattle.model.specs.rule.Owners.{same_owner}
 use Rattle.model.proofs.OwnerLaws.{owner_exact, owner_refl}
 use Rattle.client_history.specs.declared.told_lock.ToldLock.{ToldLock}
 use Rattle.client_history.specs.declared.act.Act.{Act}
 use Rattle.client_history.specs.declared.act.Act.TheVariants.{Locks as Takes, IsDenied, IsFree as FindsFree, Frees, Drops}
-use Rattle.client_history.specs.Acts.{ActStep, IsBlocked}
-use Rattle.client_history.specs.Explained.{the_file}
-use Rattle.client_history.specs.Moves.{AsksOnly, MayPass, MovesBefore}
+use Rattle.client_history.specs.rule.Acts.{ActStep, IsBlocked}
+use Rattle.client_history.specs.rule.Explained.{the_file}
+use Rattle.client_history.specs.code.Moves.{AsksOnly, MayPass, MovesBefore}
 use Rattle.client_history.proofs.MoveLaws.{other_is, moves_before}
 use Rattle.client_history.proofs.Steps.{step_is_one}
 

@@ -1,17 +1,17 @@
 -- Calls of which none is in a closed set.
 use Rattle.std.proofs.Common.{ℕ, ◌≤◌, ⊎_elim, List, ap, subst, ◌∙◌, arith}
 use Rattle.std.proofs.lemmas.Bool.{cases_lt}
-use Rattle.intervals.specs.Bytes.{Range}
+use Rattle.intervals.specs.rule.Bytes.{Range}
 use Rattle.model.specs.declared.mode.Mode.{Mode}
 use Rattle.model.specs.declared.owner.Owner.{Owner}
-use Rattle.model.specs.Locks.{Locks, IsFree, bars}
+use Rattle.model.specs.rule.Locks.{Locks, IsFree, bars}
 use Rattle.client_history.specs.declared.act.Act.{Act}
 use Rattle.client_history.specs.declared.act.Act.TheVariants.{Locks as Takes, IsDenied, IsFree as FindsFree, Frees, Drops}
 use Rattle.client_history.specs.declared.client_call.ClientCall.{ClientCall}
-use Rattle.client_history.specs.Acts.{ActStep}
-use Rattle.client_history.specs.Explained.{the_file, Leads, IsAt}
-use Rattle.client_history.specs.FirstCalls.{Calls, NeedsFree, IsKept}
-use Rattle.client_history.specs.Moves.{AsksOnly}
+use Rattle.client_history.specs.rule.Acts.{ActStep}
+use Rattle.client_history.specs.rule.Explained.{the_file, Leads, IsAt}
+use Rattle.client_history.specs.code.FirstCalls.{Calls, NeedsFree, IsKept}
+use Rattle.client_history.specs.code.Moves.{AsksOnly}
 use Rattle.client_history.proofs.OwnBytes.{some_lets_go}
 
 -- the calls are left, none is in the set, and none that only asks is allowed here

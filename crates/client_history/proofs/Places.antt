@@ -2,9 +2,9 @@
 use Rattle.std.proofs.Common.{◌≡◌, ℕ, zero, suc, ◌+◌, ◌⊎◌, inl, inr, ⊎_elim, List, [], ◌∷◌, ◌++◌, length, slice_get, Some, refl, sym, ap, subst, arith}
 use Rattle.std.proofs.lemmas.Bool.{cases_eq}
 use Rattle.std.proofs.lemmas.Option.{none-some, same_Some, slice_get_within}
-use Rattle.model.specs.Locks.{Locks}
+use Rattle.model.specs.rule.Locks.{Locks}
 use Rattle.client_history.specs.declared.client_call.ClientCall.{ClientCall}
-use Rattle.client_history.specs.Explained.{Leads, Stands, IsAt, IsOnce}
+use Rattle.client_history.specs.rule.Explained.{Leads, Stands, IsAt, IsOnce}
 use Rattle.client_history.proofs.Exchange.{get_split, get_left, get_right}
 
 module _ (xs ys : List ℕ) where

@@ -1,11 +1,11 @@
 -- The number of regions of a table.
 use Rattle.std.proofs.Common.{◌≡◌, ◌≢◌, ℕ, ◌<◌, ◌≤◌, true, Option, refl, arith}
-use Rattle.intervals.specs.Bytes.{all_bytes}
+use Rattle.intervals.specs.rule.Bytes.{all_bytes}
 use Rattle.intervals.proofs.StartsWith.{starts-few}
 use Rattle.model.specs.declared.mode.Mode.{Mode}
 use Rattle.model.specs.declared.mode.Mode.TheVariants.{Read, Write}
-use Rattle.model.specs.Locks.{regions}
-use Rattle.model.specs.Owners.{same_mode}
+use Rattle.model.specs.rule.Locks.{regions}
+use Rattle.model.specs.rule.Owners.{same_mode}
 use Rattle.lock_table.specs.declared.error.LockError.{LockError}
 use Rattle.lock_table.specs.declared.error.LockError.TheVariants.{NoMemory, NoLocks}
 

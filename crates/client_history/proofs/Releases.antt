@@ -1,17 +1,17 @@
 -- A release of locks that comes first.
 use Rattle.std.proofs.Common.{◌≡◌, ℕ, zero, suc, ◌++◌, true, List, [], ◌∷◌, slice_get, Some, None, refl, sym, subst, ◌∙◌}
-use Rattle.intervals.specs.Bytes.{Range}
+use Rattle.intervals.specs.rule.Bytes.{Range}
 use Rattle.model.specs.declared.mode.Mode.{Mode}
 use Rattle.model.specs.declared.owner.Owner.{Owner}
-use Rattle.model.specs.Locks.{Locks, no_locks, with_lock, without_owner}
+use Rattle.model.specs.rule.Locks.{Locks, no_locks, with_lock, without_owner}
 use Rattle.client_history.specs.declared.told_lock.ToldLock.{ToldLock}
 use Rattle.client_history.specs.declared.act.Act.{Act}
 use Rattle.client_history.specs.declared.act.Act.TheVariants.{Locks as Takes, IsDenied, IsFree as FindsFree, Frees, Drops}
 use Rattle.client_history.specs.declared.client_call.ClientCall.{ClientCall}
-use Rattle.client_history.specs.Acts.{ActStep, IsBlocked}
-use Rattle.client_history.specs.Explained.{the_file, Leads, IsAt, IsExplainedBy}
-use Rattle.client_history.specs.Moves.{Releases, IsDeniedIn, IsDeniedByOther, LetsBefore}
-use Rattle.client_history.specs.Prefixes.{Passes, NoneEnded, FollowsNone, AreOfOthers, OwnAskOnly, NoneDenied}
+use Rattle.client_history.specs.rule.Acts.{ActStep, IsBlocked}
+use Rattle.client_history.specs.rule.Explained.{the_file, Leads, IsAt, IsExplainedBy}
+use Rattle.client_history.specs.code.Moves.{Releases, IsDeniedIn, IsDeniedByOther, LetsBefore}
+use Rattle.client_history.specs.code.Prefixes.{Passes, NoneEnded, FollowsNone, AreOfOthers, OwnAskOnly, NoneDenied}
 use Rattle.client_history.proofs.Exchange.{moved_explained}
 use Rattle.client_history.proofs.OwnQuestions.{leaves_same, blocked_still}
 

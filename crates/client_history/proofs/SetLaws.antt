@@ -5,16 +5,16 @@ use Rattle.std.proofs.lemmas.Bool.{cases_eq}
 use Rattle.std.proofs.lemmas.Option.{none-some, same_Some, slice_get-get_or, slice_get_within}
 use Rattle.model.specs.declared.owner.Owner.{Owner}
 use Rattle.model.specs.declared.lock_info.LockInfo.{LockInfo}
-use Rattle.model.specs.Locks.{Locks}
+use Rattle.model.specs.rule.Locks.{Locks}
 use Rattle.client_history.specs.declared.act.Act.{Act}
 use Rattle.client_history.specs.declared.act.Act.TheVariants.{Locks as Takes, IsDenied, IsFree as FindsFree, Frees, Drops}
 use Rattle.client_history.specs.declared.client_call.ClientCall.{ClientCall}
 use Rattle.client_history.specs.declared.open_call.OpenCall.{OpenCall}
-use Rattle.client_history.specs.Acts.{ActStep}
-use Rattle.client_history.specs.ClosedSets.{AreOf, AreOnce, IsGrown, FindsNoLock, IsHeldUp, IsNotDenied, IsNeeded}
-use Rattle.client_history.specs.Explained.{the_file}
-use Rattle.client_history.specs.FirstCalls.{Changes, Calls, HasRival, LetsGo, MayComeBefore, IsUnbarred, IsServed, IsClosed}
-use Rattle.client_history.specs.OpenCalls.{IsLeft, IsIn, IsLeftOf, AreOthersTaken, IsFirstTaken}
+use Rattle.client_history.specs.rule.Acts.{ActStep}
+use Rattle.client_history.specs.code.ClosedSets.{AreOf, AreOnce, IsGrown, FindsNoLock, IsHeldUp, IsNotDenied, IsNeeded}
+use Rattle.client_history.specs.rule.Explained.{the_file}
+use Rattle.client_history.specs.code.FirstCalls.{Changes, Calls, HasRival, LetsGo, MayComeBefore, IsUnbarred, IsServed, IsClosed}
+use Rattle.client_history.specs.code.OpenCalls.{IsLeft, IsIn, IsLeftOf, AreOthersTaken, IsFirstTaken}
 use Rattle.client_history.proofs.Exchange.{get_left}
 use Rattle.client_history.proofs.Orders.{last_place, get_one}
 use Rattle.client_history.proofs.Standing.{has_last}

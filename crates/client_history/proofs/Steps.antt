@@ -3,12 +3,12 @@ use Rattle.std.proofs.Common.{◌≡◌, ℕ, ◌+◌, List, [], ◌∷◌, ◌+
 use Rattle.std.proofs.lemmas.List.{take_more, take-append-drop, drop_more}
 use Rattle.std.proofs.lemmas.Option.{get_or_from_slice_get, slice_get_within}
 use Rattle.model.specs.declared.owner.Owner.{Owner}
-use Rattle.model.specs.Locks.{Locks}
+use Rattle.model.specs.rule.Locks.{Locks}
 use Rattle.client_history.specs.declared.act.Act.{Act}
 use Rattle.client_history.specs.declared.act.Act.TheVariants.{Locks as Takes, IsDenied, IsFree as FindsFree, Frees, Drops}
 use Rattle.client_history.specs.declared.client_call.ClientCall.{ClientCall}
-use Rattle.client_history.specs.Acts.{ActStep}
-use Rattle.client_history.specs.Explained.{the_file, Leads, IsAt}
+use Rattle.client_history.specs.rule.Acts.{ActStep}
+use Rattle.client_history.specs.rule.Explained.{the_file, Leads, IsAt}
 use Rattle.client_history.proofs.Orders.{get_one}
 
 -- an act leads from one table to at most one

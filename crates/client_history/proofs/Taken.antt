@@ -5,8 +5,8 @@ use Rattle.std.proofs.Common.{◌≡◌, ℕ, inl, inr, ⊎_elim, Bool, true, fa
 use Rattle.std.proofs.lemmas.Bool.{false≢true, not-true, cases_Bool}
 use Rattle.std.proofs.lemmas.List.{take-append-drop}
 use Rattle.std.proofs.lemmas.Option.{none-some}
-use Rattle.client_history.specs.Explained.{Stands}
-use Rattle.client_history.specs.Taken.{IsAlsoTaken}
+use Rattle.client_history.specs.rule.Explained.{Stands}
+use Rattle.client_history.specs.code.Taken.{IsAlsoTaken}
 use Rattle.client_history.proofs.Places.{stands_left, stands_right, stands_split, stands_first, stands_more, stands_cases}
 
 -- a call that is put into a list is in it, besides those before

@@ -3,19 +3,19 @@ use Rattle.std.specs.Prelude.{◌≢◌}
 use Rattle.std.proofs.Common.{◌≡◌, ℕ, ◌+◌, ◌≤◌, inl, inr, ⊎_elim, true, List, [], ◌∷◌, ◌++◌, length, slice_get, Option, Some, refl, sym, ap, subst, ◌∙◌, append_assoc, arith}
 use Rattle.std.proofs.lemmas.Bool.{cases_Bool, false≢true, false_from_ne_true}
 use Rattle.std.proofs.lemmas.Option.{slice_get_within}
-use Rattle.intervals.specs.Bytes.{Range}
+use Rattle.intervals.specs.rule.Bytes.{Range}
 use Rattle.model.specs.declared.mode.Mode.{Mode}
 use Rattle.model.specs.declared.mode.Mode.TheVariants.{Read, Write}
 use Rattle.model.specs.declared.owner.Owner.{Owner}
-use Rattle.model.specs.Locks.{Locks, IsFree, bars, excludes, with_lock}
+use Rattle.model.specs.rule.Locks.{Locks, IsFree, bars, excludes, with_lock}
 use Rattle.client_history.specs.declared.act.Act.{Act}
 use Rattle.client_history.specs.declared.act.Act.TheVariants.{Locks as Takes, IsDenied, IsFree as FindsFree, Frees, Drops}
 use Rattle.client_history.specs.declared.client_call.ClientCall.{ClientCall}
-use Rattle.client_history.specs.Acts.{ActStep}
-use Rattle.client_history.specs.Explained.{the_file, Leads, IsOnce, IsAt}
-use Rattle.client_history.specs.FirstCalls.{Calls, HasRival, IsBarred}
-use Rattle.client_history.specs.Moves.{AsksOnly, IsDeniedIn, LetsBefore, MayPass}
-use Rattle.client_history.specs.Prefixes.{Passes, OwnAskOnly, NoneDenied}
+use Rattle.client_history.specs.rule.Acts.{ActStep}
+use Rattle.client_history.specs.rule.Explained.{the_file, Leads, IsOnce, IsAt}
+use Rattle.client_history.specs.code.FirstCalls.{Calls, HasRival, IsBarred}
+use Rattle.client_history.specs.code.Moves.{AsksOnly, IsDeniedIn, LetsBefore, MayPass}
+use Rattle.client_history.specs.code.Prefixes.{Passes, OwnAskOnly, NoneDenied}
 use Rattle.client_history.proofs.Exchange.{get_left, get_right}
 use Rattle.client_history.proofs.MoveLaws.{in_both}
 use Rattle.client_history.proofs.Orders.{get_one}

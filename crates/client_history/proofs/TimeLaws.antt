@@ -1,7 +1,7 @@
 -- The times of an order's calls, place by place.
 use Rattle.std.proofs.Common.{◌≡◌, ℕ, ◌+◌, ◌<◌, ◌≤◌, ⊎_elim, List, length, refl, sym, ap, subst, ◌∙◌, arith}
 use Rattle.client_history.specs.declared.client_call.ClientCall.{ClientCall}
-use Rattle.client_history.specs.Explained.{IsAt, EndsBefore, AreInTime}
+use Rattle.client_history.specs.rule.Explained.{IsAt, EndsBefore, AreInTime}
 use Rattle.client_history.proofs.Orders.{last_place, is_at_one, at_within}
 
 -- the latest begin of the first k calls, which are in time

@@ -1,14 +1,14 @@
 -- A call that is taken on a way.
 use Rattle.std.proofs.Common.{◌≡◌, ℕ, ◌+◌, ◌<◌, ◌⊎◌, inl, inr, ⊎_elim, true, List, [], ◌∷◌, ◌++◌, length, slice_get, Some, refl, sym, subst, append_assoc, arith}
 use Rattle.std.proofs.lemmas.Option.{slice_get_within}
-use Rattle.model.specs.Locks.{Locks, no_locks}
+use Rattle.model.specs.rule.Locks.{Locks, no_locks}
 use Rattle.client_history.specs.declared.act.Act.{Act}
 use Rattle.client_history.specs.declared.act.Act.TheVariants.{Locks as Takes, IsDenied, IsFree as FindsFree, Frees, Drops}
 use Rattle.client_history.specs.declared.client_call.ClientCall.{ClientCall}
-use Rattle.client_history.specs.Explained.{Stands, IsExplainedBy}
-use Rattle.client_history.specs.Moves.{AsksOnly}
-use Rattle.client_history.specs.FirstCalls.{Calls, Changes, ComesFirst}
-use Rattle.client_history.specs.Search.{AreSound, IsWay}
+use Rattle.client_history.specs.rule.Explained.{Stands, IsExplainedBy}
+use Rattle.client_history.specs.code.Moves.{AsksOnly}
+use Rattle.client_history.specs.code.FirstCalls.{Calls, Changes, ComesFirst}
+use Rattle.client_history.specs.code.Search.{AreSound, IsWay}
 use Rattle.client_history.proofs.Exchange.{get_left, get_right}
 use Rattle.client_history.proofs.Places.{stands_left, stands_right, stands_split, stands_apart, stands_first, stands_alone}
 use Rattle.client_history.proofs.Steps.{leads_join}

@@ -1,8 +1,8 @@
 //! The calls that only ask, taken at a front: they leave the locks. A function here that gives a `Result` answers
 //! `AllocError` where a request for memory was refused.
 ghost use Rattle.std.specs.Prelude.{IfOk};
-ghost use Rattle.client_history.specs.Asked.{IsAsked};
-ghost use Rattle.client_history.specs.Search.{IsAskedOf};
+ghost use Rattle.client_history.specs.code.Asked.{IsAsked};
+ghost use Rattle.client_history.specs.code.Search.{IsAskedOf};
 
 use crate::front::Front;
 use crate::open_call::OpenCall;

@@ -1,7 +1,7 @@
 //! The calls that are over when a call ends. A function here that gives a `Result` answers `AllocError` where a
 //! request for memory was refused.
 ghost use Rattle.std.specs.Prelude.{◌≡◌, IfOk, IsTrue, length, ◌↔◌};
-ghost use Rattle.client_history.specs.Closings.{IsOverWith, AreOver, AreWithout, AreForgotten};
+ghost use Rattle.client_history.specs.code.Closings.{IsOverWith, AreOver, AreWithout, AreForgotten};
 
 use crate::front::Front;
 use crate::open_call::OpenCall;

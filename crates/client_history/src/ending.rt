@@ -1,7 +1,7 @@
 //! The step of the search at the end of a call. A function here that gives a `Result` answers `AllocError` where a
 //! request for memory was refused.
 ghost use Rattle.std.specs.Prelude.{◌≡◌, ◌<◌, ◌⊎◌, IfOk, length};
-ghost use Rattle.client_history.specs.Steps.{HasAll, HasNext, GoesOn, GoesOnFrom, AreSettled, AreTaken};
+ghost use Rattle.client_history.specs.code.Steps.{HasAll, HasNext, GoesOn, GoesOnFrom, AreSettled, AreTaken};
 
 use crate::first_calls::first_calls;
 use crate::front::Front;

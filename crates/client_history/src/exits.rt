@@ -1,8 +1,8 @@
 //! The tests whether exits stand where they may: behind all calls of their owner, each of which stands there if it
 //! has a reply. A function here that gives a `Result` answers `AllocError` where a request for memory was refused.
 ghost use Rattle.std.specs.Prelude.{◌≡◌, IfOk, IsTrue, ◌↔◌, length};
-ghost use Rattle.client_history.specs.Explained.{AreWithin, ExitsAreLast, ExitsAreWhole};
-ghost use Rattle.client_history.specs.Marks.{AreMarks};
+ghost use Rattle.client_history.specs.rule.Explained.{AreWithin, ExitsAreLast, ExitsAreWhole};
+ghost use Rattle.client_history.specs.code.Marks.{AreMarks};
 
 use crate::client_call::ClientCall;
 use indexmap::IndexSet;

@@ -1,7 +1,7 @@
 //! The test whether an order of calls explains a history. A function here that gives a `Result` answers `AllocError`
 //! where a request for memory was refused.
 ghost use Rattle.std.specs.Prelude.{IfOk, IsTrue, ◌↔◌};
-ghost use Rattle.client_history.specs.Explained.{IsExplainedBy, always};
+ghost use Rattle.client_history.specs.rule.Explained.{IsExplainedBy, always};
 
 use crate::answered::are_answered;
 use crate::client_call::ClientCall;

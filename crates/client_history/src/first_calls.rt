@@ -1,14 +1,14 @@
 //! The choice of the calls that may have to come first. A function here that gives a `Result` answers `AllocError`
 //! where a request for memory was refused.
 ghost use Rattle.std.specs.Prelude.{◌≡◌, ℕ, true, List, slice_get, Some, IfOk, IsTrue, ◌↔◌};
-ghost use Rattle.model.specs.Locks.{Locks};
-ghost use Rattle.lock_table.specs.Rows.{held};
+ghost use Rattle.model.specs.rule.Locks.{Locks};
+ghost use Rattle.lock_table.specs.code.Rows.{held};
 ghost use Rattle.client_history.specs.declared.open_call.OpenCall.{OpenCall as SomeCall};
-ghost use Rattle.client_history.specs.Acts.{ActStep};
-ghost use Rattle.client_history.specs.ClosedSets.{IsGrown, IsClosedSet};
-ghost use Rattle.client_history.specs.Explained.{the_file};
-ghost use Rattle.client_history.specs.FirstCalls.{Changes, IsServed};
-ghost use Rattle.client_history.specs.OpenCalls.{IsLeft, IsIn, IsLeftOf, AreAsked, AreOthersTaken, IsFirstTaken, AreFirst};
+ghost use Rattle.client_history.specs.rule.Acts.{ActStep};
+ghost use Rattle.client_history.specs.code.ClosedSets.{IsGrown, IsClosedSet};
+ghost use Rattle.client_history.specs.rule.Explained.{the_file};
+ghost use Rattle.client_history.specs.code.FirstCalls.{Changes, IsServed};
+ghost use Rattle.client_history.specs.code.OpenCalls.{IsLeft, IsIn, IsLeftOf, AreAsked, AreOthersTaken, IsFirstTaken, AreFirst};
 
 use crate::act::Act;
 use crate::follow::is_free;

@@ -1,11 +1,11 @@
 //! One call on a table: whether the table allows it, and the locks after it. A function here that gives a `Result`
 //! answers `AllocError` where a request for memory was refused.
 ghost use Rattle.std.specs.Prelude.{◌≡◌, ◌≢◌, true, false, IfOk, IsTrue, ◌↔◌};
-ghost use Rattle.model.specs.Locks.{Locks, IsFree, IsInWay};
-ghost use Rattle.lock_table.specs.Rows.{held};
+ghost use Rattle.model.specs.rule.Locks.{Locks, IsFree, IsInWay};
+ghost use Rattle.lock_table.specs.code.Rows.{held};
 ghost use Rattle.lock_table.specs.declared.error.LockError.TheVariants.{NoMemory};
-ghost use Rattle.client_history.specs.Acts.{ActStep, IsBlocked, IsTold};
-ghost use Rattle.client_history.specs.Explained.{the_file};
+ghost use Rattle.client_history.specs.rule.Acts.{ActStep, IsBlocked, IsTold};
+ghost use Rattle.client_history.specs.rule.Explained.{the_file};
 
 use crate::act::Act;
 use crate::told_lock::ToldLock;

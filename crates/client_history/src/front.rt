@@ -1,11 +1,11 @@
 //! A front: a table that the search has reached. A function here that gives a `Result` answers `AllocError` where a
 //! request for memory was refused.
 ghost use Rattle.std.specs.Prelude.{◌≡◌, ℕ, true, false, [], IfOk, IsTrue, ◌↔◌};
-ghost use Rattle.model.specs.Locks.{Locks, no_locks};
-ghost use Rattle.lock_table.specs.Rows.{held};
-ghost use Rattle.client_history.specs.Acts.{ActStep};
-ghost use Rattle.client_history.specs.Explained.{the_file, Stands};
-ghost use Rattle.client_history.specs.Taken.{IsAlsoTaken};
+ghost use Rattle.model.specs.rule.Locks.{Locks, no_locks};
+ghost use Rattle.lock_table.specs.code.Rows.{held};
+ghost use Rattle.client_history.specs.rule.Acts.{ActStep};
+ghost use Rattle.client_history.specs.rule.Explained.{the_file, Stands};
+ghost use Rattle.client_history.specs.code.Taken.{IsAlsoTaken};
 
 use crate::follow::follow;
 use crate::open_call::OpenCall;

@@ -1,7 +1,7 @@
 //! The fronts that the search has reached by different ways. A function here that gives a `Result` answers
 //! `AllocError` where a request for memory was refused.
 ghost use Rattle.std.specs.Prelude.{◌≡◌, IfOk, IsTrue, length};
-ghost use Rattle.client_history.specs.Steps.{HasAll, HasOnly, HasEqual, AreAskedFor};
+ghost use Rattle.client_history.specs.code.Steps.{HasAll, HasOnly, HasEqual, AreAskedFor};
 
 use crate::front::Front;
 use crate::open_call::OpenCall;

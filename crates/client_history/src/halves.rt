@@ -1,7 +1,7 @@
 //! The test whether calls stand behind those that they follow. A function here that gives a `Result` answers
 //! `AllocError` where a request for memory was refused.
 ghost use Rattle.std.specs.Prelude.{◌≡◌, ℕ, true, false, IfOk, IsTrue, ◌↔◌, Some, length, slice_index_or};
-ghost use Rattle.client_history.specs.Explained.{AreWithin, AreBehindTheirFirst};
+ghost use Rattle.client_history.specs.rule.Explained.{AreWithin, AreBehindTheirFirst};
 
 use crate::client_call::ClientCall;
 use std::alloc::{AllocError, Global};

@@ -1,6 +1,6 @@
 //! The test whether calls stand between their begins and their ends.
 ghost use Rattle.std.specs.Prelude.{◌≡◌, ◌<◌, ℕ, IsTrue, ◌↔◌, length, Some};
-ghost use Rattle.client_history.specs.Explained.{AreWithin, AreInTime, EndsBefore, HaveBegun};
+ghost use Rattle.client_history.specs.rule.Explained.{AreWithin, AreInTime, EndsBefore, HaveBegun};
 
 use crate::client_call::ClientCall;
 

@@ -1,9 +1,9 @@
 //! The judgement of a history: whether one table explains it. A function here that gives a `Result` answers
 //! `AllocError` where a request for memory was refused.
 ghost use Rattle.std.specs.Prelude.{IfOk, IsTrue};
-ghost use Rattle.client_history.specs.Prefixes.{AreOrdered};
-ghost use Rattle.client_history.specs.Search.{AreSound};
-ghost use Rattle.client_history.specs.Verdicts.{AreExplainedBefore, IsUnexplainedFrom, IsVerdict};
+ghost use Rattle.client_history.specs.code.Prefixes.{AreOrdered};
+ghost use Rattle.client_history.specs.code.Search.{AreSound};
+ghost use Rattle.client_history.specs.rule.Verdicts.{AreExplainedBefore, IsUnexplainedFrom, IsVerdict};
 
 use crate::answered::ended_by;
 use crate::client_call::ClientCall;

@@ -1,6 +1,6 @@
 //! The test whether calls may follow one another in one table.
 ghost use Rattle.std.specs.Prelude.{◌≡◌, IfOk, IsTrue, ◌↔◌, length};
-ghost use Rattle.client_history.specs.Explained.{AreWithin, IsLegal};
+ghost use Rattle.client_history.specs.rule.Explained.{AreWithin, IsLegal};
 
 use crate::client_call::ClientCall;
 use crate::follow::follow;

@@ -1,9 +1,9 @@
 //! The moments at which calls begin and end. A function here that gives a `Result` answers `AllocError` where a
 //! request for memory was refused.
 ghost use Rattle.std.specs.Prelude.{IfOk};
-ghost use Rattle.client_history.specs.Moments.{AreBegins, AreEnds};
-ghost use Rattle.client_history.specs.OwnerCalls.{AreOwnerCalls};
-ghost use Rattle.client_history.specs.Prefixes.{AreOrdered};
+ghost use Rattle.client_history.specs.code.Moments.{AreBegins, AreEnds};
+ghost use Rattle.client_history.specs.code.OwnerCalls.{AreOwnerCalls};
+ghost use Rattle.client_history.specs.code.Prefixes.{AreOrdered};
 
 use crate::client_call::ClientCall;
 use crate::owner_calls::OwnerCalls;

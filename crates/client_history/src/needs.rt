@@ -1,13 +1,13 @@
 //! The calls that a call needs: they may have to come before it.
 ghost use Rattle.std.specs.Prelude.{◌≡◌, ◌≢◌, ◌⊎◌, Some, None, true, false, IfOk, IsTrue, MatchOption, ◌↔◌};
-ghost use Rattle.model.specs.Locks.{IsInWay};
-ghost use Rattle.lock_table.specs.Rows.{held};
-ghost use Rattle.client_history.specs.Acts.{ActStep};
-ghost use Rattle.client_history.specs.ClosedSets.{FindsNoLock, IsHeldUp, IsNotDenied, IsNeeded};
-ghost use Rattle.client_history.specs.Explained.{the_file};
-ghost use Rattle.client_history.specs.FirstCalls.{LetsGo, HasRival, IsBarred, IsUntold, MayDeny, MayComeBefore};
-ghost use Rattle.client_history.specs.Moves.{AsksOnly, Meet};
-ghost use Rattle.client_history.specs.OpenCalls.{IsLeftOf};
+ghost use Rattle.model.specs.rule.Locks.{IsInWay};
+ghost use Rattle.lock_table.specs.code.Rows.{held};
+ghost use Rattle.client_history.specs.rule.Acts.{ActStep};
+ghost use Rattle.client_history.specs.code.ClosedSets.{FindsNoLock, IsHeldUp, IsNotDenied, IsNeeded};
+ghost use Rattle.client_history.specs.rule.Explained.{the_file};
+ghost use Rattle.client_history.specs.code.FirstCalls.{LetsGo, HasRival, IsBarred, IsUntold, MayDeny, MayComeBefore};
+ghost use Rattle.client_history.specs.code.Moves.{AsksOnly, Meet};
+ghost use Rattle.client_history.specs.code.OpenCalls.{IsLeftOf};
 
 use crate::act::Act;
 use crate::follow::{FILE, is_in_way};

@@ -1,8 +1,8 @@
 //! Open calls: they have begun and not ended.
 ghost use Rattle.std.specs.Prelude.{◌≡◌, ◌≢◌, true, false, IsTrue, ◌↔◌};
-ghost use Rattle.client_history.specs.Moves.{AsksOnly};
-ghost use Rattle.client_history.specs.FirstCalls.{Changes};
-ghost use Rattle.client_history.specs.OpenCalls.{IsLeft};
+ghost use Rattle.client_history.specs.code.Moves.{AsksOnly};
+ghost use Rattle.client_history.specs.code.FirstCalls.{Changes};
+ghost use Rattle.client_history.specs.code.OpenCalls.{IsLeft};
 
 use crate::client_call::ClientCall;
 use crate::owner_calls::changes;

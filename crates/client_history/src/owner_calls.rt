@@ -1,10 +1,10 @@
 //! The facts of each owner's calls that the search needs.
 ghost use Rattle.std.specs.Prelude.{◌≡◌, ℕ, ◌≤◌, false, List, slice_get, Some, IfOk, IfSome, IsTrue, OnOk, ◌↔◌};
 ghost use Rattle.client_history.specs.declared.client_call.ClientCall.{ClientCall as SomeCall};
-ghost use Rattle.client_history.specs.FirstCalls.{Changes};
-ghost use Rattle.client_history.specs.Moments.{IsBeginOf};
-ghost use Rattle.client_history.specs.Moves.{AsksOnly};
-ghost use Rattle.client_history.specs.OwnerCalls.{AreOwnerCalls, IsExitOfOwner, IsKnownOf};
+ghost use Rattle.client_history.specs.code.FirstCalls.{Changes};
+ghost use Rattle.client_history.specs.code.Moments.{IsBeginOf};
+ghost use Rattle.client_history.specs.code.Moves.{AsksOnly};
+ghost use Rattle.client_history.specs.code.OwnerCalls.{AreOwnerCalls, IsExitOfOwner, IsKnownOf};
 
 use crate::act::Act;
 use crate::client_call::ClientCall;

@@ -1,15 +1,15 @@
 //! The search for an order of calls that explains a history.
 ghost use Rattle.std.specs.Prelude.{◌≡◌, ◌<◌, ◌≤◌, ◌++◌, ◌∷◌, [], ℕ, IfOk, List, length, slice_get, Some};
-ghost use Rattle.model.specs.Locks.{no_locks};
-ghost use Rattle.lock_table.specs.Rows.{held};
+ghost use Rattle.model.specs.rule.Locks.{no_locks};
+ghost use Rattle.lock_table.specs.code.Rows.{held};
 ghost use Rattle.client_history.specs.declared.client_call.ClientCall.{ClientCall as SomeCall};
 ghost use Rattle.client_history.specs.declared.front.Front.{Front as SomeFront};
 ghost use Rattle.client_history.specs.declared.moment.Moment.{Moment as SomeMoment};
-ghost use Rattle.client_history.specs.Moments.{AreByTime};
-ghost use Rattle.client_history.specs.OwnerCalls.{AreOwnerCalls};
-ghost use Rattle.client_history.specs.Reached.{GoesTo, GoesPast};
-ghost use Rattle.client_history.specs.Search.{AreSound};
-ghost use Rattle.client_history.specs.Verdicts.{IsSearched};
+ghost use Rattle.client_history.specs.code.Moments.{AreByTime};
+ghost use Rattle.client_history.specs.code.OwnerCalls.{AreOwnerCalls};
+ghost use Rattle.client_history.specs.code.Reached.{GoesTo, GoesPast};
+ghost use Rattle.client_history.specs.code.Search.{AreSound};
+ghost use Rattle.client_history.specs.rule.Verdicts.{IsSearched};
 
 use crate::client_call::ClientCall;
 use crate::closing::{forget_each, over_of, without};

@@ -1,8 +1,8 @@
 //! The test whether a history can be searched.
 ghost use Rattle.std.specs.Prelude.{◌≡◌, ◌≤◌, ℕ, true, IsTrue, Some};
 ghost use Rattle.client_history.specs.declared.act.Act.TheVariants.{Drops};
-ghost use Rattle.client_history.specs.Explained.{always};
-ghost use Rattle.client_history.specs.Search.{AreSound, IsSound, MayFollow};
+ghost use Rattle.client_history.specs.rule.Explained.{always};
+ghost use Rattle.client_history.specs.code.Search.{AreSound, IsSound, MayFollow};
 
 use crate::act::Act;
 use crate::client_call::ClientCall;

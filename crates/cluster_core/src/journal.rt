@@ -2,17 +2,17 @@
 ghost use Rattle.std.specs.Prelude.{◌≡◌, ◌≢◌, ◌↔◌, ◌<◌, ◌≤◌, ℕ, true, false, Ok, None, length, IfOk, IfErr, IfSome, OnOk, IsErrOf, IsOkUnless, slice_index_or};
 ghost use Rattle.messages.specs.declared.refusal.Refused.TheVariants.{NoMemory};
 ghost use Rattle.messages.specs.declared.entry.Entry.{Entry};
-ghost use Rattle.messages.specs.Shapes.{IsShape};
-ghost use Rattle.cluster_core.specs.Runs.{IsRun};
-ghost use Rattle.cluster_core.specs.World.{WorldState, journal_limit};
-ghost use Rattle.cluster_core.specs.Next.{next};
-ghost use Rattle.cluster_core.specs.Parts.{world_state};
-ghost use Rattle.cluster_core.specs.Journals.{events_of, IsFirstRefusal, IsFirstWrong};
-ghost use Rattle.cluster_core.specs.Histories.{HasOneHistory};
-ghost use Rattle.cluster_core.specs.Plain.{HasPlainHistory};
-ghost use Rattle.cluster_core.specs.Safe.{LeadsToSafe};
-ghost use Rattle.cluster_core.specs.Numbers.{LeadsToNumbers};
-ghost use Rattle.cluster_core.specs.Evidence.{DenialsHaveEvidence};
+ghost use Rattle.messages.specs.rule.Shapes.{IsShape};
+ghost use Rattle.cluster_core.specs.rule.Runs.{IsRun};
+ghost use Rattle.cluster_core.specs.rule.World.{WorldState, journal_limit};
+ghost use Rattle.cluster_core.specs.rule.Next.{next};
+ghost use Rattle.cluster_core.specs.rule.Parts.{world_state};
+ghost use Rattle.cluster_core.specs.rule.Journals.{events_of, IsFirstRefusal, IsFirstWrong};
+ghost use Rattle.cluster_core.specs.rule.Histories.{HasOneHistory};
+ghost use Rattle.cluster_core.specs.rule.Plain.{HasPlainHistory};
+ghost use Rattle.cluster_core.specs.rule.Safe.{LeadsToSafe};
+ghost use Rattle.cluster_core.specs.rule.Numbers.{LeadsToNumbers};
+ghost use Rattle.cluster_core.specs.rule.Evidence.{DenialsHaveEvidence};
 
 use crate::check_error::CheckError;
 use crate::run::Run;
@@ -32,7 +32,7 @@ pub struct Journal {
 }
 
 impl Model for Journal {
-    ghost use Rattle.cluster_core.specs.Journals.{JournalFields, IsJournal};
+    ghost use Rattle.cluster_core.specs.rule.Journals.{JournalFields, IsJournal};
 
     ghost Value = { JournalFields };
 

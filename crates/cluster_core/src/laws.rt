@@ -1,10 +1,10 @@
 //! Laws: what holds of every run of the cluster, each as the contract of a function that does nothing.
-ghost use Rattle.cluster_core.specs.Evidence.{EveryDenialHasEvidence, NoWaitIsDenied};
-ghost use Rattle.cluster_core.specs.Histories.{EveryRunHasAHistory, QuietItemsMayStandEarlier};
-ghost use Rattle.cluster_core.specs.Journals.{NoRunHasAWrongEntry};
-ghost use Rattle.cluster_core.specs.Plain.{EveryRunHasAPlainHistory};
-ghost use Rattle.cluster_core.specs.Numbers.{NoNumberIsUsedTwice};
-ghost use Rattle.cluster_core.specs.Safe.{EveryRunIsSafe};
+ghost use Rattle.cluster_core.specs.rule.Evidence.{EveryDenialHasEvidence, NoWaitIsDenied};
+ghost use Rattle.cluster_core.specs.rule.Histories.{EveryRunHasAHistory, QuietItemsMayStandEarlier};
+ghost use Rattle.cluster_core.specs.rule.Journals.{NoRunHasAWrongEntry};
+ghost use Rattle.cluster_core.specs.rule.Plain.{EveryRunHasAPlainHistory};
+ghost use Rattle.cluster_core.specs.rule.Numbers.{NoNumberIsUsedTwice};
+ghost use Rattle.cluster_core.specs.rule.Safe.{EveryRunIsSafe};
 
 /// Whatever calls are made, and in whatever order messages are delivered, lost or repeated, a run has one history.
 /// Each answered call stands in it once: at its reply, or, where a server denied it, where the holder of the lock

@@ -5,18 +5,18 @@ ghost use Rattle.messages.specs.declared.event.Event.TheVariants.{Deliver};
 ghost use Rattle.messages.specs.declared.message.Message.{Message};
 ghost use Rattle.messages.specs.declared.refusal.Refused.{Refused};
 ghost use Rattle.messages.specs.declared.refusal.Refused.TheVariants.{NoMemory};
-ghost use Rattle.messages.specs.Shapes.{IsShape};
-ghost use Rattle.cluster_core.specs.World.{first_world};
-ghost use Rattle.cluster_core.specs.Next.{kept_next};
-ghost use Rattle.cluster_core.specs.Parts.{world_state};
-ghost use Rattle.cluster_core.specs.Changes.{Plans};
-ghost use Rattle.cluster_core.specs.Runs.{Leads};
-ghost use Rattle.cluster_core.specs.Journals.{delivery, journal_of, GoesOn};
-ghost use Rattle.cluster_core.specs.Histories.{HasOneHistory};
-ghost use Rattle.cluster_core.specs.Plain.{HasPlainHistory};
-ghost use Rattle.cluster_core.specs.Safe.{IsSafe, LeadsToSafe};
-ghost use Rattle.cluster_core.specs.Numbers.{LeadsToNumbers};
-ghost use Rattle.cluster_core.specs.Evidence.{DenialsHaveEvidence};
+ghost use Rattle.messages.specs.rule.Shapes.{IsShape};
+ghost use Rattle.cluster_core.specs.rule.World.{first_world};
+ghost use Rattle.cluster_core.specs.rule.Next.{kept_next};
+ghost use Rattle.cluster_core.specs.rule.Parts.{world_state};
+ghost use Rattle.cluster_core.specs.code.Changes.{Plans};
+ghost use Rattle.cluster_core.specs.rule.Runs.{Leads};
+ghost use Rattle.cluster_core.specs.rule.Journals.{delivery, journal_of, GoesOn};
+ghost use Rattle.cluster_core.specs.rule.Histories.{HasOneHistory};
+ghost use Rattle.cluster_core.specs.rule.Plain.{HasPlainHistory};
+ghost use Rattle.cluster_core.specs.rule.Safe.{IsSafe, LeadsToSafe};
+ghost use Rattle.cluster_core.specs.rule.Numbers.{LeadsToNumbers};
+ghost use Rattle.cluster_core.specs.rule.Evidence.{DenialsHaveEvidence};
 
 use crate::journal::Journal;
 use crate::world::change::Change;
@@ -39,7 +39,7 @@ pub struct Run {
 }
 
 impl Model for Run {
-    ghost use Rattle.cluster_core.specs.Journals.{RunFields, LeadsToItsWorld};
+    ghost use Rattle.cluster_core.specs.rule.Journals.{RunFields, LeadsToItsWorld};
 
     ghost Value = { RunFields };
 

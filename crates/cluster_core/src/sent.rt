@@ -1,7 +1,7 @@
 //! The messages that were sent in a run, in order.
 ghost use Rattle.std.specs.Prelude.{◌≡◌, [], ◌∷◌, ◌++◌, IfOk, IfSome, OnOk, OnErr};
-ghost use Rattle.messages.specs.Messages.{is_among};
-ghost use Rattle.cluster_core.specs.SentIndexes.{Knows};
+ghost use Rattle.messages.specs.rule.Messages.{is_among};
+ghost use Rattle.cluster_core.specs.code.SentIndexes.{Knows};
 
 use crate::sent_index::{SentIndex, is_this};
 use messages::message::Message;
@@ -21,7 +21,7 @@ pub struct Sent {
 impl Model for Sent {
     ghost use Rattle.std.specs.Prelude.{List, IfSome};
     ghost use Rattle.messages.specs.declared.message.Message.{Message};
-    ghost use Rattle.cluster_core.specs.SentIndexes.{Knows};
+    ghost use Rattle.cluster_core.specs.code.SentIndexes.{Knows};
 
     ghost Value = { List Message };
 

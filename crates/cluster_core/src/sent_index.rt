@@ -2,8 +2,8 @@
 ghost use Rattle.std.specs.Prelude.{◌≡◌, ◌+◌, ◌<◌, ◌≤◌, [], nat_eq, length, Some, IfSome, OnOk};
 ghost use Rattle.std.specs.HashMap.{get, spare as spare_places};
 ghost use Rattle.std.specs.Vec.{vec_capacity};
-ghost use Rattle.messages.specs.Messages.{same_message};
-ghost use Rattle.cluster_core.specs.SentIndexes.{fingerprint, has, stands_at, stands_among, KnowsFirst, SaysTheSame};
+ghost use Rattle.messages.specs.rule.Messages.{same_message};
+ghost use Rattle.cluster_core.specs.code.SentIndexes.{fingerprint, has, stands_at, stands_among, KnowsFirst, SaysTheSame};
 
 use messages::message::Message;
 use messages::shared_message::SharedMessage;

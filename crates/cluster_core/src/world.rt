@@ -2,30 +2,30 @@
 ghost use Rattle.std.specs.Prelude.{◌≡◌, ◌≢◌, ◌<◌, true, false, Ok, Err, ◌++◌, ◌∷◌, [], IfOk, IfErr, OnOk, OnErr, length, ◌-◌, slice_index_or};
 ghost use Rattle.messages.specs.declared.refusal.Refused.TheVariants.{NoMemory};
 ghost use Rattle.messages.specs.declared.refusal.StepError.TheVariants.{NoMemory as OutOfMemory};
-ghost use Rattle.messages.specs.Messages.{addressee, is_among, is_within};
-ghost use Rattle.messages.specs.Entries.{NamesItsIncarnation};
-ghost use Rattle.messages.specs.Shapes.{IsShape, most_files};
-ghost use Rattle.model.specs.Limits.{IsNumber, most_nodes};
-ghost use Rattle.node_core.specs.Calls.{is_in_shape};
-ghost use Rattle.node_core.specs.Node.{node_rule};
-ghost use Rattle.node_core.specs.Parts.{NodeParts, node_state};
-ghost use Rattle.node_core.specs.Plans.{Fits, planned as reached};
-ghost use Rattle.token_server.specs.Server.{server_rule};
-ghost use Rattle.token_server.specs.Parts.{ServerParts, server_state};
-ghost use Rattle.token_server.specs.Edits.{planned, Fits as ServerFits};
-ghost use Rattle.cluster_core.specs.World.{WorldState, journal_limit, was_declared, first_world};
-ghost use Rattle.cluster_core.specs.Next.{is_known, is_fenced, is_stopped, has_actor, declare_rule, restart_rule, named_incarnation, after_node, after_server, taken, next, kept_next};
-ghost use Rattle.cluster_core.specs.Parts.{world_state, IsStepOf, IsServerStepOf, IsTakenByNode, IsRest};
-ghost use Rattle.cluster_core.specs.Changes.{IsNodeChange, IsServerChange, IsRestart, Makes, Plans};
+ghost use Rattle.messages.specs.rule.Messages.{addressee, is_among, is_within};
+ghost use Rattle.messages.specs.code.Entries.{NamesItsIncarnation};
+ghost use Rattle.messages.specs.rule.Shapes.{IsShape, most_files};
+ghost use Rattle.model.specs.rule.Limits.{IsNumber, most_nodes};
+ghost use Rattle.node_core.specs.rule.Calls.{is_in_shape};
+ghost use Rattle.node_core.specs.rule.Node.{node_rule};
+ghost use Rattle.node_core.specs.rule.Parts.{NodeParts, node_state};
+ghost use Rattle.node_core.specs.code.Plans.{Fits, planned as reached};
+ghost use Rattle.token_server.specs.rule.Server.{server_rule};
+ghost use Rattle.token_server.specs.rule.Parts.{ServerParts, server_state};
+ghost use Rattle.token_server.specs.code.Edits.{planned, Fits as ServerFits};
+ghost use Rattle.cluster_core.specs.rule.World.{WorldState, journal_limit, was_declared, first_world};
+ghost use Rattle.cluster_core.specs.rule.Next.{is_known, is_fenced, is_stopped, has_actor, declare_rule, restart_rule, named_incarnation, after_node, after_server, taken, next, kept_next};
+ghost use Rattle.cluster_core.specs.rule.Parts.{world_state, IsStepOf, IsServerStepOf, IsTakenByNode, IsRest};
+ghost use Rattle.cluster_core.specs.code.Changes.{IsNodeChange, IsServerChange, IsRestart, Makes, Plans};
 ghost use Rattle.messages.specs.declared.event.Event.TheVariants as event;
 ghost use Rattle.messages.specs.declared.event.Event.TheVariants.{Deliver};
 ghost use Rattle.node_core.specs.declared.event.NodeEvent.TheVariants as own;
 ghost use Rattle.token_server.specs.declared.event.ServerEvent.TheVariants as served;
 ghost use Rattle.messages.specs.declared.refusal.Refused.{Refused};
-ghost use Rattle.cluster_core.specs.Runs.{Leads};
-ghost use Rattle.cluster_core.specs.Safe.{IsSafe};
-ghost use Rattle.node_core.specs.State.{first_node};
-ghost use Rattle.token_server.specs.State.{first_server};
+ghost use Rattle.cluster_core.specs.rule.Runs.{Leads};
+ghost use Rattle.cluster_core.specs.rule.Safe.{IsSafe};
+ghost use Rattle.node_core.specs.rule.State.{first_node};
+ghost use Rattle.token_server.specs.rule.State.{first_server};
 
 use crate::journal::Journal;
 use crate::sent::Sent;
@@ -73,7 +73,7 @@ pub struct World {
 }
 
 impl Model for World {
-    ghost use Rattle.cluster_core.specs.Parts.{WorldParts, IsWorld};
+    ghost use Rattle.cluster_core.specs.rule.Parts.{WorldParts, IsWorld};
 
     ghost Value = { WorldParts };
 

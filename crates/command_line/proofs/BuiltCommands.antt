@@ -2,7 +2,7 @@
 use Rattle.std.proofs.Common.{refl}
 use Rattle.clap.specs.Faults.{defaults_fault}
 use Rattle.clap.proofs.OnLiterals.{clap_on_literals}
-use Rattle.command_line.specs.Program.{audit_app, check_app, explain_app, explore_app, history_app, judge_app, open_app, picture_app, run_app, schedule_app, strace_app, threads_app}
+use Rattle.command_line.specs.rule.Program.{audit_app, check_app, explain_app, explore_app, history_app, judge_app, open_app, picture_app, run_app, schedule_app, strace_app, threads_app}
 use Rattle.command_line.proofs.CommandWords.{IsCommand}
 
 pub record Commands : Type 0 where

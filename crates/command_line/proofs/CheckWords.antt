@@ -4,9 +4,9 @@ use Rattle.std.proofs.lemmas.List.{append_assoc}
 use Rattle.clap.specs.Walk.{positional, Walk, idle, option}
 use Rattle.clap.specs.Words.{Row, Text}
 use Rattle.clap.proofs.OnLiterals.{clap_on_literals}
-use Rattle.command_line.specs.Program.{check_app, check_values_in}
-use Rattle.command_line.specs.Tasks.{check, option_words}
-use Rattle.command_line.specs.Words.{AsksFor}
+use Rattle.command_line.specs.rule.Program.{check_app, check_values_in}
+use Rattle.command_line.specs.rule.Tasks.{check, option_words}
+use Rattle.command_line.specs.rule.Words.{AsksFor}
 use Rattle.command_line.proofs.CommandWords.{asks_after, begin, behind_words, fault_after, met_after, none_read, read_then, words_row, ArePaths, IsPath, MayBePath, Reads, ReadsAll}
 use Rattle.command_line.proofs.BuiltCommands.{commands}
 

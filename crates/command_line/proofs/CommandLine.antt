@@ -8,11 +8,11 @@ use Rattle.clap.specs.declared.error.Error.{Error}
 use Rattle.clap.specs.Words.{HasKind, IsAmong, kind_of, Kinds, Row, Text, all_of, fault_of, first_of, one_of, subcommand_of}
 use Rattle.clap.specs.declared.error.kind.ErrorKind.{ErrorKind}
 use Rattle.clap.specs.declared.error.kind.ErrorKind.TheVariants.{OutOfMemory, ValueValidation}
-use Rattle.command_line.specs.Kinds.{IsKindOf, IsOfKind}
-use Rattle.command_line.specs.JudgeTasks.{JudgeTask, rule_text}
-use Rattle.command_line.specs.Program.{program_app, flag_text, judge_values_in, IsMet, IsNumber}
-use Rattle.command_line.specs.Tasks.{Task, run, threads, audit, history, explain, open_calls, check, picture, from_strace, recorded_history, explore, schedule, judge, format_text, greatest_seed, most_nodes}
-use Rattle.command_line.specs.Words.{AsksFor, IsRefusal, IsShown}
+use Rattle.command_line.specs.rule.Kinds.{IsKindOf, IsOfKind}
+use Rattle.command_line.specs.rule.JudgeTasks.{JudgeTask, rule_text}
+use Rattle.command_line.specs.rule.Program.{program_app, flag_text, judge_values_in, IsMet, IsNumber}
+use Rattle.command_line.specs.rule.Tasks.{Task, run, threads, audit, history, explain, open_calls, check, picture, from_strace, recorded_history, explore, schedule, judge, format_text, greatest_seed, most_nodes}
+use Rattle.command_line.specs.rule.Words.{AsksFor, IsRefusal, IsShown}
 use Rattle.command_line.specs.declared.format.Format.{Format}
 use Rattle.command_line.specs.declared.format.Format.TheVariants.{Svg, Mermaid, Trace}
 use Rattle.command_line.specs.declared.rule.Rule.{Rule}

@@ -3,9 +3,9 @@ use Rattle.std.proofs.Common.{refl, codes, true, false, ℕ, Bool, List, [], ◌
 use Rattle.clap.specs.Walk.{Walk}
 use Rattle.clap.specs.Words.{Row, Text}
 use Rattle.clap.proofs.OnLiterals.{clap_on_literals}
-use Rattle.command_line.specs.Program.{explore_app, explore_values_in}
-use Rattle.command_line.specs.Tasks.{explore, flag_words, greatest_seed}
-use Rattle.command_line.specs.Words.{AsksFor}
+use Rattle.command_line.specs.rule.Program.{explore_app, explore_values_in}
+use Rattle.command_line.specs.rule.Tasks.{explore, flag_words, greatest_seed}
+use Rattle.command_line.specs.rule.Words.{AsksFor}
 use Rattle.command_line.proofs.CommandWords.{asks_after, begin, fault_after, has_flag, has_value, is_path, met_after, none_read, number_row, path_row, read_then, waits_for, IsPath, Reads, ReadsAll}
 use Rattle.command_line.proofs.BuiltCommands.{commands}
 use Rattle.command_line.proofs.Numbers.{IsNumberText}

@@ -1,7 +1,7 @@
 -- The words of formats.
 use Rattle.std.proofs.Common.{◌≡◌, ◌≢◌, Option, Some, codes}
 use Rattle.clap.specs.Words.{Text}
-use Rattle.command_line.specs.Tasks.{format_text}
+use Rattle.command_line.specs.rule.Tasks.{format_text}
 use Rattle.command_line.specs.declared.format.Format.{Format}
 use Rattle.command_line.specs.declared.format.Format.TheVariants.{Svg, Mermaid, Trace}
 

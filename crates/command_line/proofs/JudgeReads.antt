@@ -9,9 +9,9 @@ use Rattle.clap.specs.Walk.{Walk, has_row, idle, option, positional, settled_row
 use Rattle.clap.specs.Words.{Row, Rule, Text}
 use Rattle.clap.specs.declared.builder.value_parser.Reading.TheVariants.{AsWritten}
 use Rattle.clap.proofs.OnLiterals.{clap_on_literals}
-use Rattle.command_line.specs.JudgeTasks.{allow_words, rule_text}
-use Rattle.command_line.specs.Program.{judge_app}
-use Rattle.command_line.specs.Tasks.{greatest_seed, option_words}
+use Rattle.command_line.specs.rule.JudgeTasks.{allow_words, rule_text}
+use Rattle.command_line.specs.rule.Program.{judge_app}
+use Rattle.command_line.specs.rule.Tasks.{greatest_seed, option_words}
 use Rattle.command_line.specs.declared.rule.Rule.{Rule as Allowed}
 use Rattle.command_line.specs.declared.rule.Rule.TheVariants.{WaitDrops, CloseOwnDescriptor, NoQuery, StaleReadDenial, LostAt}
 use Rattle.command_line.proofs.CommandWords.{begin, behind_words, is_path, none_read, number_row, path_row, read_then, shape, words_row, ArePaths, IsPath, MayBePath, Reads, ReadsAll}

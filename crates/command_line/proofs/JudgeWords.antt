@@ -12,10 +12,10 @@ use Rattle.clap.specs.Takes.{is_given}
 use Rattle.clap.specs.Walk.{has_row, one_of, row_text, with_default}
 use Rattle.clap.specs.Words.{Row, Text}
 use Rattle.clap.proofs.OnLiterals.{clap_on_literals}
-use Rattle.command_line.specs.JudgeTasks.{JudgeTask, MayExplain, MayJudge, allow_words, rule_text}
-use Rattle.command_line.specs.Program.{flag_text, judge_app, judge_values_in}
-use Rattle.command_line.specs.Tasks.{judge, greatest_seed, option_words}
-use Rattle.command_line.specs.Words.{AsksFor}
+use Rattle.command_line.specs.rule.JudgeTasks.{JudgeTask, MayExplain, MayJudge, allow_words, rule_text}
+use Rattle.command_line.specs.rule.Program.{flag_text, judge_app, judge_values_in}
+use Rattle.command_line.specs.rule.Tasks.{judge, greatest_seed, option_words}
+use Rattle.command_line.specs.rule.Words.{AsksFor}
 use Rattle.command_line.proofs.CommandWords.{asks_after, fault_after, met_after, number_row, path_row, shape, words_row, ArePaths, MayBePath}
 use Rattle.command_line.proofs.BuiltCommands.{commands}
 use Rattle.command_line.proofs.JudgeReads.{base, explains_words_read, flags_read, go_on_read, json_read, number_path, order_read, picture_read, rule_rows, rules, rules_read, seen_as, stand, stats_read, words_read, AreAbsent, AreFlags, At}

@@ -12,8 +12,8 @@ use Rattle.clap.specs.Values.{IsSignedIn}
 use Rattle.clap.specs.Words.{ReadsOne, Text}
 use Rattle.clap.specs.declared.builder.value_parser.ValueParser.TheVariants.{Signed}
 use Rattle.clap.proofs.ValueTestLemmas.{Accepts-accepts}
-use Rattle.command_line.specs.Program.{IsNumber}
-use Rattle.command_line.specs.Tasks.{greatest_seed}
+use Rattle.command_line.specs.rule.Program.{IsNumber}
+use Rattle.command_line.specs.rule.Tasks.{greatest_seed}
 
 -- how a text of 32 bits is read
 abbrev Reads : {E : Type 0} → (List ℕ → Result ℕ E → Type 0) → Type 0

@@ -3,9 +3,9 @@ use Rattle.std.proofs.Common.{refl, codes, ℕ, List, [], ◌∷◌, ◌++◌, �
 use Rattle.clap.specs.Walk.{Walk}
 use Rattle.clap.specs.Words.{Row, Text}
 use Rattle.clap.proofs.OnLiterals.{clap_on_literals}
-use Rattle.command_line.specs.Program.{picture_app, picture_values_in}
-use Rattle.command_line.specs.Tasks.{picture, format_text, greatest_seed}
-use Rattle.command_line.specs.Words.{AsksFor}
+use Rattle.command_line.specs.rule.Program.{picture_app, picture_values_in}
+use Rattle.command_line.specs.rule.Tasks.{picture, format_text, greatest_seed}
+use Rattle.command_line.specs.rule.Words.{AsksFor}
 use Rattle.command_line.specs.declared.format.Format.{Format}
 use Rattle.command_line.specs.declared.format.Format.TheVariants.{Svg, Mermaid, Trace}
 use Rattle.command_line.proofs.CommandWords.{asks_after, begin, fault_after, has_value, is_path, met_after, none_read, number_row, path_row, read_then, waits_for, IsPath, Reads, ReadsAll}

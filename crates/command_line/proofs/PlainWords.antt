@@ -6,10 +6,10 @@ use Rattle.std.proofs.lemmas.List.{append-nil}
 use Rattle.std.proofs.lemmas.List.Elements.{All-head, All-tail}
 use Rattle.clap.specs.Words.{Text, is_simple, is_simple_and_free}
 use Rattle.clap.proofs.OnLiterals.{clap_on_literals}
-use Rattle.command_line.specs.Program.{audit_app, explain_app, explore_app, history_app, judge_app, open_app, picture_app, program_app, schedule_app, strace_app, threads_app}
-use Rattle.command_line.specs.JudgeTasks.{plain_judgement}
-use Rattle.command_line.specs.Tasks.{Task, run, threads, audit, history, explain, open_calls, check, picture, from_strace, recorded_history, explore, schedule, judge, flag_words, given, greatest_seed, most_nodes, HasPlainWords, paths_of, plain_words_of}
-use Rattle.command_line.specs.Words.{AsksFor, IsPlain}
+use Rattle.command_line.specs.rule.Program.{audit_app, explain_app, explore_app, history_app, judge_app, open_app, picture_app, program_app, schedule_app, strace_app, threads_app}
+use Rattle.command_line.specs.rule.JudgeTasks.{plain_judgement}
+use Rattle.command_line.specs.rule.Tasks.{Task, run, threads, audit, history, explain, open_calls, check, picture, from_strace, recorded_history, explore, schedule, judge, flag_words, given, greatest_seed, most_nodes, HasPlainWords, paths_of, plain_words_of}
+use Rattle.command_line.specs.rule.Words.{AsksFor, IsPlain}
 use Rattle.command_line.specs.declared.format.Format.TheVariants.{Svg}
 use Rattle.command_line.proofs.BuiltCommands.{commands}
 use Rattle.command_line.proofs.CommandWords.{asks_by, is_path, ArePaths, IsPath, MayBePath}

@@ -3,9 +3,9 @@ use Rattle.std.proofs.Common.{refl, codes, true, false, Bool, List, [], ◌∷�
 use Rattle.clap.specs.Walk.{Walk}
 use Rattle.clap.specs.Words.{Row, Text}
 use Rattle.clap.proofs.OnLiterals.{clap_on_literals}
-use Rattle.command_line.specs.Program.{flag_text, run_app, run_values_in}
-use Rattle.command_line.specs.Tasks.{run, flag_words, option_words, MayBeQuiet}
-use Rattle.command_line.specs.Words.{AsksFor}
+use Rattle.command_line.specs.rule.Program.{flag_text, run_app, run_values_in}
+use Rattle.command_line.specs.rule.Tasks.{run, flag_words, option_words, MayBeQuiet}
+use Rattle.command_line.specs.rule.Words.{AsksFor}
 use Rattle.command_line.proofs.CommandWords.{asks_after, begin, fault_after, has_flag, has_value, met_after, none_read, path_row, read_then, waits_for, IsPath, MayBePath, Reads, ReadsAll}
 use Rattle.command_line.proofs.BuiltCommands.{commands}
 

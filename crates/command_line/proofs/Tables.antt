@@ -9,7 +9,7 @@ use Rattle.clap.specs.declared.builder.arg.Arg.{Arg}
 use Rattle.clap.specs.declared.builder.command.Command.{Command}
 use Rattle.clap.specs.declared.builder.command.Command.TheViews.{out-Command}
 use Rattle.clap.proofs.WalkLemmas.{both, first_value-rows, raw_values-rows}
-use Rattle.command_line.specs.Table.{app_given, rule_given}
+use Rattle.command_line.specs.code.Table.{app_given, rule_given}
 use Rattle.command_line.specs.declared.argument.Argument.{Argument}
 use Rattle.command_line.specs.declared.argument.Argument.TheVariants.{Word, Words, Value, Values, Default, Number, Flag}
 use Rattle.command_line.specs.declared.subcommand.Subcommand.{Subcommand}

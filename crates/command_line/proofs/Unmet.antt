@@ -2,9 +2,9 @@
 use Rattle.std.specs.Prelude.{unwrap_or}
 use Rattle.std.proofs.Common.{ℕ, Bool, true, false, cond, length, map, refl, sym, subst, ap, codes, List, Option, Some, None, [], ◌∷◌, ◌≡◌, ◌∙◌}
 use Rattle.clap.specs.Words.{Row, Text, all_of, first_of, one_of}
-use Rattle.command_line.specs.JudgeTasks.{JudgeTask, MayJudge, rule_text}
-use Rattle.command_line.specs.Program.{flag_text, judge_values_in, strace_values_in, IsMet, IsNumber}
-use Rattle.command_line.specs.Tasks.{Task, from_strace, recorded_history, format_text, greatest_seed, most_nodes, MayBeQuiet, MayRecord}
+use Rattle.command_line.specs.rule.JudgeTasks.{JudgeTask, MayJudge, rule_text}
+use Rattle.command_line.specs.rule.Program.{flag_text, judge_values_in, strace_values_in, IsMet, IsNumber}
+use Rattle.command_line.specs.rule.Tasks.{Task, from_strace, recorded_history, format_text, greatest_seed, most_nodes, MayBeQuiet, MayRecord}
 use Rattle.command_line.specs.declared.format.Format.{Format}
 use Rattle.command_line.specs.declared.rule.Rule.{Rule}
 use Rattle.command_line.proofs.CommandLine.{asked_is, beside_histories, beside_recordings, flag_in, flag_there, given_is, histories_at, is_given, met_is, number_of, number_there, recordings_at, rule_words, task_named, unmet, value_at}

@@ -1,8 +1,8 @@
 //! Arguments of commands.
 ghost use Rattle.std.specs.Prelude.{◌≡◌};
 ghost use Rattle.clap.specs.Words.{Text, rule_of};
-ghost use Rattle.command_line.specs.Program.{flag_rule, number_rule, option_rule, path_rule, paths_rule, values_rule};
-ghost use Rattle.command_line.specs.Table.{rule_given};
+ghost use Rattle.command_line.specs.rule.Program.{flag_rule, number_rule, option_rule, path_rule, paths_rule, values_rule};
+ghost use Rattle.command_line.specs.code.Table.{rule_given};
 
 use clap::builder::ValueParser;
 use clap::{Arg, ArgAction};

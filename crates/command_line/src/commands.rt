@@ -1,8 +1,8 @@
 //! The commands of the program.
 ghost use Rattle.std.specs.Prelude.{◌≡◌, fold, IfOk};
 ghost use Rattle.clap.specs.Words.{app_of};
-ghost use Rattle.command_line.specs.Program.{audit_app, bare_app, check_app, explain_app, explore_app, history_app, judge_app, open_app, picture_app, program_app, run_app, schedule_app, strace_app, threads_app};
-ghost use Rattle.command_line.specs.Table.{app_given, with_given};
+ghost use Rattle.command_line.specs.rule.Program.{audit_app, bare_app, check_app, explain_app, explore_app, history_app, judge_app, open_app, picture_app, program_app, run_app, schedule_app, strace_app, threads_app};
+ghost use Rattle.command_line.specs.code.Table.{app_given, with_given};
 
 use crate::argument::Argument;
 use crate::notes::{

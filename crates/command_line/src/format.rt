@@ -1,7 +1,7 @@
 //! The formats of pictures.
 ghost use Rattle.std.specs.Prelude.{codes, Some};
 ghost use Rattle.clap.specs.Words.{first_of, found_of, rows_of};
-ghost use Rattle.command_line.specs.Kinds.{IsFormatOf};
+ghost use Rattle.command_line.specs.rule.Kinds.{IsFormatOf};
 
 use clap::ArgMatches;
 

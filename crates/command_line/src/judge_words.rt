@@ -1,8 +1,8 @@
 //! The line of a judgement.
 ghost use Rattle.std.specs.Prelude.{◌≡◌, [], codes, false, true, map, unwrap_or, IfOk, Some};
 ghost use Rattle.clap.specs.Words.{all_of, found_of, rows_of};
-ghost use Rattle.command_line.specs.JudgeTasks.{judge_task_of, rule_text, MayDraw, MayExplain, MayJudge};
-ghost use Rattle.command_line.specs.Kinds.{IsLineOf};
+ghost use Rattle.command_line.specs.rule.JudgeTasks.{judge_task_of, rule_text, MayDraw, MayExplain, MayJudge};
+ghost use Rattle.command_line.specs.rule.Kinds.{IsLineOf};
 
 use crate::judge_line::JudgeLine;
 use crate::line::Line;

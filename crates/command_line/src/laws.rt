@@ -1,9 +1,9 @@
 //! What holds of every command line.
 ghost use Rattle.std.specs.Prelude.{◌≡◌, ◌≢◌, List, ℕ, false, [], ◌∷◌, None, Some, codes, slice_get};
 ghost use Rattle.command_line.specs.declared.format.Format.TheVariants.{Svg};
-ghost use Rattle.command_line.specs.JudgeTasks.{plain_judgement};
-ghost use Rattle.command_line.specs.Tasks.{Task, explore, from_strace, greatest_seed, history, judge, picture, schedule, threads};
-ghost use Rattle.command_line.specs.Words.{AsksFor, IsPlain};
+ghost use Rattle.command_line.specs.rule.JudgeTasks.{plain_judgement};
+ghost use Rattle.command_line.specs.rule.Tasks.{Task, explore, from_strace, greatest_seed, history, judge, picture, schedule, threads};
+ghost use Rattle.command_line.specs.rule.Words.{AsksFor, IsPlain};
 
 /// The words `PROGRAM run SCRIPT`, with `--after JOURNAL`, `--journal FILE`, `--expect`, `--open` and `--quiet`
 /// behind it, or some of them in this order, `--quiet` where `--journal FILE` or `--expect` is one,

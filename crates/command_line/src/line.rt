@@ -3,10 +3,10 @@ ghost use Rattle.std.specs.Prelude.{◌≡◌, ◌⊎◌, codes, false, true, ma
 ghost use Rattle.std.specs.Option.{option_map};
 ghost use Rattle.clap.specs.Words.{app_of, found_of, kind_of, rows_of, subcommand_rows_of};
 ghost use Rattle.clap.specs.declared.error.kind.ErrorKind.TheVariants.{OutOfMemory, ValueValidation};
-ghost use Rattle.command_line.specs.Kinds.{IsKindOf, IsLineOf};
-ghost use Rattle.command_line.specs.Program.{program_app};
-ghost use Rattle.command_line.specs.Tasks.{task_of, MayBeQuiet};
-ghost use Rattle.command_line.specs.Words.{AsksFor, IsRefusal};
+ghost use Rattle.command_line.specs.rule.Kinds.{IsKindOf, IsLineOf};
+ghost use Rattle.command_line.specs.rule.Program.{program_app};
+ghost use Rattle.command_line.specs.rule.Tasks.{task_of, MayBeQuiet};
+ghost use Rattle.command_line.specs.rule.Words.{AsksFor, IsRefusal};
 
 use crate::commands::program;
 use crate::format::format_in;

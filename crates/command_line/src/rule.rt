@@ -1,7 +1,7 @@
 //! The rules that a judgement may be asked to allow.
 ghost use Rattle.std.specs.Prelude.{[], codes, map, unwrap_or, IfOk};
 ghost use Rattle.clap.specs.Words.{all_of, found_of, rows_of};
-ghost use Rattle.command_line.specs.Kinds.{AreRulesOf, IsRuleOf};
+ghost use Rattle.command_line.specs.rule.Kinds.{AreRulesOf, IsRuleOf};
 
 use clap::ArgMatches;
 use std::alloc::{AllocError, Global};

@@ -1,9 +1,9 @@
 //! The lines of recordings.
 ghost use Rattle.std.specs.Prelude.{◌≡◌, codes, false, true, map, option_map, IfOk, Some};
 ghost use Rattle.clap.specs.Words.{all_of, found_of, one_of, rows_of};
-ghost use Rattle.command_line.specs.Kinds.{IsLineOf};
-ghost use Rattle.command_line.specs.Program.{flag_text};
-ghost use Rattle.command_line.specs.Tasks.{MayRecord};
+ghost use Rattle.command_line.specs.rule.Kinds.{IsLineOf};
+ghost use Rattle.command_line.specs.rule.Program.{flag_text};
+ghost use Rattle.command_line.specs.rule.Tasks.{MayRecord};
 
 use crate::line::Line;
 use crate::values::{MOST_NODES, flag_in, number_in};

@@ -1,7 +1,7 @@
 //! Commands.
 ghost use Rattle.std.specs.Prelude.{◌≡◌, IfOk};
 ghost use Rattle.clap.specs.Words.{app_of, new_app, with_rule};
-ghost use Rattle.command_line.specs.Table.{app_given, rule_given};
+ghost use Rattle.command_line.specs.code.Table.{app_given, rule_given};
 
 use crate::argument::Argument;
 use clap::Command;

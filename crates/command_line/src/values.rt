@@ -1,6 +1,6 @@
 //! The numbers and the flags among the values of a command line.
 ghost use Rattle.clap.specs.Words.{found_of, one_of, rows_of};
-ghost use Rattle.command_line.specs.Kinds.{IsFlagOf, IsNumberOf};
+ghost use Rattle.command_line.specs.rule.Kinds.{IsFlagOf, IsNumberOf};
 
 use clap::ArgMatches;
 

@@ -4,14 +4,14 @@ use Rattle.std.proofs.Common.{arith, ap, subst, sym, ◌∙◌, inl, inr}
 use Rattle.std.proofs.lemmas.Bool.{cases_lt, cases_eq, eq-eqb, ne_eqb, eqb-true, false≢true}
 use Rattle.std.proofs.lemmas.Bool.Decides.{nat_tests}
 use Rattle.std.proofs.lemmas.List.{get_or-set_same, get_or-set_other, get_or_past}
-use Rattle.intervals.specs.Search.{first, some_passes}
+use Rattle.intervals.specs.rule.Search.{first, some_passes}
 use Rattle.model.specs.declared.opened.Opened.{Opened}
-use Rattle.model.specs.Limits.{IsNumber, most_processes, most_descriptors, most_descriptions}
-use Rattle.model.specs.Descriptors.{Processes, is_of, is_open, with_process, with_descriptor, lowest_description}
+use Rattle.model.specs.rule.Limits.{IsNumber, most_processes, most_descriptors, most_descriptions}
+use Rattle.model.specs.rule.Descriptors.{Processes, is_of, is_open, with_process, with_descriptor, lowest_description}
 use Rattle.intervals.proofs.SearchLaws.{first_is_first}
 use Rattle.model.proofs.SearchLaws.{some_passes-found}
-use Rattle.descriptors.specs.Edits.{IsKnown}
-use Rattle.descriptors.specs.Counts.{total, one_of, references_below, references, count_of, AreCounts, AreUsed}
+use Rattle.descriptors.specs.code.Edits.{IsKnown}
+use Rattle.descriptors.specs.code.Counts.{total, one_of, references_below, references, count_of, AreCounts, AreUsed}
 use Rattle.descriptors.proofs.RowLaws.{some_passes-zero, some_passes-more}
 
 -- two sums of equal terms are equal

@@ -3,17 +3,17 @@ use Rattle.std.specs.Prelude.{◌≡◌, ℕ, ◌+◌, ◌-◌, ◌*◌, ◌<◌
 use Rattle.std.proofs.Common.{arith, ap, sym, ◌∙◌, inl, inr}
 use Rattle.std.proofs.lemmas.Bool.{cases_lt, eqb-true, false≢true}
 use Rattle.std.proofs.lemmas.List.{get_or_past}
-use Rattle.intervals.specs.Search.{first, some_passes, IsFirst}
+use Rattle.intervals.specs.rule.Search.{first, some_passes, IsFirst}
 use Rattle.intervals.proofs.SearchLaws.{first_is_first}
 use Rattle.model.specs.declared.opened.Opened.{Opened}
-use Rattle.model.specs.Limits.{IsNumber, most_processes, most_descriptors, most_descriptions}
-use Rattle.model.specs.Descriptors.{Processes, is_of, is_open, lowest_description}
+use Rattle.model.specs.rule.Limits.{IsNumber, most_processes, most_descriptors, most_descriptions}
+use Rattle.model.specs.rule.Descriptors.{Processes, is_of, is_open, lowest_description}
 use Rattle.model.proofs.SearchLaws.{first-passes}
 use Rattle.model.proofs.Pigeons.{no_hole}
 use Rattle.descriptors.specs.declared.process_entry.ProcessEntry.{ProcessEntry}
-use Rattle.descriptors.specs.Rows.{slot, idle, processes, AreRows}
-use Rattle.descriptors.specs.Edits.{IsKnown}
-use Rattle.descriptors.specs.Counts.{places, AreCounts}
+use Rattle.descriptors.specs.code.Rows.{slot, idle, processes, AreRows}
+use Rattle.descriptors.specs.code.Edits.{IsKnown}
+use Rattle.descriptors.specs.code.Counts.{places, AreCounts}
 use Rattle.descriptors.proofs.RowLaws.{processes-opened, processes-runs, runs_within, runs-numbered}
 use Rattle.descriptors.proofs.CountLaws.{counted-place, open-counted}
 

@@ -3,15 +3,15 @@ use Rattle.std.specs.Prelude.{◌≡◌, ◌≢◌, ◌⊎◌, ℕ, zero, suc, �
 use Rattle.std.proofs.Common.{arith, ap, subst, sym, ◌∙◌, inl, inr}
 use Rattle.std.proofs.lemmas.Bool.{cases_lt, cases_Bool, cases_eq, eq-eqb, ne_eqb, eqb-true, both_ways, false≢true}
 use Rattle.std.proofs.lemmas.List.{get_or-set_same, get_or-set_other, get_or_past}
-use Rattle.intervals.specs.Search.{some_passes}
+use Rattle.intervals.specs.rule.Search.{some_passes}
 use Rattle.model.specs.declared.opened.Opened.{Opened}
-use Rattle.model.specs.Limits.{IsNumber, most_processes, most_descriptions}
-use Rattle.model.specs.Descriptors.{Processes, no_processes, with_process, with_descriptor}
+use Rattle.model.specs.rule.Limits.{IsNumber, most_processes, most_descriptions}
+use Rattle.model.specs.rule.Descriptors.{Processes, no_processes, with_process, with_descriptor}
 use Rattle.model.proofs.SearchLaws.{failed-start, first-passes, some_passes-found, some_passes-none}
-use Rattle.intervals.specs.Search.{first}
+use Rattle.intervals.specs.rule.Search.{first}
 use Rattle.descriptors.specs.declared.process_entry.ProcessEntry.{ProcessEntry}
 use Rattle.descriptors.specs.declared.error.FdError.TheVariants.{NoProcess}
-use Rattle.descriptors.specs.Rows.{slot, idle, row, processes, IsSameRow, AreNumbered, IsRow, AreRows, resolved, opened_or}
+use Rattle.descriptors.specs.code.Rows.{slot, idle, row, processes, IsSameRow, AreNumbered, IsRow, AreRows, resolved, opened_or}
 
 -- a search of no numbers finds none that passes
 pub some_passes-zero : (passes : ℕ → Bool) (lo : ℕ) → some_passes passes lo 0 ≡ false

@@ -1,9 +1,9 @@
 //! The number of descriptors that refer to each open file description.
 ghost use Rattle.std.specs.Prelude.{◌≡◌, ◌≤◌, ◌<◌, ◌+◌, ◌-◌, ◌==◌, ℕ, [], IfOk, OnOk, length, slice_set};
-ghost use Rattle.intervals.specs.Search.{first};
-ghost use Rattle.model.specs.Limits.{most_descriptors, most_descriptions};
-ghost use Rattle.descriptors.specs.Rows.{processes, AreRows};
-ghost use Rattle.descriptors.specs.Counts.{count_of, references_below, AreCounts, AreUsed};
+ghost use Rattle.intervals.specs.rule.Search.{first};
+ghost use Rattle.model.specs.rule.Limits.{most_descriptors, most_descriptions};
+ghost use Rattle.descriptors.specs.code.Rows.{processes, AreRows};
+ghost use Rattle.descriptors.specs.code.Counts.{count_of, references_below, AreCounts, AreUsed};
 
 use crate::process_entry::ProcessEntry;
 use crate::rows::opened_at;
@@ -22,7 +22,7 @@ pub struct Counts {
 
 impl Model for Counts {
     ghost use Rattle.std.specs.Prelude.{List, ◌≤◌, ℕ};
-    ghost use Rattle.descriptors.specs.Counts.{AreUsed};
+    ghost use Rattle.descriptors.specs.code.Counts.{AreUsed};
 
     ghost Value = { List ℕ };
 

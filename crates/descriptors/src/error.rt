@@ -1,8 +1,8 @@
 //! The reasons for which calls on processes and descriptors are refused.
 ghost use Rattle.std.specs.Prelude.{◌≡◌, Result, Err, MatchResult};
 ghost use Rattle.model.specs.declared.reply.Reply.{Reply};
-ghost use Rattle.model.specs.Descriptors.{Processes};
-ghost use Rattle.descriptors.specs.Rows.{Refuses, fd_reply};
+ghost use Rattle.model.specs.rule.Descriptors.{Processes};
+ghost use Rattle.descriptors.specs.code.Rows.{Refuses, fd_reply};
 
 use model::reply::Reply;
 use std::alloc::AllocError;
@@ -47,7 +47,7 @@ impl ProcessError {
 }
 
 impl From<FdError> for ProcessError {
-    ghost use Rattle.descriptors.specs.Rows.{process_error};
+    ghost use Rattle.descriptors.specs.code.Rows.{process_error};
 
     ghost from_gives = { λ error made. made ≡ process_error error };
 

@@ -1,11 +1,11 @@
 //! The processes of one node, their descriptors, and the calls that change them.
 ghost use Rattle.std.specs.Prelude.{◌≡◌, ◌≢◌, ◌≤◌, ◌<◌, ◌↔◌, ℕ, true, false, None, Some, Ok, Err, IfOk, IfErr, IfSome, OnOk, OnErr, IsTrue, MatchOption, is_none, length, not};
 ghost use Rattle.model.specs.declared.reply.Reply.TheVariants.{Done, Fd};
-ghost use Rattle.model.specs.Limits.{IsNumber, most_processes, most_descriptors, most_descriptions};
-ghost use Rattle.model.specs.Descriptors.{no_processes, with_process, with_descriptor, lowest_fd, lowest_description, has_open, is_open, after_spawn, after_fork, after_open, after_dup, after};
-ghost use Rattle.descriptors.specs.Rows.{processes, resolved, Refuses, IsClosed};
-ghost use Rattle.descriptors.specs.Edits.{edited, Fits, HasPlace, IsKnown};
-ghost use Rattle.descriptors.specs.Calls.{begins, CanBegin};
+ghost use Rattle.model.specs.rule.Limits.{IsNumber, most_processes, most_descriptors, most_descriptions};
+ghost use Rattle.model.specs.rule.Descriptors.{no_processes, with_process, with_descriptor, lowest_fd, lowest_description, has_open, is_open, after_spawn, after_fork, after_open, after_dup, after};
+ghost use Rattle.descriptors.specs.code.Rows.{processes, resolved, Refuses, IsClosed};
+ghost use Rattle.descriptors.specs.code.Edits.{edited, Fits, HasPlace, IsKnown};
+ghost use Rattle.descriptors.specs.code.Calls.{begins, CanBegin};
 
 use crate::counts::{Counts, release, share};
 use crate::edit::ProcessEdit;
@@ -34,8 +34,8 @@ pub struct Processes {
 impl Model for Processes {
     ghost use Rattle.std.specs.Prelude.{◌≡◌, List, length};
     ghost use Rattle.descriptors.specs.declared.process_entry.ProcessEntry.{ProcessEntry};
-    ghost use Rattle.descriptors.specs.Rows.{AreRows, processes};
-    ghost use Rattle.descriptors.specs.Counts.{AreCounts, places};
+    ghost use Rattle.descriptors.specs.code.Rows.{AreRows, processes};
+    ghost use Rattle.descriptors.specs.code.Counts.{AreCounts, places};
 
     ghost Value = { List ProcessEntry };
 
@@ -46,7 +46,7 @@ impl Model for Processes {
 
 impl Processes {
     /// The processes of a node on which none runs.
-    #[tactic(auto, unfolding(crate::specs::Rows::processes))]
+    #[tactic(auto, unfolding(crate::specs::code::Rows::processes))]
     pub fn new(alloc: Global) -> Self
         ensures { processes result ≡ no_processes }
     {

@@ -1,10 +1,10 @@
 -- What lines ask for.
 use Rattle.std.proofs.Common.{ℕ, ◌≤◌, false, List, ap, Some, None}
 use Rattle.std.specs.Prelude.{MatchBool, Option, is_some}
-use Rattle.texts.specs.Reads.{Reads}
-use Rattle.lockscript.specs.Scripts.{IsCommand, command_text}
+use Rattle.texts.specs.rule.Reads.{Reads}
+use Rattle.lockscript.specs.rule.Scripts.{IsCommand, command_text}
 use Rattle.lockscript.specs.declared.script_line.Command.{Command}
-use Rattle.diagnosis.specs.Places.{IsFit, IsUnfit}
+use Rattle.diagnosis.specs.code.Places.{IsFit, IsUnfit}
 
 -- a line that reads as a command may stand behind the cluster's, if its number can be listed
 pub asks-at : (number : ℕ) (line : List ℕ) (command : Option Command) → 1 ≤ number → number ≤ 4294967295 → Reads command_text IsCommand line command

@@ -1,7 +1,7 @@
 -- How many bad lines are told.
 use Rattle.std.proofs.Common.{◌≡◌, ℕ, ◌+◌, ◌<◌, ◌≤◌, List, [], ◌∷◌, ◌++◌, length, min, sym, ap, ◌∙◌, arith, length-append}
 use Rattle.std.proofs.lemmas.List.{length-map, length-take, map-append, take-append-le, take_all}
-use Rattle.diagnosis.specs.BadLines.{Tells}
+use Rattle.diagnosis.specs.rule.BadLines.{Tells}
 use Rattle.diagnosis.specs.declared.script_fault.ScriptFault.{ScriptFault}
 
 abbrev line_of : ScriptFault → ℕ

@@ -2,16 +2,16 @@
 use Rattle.std.proofs.Common.{◌≡◌, ◌≢◌, ℕ, ◌+◌, ◌≤◌, Bool, false, List, [], ◌∷◌, ◌++◌, length, map, take, inl, inr, refl, sym, ap, subst, ◌∙◌, arith, length-append}
 use Rattle.std.specs.Prelude.{◌⊎◌, ◌↔◌, IfSome, slice_get}
 use Rattle.std.specs.List.{All, flat_map}
-use Rattle.texts.specs.LineFeeds.{line_feed, line_feeds, PassesLines}
-use Rattle.lockscript.specs.Scripts.{HasScript, IsBad, IsFirstBad}
-use Rattle.lockscript.specs.Scripts.IsBad.{has_no_cluster, has_no_end, stands_wrong}
+use Rattle.texts.specs.rule.LineFeeds.{line_feed, line_feeds, PassesLines}
+use Rattle.lockscript.specs.rule.Scripts.{HasScript, IsBad, IsFirstBad}
+use Rattle.lockscript.specs.rule.Scripts.IsBad.{has_no_cluster, has_no_end, stands_wrong}
 use Rattle.lockscript.proofs.BadLines.{BeginsScript}
 use Rattle.lockscript.proofs.Feeds.{line_feeds-line}
 use Rattle.lockscript.proofs.FirstBadLines.{Further, begins-front, further}
 use Rattle.lockscript.proofs.OneReading.{one_reading}
 use Rattle.lockscript.proofs.Passes.{IsSingle, ended}
-use Rattle.diagnosis.specs.BadLines.{AreBadLines, IsBadAt, Tells, TellsBadLines}
-use Rattle.diagnosis.specs.Places.{EndsBadly}
+use Rattle.diagnosis.specs.rule.BadLines.{AreBadLines, IsBadAt, Tells, TellsBadLines}
+use Rattle.diagnosis.specs.code.Places.{EndsBadly}
 use Rattle.diagnosis.specs.declared.place.Place.{Place}
 use Rattle.diagnosis.specs.declared.script_fault.ScriptFault.{ScriptFault}
 use Rattle.diagnosis.proofs.Reading.{HasRead, IsPlaceOf, KnowsBad, bad-here, know-bad, know-good}

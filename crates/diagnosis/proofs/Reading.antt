@@ -7,16 +7,16 @@ use Rattle.std.proofs.lemmas.List.{get_or_append_left, map-append}
 use Rattle.std.proofs.Math.Seq.{get_or-append_seam}
 use Rattle.std.proofs.lemmas.Bool.{cases_lt}
 use Rattle.std.proofs.lemmas.List.Elements.{All-nil, All-push, Contains-append_left, Contains-get_or, Contains-push, Contains-push_cases}
-use Rattle.texts.specs.LineFeeds.{line_feed, is_skipped, kept_lines, BeginsWithLine, PassesLines}
-use Rattle.lockscript.specs.Scripts.{IsBad, IsFirstBad, IsLine, IsMisplaced, line_text, script_of, shape_text}
-use Rattle.lockscript.specs.Scripts.IsBad.{has_no_cluster, has_no_end, stands_wrong}
+use Rattle.texts.specs.rule.LineFeeds.{line_feed, is_skipped, kept_lines, BeginsWithLine, PassesLines}
+use Rattle.lockscript.specs.rule.Scripts.{IsBad, IsFirstBad, IsLine, IsMisplaced, line_text, script_of, shape_text}
+use Rattle.lockscript.specs.rule.Scripts.IsBad.{has_no_cluster, has_no_end, stands_wrong}
 use Rattle.lockscript.proofs.BadLines.{BeginsScript, first-bad_script}
 use Rattle.lockscript.proofs.Begun.{passes-more}
 use Rattle.lockscript.proofs.Feeds.{line_feeds-line}
 use Rattle.lockscript.proofs.FirstBadLines.{line-same, passes-of, same-passed}
 use Rattle.lockscript.proofs.Passes.{passes-join, passes-none, passes-said, passes-skipped}
-use Rattle.diagnosis.specs.BadLines.{IsBadAt, Tells}
-use Rattle.diagnosis.specs.Places.{IsFit, IsUnfit}
+use Rattle.diagnosis.specs.rule.BadLines.{IsBadAt, Tells}
+use Rattle.diagnosis.specs.code.Places.{IsFit, IsUnfit}
 use Rattle.diagnosis.specs.declared.place.Place.{Place}
 use Rattle.diagnosis.specs.declared.script_fault.ScriptFault.{ScriptFault}
 

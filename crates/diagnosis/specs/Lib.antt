@@ -1,4 +1,2 @@
-pub mod BadLines
-pub mod Places
-pub mod Reports
-pub mod JournalReports
+pub mod rule
+pub mod code

@@ -1,6 +1,6 @@
 //! Bad lines.
 ghost use Rattle.std.specs.Prelude.{◌≡◌, [], false, IfOk, MatchOption};
-ghost use Rattle.diagnosis.specs.Places.{EndsBadly};
+ghost use Rattle.diagnosis.specs.code.Places.{EndsBadly};
 
 use crate::explanation::flaw_of_line;
 use crate::flaw::Flaw;

@@ -1,7 +1,7 @@
 //! The faults of a text.
 ghost use Rattle.std.specs.Prelude.{◌≡◌, ◌↔◌, ◌+◌, ◌<◌, ◌^◌, ◌++◌, ◌∷◌, [], ℕ, List, slice_get, IfOk, IfSome, OnOk};
-ghost use Rattle.lockscript.specs.Scripts.{HasScript, IsFirstBad};
-ghost use Rattle.diagnosis.specs.BadLines.{Tells, TellsBadLines};
+ghost use Rattle.lockscript.specs.rule.Scripts.{HasScript, IsFirstBad};
+ghost use Rattle.diagnosis.specs.rule.BadLines.{Tells, TellsBadLines};
 
 use crate::bad_line::BadLine;
 use crate::place::Place;

@@ -1,6 +1,6 @@
 //! Reports on texts that are to be journals.
 ghost use Rattle.std.specs.Prelude.{◌↔◌, IfOk, IsTrue};
-ghost use Rattle.diagnosis.specs.JournalReports.{BeginsAsJournal, IsJournalReport};
+ghost use Rattle.diagnosis.specs.rule.JournalReports.{BeginsAsJournal, IsJournalReport};
 
 use journal_text::parse::measure;
 use lockscript::error::ParseError;

@@ -1,6 +1,6 @@
 //! What lines say.
 ghost use Rattle.std.specs.Prelude.{◌≡◌, ◌≤◌, true, false, MatchBool};
-ghost use Rattle.diagnosis.specs.Places.{IsFit, IsUnfit};
+ghost use Rattle.diagnosis.specs.code.Places.{IsFit, IsUnfit};
 
 use lockscript::cluster_line::shape_of;
 use lockscript::commands::command_of;

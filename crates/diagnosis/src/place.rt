@@ -20,8 +20,8 @@ pub(crate) struct Place {
 
 impl Place {
     ghost use Rattle.std.specs.Prelude.{◌≡◌, ◌+◌, ◌<◌, ◌≤◌, ◌^◌, ◌&&◌, true, false, MatchBool};
-    ghost use Rattle.texts.specs.LineFeeds.{is_skipped};
-    ghost use Rattle.diagnosis.specs.Places.{IsFit, IsUnfit};
+    ghost use Rattle.texts.specs.rule.LineFeeds.{is_skipped};
+    ghost use Rattle.diagnosis.specs.code.Places.{IsFit, IsUnfit};
 
     /// The place of a text's first line.
     pub(crate) fn start() -> Place

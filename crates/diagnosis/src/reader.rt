@@ -1,6 +1,6 @@
 //! Reading a text line by line.
 ghost use Rattle.std.specs.Prelude.{◌≡◌, ◌+◌, ◌<◌, ◌≤◌, ◌^◌, ◌&&◌, true, length, MatchOption};
-ghost use Rattle.texts.specs.LineFeeds.{line_feeds, is_skipped, BeginsWithLine};
+ghost use Rattle.texts.specs.rule.LineFeeds.{line_feeds, is_skipped, BeginsWithLine};
 
 use crate::place::Place;
 use lockscript::lines::split_line;

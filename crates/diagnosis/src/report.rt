@@ -1,6 +1,6 @@
 //! Reports on texts that are to be scripts.
 ghost use Rattle.std.specs.Prelude.{IfOk};
-ghost use Rattle.diagnosis.specs.Reports.{IsReport};
+ghost use Rattle.diagnosis.specs.rule.Reports.{IsReport};
 
 use crate::faults::Faults;
 use std::alloc::{AllocError, Global};

@@ -5,12 +5,12 @@ use Rattle.std.proofs.lemmas.Bool.{and_from}
 use Rattle.std.proofs.lemmas.List.Elements.{All-cons, All-nil}
 use Rattle.std.proofs.lemmas.List.Folds.{list_any-append}
 use Rattle.indexmap.specs.IndexSet.{insert_all, insert_key}
-use Rattle.pictures.specs.Stretches.{PlacedFields}
+use Rattle.pictures.specs.rule.Stretches.{PlacedFields}
 use Rattle.diagrams.specs.contracts.track.TrackPartialEq.TheImpl as derived
 use Rattle.diagrams.specs.declared.track.Track.{Track}
 use Rattle.diagrams.specs.declared.track.Track.TheVariants.{Process, Node, Server}
-use Rattle.diagrams.specs.Laws.{EachRowHasItsName, EachRowHasItsNumbers, IsOneOf}
-use Rattle.diagrams.specs.Tracks.{track_of, track_of_bar}
+use Rattle.diagrams.specs.rule.Laws.{EachRowHasItsName, EachRowHasItsNumbers, IsOneOf}
+use Rattle.diagrams.specs.rule.Tracks.{track_of, track_of_bar}
 
 -- one of two tests
 left : (a b : Bool) → a ≡ true → (a || b) ≡ true

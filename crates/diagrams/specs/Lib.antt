@@ -1,3 +1,2 @@
-pub mod Lanes
-pub mod Tracks
-pub mod Laws
+pub mod rule
+pub mod code

@@ -1,5 +1,5 @@
 //! What holds of each trace.
-ghost use Rattle.diagrams.specs.Laws.{EachRowHasItsName, EachRowHasItsNumbers};
+ghost use Rattle.diagrams.specs.rule.Laws.{EachRowHasItsName, EachRowHasItsNumbers};
 
 /// Two rows of nodes, processes and servers that a cluster may have, with the same process and the same
 /// thread in a trace, are one row.

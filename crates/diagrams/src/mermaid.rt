@@ -1,6 +1,6 @@
 //! Sequence diagrams, in Mermaid's text. Each error is `AllocError`: a request for memory was refused.
 ghost use Rattle.std.specs.Prelude.{◌≡◌, filter_map, IfOk};
-ghost use Rattle.diagrams.specs.Lanes.{lane_of};
+ghost use Rattle.diagrams.specs.code.Lanes.{lane_of};
 
 use crate::notes::{push_actor_id, push_entry_lines};
 use cluster_core::item::Item;

@@ -1,6 +1,6 @@
 //! Rows of a trace. Each error is `AllocError`: a request for memory was refused.
 ghost use Rattle.std.specs.Prelude.{◌≡◌};
-ghost use Rattle.diagrams.specs.Tracks.{incarnation_of, process_of, thread_of, track_in, track_of, track_of_bar, track_of_call, track_to};
+ghost use Rattle.diagrams.specs.rule.Tracks.{incarnation_of, process_of, thread_of, track_in, track_of, track_of_bar, track_of_call, track_to};
 
 use message_text::names::push_host;
 use messages::actor::Actor;

@@ -2,7 +2,7 @@
 ghost use Rattle.std.specs.Prelude.{◌≡◌, map, OnOk, IfOk};
 ghost use Rattle.indexmap.specs.IndexSet.{insert_all};
 ghost use Rattle.diagrams.specs.contracts.track.TrackPartialEq.TheImpl as derived;
-ghost use Rattle.diagrams.specs.Tracks.{track_of, track_of_bar, tracks};
+ghost use Rattle.diagrams.specs.rule.Tracks.{track_of, track_of_bar, tracks};
 
 use crate::track::Track;
 use indexmap::IndexSet;

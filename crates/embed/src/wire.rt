@@ -1,9 +1,9 @@
 //! Messages as lines of text.
 ghost use Rattle.std.specs.Prelude.{◌≡◌, string_bytes, IfOk};
 ghost use Rattle.messages.specs.declared.version.Version.TheVariants.{Second};
-ghost use Rattle.texts.specs.Reads.{Reads};
-ghost use Rattle.message_text.specs.Served.{IsServedMessage};
-ghost use Rattle.message_text.specs.Texts.{message_text};
+ghost use Rattle.texts.specs.rule.Reads.{Reads};
+ghost use Rattle.message_text.specs.rule.Served.{IsServedMessage};
+ghost use Rattle.message_text.specs.rule.Texts.{message_text};
 
 use message_text::message::message_of;
 use message_text::writing::push_message;

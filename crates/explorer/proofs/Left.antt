@@ -6,16 +6,16 @@ use Rattle.std.proofs.lemmas.List.{append-nil, take_more}
 use Rattle.std.proofs.lemmas.List.Elements.{All-append, All-cons, All-head, All-nil, All-tail}
 use Rattle.std.proofs.lemmas.Option.{none-some, same_Some}
 use Rattle.model.specs.declared.op.Op.{Op}
-use Rattle.messages.specs.Entries.{EntryFields}
-use Rattle.cluster_core.specs.World.{WorldState}
+use Rattle.messages.specs.code.Entries.{EntryFields}
+use Rattle.cluster_core.specs.rule.World.{WorldState}
 use Rattle.lockscript.specs.declared.script_line.Command.{Command}
 use Rattle.lockscript.specs.declared.script_line.Command.TheVariants.{Call}
-use Rattle.lockscript.specs.Scripts.{IsCommand, LineFields}
-use Rattle.player.specs.Played.{PlayedState}
-use Rattle.explorer.specs.Answers.{tries}
-use Rattle.explorer.specs.Ends.{AreServed, IsOpenAfter, LeavesOpen, MakesCallsOf}
-use Rattle.explorer.specs.Indexes.{HoldsOfCaller, IsServedOther}
-use Rattle.explorer.specs.Schedules.{calls_in, calls_of, may_stand, numbered, op_of, Follows}
+use Rattle.lockscript.specs.rule.Scripts.{IsCommand, LineFields}
+use Rattle.player.specs.rule.Played.{PlayedState}
+use Rattle.explorer.specs.rule.Answers.{tries}
+use Rattle.explorer.specs.rule.Ends.{AreServed, IsOpenAfter, LeavesOpen, MakesCallsOf}
+use Rattle.explorer.specs.code.Indexes.{HoldsOfCaller, IsServedOther}
+use Rattle.explorer.specs.rule.Schedules.{calls_in, calls_of, may_stand, numbered, op_of, Follows}
 use Rattle.explorer.proofs.Orders.{Begins}
 use Rattle.explorer.proofs.Walks.{op-cases}
 

@@ -11,7 +11,7 @@ use Rattle.std.proofs.lemmas.List.Elements.{All-contains, All-head, All-map, All
 use Rattle.std.proofs.lemmas.List.Quantifiers.{all_pairs_push}
 use Rattle.std.proofs.lemmas.List.Sorted.{All-permutation, Contains-permutation, IsPermutation-keeps, IsPermutation-map}
 use Rattle.explorer.specs.declared.answer.Answer.{Answer}
-use Rattle.explorer.specs.Outcomes.{AreOutcomesOf, AreSeedsOf, OutcomeParts, answers_of, seed_of, with_seed}
+use Rattle.explorer.specs.rule.Outcomes.{AreOutcomesOf, AreSeedsOf, OutcomeParts, answers_of, seed_of, with_seed}
 
 -- no two of a list are the same
 abbrev Differ : {X : Type 0} → List X → Type 0

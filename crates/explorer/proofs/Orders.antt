@@ -8,11 +8,11 @@ use Rattle.std.proofs.lemmas.Option.{none-some, same_Some}
 use Rattle.model.specs.declared.op.Op.{Op}
 use Rattle.lockscript.specs.declared.script_line.Command.{Command}
 use Rattle.lockscript.specs.declared.script_line.Command.TheVariants.{Call}
-use Rattle.lockscript.specs.Scripts.{IsCommand, LineFields}
-use Rattle.player.specs.Progress.{Progress, Does, End, RunsTo}
+use Rattle.lockscript.specs.rule.Scripts.{IsCommand, LineFields}
+use Rattle.player.specs.rule.Progress.{Progress, Does, End, RunsTo}
 use Rattle.player.proofs.Progresses.{turns_push}
 use Rattle.explorer.proofs.Walks.{calls-push, op-cases}
-use Rattle.explorer.specs.Schedules.{calls_in, calls_of, line_of, may_stand, most_lines, numbered, op_of, Follows, IsNextCall, IsScheduleOf}
+use Rattle.explorer.specs.rule.Schedules.{calls_in, calls_of, line_of, may_stand, most_lines, numbered, op_of, Follows, IsNextCall, IsScheduleOf}
 
 -- the number of one line more
 number_on : (n : ℕ) (commands : List Command) (c : Command) → map line_of (enumerate_from n (commands ++ c ∷ [])) ≡ map line_of (enumerate_from n commands) ++ record { number = n + length commands; command = c } ∷ []

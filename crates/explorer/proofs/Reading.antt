@@ -5,17 +5,17 @@ use Rattle.std.specs.List.{enumerate_from}
 use Rattle.std.proofs.lemmas.List.{append-nil}
 use Rattle.std.proofs.lemmas.List.Elements.{All-cons, All-head, All-nil, All-tail}
 use Rattle.std.proofs.lemmas.List.Folds.{flat_map-map}
-use Rattle.messages.specs.Shapes.{ShapeFields}
-use Rattle.texts.specs.LineFeeds.{line_feed, is_skipped, kept_lines}
+use Rattle.messages.specs.rule.Shapes.{ShapeFields}
+use Rattle.texts.specs.rule.LineFeeds.{line_feed, is_skipped, kept_lines}
 use Rattle.lockscript.specs.declared.script_line.Command.{Command}
 use Rattle.lockscript.specs.declared.script_line.Command.TheVariants.{Settle}
-use Rattle.lockscript.specs.Scripts.{IsCommand, IsLine, IsScript, IsScriptShape, command_text, greatest_line, line_text, script_of, shape_text}
+use Rattle.lockscript.specs.rule.Scripts.{IsCommand, IsLine, IsScript, IsScriptShape, command_text, greatest_line, line_text, script_of, shape_text}
 use Rattle.lockscript.proofs.Clusters.{shape as shape_texts}
 use Rattle.lockscript.proofs.CommandKinds.{command}
 use Rattle.lockscript.proofs.Feeds.{none_is-line_feeds}
 use Rattle.lockscript.proofs.Passes.{IsSingle}
-use Rattle.explorer.specs.Schedules.{line_of, numbered}
-use Rattle.explorer.specs.Texts.{script_text}
+use Rattle.explorer.specs.rule.Schedules.{line_of, numbered}
+use Rattle.explorer.specs.rule.Texts.{script_text}
 
 -- the `cluster` line is one line
 shape-single : (s : ShapeFields) → IsScriptShape s → IsSingle (shape_text s)

@@ -4,8 +4,8 @@ use Rattle.std.specs.Prelude.{All, slice_set, slice_index_or}
 use Rattle.std.proofs.lemmas.List.{length-append}
 use Rattle.std.proofs.lemmas.List.Elements.{All-get_or, All-push, All-set}
 use Rattle.std.proofs.lemmas.List.Sums.{sum_by-append, sum_by-set}
-use Rattle.lockscript.specs.Scripts.{ScriptFields}
-use Rattle.explorer.specs.Outcomes.{IsOutcomeOf, OutcomeParts, seeds_of, with_seed}
+use Rattle.lockscript.specs.rule.Scripts.{ScriptFields}
+use Rattle.explorer.specs.rule.Outcomes.{IsOutcomeOf, OutcomeParts, seeds_of, with_seed}
 
 abbrev seeds : OutcomeParts → ℕ
 seeds o = length o.seeds

@@ -5,17 +5,17 @@ use Rattle.std.specs.Option.{option_map_or}
 use Rattle.std.proofs.lemmas.Grind.{common_steps, flat_map-append}
 use Rattle.std.proofs.lemmas.List.{append-nil, map-append, take_more}
 use Rattle.model.specs.declared.op.Op.{Op}
-use Rattle.messages.specs.Entries.{EntryFields}
+use Rattle.messages.specs.code.Entries.{EntryFields}
 use Rattle.lockscript.specs.declared.refused_line.RefusedLine.{RefusedLine}
 use Rattle.lockscript.specs.declared.script_line.Command.{Command}
 use Rattle.lockscript.specs.declared.script_line.Command.TheVariants.{Call}
-use Rattle.lockscript.specs.Scripts.{LineFields}
+use Rattle.lockscript.specs.rule.Scripts.{LineFields}
 use Rattle.model.specs.declared.call.CallId.{CallId}
 use Rattle.explorer.specs.declared.answer.Answer.{Answer}
-use Rattle.explorer.specs.Answers.{answer_behind, answers_behind, calls_by, count_taken, is_taken, named_answer, names, refusal_of, tried_answer, tries}
-use Rattle.explorer.specs.ByProcess.{ByProcess, list_in}
-use Rattle.explorer.specs.Indexes.{answer_by, answer_tried, next_try, KnowsCalls, KnowsTries}
-use Rattle.explorer.specs.Schedules.{calls_of, op_of}
+use Rattle.explorer.specs.rule.Answers.{answer_behind, answers_behind, calls_by, count_taken, is_taken, named_answer, names, refusal_of, tried_answer, tries}
+use Rattle.explorer.specs.code.ByProcess.{ByProcess, list_in}
+use Rattle.explorer.specs.code.Indexes.{answer_by, answer_tried, next_try, KnowsCalls, KnowsTries}
+use Rattle.explorer.specs.rule.Schedules.{calls_of, op_of}
 
 -- what a list has from a place on
 pub drop_at : {A : Type 0} (xs : List A) (k : ℕ) (x : A) → k < length xs → drop k xs ≡ get_or xs k x ∷ drop (k + 1) xs

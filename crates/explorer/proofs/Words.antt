@@ -5,8 +5,8 @@ use Rattle.std.proofs.lemmas.Bool.{ne_eqb}
 use Rattle.std.proofs.lemmas.Bool.Decides.{Decides-eqb}
 use Rattle.std.proofs.lemmas.List.Sums.{sum_by-cons}
 use Rattle.std.proofs.lemmas.Slice.Eq.{starts_is}
-use Rattle.texts.specs.LineFeeds.{line_feed, line_feeds, BeginsWithLine}
-use Rattle.explorer.specs.Expectations.{begins, behind, expect, split_feed, words_of}
+use Rattle.texts.specs.rule.LineFeeds.{line_feed, line_feeds, BeginsWithLine}
+use Rattle.explorer.specs.rule.Expectations.{begins, behind, expect, split_feed, words_of}
 
 rest-feedless : (b : ℕ) (bs : List ℕ) → line_feeds (b ∷ bs) ≡ 0 → (b ≢ line_feed) × (line_feeds bs ≡ 0)
 rest-feedless b bs none =

@@ -1,11 +1,2 @@
-pub mod Answers
-pub mod ByProcess
-pub mod Comparisons
-pub mod Ends
-pub mod Expectations
-pub mod Explores
-pub mod Indexes
-pub mod Laws
-pub mod Outcomes
-pub mod Schedules
-pub mod Texts
+pub mod rule
+pub mod code

@@ -1,6 +1,6 @@
 //! What calls come to.
 ghost use Rattle.std.specs.Prelude.{◌≡◌, ◌++◌, ◌↔◌, string_bytes, IsTrue, OnOk};
-ghost use Rattle.explorer.specs.Answers.{answer_text};
+ghost use Rattle.explorer.specs.rule.Answers.{answer_text};
 
 use lockscript::replies::push_reply;
 use model::reply::Reply;

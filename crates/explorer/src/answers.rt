@@ -2,12 +2,12 @@
 ghost use Rattle.std.specs.Prelude.{◌≡◌, ◌++◌, [], ℕ, false, if◌then◌else◌, IfOk, List, OnOk};
 ghost use Rattle.std.specs.Option.{option_map_or};
 ghost use Rattle.lockscript.specs.declared.refused_line.RefusedLine.{RefusedLine};
-ghost use Rattle.lockscript.specs.Scripts.{LineFields};
-ghost use Rattle.player.specs.Parts.{state_of};
-ghost use Rattle.explorer.specs.Answers.{answers_behind, answers_in, is_taken};
-ghost use Rattle.explorer.specs.ByProcess.{list_in};
-ghost use Rattle.explorer.specs.Indexes.{answer_by, answer_tried, next_try, KnowsTries};
-ghost use Rattle.explorer.specs.Schedules.{numbered, op_of};
+ghost use Rattle.lockscript.specs.rule.Scripts.{LineFields};
+ghost use Rattle.player.specs.code.Parts.{state_of};
+ghost use Rattle.explorer.specs.rule.Answers.{answers_behind, answers_in, is_taken};
+ghost use Rattle.explorer.specs.code.ByProcess.{list_in};
+ghost use Rattle.explorer.specs.code.Indexes.{answer_by, answer_tried, next_try, KnowsTries};
+ghost use Rattle.explorer.specs.rule.Schedules.{numbered, op_of};
 
 use crate::answer::Answer;
 use crate::by_process::{count, value_at};

@@ -1,6 +1,6 @@
 //! Lists, one of each process.
 ghost use Rattle.std.specs.Prelude.{◌≡◌, ◌==◌, ◌&&◌, ◌∷◌, ◌++◌, [], ℕ, if◌then◌else◌, length, slice_get, OnOk};
-ghost use Rattle.explorer.specs.ByProcess.{list_in};
+ghost use Rattle.explorer.specs.code.ByProcess.{list_in};
 
 use std::alloc::{AllocError, Global};
 use std::collections::HashMap;

@@ -1,9 +1,9 @@
 //! The calls of processes.
 ghost use Rattle.std.specs.Prelude.{◌≡◌, ◌++◌, ℕ, IfOk, OnOk};
-ghost use Rattle.explorer.specs.ByProcess.{list_in};
-ghost use Rattle.explorer.specs.Ends.{AreServed};
-ghost use Rattle.explorer.specs.Indexes.{KnowsLines};
-ghost use Rattle.explorer.specs.Schedules.{op_of};
+ghost use Rattle.explorer.specs.code.ByProcess.{list_in};
+ghost use Rattle.explorer.specs.rule.Ends.{AreServed};
+ghost use Rattle.explorer.specs.code.Indexes.{KnowsLines};
+ghost use Rattle.explorer.specs.rule.Schedules.{op_of};
 
 use crate::by_process::{ByProcess, add};
 use lockscript::script_line::{Command, ScriptLine};

@@ -1,7 +1,7 @@
 //! Whether a run of a script comes to what the script expects.
 ghost use Rattle.std.specs.Prelude.{[], string_bytes, IfOk};
 ghost use Rattle.std.specs.Option.{option_map};
-ghost use Rattle.explorer.specs.Comparisons.{breaks_in_run, IsCompared};
+ghost use Rattle.explorer.specs.rule.Comparisons.{breaks_in_run, IsCompared};
 
 use crate::answers::run_answers;
 use crate::expectations::breaks;

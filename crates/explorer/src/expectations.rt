@@ -1,6 +1,6 @@
 //! What comments of a script expect of its calls.
 ghost use Rattle.std.specs.Prelude.{◌≡◌, option_map, slice_get, Some, IfOk};
-ghost use Rattle.explorer.specs.Expectations.{begins, breaks, expected, is_broken, is_broken_at, words_in, words_of};
+ghost use Rattle.explorer.specs.rule.Expectations.{begins, breaks, expected, is_broken, is_broken_at, words_in, words_of};
 
 use crate::answer::{Answer, push_answer};
 use crate::reader::{Reader, split_feed};

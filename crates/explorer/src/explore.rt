@@ -3,13 +3,13 @@ ghost use Rattle.std.specs.Prelude.{◌≡◌, ◌≢◌, ◌+◌, ◌<◌, ◌�
 ghost use Rattle.std.specs.List.{list_any};
 ghost use Rattle.std.specs.List.Sorted.{IsPermutation};
 ghost use Rattle.lockscript.specs.declared.play_error.PlayError.TheVariants.{JournalFull, NoMemory};
-ghost use Rattle.player.specs.Parts.{state_of};
+ghost use Rattle.player.specs.code.Parts.{state_of};
 ghost use Rattle.explorer.specs.declared.answer.Answer.{Answer};
-ghost use Rattle.explorer.specs.Answers.{answers_in};
-ghost use Rattle.explorer.specs.Expectations.{breaks};
-ghost use Rattle.explorer.specs.Explores.{Explores};
-ghost use Rattle.explorer.specs.Outcomes.{AreMet, AreOrdered, AreOutcomesOf, ComesIn, IsOutcomeOf, OutcomeParts, seed_of, seeds_of, with_seed};
-ghost use Rattle.explorer.specs.Schedules.{HasFullSchedule};
+ghost use Rattle.explorer.specs.rule.Answers.{answers_in};
+ghost use Rattle.explorer.specs.rule.Expectations.{breaks};
+ghost use Rattle.explorer.specs.rule.Explores.{Explores};
+ghost use Rattle.explorer.specs.rule.Outcomes.{AreMet, AreOrdered, AreOutcomesOf, ComesIn, IsOutcomeOf, OutcomeParts, seed_of, seeds_of, with_seed};
+ghost use Rattle.explorer.specs.rule.Schedules.{HasFullSchedule};
 
 use crate::answer::Answer;
 use crate::answers::answers;

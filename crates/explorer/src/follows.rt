@@ -1,10 +1,10 @@
 //! What may come next in a schedule.
 ghost use Rattle.std.specs.Prelude.{◌≡◌, ◌||◌, true, length, slice_get, Bool, IfSome, List, None};
 ghost use Rattle.lockscript.specs.declared.script_line.Command.{Command};
-ghost use Rattle.lockscript.specs.Scripts.{LineFields};
-ghost use Rattle.explorer.specs.Ends.{AreServed};
-ghost use Rattle.explorer.specs.Indexes.{IsServedOther, KnowsCalls, KnowsLines};
-ghost use Rattle.explorer.specs.Schedules.{calls_in, calls_of, is_among, may_stand, same_change, Follows};
+ghost use Rattle.lockscript.specs.rule.Scripts.{LineFields};
+ghost use Rattle.explorer.specs.rule.Ends.{AreServed};
+ghost use Rattle.explorer.specs.code.Indexes.{IsServedOther, KnowsCalls, KnowsLines};
+ghost use Rattle.explorer.specs.rule.Schedules.{calls_in, calls_of, is_among, may_stand, same_change, Follows};
 
 use crate::by_process::{count, value_at};
 use crate::calls::Calls;
@@ -112,8 +112,8 @@ fn is_in_limits(command: &Command) -> bool
     }
 }
 
-ghost use Rattle.model.specs.Limits.{IsNumber, most_nodes, most_processes};
-ghost use Rattle.messages.specs.Shapes.{most_files};
+ghost use Rattle.model.specs.rule.Limits.{IsNumber, most_nodes, most_processes};
+ghost use Rattle.messages.specs.rule.Shapes.{most_files};
 
 // Whether a node may have the number.
 fn is_node(node: u8) -> bool

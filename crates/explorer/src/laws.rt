@@ -1,5 +1,5 @@
 //! What holds of every schedule.
-ghost use Rattle.explorer.specs.Laws.{EveryScheduleIsRead};
+ghost use Rattle.explorer.specs.code.Laws.{EveryScheduleIsRead};
 
 /// The text of commands for which lines may ask, on a cluster that a script may have, is a script of just these
 /// lines: so what `run` makes of it is what its lines come to.

@@ -1,6 +1,6 @@
 //! Lines whose calls are open in each outcome.
 ghost use Rattle.std.specs.Prelude.{◌≡◌, not, option_map, slice_get, IfOk};
-ghost use Rattle.explorer.specs.Outcomes.{is_ended_in_some, is_open, is_open_in_each, open_in_each};
+ghost use Rattle.explorer.specs.rule.Outcomes.{is_ended_in_some, is_open, is_open_in_each, open_in_each};
 
 use crate::answer::Answer;
 use crate::outcome::Outcome;

@@ -1,6 +1,6 @@
 //! Outcomes of a script.
 ghost use Rattle.std.specs.Prelude.{◌≡◌, ◌∷◌, ◌++◌, [], OnOk};
-ghost use Rattle.explorer.specs.Outcomes.{rank};
+ghost use Rattle.explorer.specs.rule.Outcomes.{rank};
 
 use crate::answer::Answer;
 use std::alloc::{AllocError, Global};
@@ -16,7 +16,7 @@ pub(crate) struct Outcome {
 }
 
 impl Model for Outcome {
-    ghost use Rattle.explorer.specs.Outcomes.{OutcomeParts};
+    ghost use Rattle.explorer.specs.rule.Outcomes.{OutcomeParts};
 
     ghost Value = { OutcomeParts };
 

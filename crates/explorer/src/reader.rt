@@ -1,6 +1,6 @@
 //! Reading a text behind some of its lines.
 ghost use Rattle.std.specs.Prelude.{◌≡◌, None, Some, MatchOption};
-ghost use Rattle.explorer.specs.Expectations.{behind, split_feed};
+ghost use Rattle.explorer.specs.rule.Expectations.{behind, split_feed};
 
 use lockscript::lines::split_line;
 

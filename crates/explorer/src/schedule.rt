@@ -1,18 +1,18 @@
 //! Making schedules.
 ghost use Rattle.std.specs.Prelude.{◌≡◌, ◌+◌, ◌≤◌, ◌∷◌, ◌++◌, [], ℕ, List, length, IfErr, IfOk, IfSome, None, OnOk, Some};
-ghost use Rattle.messages.specs.Shapes.{ShapeFields};
-ghost use Rattle.cluster_core.specs.Histories.{HasOneHistory};
-ghost use Rattle.cluster_core.specs.Runs.{Leads};
-ghost use Rattle.cluster_core.specs.World.{first_world};
+ghost use Rattle.messages.specs.rule.Shapes.{ShapeFields};
+ghost use Rattle.cluster_core.specs.rule.Histories.{HasOneHistory};
+ghost use Rattle.cluster_core.specs.rule.Runs.{Leads};
+ghost use Rattle.cluster_core.specs.rule.World.{first_world};
 ghost use Rattle.lockscript.specs.declared.script_line.Command.{Command};
 ghost use Rattle.lockscript.specs.declared.play_error.PlayError.TheVariants.{JournalFull};
-ghost use Rattle.player.specs.Parts.{progress, state_of};
-ghost use Rattle.player.specs.Played.{played_of, ComesTo};
-ghost use Rattle.player.specs.Progress.{Does, RunsTo};
-ghost use Rattle.explorer.specs.ByProcess.{list_in};
-ghost use Rattle.explorer.specs.Ends.{AreServed, IsEnded, MakesAll};
-ghost use Rattle.explorer.specs.Indexes.{KnowsCalls, KnowsLines};
-ghost use Rattle.explorer.specs.Schedules.{limit_of, line_limit, most_lines, numbered, op_of, Follows, HasFullSchedule, IsFullFrom, IsScheduleOf};
+ghost use Rattle.player.specs.code.Parts.{progress, state_of};
+ghost use Rattle.player.specs.rule.Played.{played_of, ComesTo};
+ghost use Rattle.player.specs.rule.Progress.{Does, RunsTo};
+ghost use Rattle.explorer.specs.code.ByProcess.{list_in};
+ghost use Rattle.explorer.specs.rule.Ends.{AreServed, IsEnded, MakesAll};
+ghost use Rattle.explorer.specs.code.Indexes.{KnowsCalls, KnowsLines};
+ghost use Rattle.explorer.specs.rule.Schedules.{limit_of, line_limit, most_lines, numbered, op_of, Follows, HasFullSchedule, IsFullFrom, IsScheduleOf};
 
 use crate::calls::{Calls, calls_in, note_call};
 use crate::chooser::Chooser;

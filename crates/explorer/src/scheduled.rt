@@ -14,7 +14,7 @@ pub struct Scheduled {
 }
 
 impl Model for Scheduled {
-    ghost use Rattle.explorer.specs.Schedules.{ScheduledParts};
+    ghost use Rattle.explorer.specs.rule.Schedules.{ScheduledParts};
 
     ghost Value = { ScheduledParts };
 

@@ -1,7 +1,7 @@
 //! The text of a schedule.
 ghost use Rattle.std.specs.Prelude.{◌≡◌, ◌++◌, codes, flat_map, string_bytes, IfOk, OnOk};
-ghost use Rattle.lockscript.specs.Scripts.{shape_text};
-ghost use Rattle.explorer.specs.Texts.{command_line, script_text};
+ghost use Rattle.lockscript.specs.rule.Scripts.{shape_text};
+ghost use Rattle.explorer.specs.rule.Texts.{command_line, script_text};
 
 use lockscript::script_line::Command;
 use lockscript::writing::push_command;

@@ -25,8 +25,8 @@ pub(crate) struct Told<'a> {
 
 impl<'a> Model for Told<'a> {
     ghost use Rattle.std.specs.Prelude.{List};
-    ghost use Rattle.messages.specs.Entries.{EntryFields};
-    ghost use Rattle.explorer.specs.Indexes.{KnowsNames, KnowsReplies};
+    ghost use Rattle.messages.specs.code.Entries.{EntryFields};
+    ghost use Rattle.explorer.specs.code.Indexes.{KnowsNames, KnowsReplies};
 
     ghost Value = { List EntryFields };
 
@@ -38,7 +38,7 @@ impl<'a> Model for Told<'a> {
 impl<'a> Told<'a> {
     ghost use Rattle.std.specs.Prelude.{◌≡◌, slice_get, IfOk, IfSome, Some};
     ghost use Rattle.explorer.specs.declared.answer.Answer.TheVariants.{Open};
-    ghost use Rattle.explorer.specs.Answers.{named_answer, names, reply_answer};
+    ghost use Rattle.explorer.specs.rule.Answers.{named_answer, names, reply_answer};
 
     /// What these entries tell.
     ///
@@ -88,10 +88,10 @@ impl<'a> Told<'a> {
 }
 
 ghost use Rattle.std.specs.Prelude.{◌≡◌, ◌++◌, ◌∷◌, [], ℕ, List, if◌then◌else◌, option_to_list, IfOk, OnOk};
-ghost use Rattle.messages.specs.Entries.{EntryFields};
-ghost use Rattle.explorer.specs.Answers.{is_call_by};
-ghost use Rattle.explorer.specs.ByProcess.{list_in};
-ghost use Rattle.explorer.specs.Indexes.{KnowsNames, KnowsReplies};
+ghost use Rattle.messages.specs.code.Entries.{EntryFields};
+ghost use Rattle.explorer.specs.rule.Answers.{is_call_by};
+ghost use Rattle.explorer.specs.code.ByProcess.{list_in};
+ghost use Rattle.explorer.specs.code.Indexes.{KnowsNames, KnowsReplies};
 
 // The names of the calls of the entries.
 fn names(alloc: Global, entries: &[Entry]) -> Result<Names, AllocError>

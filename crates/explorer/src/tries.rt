@@ -1,10 +1,10 @@
 //! Which calls of a schedule were refused.
 ghost use Rattle.std.specs.Prelude.{◌≡◌, ◌++◌, ◌∷◌, [], ℕ, if◌then◌else◌, IfOk, List, OnOk};
 ghost use Rattle.lockscript.specs.declared.refused_line.RefusedLine.{RefusedLine};
-ghost use Rattle.explorer.specs.Answers.{calls_by};
-ghost use Rattle.explorer.specs.ByProcess.{list_in};
-ghost use Rattle.explorer.specs.Indexes.{KnowsRefusals, KnowsTries};
-ghost use Rattle.explorer.specs.Schedules.{numbered};
+ghost use Rattle.explorer.specs.rule.Answers.{calls_by};
+ghost use Rattle.explorer.specs.code.ByProcess.{list_in};
+ghost use Rattle.explorer.specs.code.Indexes.{KnowsRefusals, KnowsTries};
+ghost use Rattle.explorer.specs.rule.Schedules.{numbered};
 
 use crate::by_process::{ByProcess, add};
 use lockscript::refused_line::RefusedLine;

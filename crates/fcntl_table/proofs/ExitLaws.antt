@@ -3,15 +3,15 @@ use Rattle.std.proofs.Common.{◌≡◌, ℕ, ◌==◌, ◌&&◌, zero, suc, Boo
 use Rattle.model.specs.declared.host.Host.{Host}
 use Rattle.model.specs.declared.opened.Opened.{Opened}
 use Rattle.model.specs.declared.process.Process.{Process}
-use Rattle.model.specs.Owners.{process_owner, description_owner}
-use Rattle.model.specs.Locks.{Locks, without_owner, without_owner_anywhere}
-use Rattle.model.specs.Descriptors.{Processes, is_open, with_process, with_descriptor}
-use Rattle.model.specs.Table.{Table, around, is_running, descriptor, with_processes, closed_if, closed_below}
-use Rattle.lock_table.specs.Rows.{TableParts, held}
+use Rattle.model.specs.rule.Owners.{process_owner, description_owner}
+use Rattle.model.specs.rule.Locks.{Locks, without_owner, without_owner_anywhere}
+use Rattle.model.specs.rule.Descriptors.{Processes, is_open, with_process, with_descriptor}
+use Rattle.model.specs.rule.Table.{Table, around, is_running, descriptor, with_processes, closed_if, closed_below}
+use Rattle.lock_table.specs.code.Rows.{TableParts, held}
 use Rattle.model.proofs.OwnerLaws.{host_refl}
 use Rattle.descriptors.specs.declared.process_entry.ProcessEntry.{ProcessEntry}
-use Rattle.descriptors.specs.Rows.{processes}
-use Rattle.fcntl_table.specs.Hosts.{Closes, process_at, shown, with_host}
+use Rattle.descriptors.specs.code.Rows.{processes}
+use Rattle.fcntl_table.specs.rule.Hosts.{Closes, process_at, shown, with_host}
 use Rattle.fcntl_table.proofs.TableLaws.{host_of}
 
 -- the processes of a host after they are replaced

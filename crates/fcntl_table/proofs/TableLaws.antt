@@ -2,8 +2,8 @@
 use Rattle.std.proofs.Common.{◌≡◌, ℕ, Bool, true, false, if◌then◌else◌, refl, sym, ◌∙◌, ap, subst, Option, Some, None, Result, Ok, Err, ℤ}
 use Rattle.std.specs.Prelude.{IfOk, IsOk, MatchResult}
 use Rattle.intervals.specs.declared.span.SpanError.{SpanError}
-use Rattle.intervals.specs.Bytes.{Range}
-use Rattle.intervals.specs.Segment.{seg}
+use Rattle.intervals.specs.rule.Bytes.{Range}
+use Rattle.intervals.specs.rule.Segment.{seg}
 use Rattle.model.specs.declared.host.Host.{Host}
 use Rattle.model.specs.declared.mode.Mode.{Mode}
 use Rattle.model.specs.declared.opened.Opened.{Opened}
@@ -12,28 +12,28 @@ use Rattle.model.specs.declared.process.Process.{Process}
 use Rattle.model.specs.declared.reply.Reply.{Reply}
 use Rattle.model.specs.declared.reply.Reply.TheVariants as reply
 use Rattle.model.specs.declared.reply.Reply.TheVariants.{Done, Exists}
-use Rattle.model.specs.Descriptors.{Processes, no_processes, after_spawn}
-use Rattle.model.specs.Locks.{no_locks}
-use Rattle.model.specs.Table.{Table, LockTarget, empty_table, around, is_running, descriptor, beside, target_at, target, closed_at, closed_if, after_close}
-use Rattle.model.specs.Step.{Is}
-use Rattle.lock_table.specs.Rows.{held}
+use Rattle.model.specs.rule.Descriptors.{Processes, no_processes, after_spawn}
+use Rattle.model.specs.rule.Locks.{no_locks}
+use Rattle.model.specs.rule.Table.{Table, LockTarget, empty_table, around, is_running, descriptor, beside, target_at, target, closed_at, closed_if, after_close}
+use Rattle.model.specs.rule.Step.{Is}
+use Rattle.lock_table.specs.code.Rows.{held}
 use Rattle.descriptors.specs.declared.error.FdError.{FdError}
 use Rattle.descriptors.specs.declared.error.FdError.TheVariants.{NoProcess, BadFd}
 use Rattle.descriptors.specs.declared.error.ProcessError.{ProcessError}
 use Rattle.descriptors.specs.declared.error.ProcessError.TheVariants as error
-use Rattle.descriptors.specs.Rows.{Refuses, opened_or, resolved, fd_reply}
+use Rattle.descriptors.specs.code.Rows.{Refuses, opened_or, resolved, fd_reply}
 use Rattle.model.proofs.Refusals.{ok_is}
 use Rattle.fcntl_table.proofs.HostLaws.{runs-kept}
 use Rattle.fcntl_table.proofs.TargetLaws.{target-ok, target-err}
 use Rattle.fcntl_table.specs.declared.table.FcntlTable.{FcntlTable}
-use Rattle.fcntl_table.specs.Hosts.{processes_of}
-use Rattle.fcntl_table.specs.Tables.{table_of, Keeps}
+use Rattle.fcntl_table.specs.rule.Hosts.{processes_of}
+use Rattle.fcntl_table.specs.rule.Tables.{table_of, Keeps}
 use Rattle.fcntl_table.specs.declared.edit.Planned.{Planned}
 use Rattle.fcntl_table.specs.declared.edit.TableEdit.{TableEdit}
 use Rattle.fcntl_table.specs.declared.edit.TableEdit.TheVariants.{Nothing, OfProcess, Closes}
-use Rattle.fcntl_table.specs.Edits.{edited}
+use Rattle.fcntl_table.specs.code.Edits.{edited}
 use Rattle.descriptors.specs.declared.edit.ProcessEdit.{ProcessEdit}
-use Rattle.descriptors.specs.Edits.{edited as edited_processes}
+use Rattle.descriptors.specs.code.Edits.{edited as edited_processes}
 
 -- the empty table
 pub table-empty : (m : FcntlTable) → ((node incarnation : ℕ) → processes_of m.hosts node incarnation ≡ no_processes) → held m.locks ≡ no_locks → table_of m ≡ empty_table m.locks.limit

@@ -2,18 +2,18 @@
 use Rattle.std.specs.Prelude.{◌≡◌, ℕ, Bool, true, false, if◌then◌else◌, Option, Some, None, Result, Ok, Err, IfOk, IfErr, refl}
 use Rattle.std.proofs.Common.{ap, sym}
 use Rattle.intervals.specs.declared.span.SpanError.{SpanError}
-use Rattle.intervals.specs.Bytes.{Range}
+use Rattle.intervals.specs.rule.Bytes.{Range}
 use Rattle.model.specs.declared.mode.Mode.{Mode}
 use Rattle.model.specs.declared.owner.Kind.{Kind}
 use Rattle.model.specs.declared.opened.Opened.{Opened}
 use Rattle.model.specs.declared.process.Process.{Process}
 use Rattle.model.specs.declared.reply.Reply.{Reply}
 use Rattle.model.specs.declared.reply.Reply.TheVariants as reply
-use Rattle.model.specs.Descriptors.{Processes}
-use Rattle.model.specs.Table.{LockTarget, target_at}
+use Rattle.model.specs.rule.Descriptors.{Processes}
+use Rattle.model.specs.rule.Table.{LockTarget, target_at}
 use Rattle.descriptors.specs.declared.error.FdError.{FdError}
 use Rattle.descriptors.specs.declared.error.FdError.TheVariants.{NoProcess, BadFd}
-use Rattle.descriptors.specs.Rows.{resolved, opened_or, fd_reply}
+use Rattle.descriptors.specs.code.Rows.{resolved, opened_or, fd_reply}
 
 -- the target of a lock call, from its tests in their order
 abbrev pub target_in : Processes → Process → Option Mode → ℕ → Kind → Result Range SpanError → Result LockTarget Reply

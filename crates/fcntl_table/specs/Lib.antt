@@ -1,4 +1,2 @@
-pub mod Targets
-pub mod Hosts
-pub mod Tables
-pub mod Edits
+pub mod rule
+pub mod code

@@ -1,12 +1,12 @@
 //! The processes of each host; a host is a node in one of its incarnations.
 ghost use Rattle.std.specs.Prelude.{◌≡◌, ◌≢◌, ℕ, true, false, Ok, IfOk, IfErr, IsOk, IsTrue, ◌↔◌, OnOk, MatchOption};
-ghost use Rattle.model.specs.Limits.{IsHost, IsNumber, most_processes, most_descriptions};
-ghost use Rattle.model.specs.Descriptors.{no_processes, after};
-ghost use Rattle.model.specs.Table.{descriptor, closed_if, exited};
-ghost use Rattle.descriptors.specs.Rows.{resolved, Refuses};
-ghost use Rattle.descriptors.specs.Edits.{edited};
-ghost use Rattle.descriptors.specs.Calls.{begins, CanBegin};
-ghost use Rattle.fcntl_table.specs.Hosts.{FitsOn, IsKept, process_at, processes_of, table_with, with_host};
+ghost use Rattle.model.specs.rule.Limits.{IsHost, IsNumber, most_processes, most_descriptions};
+ghost use Rattle.model.specs.rule.Descriptors.{no_processes, after};
+ghost use Rattle.model.specs.rule.Table.{descriptor, closed_if, exited};
+ghost use Rattle.descriptors.specs.code.Rows.{resolved, Refuses};
+ghost use Rattle.descriptors.specs.code.Edits.{edited};
+ghost use Rattle.descriptors.specs.code.Calls.{begins, CanBegin};
+ghost use Rattle.fcntl_table.specs.rule.Hosts.{FitsOn, IsKept, process_at, processes_of, table_with, with_host};
 
 use crate::shut::{close_at, exit_at};
 use descriptors::edit::ProcessEdit;
@@ -30,7 +30,7 @@ pub(crate) struct Hosts {
 }
 
 impl Model for Hosts {
-    ghost use Rattle.fcntl_table.specs.Hosts.{HostRows, AreHosts};
+    ghost use Rattle.fcntl_table.specs.rule.Hosts.{HostRows, AreHosts};
 
     ghost Value = { HostRows };
 

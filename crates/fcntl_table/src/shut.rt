@@ -1,10 +1,10 @@
 //! How a host's descriptors are closed and its processes exit, with the locks that depend on them.
 ghost use Rattle.std.specs.Prelude.{◌≡◌, ℕ, true, IfSome};
-ghost use Rattle.model.specs.Limits.{IsNumber, most_of, most_processes, most_descriptions};
-ghost use Rattle.model.specs.Descriptors.{Processes as ProcessTable};
-ghost use Rattle.model.specs.Table.{descriptor, closed_if, exited};
-ghost use Rattle.descriptors.specs.Rows.{processes as processes_of};
-ghost use Rattle.fcntl_table.specs.Hosts.{Closes, process_at, shown};
+ghost use Rattle.model.specs.rule.Limits.{IsNumber, most_of, most_processes, most_descriptions};
+ghost use Rattle.model.specs.rule.Descriptors.{Processes as ProcessTable};
+ghost use Rattle.model.specs.rule.Table.{descriptor, closed_if, exited};
+ghost use Rattle.descriptors.specs.code.Rows.{processes as processes_of};
+ghost use Rattle.fcntl_table.specs.rule.Hosts.{Closes, process_at, shown};
 
 use descriptors::processes::Processes;
 use lock_table::lock_table::LockTable;

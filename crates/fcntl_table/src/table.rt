@@ -1,16 +1,16 @@
 //! The one table of a single machine, and the calls that plan and make its changes.
 ghost use Rattle.std.specs.Prelude.{◌≡◌, ◌<◌, None, false, IfOk, IsOk, IsTrue, ◌↔◌, OnOk, OnErr, MatchOption, MatchResult, Result, Ok, Err};
-ghost use Rattle.model.specs.Locks.{IsRegion, IsLowestBlocker};
-ghost use Rattle.model.specs.Descriptors.{Processes, after};
+ghost use Rattle.model.specs.rule.Locks.{IsRegion, IsLowestBlocker};
+ghost use Rattle.model.specs.rule.Descriptors.{Processes, after};
 ghost use Rattle.model.specs.declared.reply.Reply.{Reply};
-ghost use Rattle.model.specs.Table.{empty_table, around, beside, target, call_target, regions_with, lock_within, after_close, after_exit};
-ghost use Rattle.model.specs.Step.{Is, Unblocked};
-ghost use Rattle.descriptors.specs.Rows.{Refuses};
-ghost use Rattle.descriptors.specs.Calls.{begins, CanBegin};
+ghost use Rattle.model.specs.rule.Table.{empty_table, around, beside, target, call_target, regions_with, lock_within, after_close, after_exit};
+ghost use Rattle.model.specs.rule.Step.{Is, Unblocked};
+ghost use Rattle.descriptors.specs.code.Rows.{Refuses};
+ghost use Rattle.descriptors.specs.code.Calls.{begins, CanBegin};
 ghost use Rattle.fcntl_table.specs.declared.edit.TableEdit.TheVariants.{Nothing};
-ghost use Rattle.fcntl_table.specs.Targets.{IsOwn, IsSpan};
-ghost use Rattle.fcntl_table.specs.Tables.{table_of, Keeps};
-ghost use Rattle.fcntl_table.specs.Edits.{edited, Fits};
+ghost use Rattle.fcntl_table.specs.code.Targets.{IsOwn, IsSpan};
+ghost use Rattle.fcntl_table.specs.rule.Tables.{table_of, Keeps};
+ghost use Rattle.fcntl_table.specs.code.Edits.{edited, Fits};
 
 use crate::edit::{Planned, TableEdit};
 use crate::hosts::Hosts;
@@ -78,7 +78,7 @@ impl FcntlTable {
     ///
     /// # Errors
     /// `AllocError` where a request for memory was refused.
-    #[tactic(auto, unfolding(crate::specs::Tables::table_of))]
+    #[tactic(auto, unfolding(crate::specs::rule::Tables::table_of))]
     pub fn admit(&mut self, host: Host) -> Result<(), AllocError>
         ensures same { table_of self.new ≡ table_of self.old }
         ensures kept { OnOk result (Keeps self.new host) }
@@ -123,7 +123,7 @@ impl FcntlTable {
 
     /// The lowest region of another owner that blocks the call (POSIX.1-2017 `fcntl()`, F_GETLK): by first
     /// byte, then by owner. Takes no memory.
-    #[tactic(auto, unfolding(crate::specs::Tables::table_of))]
+    #[tactic(auto, unfolding(crate::specs::rule::Tables::table_of))]
     pub fn blocker(&self, call: LockTarget, mode: Mode) -> Option<LockInfo>
         ensures { MatchOption result (Unblocked (table_of self.now) call mode) (IsLowestBlocker ((table_of self.now).locks call.file) call.owner call.span mode) }
     {
@@ -131,7 +131,7 @@ impl FcntlTable {
     }
 
     /// Whether the lock is a region of its owner in the file. Takes no memory.
-    #[tactic(auto, unfolding(crate::specs::Tables::table_of))]
+    #[tactic(auto, unfolding(crate::specs::rule::Tables::table_of))]
     pub fn has_region(&self, file: u16, lock: &LockInfo) -> bool
         ensures { IsTrue result ↔ IsRegion ((table_of self.now).locks file) lock.now }
     {
@@ -181,7 +181,7 @@ impl FcntlTable {
     }
 
     /// The change that `exit` would make, and its reply: `Done` or `NoProcess`. Takes no memory.
-    #[tactic(auto, unfolding(crate::specs::Tables::table_of))]
+    #[tactic(auto, unfolding(crate::specs::rule::Tables::table_of))]
     pub fn plan_exit(&self, process: Process) -> Planned
         ensures is { Is (after_exit (table_of self.now) process) result.reply (edited (table_of self.now) result.edit) }
         ensures fits { Fits self.now result.edit }
@@ -203,7 +203,7 @@ impl FcntlTable {
     ///
     /// # Errors
     /// `AllocError` where a request for memory was refused; never in place of `NoLocks`.
-    #[tactic(auto, unfolding(crate::specs::Tables::table_of))]
+    #[tactic(auto, unfolding(crate::specs::rule::Tables::table_of))]
     pub fn plan_lock(&self, call: LockTarget, mode: Option<Mode>) -> Result<Planned, AllocError>
         ensures ok { IfOk result (λ planned. Is (lock_within (table_of self.now) call mode) planned.reply (edited (table_of self.now) planned.edit)) }
         ensures refused { (table_of self.now).limit < regions_with (table_of self.now) call mode → result ≡ Ok (record { edit = Nothing; reply = Reply.NoLocks }) }
@@ -222,7 +222,7 @@ impl FcntlTable {
     }
 
     /// Makes a planned change. Takes no memory.
-    #[tactic(auto, unfolding(crate::specs::Tables::table_of))]
+    #[tactic(auto, unfolding(crate::specs::rule::Tables::table_of))]
     pub fn apply(&mut self, edit: TableEdit)
         requires { Fits self.old edit }
         ensures { table_of self.new ≡ edited (table_of self.old) edit }

@@ -1,8 +1,8 @@
 //! What a lock call is about: its file, the owner of the lock, and the bytes.
 ghost use Rattle.std.specs.Prelude.{◌≡◌, Some, Ok, IfOk};
-ghost use Rattle.model.specs.Limits.{IsNumber, most_descriptions};
-ghost use Rattle.model.specs.Table.{permits, allows, owner_of, target_at};
-ghost use Rattle.fcntl_table.specs.Targets.{IsOwn, IsSpan};
+ghost use Rattle.model.specs.rule.Limits.{IsNumber, most_descriptions};
+ghost use Rattle.model.specs.rule.Table.{permits, allows, owner_of, target_at};
+ghost use Rattle.fcntl_table.specs.code.Targets.{IsOwn, IsSpan};
 
 use intervals::span::{Span, SpanError};
 use model::access::Access;

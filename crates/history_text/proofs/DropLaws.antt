@@ -6,7 +6,7 @@ use Rattle.std.specs.Option.{IfSome}
 use Rattle.std.specs.declared.option.Option.{Option}
 use Rattle.std.proofs.lemmas.List.{drop_at, take_at}
 use Rattle.std.proofs.lemmas.List.Elements.{All-append, All-nil, All-push, All-weaker}
-use Rattle.texts.specs.Reads.{IsWithin}
+use Rattle.texts.specs.rule.Reads.{IsWithin}
 use Rattle.model.specs.declared.owner.Owner.{Owner}
 use Rattle.client_history.specs.declared.act.Act.TheVariants.{Drops}
 use Rattle.client_history.specs.declared.client_call.ClientCall.{ClientCall}
@@ -15,11 +15,11 @@ use Rattle.history_text.specs.declared.life.Exit.{Exit}
 use Rattle.history_text.specs.declared.life.Life.{Life}
 use Rattle.history_text.specs.declared.losses.Loss.{Loss}
 use Rattle.history_text.specs.declared.rule.Allowed.{Allowed}
-use Rattle.history_text.specs.Drops.{Adds, IsAloneAtEnd, IsCallAtEnd, IsDrop, IsEnded, IsLossOf, with_told}
-use Rattle.history_text.specs.Files.{IsAlone, IsCallOf, IsFileOf, calls_in, lines_in, runs}
-use Rattle.history_text.specs.Lives.{AreLives, HasExit, IsLife}
-use Rattle.history_text.specs.Losses.{IsLoss}
-use Rattle.history_text.specs.Times.{IsTimed}
+use Rattle.history_text.specs.code.Drops.{Adds, IsAloneAtEnd, IsCallAtEnd, IsDrop, IsEnded, IsLossOf, with_told}
+use Rattle.history_text.specs.rule.Files.{IsAlone, IsCallOf, IsFileOf, calls_in, lines_in, runs}
+use Rattle.history_text.specs.rule.Lives.{AreLives, HasExit, IsLife}
+use Rattle.history_text.specs.rule.Losses.{IsLoss}
+use Rattle.history_text.specs.rule.Times.{IsTimed}
 use Rattle.history_text.proofs.LifeLaws.{exit_is, timed_earlier}
 use Rattle.history_text.proofs.Lists.{of_all}
 

@@ -7,9 +7,9 @@ use Rattle.std.proofs.lemmas.List.Sums.{sum_by_push}
 use Rattle.history_text.specs.declared.file_calls.FileCalls.{FileCalls}
 use Rattle.history_text.specs.declared.life.Life.{Life}
 use Rattle.history_text.specs.declared.rule.Allowed.{Allowed}
-use Rattle.history_text.specs.Drops.{Adds, AreEndedOf, IsAloneAtEnd, IsEnded, with_told}
-use Rattle.history_text.specs.Files.{AreFilesOf, IsAlone, IsFileOf, calls_in, lines_in}
-use Rattle.history_text.specs.Lives.{AreLives}
+use Rattle.history_text.specs.code.Drops.{Adds, AreEndedOf, IsAloneAtEnd, IsEnded, with_told}
+use Rattle.history_text.specs.rule.Files.{AreFilesOf, IsAlone, IsFileOf, calls_in, lines_in}
+use Rattle.history_text.specs.rule.Lives.{AreLives}
 use Rattle.history_text.proofs.DropLaws.{alone_at_end, is_ended, same_calls}
 
 -- the files from a place on are not read to their ends yet

@@ -3,13 +3,13 @@ use Rattle.std.proofs.Common.{◌≡◌, ℕ, ◌<◌, ◌≤◌, ◌+◌, List,
 use Rattle.std.specs.List.{All}
 use Rattle.std.proofs.lemmas.List.Elements.{All-push, All-set, All-weaker}
 use Rattle.std.proofs.lemmas.List.Sums.{sum_by-set}
-use Rattle.texts.specs.Reads.{IsWithin}
+use Rattle.texts.specs.rule.Reads.{IsWithin}
 use Rattle.client_history.specs.declared.client_call.ClientCall.{ClientCall}
 use Rattle.history_text.specs.declared.file_calls.FileCalls.{FileCalls}
 use Rattle.history_text.specs.declared.life.Life.{Life}
-use Rattle.history_text.specs.Files.{AreBefore, AreFilesOf, IsAlone, IsCallOf, IsFileOf, lines_in, runs}
-use Rattle.history_text.specs.Lives.{Extends}
-use Rattle.history_text.specs.Seconds.{second_step}
+use Rattle.history_text.specs.rule.Files.{AreBefore, AreFilesOf, IsAlone, IsCallOf, IsFileOf, lines_in, runs}
+use Rattle.history_text.specs.rule.Lives.{Extends}
+use Rattle.history_text.specs.code.Seconds.{second_step}
 use Rattle.history_text.proofs.Runs.{runs_push, runs_twice}
 
 call_extends : (first last : List Life) → Extends first last → (call : ClientCall) → IsCallOf first call → IsCallOf last call

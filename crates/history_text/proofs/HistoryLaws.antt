@@ -11,14 +11,14 @@ use Rattle.history_text.specs.declared.history.History.{History}
 use Rattle.history_text.specs.declared.life.Life.{Life}
 use Rattle.history_text.specs.declared.reader.Reader.{Reader}
 use Rattle.history_text.specs.declared.rule.Allowed.{Allowed}
-use Rattle.history_text.specs.Calls.{counted, is_call, with_feed}
-use Rattle.history_text.specs.Drops.{AreEndedOf, IsAloneAtEnd, IsCallAtEnd, IsDrop, IsEnded}
-use Rattle.history_text.specs.Files.{calls_in}
-use Rattle.history_text.specs.Histories.{EndWithExits, IsCall, IsFile, IsHistory, IsHistoryOf}
-use Rattle.history_text.specs.Lives.{AreOwners}
-use Rattle.history_text.specs.Owners.{AreDistinct}
-use Rattle.history_text.specs.Readings.{HasRead}
-use Rattle.history_text.specs.Times.{IsTimed}
+use Rattle.history_text.specs.rule.Calls.{counted, is_call, with_feed}
+use Rattle.history_text.specs.code.Drops.{AreEndedOf, IsAloneAtEnd, IsCallAtEnd, IsDrop, IsEnded}
+use Rattle.history_text.specs.rule.Files.{calls_in}
+use Rattle.history_text.specs.rule.Histories.{EndWithExits, IsCall, IsFile, IsHistory, IsHistoryOf}
+use Rattle.history_text.specs.rule.Lives.{AreOwners}
+use Rattle.history_text.specs.rule.Owners.{AreDistinct}
+use Rattle.history_text.specs.rule.Readings.{HasRead}
+use Rattle.history_text.specs.rule.Times.{IsTimed}
 use Rattle.history_text.proofs.Lists.{get_one, of_all}
 use Rattle.history_text.proofs.OwnerLaws.{one_number, one_to_one}
 

@@ -3,9 +3,9 @@ use Rattle.std.proofs.Common.{◌≡◌, ℕ, ◌≤◌, List, Option, Some, Non
 use Rattle.history_text.specs.declared.known.Known.{Known}
 use Rattle.history_text.specs.declared.life.Exit.{Exit}
 use Rattle.history_text.specs.declared.life.Life.{Life}
-use Rattle.history_text.specs.Lives.{Extends, Grows, IsExit, IsLife}
-use Rattle.history_text.specs.Readings.{Learns}
-use Rattle.history_text.specs.Times.{IsTimed}
+use Rattle.history_text.specs.rule.Lives.{Extends, Grows, IsExit, IsLife}
+use Rattle.history_text.specs.rule.Readings.{Learns}
+use Rattle.history_text.specs.rule.Times.{IsTimed}
 
 grows_both : (a b c : Life) → Grows a b → Grows b c → Grows a c
 grows_both a b c p q =

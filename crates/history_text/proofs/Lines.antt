@@ -3,12 +3,12 @@ use Rattle.std.proofs.Common.{◌≡◌, ℕ, ◌+◌, ◌≤◌, if◌then◌el
 use Rattle.std.proofs.lemmas.Grind.{flat_map-append}
 use Rattle.std.proofs.lemmas.List.Elements.{All-push}
 use Rattle.std.proofs.lemmas.List.Sums.{sum_by_push}
-use Rattle.texts.specs.LineFeeds.{line_feed}
-use Rattle.texts.specs.Reads.{Lacks}
+use Rattle.texts.specs.rule.LineFeeds.{line_feed}
+use Rattle.texts.specs.rule.Reads.{Lacks}
 use Rattle.history_text.specs.declared.reader.Reader.{Reader}
 use Rattle.history_text.specs.declared.rule.Allowed.{Allowed}
-use Rattle.history_text.specs.Calls.{counted, is_call, with_feed}
-use Rattle.history_text.specs.Readings.{HasRead, IsPaired, IsRead}
+use Rattle.history_text.specs.rule.Calls.{counted, is_call, with_feed}
+use Rattle.history_text.specs.rule.Readings.{HasRead, IsPaired, IsRead}
 
 -- there are no more lines than bytes
 pub lines_fit : (lines : List (List ℕ)) (rest : List ℕ) → length lines ≤ length (flat_map with_feed lines ++ rest)

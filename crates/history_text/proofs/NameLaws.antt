@@ -12,7 +12,7 @@ use Rattle.std.proofs.lemmas.Map.Keys.{apart_from_distinct}
 use Rattle.std.proofs.lemmas.Option.{get_or_from_slice_get, slice_get_cases, slice_get-map, slice_get_within}
 use Rattle.std.proofs.lemmas.Slice.Eq.{bytes_eq-Decides}
 use Rattle.indexmap.specs.IndexSet.{insert_key}
-use Rattle.history_text.specs.Owners.{AreDistinct}
+use Rattle.history_text.specs.rule.Owners.{AreDistinct}
 use Rattle.history_text.proofs.Lists.{get_last, map_get}
 
 module _ {Z : Type 0} (ks : List (String Z)) where

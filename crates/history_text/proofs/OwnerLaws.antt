@@ -2,9 +2,9 @@
 use Rattle.std.proofs.Common.{◌≡◌, ℕ, ◌+◌, ◌*◌, ◌/◌, ◌%◌, List, slice_get, sym, ap, ◌∙◌, arith}
 use Rattle.std.proofs.Math.Nat.{div-add-mod}
 use Rattle.std.proofs.lemmas.Option.{same_Some}
-use Rattle.model.specs.Limits.{OwnerFields}
-use Rattle.history_text.specs.Histories.{AreOneToOne}
-use Rattle.history_text.specs.Owners.{AreDistinct, owner_numbered}
+use Rattle.model.specs.rule.Limits.{OwnerFields}
+use Rattle.history_text.specs.rule.Histories.{AreOneToOne}
+use Rattle.history_text.specs.rule.Owners.{AreDistinct, owner_numbered}
 
 -- numbers with equal quotients and remainders are equal
 one_by_parts : (n i j : ℕ) → i / n ≡ j / n → i % n ≡ j % n → i ≡ j

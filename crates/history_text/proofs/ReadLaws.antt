@@ -10,11 +10,11 @@ use Rattle.history_text.specs.declared.life.Life.{Life}
 use Rattle.history_text.specs.declared.losses.Losses.{Losses}
 use Rattle.history_text.specs.declared.reader.Reader.{Reader}
 use Rattle.history_text.specs.declared.rule.Allowed.{Allowed}
-use Rattle.history_text.specs.Files.{AreFilesOf, IsAlone, lines_in}
-use Rattle.history_text.specs.Lives.{AreLives, AreOwners, IsExit, IsLife}
-use Rattle.history_text.specs.Losses.{AreLosses, IsLoss}
-use Rattle.history_text.specs.Owners.{AreDistinct}
-use Rattle.history_text.specs.Readings.{IsRead}
+use Rattle.history_text.specs.rule.Files.{AreFilesOf, IsAlone, lines_in}
+use Rattle.history_text.specs.rule.Lives.{AreLives, AreOwners, IsExit, IsLife}
+use Rattle.history_text.specs.rule.Losses.{AreLosses, IsLoss}
+use Rattle.history_text.specs.rule.Owners.{AreDistinct}
+use Rattle.history_text.specs.rule.Readings.{IsRead}
 use Rattle.history_text.proofs.FileLaws.{files_extend}
 use Rattle.history_text.proofs.LifeLaws.{extends_none}
 

@@ -3,7 +3,7 @@ use Rattle.std.proofs.Common.{◌≡◌, ℕ, ◌+◌, ◌<◌, Bool, true, fals
 use Rattle.std.specs.List.{All}
 use Rattle.std.proofs.lemmas.Bool.{cases_Bool}
 use Rattle.std.proofs.lemmas.List.Elements.{All-head, All-tail}
-use Rattle.history_text.specs.Files.{runs}
+use Rattle.history_text.specs.rule.Files.{runs}
 
 differ : (a b : ℕ) → a < b → nat_eq a b ≡ false
 differ a b lt = ⊎_elim (λ same. let e : a ≡ b = eqb-true a b same in absurd (omega arith)) (λ other. other) (cases_Bool (nat_eq a b))

@@ -1,12 +1,2 @@
-pub mod Calls
-pub mod Drops
-pub mod Files
-pub mod Histories
-pub mod Lives
-pub mod Losses
-pub mod Owners
-pub mod Readings
-pub mod Rules
-pub mod Seconds
-pub mod Steps
-pub mod Times
+pub mod rule
+pub mod code

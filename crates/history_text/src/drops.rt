@@ -3,9 +3,9 @@
 ghost use Rattle.std.specs.Prelude.{◌≡◌, ℕ, true, None, All, IfSome, OnOk};
 ghost use Rattle.client_history.specs.declared.act.Act.TheVariants.{Drops};
 ghost use Rattle.history_text.specs.declared.rule.Allowed.{Allowed as Rules};
-ghost use Rattle.history_text.specs.Drops.{Adds, IsLossOf, with_told};
-ghost use Rattle.history_text.specs.Lives.{AreLives};
-ghost use Rattle.history_text.specs.Losses.{IsLoss};
+ghost use Rattle.history_text.specs.code.Drops.{Adds, IsLossOf, with_told};
+ghost use Rattle.history_text.specs.rule.Lives.{AreLives};
+ghost use Rattle.history_text.specs.rule.Losses.{IsLoss};
 
 use crate::file_calls::FileCalls;
 use crate::life::{Exit, may_begin};

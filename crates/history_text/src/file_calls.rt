@@ -1,7 +1,7 @@
 //! The calls about one file. A function here that gives a `Result` answers `AllocError` where a request for memory
 //! was refused.
 ghost use Rattle.std.specs.Prelude.{◌≡◌, ◌++◌, ◌∷◌, [], length, OnOk};
-ghost use Rattle.history_text.specs.Seconds.{second_step};
+ghost use Rattle.history_text.specs.code.Seconds.{second_step};
 
 use client_history::client_call::ClientCall;
 use std::alloc::{AllocError, Global};

@@ -1,13 +1,13 @@
 //! The files of a history, with their calls. A function here that gives a `Result` answers `AllocError` where a
 //! request for memory was refused.
 ghost use Rattle.std.specs.Prelude.{◌≡◌, ◌≤◌, ◌<◌, ◌+◌, ℕ, List, All, length, max, sum_by, OnOk};
-ghost use Rattle.texts.specs.Reads.{IsWithin};
+ghost use Rattle.texts.specs.rule.Reads.{IsWithin};
 ghost use Rattle.history_text.specs.declared.life.Life.{Life};
 ghost use Rattle.history_text.specs.declared.rule.Allowed.{Allowed as Rules};
-ghost use Rattle.history_text.specs.Drops.{AreEndedOf};
-ghost use Rattle.history_text.specs.Files.{AreBefore, AreFilesOf, IsAlone, IsCallOf, lines_in};
-ghost use Rattle.history_text.specs.Lives.{AreLives};
-ghost use Rattle.history_text.specs.Losses.{AreLosses, ArePaired};
+ghost use Rattle.history_text.specs.code.Drops.{AreEndedOf};
+ghost use Rattle.history_text.specs.rule.Files.{AreBefore, AreFilesOf, IsAlone, IsCallOf, lines_in};
+ghost use Rattle.history_text.specs.rule.Lives.{AreLives};
+ghost use Rattle.history_text.specs.rule.Losses.{AreLosses, ArePaired};
 
 use crate::drops::add_drops;
 use crate::file_calls::FileCalls;

@@ -1,6 +1,6 @@
 //! A history, as a text writes it.
 ghost use Rattle.std.specs.Prelude.{◌≡◌, ℕ, List, All, IsTrue, ◌↔◌, MatchOption};
-ghost use Rattle.history_text.specs.Owners.{IsNamed};
+ghost use Rattle.history_text.specs.rule.Owners.{IsNamed};
 
 use crate::counts::Counts;
 use crate::file_calls::FileCalls;

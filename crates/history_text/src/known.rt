@@ -1,8 +1,8 @@
 //! The machines, owners and files that the lines read so far name.
 ghost use Rattle.std.specs.Prelude.{◌≡◌, ◌<◌, ℕ, [], length, IfOk, OnOk};
-ghost use Rattle.history_text.specs.Times.{IsTimed};
-ghost use Rattle.history_text.specs.Lives.{HasBegun};
-ghost use Rattle.history_text.specs.Readings.{IsSound, Learns, NamesOf};
+ghost use Rattle.history_text.specs.rule.Times.{IsTimed};
+ghost use Rattle.history_text.specs.rule.Lives.{HasBegun};
+ghost use Rattle.history_text.specs.rule.Readings.{IsSound, Learns, NamesOf};
 
 use crate::asked::Asked;
 use crate::call_line::{CallLine, Deed};

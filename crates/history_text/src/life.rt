@@ -1,8 +1,8 @@
 //! The time in which an owner lived, as lines say it.
 ghost use Rattle.std.specs.Prelude.{◌≡◌, ◌≤◌, ℕ, Some, IfOk, IfSome, IsTrue, ◌↔◌};
-ghost use Rattle.texts.specs.Reads.{IsWithin};
-ghost use Rattle.history_text.specs.Times.{IsTimed};
-ghost use Rattle.history_text.specs.Lives.{Grows, IsLife};
+ghost use Rattle.texts.specs.rule.Reads.{IsWithin};
+ghost use Rattle.history_text.specs.rule.Times.{IsTimed};
+ghost use Rattle.history_text.specs.rule.Lives.{Grows, IsLife};
 
 use crate::reason::Reason;
 

@@ -1,7 +1,7 @@
 //! Losses of the locks of files, as where a lock server began again.
 ghost use Rattle.std.specs.Prelude.{◌≡◌, ◌≤◌, ℕ, [], All, IfOk, OnOk};
 ghost use Rattle.history_text.specs.declared.rule.Allowed.{Allowed as Rules};
-ghost use Rattle.history_text.specs.Losses.{AreLosses, ArePaired, IsLoss};
+ghost use Rattle.history_text.specs.rule.Losses.{AreLosses, ArePaired, IsLoss};
 
 use crate::line_error::Fault;
 use crate::names::Names;

@@ -24,7 +24,7 @@ impl Model for Names {
 }
 
 impl Names {
-    ghost use Rattle.history_text.specs.Owners.{AreDistinct};
+    ghost use Rattle.history_text.specs.rule.Owners.{AreDistinct};
 
     /// No names.
     pub(crate) fn new(alloc: Global) -> Names

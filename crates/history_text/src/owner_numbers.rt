@@ -1,6 +1,6 @@
 //! The owners that stand for names, by the names' numbers.
 ghost use Rattle.std.specs.Prelude.{◌≡◌, ◌≢◌, ◌<◌, ℕ, MatchOption};
-ghost use Rattle.history_text.specs.Owners.{owner_numbered, most_owners};
+ghost use Rattle.history_text.specs.rule.Owners.{owner_numbered, most_owners};
 
 use model::owner::{Kind, Owner};
 

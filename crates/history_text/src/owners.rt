@@ -1,7 +1,7 @@
 //! The owners that lines name, with their lives.
 ghost use Rattle.std.specs.Prelude.{◌≡◌, ◌<◌, ◌+◌, ℕ, [], length, IfOk, IfSome, OnOk};
-ghost use Rattle.texts.specs.Reads.{IsWithin};
-ghost use Rattle.history_text.specs.Lives.{AreLives, AreOwners, Extends, HasBegun, HasExit, HasLife};
+ghost use Rattle.texts.specs.rule.Reads.{IsWithin};
+ghost use Rattle.history_text.specs.rule.Lives.{AreLives, AreOwners, Extends, HasBegun, HasExit, HasLife};
 
 use crate::life::{Exit, Life};
 use crate::line_error::LineError;

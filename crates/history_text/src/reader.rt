@@ -1,12 +1,12 @@
 //! The reader of a history, line by line.
 ghost use Rattle.std.specs.Prelude.{◌≡◌, ◌≤◌, ◌<◌, ◌+◌, if◌then◌else◌, false, None, OnOk};
-ghost use Rattle.texts.specs.Reads.{IsWithin};
-ghost use Rattle.history_text.specs.Calls.{counted, is_call};
-ghost use Rattle.history_text.specs.Files.{AreBefore, AreFilesOf, IsAlone, IsCallOf, lines_in};
-ghost use Rattle.history_text.specs.Lives.{HasBegun};
-ghost use Rattle.history_text.specs.Losses.{AreLosses, ArePaired};
-ghost use Rattle.history_text.specs.Owners.{most_owners, owner_numbered};
-ghost use Rattle.history_text.specs.Readings.{IsRead, IsPaired};
+ghost use Rattle.texts.specs.rule.Reads.{IsWithin};
+ghost use Rattle.history_text.specs.rule.Calls.{counted, is_call};
+ghost use Rattle.history_text.specs.rule.Files.{AreBefore, AreFilesOf, IsAlone, IsCallOf, lines_in};
+ghost use Rattle.history_text.specs.rule.Lives.{HasBegun};
+ghost use Rattle.history_text.specs.rule.Losses.{AreLosses, ArePaired};
+ghost use Rattle.history_text.specs.rule.Owners.{most_owners, owner_numbered};
+ghost use Rattle.history_text.specs.rule.Readings.{IsRead, IsPaired};
 
 use crate::asked::Asked;
 use crate::call_line::{CallLine, Deed};

@@ -1,7 +1,7 @@
 //! The reading of a history from its text.
 ghost use Rattle.std.specs.Prelude.{[], IfOk};
-ghost use Rattle.history_text.specs.Histories.{IsHistoryOf};
-ghost use Rattle.history_text.specs.Readings.{HasRead};
+ghost use Rattle.history_text.specs.rule.Histories.{IsHistoryOf};
+ghost use Rattle.history_text.specs.rule.Readings.{HasRead};
 
 use crate::error::ReadError;
 use crate::files::end_files;

@@ -1,6 +1,6 @@
 //! Rules: the known ways in which lock managers differ from one table of record locks.
 ghost use Rattle.std.specs.Prelude.{◌≡◌, false};
-ghost use Rattle.history_text.specs.Rules.{allows, rule_text, with_rule};
+ghost use Rattle.history_text.specs.rule.Rules.{allows, rule_text, with_rule};
 
 use texts::words::Named;
 

@@ -1,6 +1,6 @@
 //! The steps of calls: what each did to locks, where a lock manager may differ from one table.
 ghost use Rattle.std.specs.Prelude.{◌≡◌, false};
-ghost use Rattle.history_text.specs.Steps.{IsWhole};
+ghost use Rattle.history_text.specs.code.Steps.{IsWhole};
 
 use crate::asked::Asked;
 use crate::operation::Operation;

@@ -5,9 +5,9 @@ use Rattle.std.proofs.lemmas.List.{append_assoc}
 use Rattle.std.proofs.Common.{◌≡◌, ℕ, zero, suc, length, get_or, take, drop, subst, ◌+◌, ◌<◌, ◌≤◌, List, [], ◌∷◌, ◌++◌, Option, Some, None, refl, ap, ◌∙◌, inl, inr, arith}
 use Rattle.std.specs.Option.{MatchOption}
 use Rattle.intervals.specs.declared.run.Run.{Run}
-use Rattle.intervals.specs.Bytes.{greatest, IsRun}
-use Rattle.intervals.specs.Runs.{bytes_of, value_at, AreRuns, EndsBelow}
-use Rattle.intervals.specs.Entries.{BeginAbove, IsLastTo, NoneBelow, IsPrevious}
+use Rattle.intervals.specs.rule.Bytes.{greatest, IsRun}
+use Rattle.intervals.specs.code.Runs.{bytes_of, value_at, AreRuns, EndsBelow}
+use Rattle.intervals.specs.code.Entries.{BeginAbove, IsLastTo, NoneBelow, IsPrevious}
 use Rattle.intervals.proofs.Find.{value_at-none, before-none, first-other}
 use Rattle.intervals.proofs.Runs.{ends_below_le}
 use Rattle.intervals.proofs.Split.{stands_at, at-back, runs-back}

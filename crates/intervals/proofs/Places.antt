@@ -5,10 +5,10 @@ use Rattle.std.proofs.lemmas.List.{append_assoc, append-nil, length-append, drop
 use Rattle.std.proofs.lemmas.Bool.{cases_lt}
 use Rattle.intervals.specs.declared.run.Run.{Run}
 use Rattle.intervals.specs.declared.row.Row.{Row}
-use Rattle.intervals.specs.Bytes.{Range, greatest, put}
-use Rattle.intervals.specs.Runs.{value_at, AreRuns, EndsBelow}
-use Rattle.intervals.specs.Entries.{BeginAbove}
-use Rattle.intervals.specs.Parts.{all_runs, AreSome, BeginsTo, row_runs, runs_below, part_at, runs_above, runs_to, runs_within, IsPut, IsRewritten}
+use Rattle.intervals.specs.rule.Bytes.{Range, greatest, put}
+use Rattle.intervals.specs.code.Runs.{value_at, AreRuns, EndsBelow}
+use Rattle.intervals.specs.code.Entries.{BeginAbove}
+use Rattle.intervals.specs.code.Parts.{all_runs, AreSome, BeginsTo, row_runs, runs_below, part_at, runs_above, runs_to, runs_within, IsPut, IsRewritten}
 use Rattle.intervals.proofs.Runs.{drop_read}
 use Rattle.intervals.proofs.Split.{runs-back, at-back, at-first}
 use Rattle.intervals.proofs.Written.{ends_below-both, ends_below-front, ends_below-rest}

@@ -3,9 +3,9 @@ use Rattle.std.proofs.Common.{◌≡◌, ℕ, pred, ◌+◌, ◌<◌, ◌≤◌,
 use Rattle.std.proofs.lemmas.List.{append-nil}
 use Rattle.std.proofs.lemmas.Bool.{cases_lt}
 use Rattle.intervals.specs.declared.run.Run.{Run}
-use Rattle.intervals.specs.Bytes.{put}
-use Rattle.intervals.specs.Runs.{value_at, AreRuns, EndsBelow}
-use Rattle.intervals.specs.Entries.{BeginAbove}
+use Rattle.intervals.specs.rule.Bytes.{put}
+use Rattle.intervals.specs.code.Runs.{value_at, AreRuns, EndsBelow}
+use Rattle.intervals.specs.code.Entries.{BeginAbove}
 use Rattle.intervals.proofs.Find.{first-some, first-other}
 use Rattle.intervals.proofs.Runs.{at-below}
 use Rattle.intervals.proofs.Split.{runs-back, at-front}

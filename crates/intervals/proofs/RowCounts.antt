@@ -2,11 +2,11 @@
 use Rattle.std.proofs.Common.{◌≡◌, ℕ, ◌+◌, ◌<◌, ◌≤◌, length, List, [], ◌∷◌, ◌++◌, subst, refl, ap, ◌∙◌, arith}
 use Rattle.std.proofs.lemmas.Bool.Decides.{nat_tests}
 use Rattle.intervals.specs.declared.run.Run.{Run}
-use Rattle.intervals.specs.Runs.{AreRuns, EndsBelow}
-use Rattle.intervals.specs.Entries.{BeginAbove}
+use Rattle.intervals.specs.code.Runs.{AreRuns, EndsBelow}
+use Rattle.intervals.specs.code.Entries.{BeginAbove}
 use Rattle.intervals.proofs.Starts as starts
 use Rattle.intervals.specs.declared.row.Row.{Row}
-use Rattle.intervals.specs.Parts.{row_runs, runs_below, part_at, runs_above}
+use Rattle.intervals.specs.code.Parts.{row_runs, runs_below, part_at, runs_above}
 use Rattle.intervals.proofs.Runs.{ends_below_le}
 use Rattle.intervals.proofs.Split.{runs-front}
 use Rattle.intervals.proofs.Places.{row_split}

@@ -3,10 +3,10 @@ use Rattle.std.proofs.Common.{◌≡◌, ℕ, zero, suc, ◌+◌, ◌-◌, ◌<�
 use Rattle.std.proofs.lemmas.List.{append_assoc}
 use Rattle.intervals.specs.declared.run.Run.{Run}
 use Rattle.intervals.specs.declared.row.Row.{Row}
-use Rattle.intervals.specs.Bytes.{Range, greatest, IsRun, IsBarred, IsFirstIn, NoneIn}
-use Rattle.intervals.specs.Runs.{bytes_of, value_at, IsBarredValue, AreRuns, EndsBelow, EndsFrom}
-use Rattle.intervals.specs.Entries.{BeginAbove, IsLastTo, NoneFrom, IsNext}
-use Rattle.intervals.specs.Parts.{all_runs, AreSome, BeginsTo, row_runs, runs_below, part_at, runs_above}
+use Rattle.intervals.specs.rule.Bytes.{Range, greatest, IsRun, IsBarred, IsFirstIn, NoneIn}
+use Rattle.intervals.specs.code.Runs.{bytes_of, value_at, IsBarredValue, AreRuns, EndsBelow, EndsFrom}
+use Rattle.intervals.specs.code.Entries.{BeginAbove, IsLastTo, NoneFrom, IsNext}
+use Rattle.intervals.specs.code.Parts.{all_runs, AreSome, BeginsTo, row_runs, runs_below, part_at, runs_above}
 use Rattle.intervals.proofs.Find.{BarredLeft, value_at-none, barred-along, left-skip, left-first, left-stop, left-none}
 use Rattle.intervals.proofs.Split.{at-back, runs-back}
 use Rattle.intervals.proofs.Written.{ends_below-both}

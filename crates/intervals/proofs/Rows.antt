@@ -4,9 +4,9 @@ use Rattle.std.proofs.lemmas.List.{append_assoc, append-nil, drop_all}
 use Rattle.std.proofs.lemmas.Bool.{cases_lt}
 use Rattle.std.specs.List.Sorted.{IsNonDecreasingBy}
 use Rattle.intervals.specs.declared.run.Run.{Run}
-use Rattle.intervals.specs.Runs.{begins_at, AreRuns, EndsBelow}
-use Rattle.intervals.specs.Entries.{BeginAbove}
-use Rattle.intervals.specs.Parts.{all_runs, AreSome, BeginsTo}
+use Rattle.intervals.specs.code.Runs.{begins_at, AreRuns, EndsBelow}
+use Rattle.intervals.specs.code.Entries.{BeginAbove}
+use Rattle.intervals.specs.code.Parts.{all_runs, AreSome, BeginsTo}
 use Rattle.intervals.proofs.Runs.{ends_below_le}
 use Rattle.intervals.proofs.Split.{runs-back}
 use Rattle.intervals.proofs.Ordered.{ends_before}

@@ -4,8 +4,8 @@ use Rattle.std.proofs.lemmas.Bool.{cases_lt, cases_Bool, and_parts}
 use Rattle.std.proofs.lemmas.Bool.Decides.{nat_tests}
 use Rattle.std.proofs.lemmas.Grind.{common_steps}
 use Rattle.intervals.specs.declared.run.Run.{Run}
-use Rattle.intervals.specs.Bytes.{put}
-use Rattle.intervals.specs.Runs.{bytes_of, value_at, Follows, AreRuns, EndsBelow}
+use Rattle.intervals.specs.rule.Bytes.{put}
+use Rattle.intervals.specs.code.Runs.{bytes_of, value_at, Follows, AreRuns, EndsBelow}
 use Rattle.intervals.proofs.Join.{joins, join}
 
 -- runs that end below m end below each greater number

@@ -2,7 +2,7 @@
 use Rattle.std.proofs.Common.{◌≡◌, List, ◌++◌}
 use Rattle.intervals.specs.declared.part.Part.{Part}
 use Rattle.intervals.specs.declared.run.Run.{Run}
-use Rattle.intervals.specs.Parts.{all_runs, AreSome}
+use Rattle.intervals.specs.code.Parts.{all_runs, AreSome}
 
 -- the rests of two lists are equal exactly where the lists are
 pub record LeftOfBoth {X : Type 0} (whole other left behind : List X) : Type 0 where

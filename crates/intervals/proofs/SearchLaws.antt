@@ -1,7 +1,7 @@
 -- What the search `first` gives, by cases.
 use Rattle.std.specs.Prelude.{◌≡◌, ℕ, zero, suc, ◌+◌, ◌<◌, ◌≤◌, Bool, true, false, refl}
 use Rattle.std.proofs.Common.{arith}
-use Rattle.intervals.specs.Search.{first, IsFirst, FirstIsFirst}
+use Rattle.intervals.specs.rule.Search.{first, IsFirst, FirstIsFirst}
 
 none : (j lo : ℕ) → lo ≤ j → j < lo → ⊥
 none j lo above below = omega arith

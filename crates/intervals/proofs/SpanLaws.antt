@@ -1,7 +1,7 @@
 -- A run, a first byte and a largest span are determined by the map, and a largest span is found by search.
 use Rattle.std.proofs.Common.{◌≡◌, ℕ, zero, suc, ◌+◌, ◌<◌, ◌≤◌, Option, inl, inr, arith}
 use Rattle.std.proofs.lemmas.Bool.{cases_lt}
-use Rattle.intervals.specs.Bytes.{Range, IsRun, IsFirstIn, IsLargest}
+use Rattle.intervals.specs.rule.Bytes.{Range, IsRun, IsFirstIn, IsLargest}
 
 -- a number above another has a number below it
 below : (n m : ℕ) → m < n → (k : ℕ) × (k + 1 ≡ n)

@@ -2,9 +2,9 @@
 use Rattle.std.proofs.Common.{◌≡◌, ℕ, zero, suc, pred, ◌+◌, ◌-◌, ◌<◌, ◌≤◌, Bool, true, false, not, refl, inl, inr, arith}
 use Rattle.std.proofs.lemmas.Bool.{cases_lt, cases_Bool}
 use Rattle.std.proofs.lemmas.Bool.Decides.{nat_tests}
-use Rattle.intervals.specs.Search.{first, all_pass}
-use Rattle.intervals.specs.Bytes.{LargestIsLargest}
-use Rattle.intervals.specs.Runs.{IsLowestFree, IsHighestFree}
+use Rattle.intervals.specs.rule.Search.{first, all_pass}
+use Rattle.intervals.specs.rule.Bytes.{LargestIsLargest}
+use Rattle.intervals.specs.code.Runs.{IsLowestFree, IsHighestFree}
 use Rattle.intervals.proofs.SearchLaws.{first_is_first}
 use Rattle.intervals.proofs.Around.{largest_from}
 

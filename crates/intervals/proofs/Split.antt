@@ -3,8 +3,8 @@ use Rattle.std.proofs.Common.{◌≡◌, ℕ, zero, suc, ◌<◌, ◌≤◌, len
 use Rattle.std.proofs.lemmas.Bool.Decides.{nat_tests}
 use Rattle.std.specs.List.Sorted.{IsNonDecreasingBy}
 use Rattle.intervals.specs.declared.run.Run.{Run}
-use Rattle.intervals.specs.Bytes.{Range, IsBarred, IsFirstIn, IsRun, NoneIn}
-use Rattle.intervals.specs.Runs.{bytes_of, value_at, AreRuns, EndsBelow, EndsFrom}
+use Rattle.intervals.specs.rule.Bytes.{Range, IsBarred, IsFirstIn, IsRun, NoneIn}
+use Rattle.intervals.specs.code.Runs.{bytes_of, value_at, AreRuns, EndsBelow, EndsFrom}
 use Rattle.intervals.proofs.Find.{value_at-none, first-other, before-none, first-is_run, lift-is_run, barred-along}
 
 -- a later run ends above the first

@@ -3,8 +3,8 @@ use Rattle.std.proofs.Common.{◌≡◌, ℕ, zero, suc, ◌+◌, ◌<◌, ◌�
 use Rattle.std.proofs.lemmas.Bool.{cases_lt, cases_order, cases_Bool}
 use Rattle.std.proofs.lemmas.Bool.Decides.{nat_tests}
 use Rattle.intervals.specs.declared.run.Run.{Run}
-use Rattle.intervals.specs.Bytes.{greatest, begins_after, is_start, starts_below, all_bytes, number_of_runs}
-use Rattle.intervals.specs.Runs.{value_at, Follows, AreRuns, EndsBelow}
+use Rattle.intervals.specs.rule.Bytes.{greatest, begins_after, is_start, starts_below, all_bytes, number_of_runs}
+use Rattle.intervals.specs.code.Runs.{value_at, Follows, AreRuns, EndsBelow}
 use Rattle.intervals.proofs.Find.{after-none, before-none, first-some, first-other, next-other, value_at-none}
 
 -- a run of the list begins at the byte

@@ -4,8 +4,8 @@ use Rattle.std.proofs.lemmas.Bool.{cases_lt}
 use Rattle.std.proofs.lemmas.Bool.Decides.{nat_tests}
 use Rattle.std.specs.List.Sorted.{IsNonDecreasingBy}
 use Rattle.intervals.specs.declared.run.Run.{Run}
-use Rattle.intervals.specs.Bytes.{Range, greatest, put, begins_after, is_start, starts_below, all_bytes, number_of_runs}
-use Rattle.intervals.specs.Runs.{value_at, AreRuns, EndsBelow}
+use Rattle.intervals.specs.rule.Bytes.{Range, greatest, put, begins_after, is_start, starts_below, all_bytes, number_of_runs}
+use Rattle.intervals.specs.code.Runs.{value_at, AreRuns, EndsBelow}
 use Rattle.intervals.proofs.Runs.{at-below}
 use Rattle.intervals.proofs.Starts.{begin_below, number_of_runs-length}
 

@@ -3,8 +3,8 @@ use Rattle.std.proofs.Common.{◌≡◌, ℕ, pred, ◌+◌, ◌<◌, ◌≤◌,
 use Rattle.std.proofs.lemmas.Bool.{cases_lt}
 use Rattle.std.proofs.lemmas.Bool.Decides.{nat_tests}
 use Rattle.intervals.specs.declared.run.Run.{Run}
-use Rattle.intervals.specs.Bytes.{put}
-use Rattle.intervals.specs.Runs.{value_at, Follows, AreRuns, EndsBelow}
+use Rattle.intervals.specs.rule.Bytes.{put}
+use Rattle.intervals.specs.code.Runs.{value_at, Follows, AreRuns, EndsBelow}
 use Rattle.intervals.proofs.Find.{after-none, next-other, first-some}
 
 -- two lists of runs that end below byte n end below it together

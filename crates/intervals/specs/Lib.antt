@@ -1,9 +1,2 @@
-pub mod Search
-pub mod Bytes
-pub mod Segment
-pub mod Runs
-pub mod Entries
-pub mod Parts
-pub mod Laws
-pub mod Edits
-pub mod Replays
+pub mod rule
+pub mod code

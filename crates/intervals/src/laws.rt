@@ -1,7 +1,7 @@
 //! Laws of spans and runs; each is the contract of a function that does nothing.
-ghost use Rattle.intervals.specs.Search.{FirstIsFirst};
-ghost use Rattle.intervals.specs.Bytes.{LargestIsLargest};
-ghost use Rattle.intervals.specs.Laws.{RunsAreOne, FirstIsOne, LargestIsOne};
+ghost use Rattle.intervals.specs.rule.Search.{FirstIsFirst};
+ghost use Rattle.intervals.specs.rule.Bytes.{LargestIsLargest};
+ghost use Rattle.intervals.specs.code.Laws.{RunsAreOne, FirstIsOne, LargestIsOne};
 
 /// Two longest runs of one value that share a byte are one run.
 pub fn runs_are_one<V>()

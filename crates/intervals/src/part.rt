@@ -1,8 +1,8 @@
 //! A part of a row: a sorted vector of runs with the byte at which its first run begins.
 ghost use Rattle.std.specs.Prelude.{◌≡◌, ◌≤◌, ◌<◌, ◌+◌, ◌++◌, [], ℕ, ◌==◌, length, IfOk};
 ghost use Rattle.std.specs.Vec.{vec_len, vec_capacity};
-ghost use Rattle.intervals.specs.Bytes.{greatest, put};
-ghost use Rattle.intervals.specs.Runs.{begins_at, value_at, AreRuns, EndsBelow};
+ghost use Rattle.intervals.specs.rule.Bytes.{greatest, put};
+ghost use Rattle.intervals.specs.code.Runs.{begins_at, value_at, AreRuns, EndsBelow};
 
 use crate::run::{Run, append_all, write};
 use crate::span::Span;
@@ -32,7 +32,7 @@ fn first_of<V: Exact>(runs: &[Run<V>]) -> u64
 impl<V> Model for Part<V> {
     ghost use Rattle.std.specs.Prelude.{◌≡◌, List};
     ghost use Rattle.intervals.specs.declared.run.Run.{Run};
-    ghost use Rattle.intervals.specs.Runs.{begins_at};
+    ghost use Rattle.intervals.specs.code.Runs.{begins_at};
 
     ghost Value = { List (Run V) };
 

@@ -2,8 +2,8 @@
 //!
 //! Each function here that can fail errs with `AllocError`, where a request for memory was refused.
 ghost use Rattle.std.specs.Prelude.{◌≡◌, IfOk, OnOk};
-ghost use Rattle.intervals.specs.Bytes.{put};
-ghost use Rattle.intervals.specs.Replays.{replayed};
+ghost use Rattle.intervals.specs.rule.Bytes.{put};
+ghost use Rattle.intervals.specs.code.Replays.{replayed};
 
 use crate::span::Span;
 use crate::span_map::{Exact, SpanMap};

@@ -1,10 +1,10 @@
 //! A row: all runs of a map, as parts of a limited size in ascending order.
 ghost use Rattle.std.specs.Prelude.{◌≡◌, true, ◌≤◌, ◌<◌, ◌+◌, ◌-◌, ◌++◌, ◌↔◌, [], ◌∷◌, take, drop, length, ℕ, IfOk, IfSome, IsTrue, MatchOption};
 ghost use Rattle.std.specs.Vec.{vec_len, vec_capacity};
-ghost use Rattle.intervals.specs.Bytes.{greatest, put, starts_below};
-ghost use Rattle.intervals.specs.Runs.{value_at, AreRuns, EndsBelow};
-ghost use Rattle.intervals.specs.Entries.{BeginAbove};
-ghost use Rattle.intervals.specs.Parts.{all_runs, AreSome, BeginsTo, row_runs, runs_below, part_at, runs_above, runs_to, runs_within, IsPut, IsRewritten};
+ghost use Rattle.intervals.specs.rule.Bytes.{greatest, put, starts_below};
+ghost use Rattle.intervals.specs.code.Runs.{value_at, AreRuns, EndsBelow};
+ghost use Rattle.intervals.specs.code.Entries.{BeginAbove};
+ghost use Rattle.intervals.specs.code.Parts.{all_runs, AreSome, BeginsTo, row_runs, runs_below, part_at, runs_above, runs_to, runs_within, IsPut, IsRewritten};
 
 use crate::part::Part;
 use crate::run::{Run, begin_below, splice};

@@ -1,9 +1,9 @@
 //! Runs of bytes that have one value, and searches and writes in sorted vectors of them.
 ghost use Rattle.std.specs.Prelude.{◌≡◌, ◌≤◌, ◌<◌, ◌+◌, ◌++◌, [], take, length, ℕ, if◌then◌else◌, Some, IsTrue, ◌↔◌, MatchOption};
 ghost use Rattle.std.specs.Vec.{vec_len, vec_capacity};
-ghost use Rattle.intervals.specs.Bytes.{greatest, put, begins_after, starts_below, IsBarred};
-ghost use Rattle.intervals.specs.Runs.{bytes_of, value_at, IsBarredValue, AreRuns, EndsBelow, EndsFrom, IsLowestFree, IsHighestFree};
-ghost use Rattle.intervals.specs.Entries.{BeginAbove, IsLastTo};
+ghost use Rattle.intervals.specs.rule.Bytes.{greatest, put, begins_after, starts_below, IsBarred};
+ghost use Rattle.intervals.specs.code.Runs.{bytes_of, value_at, IsBarredValue, AreRuns, EndsBelow, EndsFrom, IsLowestFree, IsHighestFree};
+ghost use Rattle.intervals.specs.code.Entries.{BeginAbove, IsLastTo};
 
 use crate::span::Span;
 use crate::span_map::Exact;

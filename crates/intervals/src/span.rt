@@ -1,6 +1,6 @@
 //! Spans of bytes, and how a lock call names one.
 ghost use Rattle.std.specs.Prelude.{◌≡◌, ◌≤◌, IfOk, IfErr, Ok, Err};
-ghost use Rattle.intervals.specs.Segment.{seg};
+ghost use Rattle.intervals.specs.rule.Segment.{seg};
 
 use std::marker::Model;
 use thiserror::Error;
@@ -18,7 +18,7 @@ pub struct Span {
 
 impl Model for Span {
     ghost use Rattle.std.specs.Prelude.{◌≤◌};
-    ghost use Rattle.intervals.specs.Bytes.{Range, greatest};
+    ghost use Rattle.intervals.specs.rule.Bytes.{Range, greatest};
 
     ghost Value = { Range };
 

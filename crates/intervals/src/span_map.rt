@@ -1,6 +1,6 @@
 //! What a map from bytes to values can do, however it is kept.
 ghost use Rattle.std.specs.Prelude.{◌≡◌, ℕ, ◌≤◌, ◌<◌, true, Bool, Option, Some, None, IsTrue, ◌↔◌, OnOk, OnErr, IfOk, MatchOption};
-ghost use Rattle.intervals.specs.Bytes.{greatest, put, nothing, AllAre, IsBarred, NoneIn, IsFirstIn, IsRun, IsLargest, number_of_runs};
+ghost use Rattle.intervals.specs.rule.Bytes.{greatest, put, nothing, AllAre, IsBarred, NoneIn, IsFirstIn, IsRun, IsLargest, number_of_runs};
 
 use crate::span::Span;
 use std::alloc::{AllocError, Global};

@@ -2,10 +2,10 @@
 //!
 //! Each function here that can fail errs with `AllocError`, where a request for memory was refused.
 ghost use Rattle.std.specs.Prelude.{◌≡◌, ◌≤◌, ◌+◌, ℕ, nat_le, length, None, [], IfOk, MatchOption};
-ghost use Rattle.intervals.specs.Bytes.{greatest, nothing, number_of_runs, put, IsRun, IsBarred, NoneIn, IsFirstIn, IsLargest};
-ghost use Rattle.intervals.specs.Runs.{bytes_of, value_at, IsLowestFree, IsHighestFree};
-ghost use Rattle.intervals.specs.Edits.{written};
-ghost use Rattle.intervals.specs.Entries.{NoneFrom, NoneBelow, IsNext, IsPrevious};
+ghost use Rattle.intervals.specs.rule.Bytes.{greatest, nothing, number_of_runs, put, IsRun, IsBarred, NoneIn, IsFirstIn, IsLargest};
+ghost use Rattle.intervals.specs.code.Runs.{bytes_of, value_at, IsLowestFree, IsHighestFree};
+ghost use Rattle.intervals.specs.code.Edits.{written};
+ghost use Rattle.intervals.specs.code.Entries.{NoneFrom, NoneBelow, IsNext, IsPrevious};
 
 use crate::row::{Row, next_of};
 use crate::run::{Run, begin_after, is_barred, last_to, split_before};
@@ -31,9 +31,9 @@ pub struct TreeMap<V> {
 impl<V> Model for TreeMap<V> {
     ghost use Rattle.std.specs.Prelude.{◌≡◌, List, ◌+◌, length};
     ghost use Rattle.intervals.specs.declared.run.Run.{Run};
-    ghost use Rattle.intervals.specs.Bytes.{greatest};
-    ghost use Rattle.intervals.specs.Runs.{AreRuns, EndsBelow};
-    ghost use Rattle.intervals.specs.Parts.{row_runs, AreSome};
+    ghost use Rattle.intervals.specs.rule.Bytes.{greatest};
+    ghost use Rattle.intervals.specs.code.Runs.{AreRuns, EndsBelow};
+    ghost use Rattle.intervals.specs.code.Parts.{row_runs, AreSome};
 
     ghost Value = { List (Run V) };
 

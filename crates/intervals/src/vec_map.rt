@@ -2,9 +2,9 @@
 //!
 //! Each function here that can fail errs with `AllocError`, where a request for memory was refused.
 ghost use Rattle.std.specs.Prelude.{◌≡◌, ◌≤◌, ◌<◌, ◌+◌, ℕ, nat_le, length, [], IfOk, OnOk, OnErr, IsTrue, ◌↔◌, MatchOption, Some, None};
-ghost use Rattle.intervals.specs.Bytes.{greatest, nothing, number_of_runs, put, IsBarred, NoneIn, IsFirstIn, IsLargest, IsRun};
-ghost use Rattle.intervals.specs.Runs.{bytes_of, value_at};
-ghost use Rattle.intervals.specs.Edits.{written};
+ghost use Rattle.intervals.specs.rule.Bytes.{greatest, nothing, number_of_runs, put, IsBarred, NoneIn, IsFirstIn, IsLargest, IsRun};
+ghost use Rattle.intervals.specs.code.Runs.{bytes_of, value_at};
+ghost use Rattle.intervals.specs.code.Edits.{written};
 
 use crate::run::{
     Run, begin_after, begin_below, highest_free, is_barred, lowest_free, split_before, write,
@@ -27,8 +27,8 @@ pub struct VecMap<V> {
 impl<V> Model for VecMap<V> {
     ghost use Rattle.std.specs.Prelude.{List, ◌+◌};
     ghost use Rattle.intervals.specs.declared.run.Run.{Run};
-    ghost use Rattle.intervals.specs.Bytes.{greatest};
-    ghost use Rattle.intervals.specs.Runs.{AreRuns, EndsBelow};
+    ghost use Rattle.intervals.specs.rule.Bytes.{greatest};
+    ghost use Rattle.intervals.specs.code.Runs.{AreRuns, EndsBelow};
 
     ghost Value = { List (Run V) };
 

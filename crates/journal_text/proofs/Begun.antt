@@ -4,13 +4,13 @@ use Rattle.std.specs.List.{All, flat_map}
 use Rattle.std.proofs.lemmas.Grind.{flat_map-append}
 use Rattle.std.proofs.lemmas.List.{append-nil, map-append}
 use Rattle.std.proofs.lemmas.List.Elements.{All-cons, All-head, All-nil, All-push, All-tail}
-use Rattle.messages.specs.Shapes.{IsShape, ShapeFields}
+use Rattle.messages.specs.rule.Shapes.{IsShape, ShapeFields}
 use Rattle.messages.specs.declared.version.Version.{Version}
 use Rattle.messages.specs.declared.version.Version.TheVariants.{Second}
-use Rattle.texts.specs.FirstBadLine.{Begins, IsBadNext, Passes}
-use Rattle.texts.specs.FirstBadLine.IsBadNext.{has_no_line, stands_wrong}
-use Rattle.texts.specs.LineFeeds.{line_feed, line_feeds, BeginsWithLine}
-use Rattle.texts.specs.Reads.{Reads}
+use Rattle.texts.specs.rule.FirstBadLine.{Begins, IsBadNext, Passes}
+use Rattle.texts.specs.rule.FirstBadLine.IsBadNext.{has_no_line, stands_wrong}
+use Rattle.texts.specs.rule.LineFeeds.{line_feed, line_feeds, BeginsWithLine}
+use Rattle.texts.specs.rule.Reads.{Reads}
 use Rattle.lockscript.proofs.BadLines.{smallest}
 use Rattle.lockscript.proofs.FirstBadLines.{begins-whole}
 use Rattle.lockscript.proofs.Passes.{IsSingle, ended}
@@ -19,11 +19,11 @@ use Rattle.journal_text.specs.declared.lines.JournalLine.TheVariants.{End}
 use Rattle.journal_text.specs.declared.named_entry.NamedEntry.{NamedEntry}
 use Rattle.journal_text.specs.declared.place.Phase.TheVariants.{Ended}
 use Rattle.journal_text.specs.declared.place.Place.{Place}
-use Rattle.journal_text.specs.Journals.{head_text}
-use Rattle.journal_text.specs.Lines.{IsCount, IsServedLine, line_text}
-use Rattle.journal_text.specs.Places.{IsMisplaced, IsStuck, StandsNext, place, start}
-use Rattle.journal_text.specs.Places.IsStuck.{misplaced, no_line}
-use Rattle.journal_text.specs.Readings.{AreJournal, IsFirstBad, IsJournalText, Writes, body_lines}
+use Rattle.journal_text.specs.rule.Journals.{head_text}
+use Rattle.journal_text.specs.rule.Lines.{IsCount, IsServedLine, line_text}
+use Rattle.journal_text.specs.code.Places.{IsMisplaced, IsStuck, StandsNext, place, start}
+use Rattle.journal_text.specs.code.Places.IsStuck.{misplaced, no_line}
+use Rattle.journal_text.specs.rule.Readings.{AreJournal, IsFirstBad, IsJournalText, Writes, body_lines}
 use Rattle.journal_text.proofs.HeadKinds.{head}
 use Rattle.journal_text.proofs.LineKinds.{line as line_texts}
 use Rattle.journal_text.proofs.Runs.{run, run-append, run-journal, run-none}

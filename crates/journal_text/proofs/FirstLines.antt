@@ -1,18 +1,18 @@
 -- The first lines of texts that begin as journals do.
 use Rattle.std.proofs.Common.{◌≡◌, List, [], ◌++◌, ℕ, map, None, subst}
 use Rattle.std.specs.List.{flat_map}
-use Rattle.messages.specs.Entries.{EntryFields}
-use Rattle.messages.specs.Shapes.{IsShape, ShapeFields}
+use Rattle.messages.specs.code.Entries.{EntryFields}
+use Rattle.messages.specs.rule.Shapes.{IsShape, ShapeFields}
 use Rattle.messages.specs.declared.version.Version.TheVariants.{First}
-use Rattle.texts.specs.FirstBadLine.{Passes}
-use Rattle.texts.specs.LineFeeds.{BeginsWithLine}
-use Rattle.texts.specs.Reads.{Reads}
+use Rattle.texts.specs.rule.FirstBadLine.{Passes}
+use Rattle.texts.specs.rule.LineFeeds.{BeginsWithLine}
+use Rattle.texts.specs.rule.Reads.{Reads}
 use Rattle.lockscript.proofs.FirstBadLines.{begins-front, line-same}
 use Rattle.lockscript.proofs.Passes.{ended}
-use Rattle.journal_text.specs.Journals.{head_text}
-use Rattle.journal_text.specs.Lines.{line_text}
+use Rattle.journal_text.specs.rule.Journals.{head_text}
+use Rattle.journal_text.specs.rule.Lines.{line_text}
 use Rattle.journal_text.proofs.HeadKinds.{head}
-use Rattle.journal_text.specs.Readings.{BeginsAs, IsOld, WritesJournal, body_lines}
+use Rattle.journal_text.specs.rule.Readings.{BeginsAs, IsOld, WritesJournal, body_lines}
 
 -- a first line that names no shape is not that of a journal of version 1
 pub old-no_head : (text line rest : List ℕ) → BeginsWithLine text line rest → Reads head_text IsShape line None → IsOld text → ⊥

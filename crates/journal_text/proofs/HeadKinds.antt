@@ -3,15 +3,15 @@ use Rattle.std.proofs.Common.{◌≡◌, ◌≢◌, List, [], ◌∷◌, ◌++�
 use Rattle.std.specs.Prelude.{◌⊎◌}
 use Rattle.std.specs.List.{starts_with}
 use Rattle.model.specs.declared.policy.Policy.{Policy}
-use Rattle.messages.specs.Shapes.{IsShape, ShapeFields}
+use Rattle.messages.specs.rule.Shapes.{IsShape, ShapeFields}
 use Rattle.messages.specs.declared.version.Version.{Version}
 use Rattle.messages.specs.declared.version.Version.TheVariants.{First, Second}
-use Rattle.texts.specs.Reads.{Reads}
+use Rattle.texts.specs.rule.Reads.{Reads}
 use Rattle.message_text.proofs.AreTexts.{AreTexts, has_no_feed}
 use Rattle.message_text.proofs.Variants.{Variant, is_of, none-of, of_variants, variant}
-use Rattle.lockscript.specs.Scripts.{IsShapeOf, counts_text}
+use Rattle.lockscript.specs.rule.Scripts.{IsShapeOf, counts_text}
 use Rattle.lockscript.proofs.Clusters.{IsCounts, counts-fit, counts-parts, counts_of, shape_counts, shape_with}
-use Rattle.journal_text.specs.Journals.{head_front, head_text}
+use Rattle.journal_text.specs.rule.Journals.{head_front, head_text}
 
 pub shape-fits : (v : Version) (c : ℕ × (ℕ × Policy)) → IsCounts c → IsShape (shape_with v c)
 shape-fits v c fits = record { nodes_in = (fits.0.0, omega (arith, fits.0.1)); files_in = fits.1.0 }

@@ -11,37 +11,37 @@ use Rattle.model.specs.declared.op.Op.{Op}
 use Rattle.model.specs.declared.op.Op.TheVariants as op
 use Rattle.model.specs.declared.op.ProcessCall.TheVariants.{Spawn, Fork, Open, Dup}
 use Rattle.model.specs.declared.reply.Reply.{Reply}
-use Rattle.model.specs.Limits.{IsCall, IsHost, IsNumber, most_nodes, most_processes}
-use Rattle.messages.specs.Entries.{EntryFields, NamesItsCall, NamesItsIncarnation}
-use Rattle.messages.specs.Epochs.{IsCommand}
-use Rattle.messages.specs.Messages.{addressee, greatest_number, is_among, is_within}
-use Rattle.messages.specs.Shapes.{IsShape, ShapeFields, most_files}
+use Rattle.model.specs.rule.Limits.{IsCall, IsHost, IsNumber, most_nodes, most_processes}
+use Rattle.messages.specs.code.Entries.{EntryFields, NamesItsCall, NamesItsIncarnation}
+use Rattle.messages.specs.rule.Epochs.{IsCommand}
+use Rattle.messages.specs.rule.Messages.{addressee, greatest_number, is_among, is_within}
+use Rattle.messages.specs.rule.Shapes.{IsShape, ShapeFields, most_files}
 use Rattle.messages.specs.declared.event.Event.{Event}
 use Rattle.messages.specs.declared.event.Event.TheVariants as event
-use Rattle.messages.specs.Versions.{may_rebuild}
+use Rattle.messages.specs.rule.Versions.{may_rebuild}
 use Rattle.messages.specs.declared.message.Message.{Message}
 use Rattle.messages.specs.declared.message.Message.TheVariants as message
 use Rattle.messages.specs.declared.version.Version.{Version}
 use Rattle.messages.specs.declared.version.Version.TheVariants.{First, Second}
-use Rattle.node_core.specs.Calls.{is_in_shape, is_pid}
-use Rattle.cluster_core.specs.Next.{has_actor, is_known}
-use Rattle.cluster_core.specs.Runs.{IsRun, Leads}
-use Rattle.cluster_core.specs.World.{WorldState, first_world, has_file, has_node, journal_limit, was_declared}
+use Rattle.node_core.specs.rule.Calls.{is_in_shape, is_pid}
+use Rattle.cluster_core.specs.rule.Next.{has_actor, is_known}
+use Rattle.cluster_core.specs.rule.Runs.{IsRun, Leads}
+use Rattle.cluster_core.specs.rule.World.{WorldState, first_world, has_file, has_node, journal_limit, was_declared}
 use Rattle.cluster_core.proofs.runs.EarlyNumbers.{IsEarly, early_run}
 use Rattle.cluster_core.proofs.runs.JournalRuns.{leads_push, leads_shape}
 use Rattle.cluster_core.proofs.steps.Steps.{next_taken}
-use Rattle.lockscript.specs.Served.{IsServedOp}
+use Rattle.lockscript.specs.rule.Served.{IsServedOp}
 use Rattle.journal_text.specs.declared.lines.JournalLine.TheVariants.{Answer, End, Entry, Send}
 use Rattle.journal_text.specs.declared.named_entry.NamedEntry.{NamedEntry}
 use Rattle.journal_text.specs.declared.named_event.NamedEvent.{NamedEvent}
 use Rattle.journal_text.specs.declared.named_event.NamedEvent.TheVariants as named
-use Rattle.journal_text.specs.Events.{IsServedEvent, call_of, event_of, incarnation_of}
-use Rattle.journal_text.specs.Fits.{FitsEntry, FitsEvent, FitsIncarnation, FitsMessage, FitsOp, IsServedAnswer}
-use Rattle.journal_text.specs.Journals.{journal_text}
-use Rattle.journal_text.specs.Lines.{IsServedLine}
-use Rattle.journal_text.specs.OneText.{IsServedJournal}
-use Rattle.journal_text.specs.Readings.{WritesJournal, answer_lines, entry_in, entry_lines, lines_of}
-use Rattle.message_text.specs.Served.{IsCommandNumber, IsServedMessage}
+use Rattle.journal_text.specs.rule.Events.{IsServedEvent, call_of, event_of, incarnation_of}
+use Rattle.journal_text.specs.code.Fits.{FitsEntry, FitsEvent, FitsIncarnation, FitsMessage, FitsOp, IsServedAnswer}
+use Rattle.journal_text.specs.rule.Journals.{journal_text}
+use Rattle.journal_text.specs.rule.Lines.{IsServedLine}
+use Rattle.journal_text.specs.code.OneText.{IsServedJournal}
+use Rattle.journal_text.specs.rule.Readings.{WritesJournal, answer_lines, entry_in, entry_lines, lines_of}
+use Rattle.message_text.specs.rule.Served.{IsCommandNumber, IsServedMessage}
 use Rattle.journal_text.proofs.Printed.{read-printed}
 
 within : (few most n : ℕ) → few ≤ most → is_within few n ≡ true → IsNumber most n

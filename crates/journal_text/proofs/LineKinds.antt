@@ -8,7 +8,7 @@ use Rattle.message_text.proofs.MessageKinds.{message}
 use Rattle.message_text.proofs.NameTexts.{call}
 use Rattle.message_text.proofs.Variants.{Variant, of_variants, variant}
 use Rattle.journal_text.specs.declared.lines.JournalLine.TheVariants.{Entry, Answer, Send, End}
-use Rattle.journal_text.specs.Lines.{IsCount, IsPosition, IsServedLine, line_text}
+use Rattle.journal_text.specs.rule.Lines.{IsCount, IsPosition, IsServedLine, line_text}
 use Rattle.journal_text.proofs.EventKinds.{event}
 use Rattle.journal_text.proofs.ReplyKinds.{reply}
 

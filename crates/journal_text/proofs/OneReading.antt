@@ -3,19 +3,19 @@ use Rattle.std.proofs.Common.{◌≡◌, ℕ, ◌+◌, List, [], ◌∷◌, ◌+
 use Rattle.std.proofs.lemmas.List.{append-nil}
 use Rattle.model.specs.declared.call.CallId.{CallId}
 use Rattle.model.specs.declared.reply.Reply.{Reply}
-use Rattle.messages.specs.Entries.{EntryFields}
-use Rattle.messages.specs.Shapes.{ShapeFields}
+use Rattle.messages.specs.code.Entries.{EntryFields}
+use Rattle.messages.specs.rule.Shapes.{ShapeFields}
 use Rattle.messages.specs.declared.message.Message.{Message}
 use Rattle.lockscript.proofs.FirstBadLines.{not_both, one_bad_line, same-whole}
 use Rattle.journal_text.specs.declared.lines.JournalLine.{JournalLine}
 use Rattle.journal_text.specs.declared.lines.JournalLine.TheVariants.{End, Send}
 use Rattle.journal_text.specs.declared.named_entry.NamedEntry.{NamedEntry}
 use Rattle.journal_text.specs.declared.named_event.NamedEvent.{NamedEvent}
-use Rattle.journal_text.specs.Built.{BuilderFields, built, closed, fields}
-use Rattle.journal_text.specs.Journals.{head_text, journal_text}
-use Rattle.journal_text.specs.Lines.{line_text}
-use Rattle.journal_text.specs.OneText.{HasOneReading, IsServedJournal}
-use Rattle.journal_text.specs.Readings.{AreJournal, Writes, WritesJournal, answer_lines, body_lines, entry_in, entry_lines, lines_of}
+use Rattle.journal_text.specs.code.Built.{BuilderFields, built, closed, fields}
+use Rattle.journal_text.specs.rule.Journals.{head_text, journal_text}
+use Rattle.journal_text.specs.rule.Lines.{line_text}
+use Rattle.journal_text.specs.code.OneText.{HasOneReading, IsServedJournal}
+use Rattle.journal_text.specs.rule.Readings.{AreJournal, Writes, WritesJournal, answer_lines, body_lines, entry_in, entry_lines, lines_of}
 use Rattle.journal_text.proofs.Begun.{heads, lines-same, one-version}
 use Rattle.journal_text.proofs.HeadKinds.{head}
 use Rattle.journal_text.proofs.Printed.{journal-printed, read-printed}

@@ -6,22 +6,22 @@ use Rattle.std.proofs.lemmas.List.{append-nil, length-map, map-append}
 use Rattle.std.proofs.lemmas.List.Elements.{All-cons, All-head, All-nil, All-tail}
 use Rattle.model.specs.declared.call.CallId.{CallId}
 use Rattle.model.specs.declared.reply.Reply.{Reply}
-use Rattle.messages.specs.Entries.{EntryFields}
-use Rattle.messages.specs.Shapes.{ShapeFields}
+use Rattle.messages.specs.code.Entries.{EntryFields}
+use Rattle.messages.specs.rule.Shapes.{ShapeFields}
 use Rattle.messages.specs.declared.message.Message.{Message}
 use Rattle.messages.specs.declared.version.Version.{Version}
-use Rattle.message_text.specs.Names.{call_text}
-use Rattle.lockscript.specs.Texts.{reply_text}
+use Rattle.message_text.specs.rule.Names.{call_text}
+use Rattle.lockscript.specs.rule.Texts.{reply_text}
 use Rattle.lockscript.proofs.Feeds.{none_is-line_feeds}
 use Rattle.lockscript.proofs.Passes.{IsSingle, ended}
 use Rattle.journal_text.specs.declared.lines.JournalLine.{JournalLine}
 use Rattle.journal_text.specs.declared.lines.JournalLine.TheVariants.{End, Send}
 use Rattle.journal_text.specs.declared.named_entry.NamedEntry.{NamedEntry}
-use Rattle.journal_text.specs.Events.{named_text}
-use Rattle.journal_text.specs.Journals.{end_text, entries_text, entry_text, head_text, journal_text, reply_line, send_line}
-use Rattle.journal_text.specs.Lines.{IsServedLine, line_text}
-use Rattle.journal_text.specs.OneText.{IsServedJournal}
-use Rattle.journal_text.specs.Readings.{IsJournalText, WritesJournal, answer_lines, body_lines, entry_in, entry_lines, lines_of}
+use Rattle.journal_text.specs.rule.Events.{named_text}
+use Rattle.journal_text.specs.rule.Journals.{end_text, entries_text, entry_text, head_text, journal_text, reply_line, send_line}
+use Rattle.journal_text.specs.rule.Lines.{IsServedLine, line_text}
+use Rattle.journal_text.specs.code.OneText.{IsServedJournal}
+use Rattle.journal_text.specs.rule.Readings.{IsJournalText, WritesJournal, answer_lines, body_lines, entry_in, entry_lines, lines_of}
 use Rattle.journal_text.proofs.HeadKinds.{head}
 use Rattle.journal_text.proofs.LineKinds.{line}
 

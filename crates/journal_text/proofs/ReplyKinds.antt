@@ -2,12 +2,12 @@
 use Rattle.std.proofs.Common.{ℕ, List, [], ◌∷◌, inl, inr, refl, codes}
 use Rattle.model.specs.declared.reply.Reply.TheVariants.{Done, Fd, Again, Free, Blocked, Interrupted, NoProcess, Exists, BadFd, TooManyFiles, NoLocks, Invalid, Overflow}
 use Rattle.texts.proofs.FirstWords.{BeginsWithWord}
-use Rattle.lockscript.specs.Texts.{reply_text}
+use Rattle.lockscript.specs.rule.Texts.{reply_text}
 use Rattle.lockscript.proofs.FieldTexts.{fd, nothing}
 use Rattle.message_text.proofs.AreTexts.{AreTexts}
 use Rattle.message_text.proofs.SpanParts.{lock}
 use Rattle.message_text.proofs.Variants.{Variant, of_variants, variant}
-use Rattle.journal_text.specs.Served.{IsServedReply}
+use Rattle.journal_text.specs.rule.Served.{IsServedReply}
 
 abbrev ReplyKind : Type 1
 ReplyKind = Variant reply_text IsServedReply

@@ -10,8 +10,8 @@ use Rattle.journal_text.specs.declared.named_entry.NamedEntry.{NamedEntry}
 use Rattle.journal_text.specs.declared.place.Phase.{Phase}
 use Rattle.journal_text.specs.declared.place.Phase.TheVariants.{Empty, Begun, Sending, Ended}
 use Rattle.journal_text.specs.declared.place.Place.{Place}
-use Rattle.journal_text.specs.Places.{next_place, place, start}
-use Rattle.journal_text.specs.Readings.{answer_lines, body_lines, entry_lines, lines_of}
+use Rattle.journal_text.specs.code.Places.{next_place, place, start}
+use Rattle.journal_text.specs.rule.Readings.{answer_lines, body_lines, entry_lines, lines_of}
 use Rattle.journal_text.proofs.Steps.{empty-open, end-open, entry-open, phase_of, phase_of-open}
 
 abbrev pub next : Option Place → JournalLine → Option Place

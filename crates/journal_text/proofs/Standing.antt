@@ -2,17 +2,17 @@
 use Rattle.std.proofs.Common.{◌≡◌, ℕ, ◌+◌, List, [], length, map, refl, sym, ap, subst, ◌∙◌}
 use Rattle.std.specs.Prelude.{◌≢◌}
 use Rattle.std.proofs.lemmas.List.{length-map}
-use Rattle.messages.specs.Shapes.{IsShape, ShapeFields}
-use Rattle.texts.specs.LineFeeds.{BeginsWithLine}
+use Rattle.messages.specs.rule.Shapes.{IsShape, ShapeFields}
+use Rattle.texts.specs.rule.LineFeeds.{BeginsWithLine}
 use Rattle.lockscript.specs.declared.error.ParseError.{ParseError}
 use Rattle.lockscript.specs.declared.error.ParseError.TheVariants.{NoMemory, BadLine}
 use Rattle.journal_text.specs.declared.lines.JournalLine.{JournalLine}
 use Rattle.journal_text.specs.declared.place.Phase.TheVariants.{Ended}
 use Rattle.journal_text.specs.declared.place.Place.{Place}
-use Rattle.journal_text.specs.Built.{BuilderFields, built}
-use Rattle.journal_text.specs.Journals.{head_text}
-use Rattle.journal_text.specs.Places.{IsStuck, StandsNext, start}
-use Rattle.journal_text.specs.Readings.{HasLength, IsBadLine, IsFirstBad, IsRefused, WritesJournal, entry_in}
+use Rattle.journal_text.specs.code.Built.{BuilderFields, built}
+use Rattle.journal_text.specs.rule.Journals.{head_text}
+use Rattle.journal_text.specs.code.Places.{IsStuck, StandsNext, start}
+use Rattle.journal_text.specs.rule.Readings.{HasLength, IsBadLine, IsFirstBad, IsRefused, WritesJournal, entry_in}
 use Rattle.journal_text.proofs.Begun.{Begun, begun-first, begun-line, journal-begun, stuck-begun}
 use Rattle.journal_text.proofs.Steps.{Reading, built_of, entries, further, phase_of-open, place_of}
 use Rattle.journal_text.proofs.Steps.Reading.{nothing, some, whole}

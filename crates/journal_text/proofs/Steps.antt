@@ -4,7 +4,7 @@ use Rattle.std.proofs.lemmas.Bool.{eqb-true}
 use Rattle.std.proofs.lemmas.List.{append-nil, map-append}
 use Rattle.model.specs.declared.call.CallId.{CallId}
 use Rattle.model.specs.declared.reply.Reply.{Reply}
-use Rattle.messages.specs.Entries.{EntryFields}
+use Rattle.messages.specs.code.Entries.{EntryFields}
 use Rattle.messages.specs.declared.message.Message.{Message}
 use Rattle.journal_text.specs.declared.lines.JournalLine.{JournalLine}
 use Rattle.journal_text.specs.declared.lines.JournalLine.TheVariants.{Entry, Answer, Send, End}
@@ -13,11 +13,11 @@ use Rattle.journal_text.specs.declared.named_event.NamedEvent.{NamedEvent}
 use Rattle.journal_text.specs.declared.place.Phase.{Phase}
 use Rattle.journal_text.specs.declared.place.Phase.TheVariants.{Empty, Begun, Sending, Ended}
 use Rattle.journal_text.specs.declared.place.Place.{Place}
-use Rattle.journal_text.specs.Built.{BuilderFields, built, fields}
+use Rattle.journal_text.specs.code.Built.{BuilderFields, built, fields}
 use Rattle.messages.specs.declared.version.Version.{Version}
-use Rattle.journal_text.specs.Lines.{IsCount, IsServedLine}
-use Rattle.journal_text.specs.Places.{after_answer, after_end, after_entry, after_send, next_place, place, start}
-use Rattle.journal_text.specs.Readings.{answer_lines, body_lines, entry_in, entry_lines, lines_of}
+use Rattle.journal_text.specs.rule.Lines.{IsCount, IsServedLine}
+use Rattle.journal_text.specs.code.Places.{after_answer, after_end, after_entry, after_send, next_place, place, start}
+use Rattle.journal_text.specs.rule.Readings.{answer_lines, body_lines, entry_in, entry_lines, lines_of}
 
 -- the part of a journal that was read: no entry; some entries, the last of them open; or all
 pub data Reading : Type 0 where

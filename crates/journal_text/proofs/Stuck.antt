@@ -1,12 +1,12 @@
 -- The next line of a journal, or the reason for which it may not stand there.
 use Rattle.std.proofs.Common.{◌≡◌, List, ℕ, Option, Some, None, Result, Err, ok_or, sym, subst, ◌∙◌}
 use Rattle.messages.specs.declared.version.Version.{Version}
-use Rattle.texts.specs.Reads.{Reads}
+use Rattle.texts.specs.rule.Reads.{Reads}
 use Rattle.lockscript.specs.declared.error.ParseError.{ParseError}
 use Rattle.journal_text.specs.declared.lines.JournalLine.{JournalLine}
 use Rattle.journal_text.specs.declared.place.Place.{Place}
-use Rattle.journal_text.specs.Lines.{IsServedLine, line_text}
-use Rattle.journal_text.specs.Places.{IsMisplaced, next_place}
+use Rattle.journal_text.specs.rule.Lines.{IsServedLine, line_text}
+use Rattle.journal_text.specs.code.Places.{IsMisplaced, next_place}
 use Rattle.journal_text.proofs.LineKinds.{line as line_texts}
 
 -- bytes that are the text of no line are misplaced

@@ -1,10 +1,2 @@
-pub mod Texts
-pub mod Served
-pub mod Fits
-pub mod Events
-pub mod Lines
-pub mod Journals
-pub mod Places
-pub mod Readings
-pub mod Built
-pub mod OneText
+pub mod rule
+pub mod code

@@ -2,13 +2,13 @@
 //!
 //! Each function here that can fail errs with `AllocError`, where a request for memory was refused.
 ghost use Rattle.std.specs.Prelude.{◌≡◌, [], List, Some, None, IfOk, OnOk};
-ghost use Rattle.messages.specs.Entries.{EntryFields, NamesItsIncarnation};
-ghost use Rattle.messages.specs.Shapes.{ShapeFields};
-ghost use Rattle.journal_text.specs.Built.{answered, built, closed, fields, sending};
-ghost use Rattle.journal_text.specs.Events.{event_of, incarnation_of};
-ghost use Rattle.journal_text.specs.Lines.{IsServedLine};
+ghost use Rattle.messages.specs.code.Entries.{EntryFields, NamesItsIncarnation};
+ghost use Rattle.messages.specs.rule.Shapes.{ShapeFields};
+ghost use Rattle.journal_text.specs.code.Built.{answered, built, closed, fields, sending};
+ghost use Rattle.journal_text.specs.rule.Events.{event_of, incarnation_of};
+ghost use Rattle.journal_text.specs.rule.Lines.{IsServedLine};
 ghost use Rattle.messages.specs.declared.version.Version.{Version};
-ghost use Rattle.journal_text.specs.Readings.{entry_in};
+ghost use Rattle.journal_text.specs.rule.Readings.{entry_in};
 
 use crate::lines::JournalLine;
 use crate::named_entry::NamedEntry;
@@ -35,7 +35,7 @@ pub(crate) struct Builder<'a> {
 impl<'a> Model for Builder<'a> {
     ghost use Rattle.std.specs.Prelude.{Option};
     ghost use Rattle.journal_text.specs.declared.named_entry.NamedEntry.{NamedEntry};
-    ghost use Rattle.journal_text.specs.Built.{IsOpen};
+    ghost use Rattle.journal_text.specs.code.Built.{IsOpen};
 
     ghost Value = { Option NamedEntry };
 

@@ -1,10 +1,10 @@
 //! Reads the events of journals from their texts.
 ghost use Rattle.std.specs.Prelude.{◌≡◌, true};
-ghost use Rattle.messages.specs.Versions.{may_rebuild};
-ghost use Rattle.texts.specs.Reads.{Reads};
-ghost use Rattle.message_text.specs.Names.{server_text};
-ghost use Rattle.message_text.specs.Parts.{AreServerParts};
-ghost use Rattle.journal_text.specs.Events.{IsServedEvent, named_text};
+ghost use Rattle.messages.specs.rule.Versions.{may_rebuild};
+ghost use Rattle.texts.specs.rule.Reads.{Reads};
+ghost use Rattle.message_text.specs.rule.Names.{server_text};
+ghost use Rattle.message_text.specs.code.Parts.{AreServerParts};
+ghost use Rattle.journal_text.specs.rule.Events.{IsServedEvent, named_text};
 
 use crate::named_event::NamedEvent;
 use crate::named_event::NamedEvent::{

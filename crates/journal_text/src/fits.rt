@@ -1,8 +1,8 @@
 //! Laws that say what the types of an entry's parts guarantee; each is the contract of a function
 //! that does nothing.
 ghost use Rattle.std.specs.Prelude.{All};
-ghost use Rattle.journal_text.specs.Fits.{FitsEntry, FitsEvent, FitsMessage, FitsOp};
-ghost use Rattle.journal_text.specs.Served.{IsServedReply};
+ghost use Rattle.journal_text.specs.code.Fits.{FitsEntry, FitsEvent, FitsMessage, FitsOp};
+ghost use Rattle.journal_text.specs.rule.Served.{IsServedReply};
 
 use message_text::fits::{call_fits, lock_fits, message_fits};
 use messages::entry::Entry;

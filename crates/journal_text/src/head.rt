@@ -1,8 +1,8 @@
 //! The first line of a journal.
 ghost use Rattle.std.specs.Prelude.{◌≡◌};
-ghost use Rattle.messages.specs.Shapes.{IsShape};
-ghost use Rattle.texts.specs.Reads.{Reads};
-ghost use Rattle.journal_text.specs.Journals.{head_front, head_text};
+ghost use Rattle.messages.specs.rule.Shapes.{IsShape};
+ghost use Rattle.texts.specs.rule.Reads.{Reads};
+ghost use Rattle.journal_text.specs.rule.Journals.{head_front, head_text};
 
 use lockscript::cluster_line::shape_operands;
 use messages::shape::Shape;

@@ -2,7 +2,7 @@
 //!
 //! Each function here that can fail errs with `AllocError`, where a request for memory was refused.
 ghost use Rattle.std.specs.Prelude.{◌≡◌, ◌++◌, codes, flat_map, string_bytes, IfOk, OnOk};
-ghost use Rattle.journal_text.specs.Journals.{end_text, entries_text, entry_text, head_text, journal_text, reply_line, send_line};
+ghost use Rattle.journal_text.specs.rule.Journals.{end_text, entries_text, entry_text, head_text, journal_text, reply_line, send_line};
 
 use crate::head::head_front;
 use crate::writing::push_event;

@@ -1,7 +1,7 @@
 //! Laws of every text that may be a journal.
-ghost use Rattle.journal_text.specs.Journals.{journal_text};
-ghost use Rattle.journal_text.specs.Readings.{WritesJournal};
-ghost use Rattle.journal_text.specs.OneText.{EachTextHasOneValue, EveryJournalIsRead, EveryTextHasOneReading};
+ghost use Rattle.journal_text.specs.rule.Journals.{journal_text};
+ghost use Rattle.journal_text.specs.rule.Readings.{WritesJournal};
+ghost use Rattle.journal_text.specs.code.OneText.{EachTextHasOneValue, EveryJournalIsRead, EveryTextHasOneReading};
 
 use crate::fits::entries_fit;
 use cluster_core::journal::Journal;

@@ -1,7 +1,7 @@
 //! Reads the lines of journals from their texts.
 ghost use Rattle.std.specs.Prelude.{◌++◌, codes};
-ghost use Rattle.texts.specs.Reads.{Reads};
-ghost use Rattle.journal_text.specs.Lines.{IsServedLine, line_text};
+ghost use Rattle.texts.specs.rule.Reads.{Reads};
+ghost use Rattle.journal_text.specs.rule.Lines.{IsServedLine, line_text};
 
 use crate::events::event_in;
 use crate::named_event::NamedEvent;

@@ -2,7 +2,7 @@
 //!
 //! Each function here that can fail errs with `AllocError`, where a request for memory was refused.
 ghost use Rattle.std.specs.Prelude.{◌≡◌, IfOk};
-ghost use Rattle.journal_text.specs.Events as named;
+ghost use Rattle.journal_text.specs.rule.Events as named;
 
 use message_text::written_message::WrittenMessage;
 use messages::event::Event;

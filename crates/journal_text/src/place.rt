@@ -1,7 +1,7 @@
 //! Places in journals, between two lines behind the first one.
 ghost use Rattle.std.specs.Prelude.{◌≡◌, ◌↔◌, IsTrue};
 ghost use Rattle.journal_text.specs.declared.place.Phase.TheVariants as phase;
-ghost use Rattle.journal_text.specs.Places.{after_end, after_entry, next_place, place, start};
+ghost use Rattle.journal_text.specs.code.Places.{after_end, after_entry, next_place, place, start};
 
 use crate::lines::JournalLine;
 

@@ -1,13 +1,13 @@
 //! Reads a journal line by line.
 ghost use Rattle.std.specs.Prelude.{◌≡◌, ◌+◌, ◌<◌, ◌^◌, [], true, false, length, IfErr, IfOk, MatchOption};
-ghost use Rattle.messages.specs.Shapes.{IsShape};
-ghost use Rattle.texts.specs.LineFeeds.{line_feeds, BeginsWithLine};
+ghost use Rattle.messages.specs.rule.Shapes.{IsShape};
+ghost use Rattle.texts.specs.rule.LineFeeds.{line_feeds, BeginsWithLine};
 ghost use Rattle.lockscript.specs.declared.error.ParseError.TheVariants.{BadLine};
 ghost use Rattle.journal_text.specs.declared.lines.JournalLine.{JournalLine as Line};
 ghost use Rattle.journal_text.specs.declared.place.Phase.TheVariants as phase;
-ghost use Rattle.journal_text.specs.Journals.{head_text};
-ghost use Rattle.journal_text.specs.Places.{IsStuck, StandsNext, start};
-ghost use Rattle.journal_text.specs.Readings.{IsBadLine};
+ghost use Rattle.journal_text.specs.rule.Journals.{head_text};
+ghost use Rattle.journal_text.specs.code.Places.{IsStuck, StandsNext, start};
+ghost use Rattle.journal_text.specs.rule.Readings.{IsBadLine};
 
 use crate::head::head_of;
 use crate::lines::{JournalLine, line_of};

@@ -1,7 +1,7 @@
 //! The replies in journals, and their texts.
-ghost use Rattle.texts.specs.Reads.{Reads};
-ghost use Rattle.lockscript.specs.Texts.{reply_text};
-ghost use Rattle.journal_text.specs.Served.{IsServedReply};
+ghost use Rattle.texts.specs.rule.Reads.{Reads};
+ghost use Rattle.lockscript.specs.rule.Texts.{reply_text};
+ghost use Rattle.journal_text.specs.rule.Served.{IsServedReply};
 
 use lockscript::replies::push_reply;
 use message_text::fields::LockText;

@@ -2,8 +2,8 @@
 //!
 //! Each function here that can fail errs with `AllocError`, where a request for memory was refused.
 ghost use Rattle.std.specs.Prelude.{◌≡◌, ◌++◌, ◌∷◌, [], List, ⊤, OnOk};
-ghost use Rattle.messages.specs.Entries.{EntryFields};
-ghost use Rattle.messages.specs.Shapes.{ShapeFields};
+ghost use Rattle.messages.specs.code.Entries.{EntryFields};
+ghost use Rattle.messages.specs.rule.Shapes.{ShapeFields};
 
 use messages::entry::Entry;
 use std::alloc::{AllocError, Global};

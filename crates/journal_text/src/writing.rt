@@ -2,7 +2,7 @@
 //!
 //! Each function here that can fail errs with `AllocError`, where a request for memory was refused.
 ghost use Rattle.std.specs.Prelude.{◌≡◌, ◌++◌, string_bytes, OnOk};
-ghost use Rattle.journal_text.specs.Texts.{event_text};
+ghost use Rattle.journal_text.specs.rule.Texts.{event_text};
 
 use crate::operands::CallFields;
 use message_text::writing::{push, push_message};

@@ -9,7 +9,7 @@ use Rattle.judgements.specs.declared.judged.Judged.{Judged}
 use Rattle.judgements.specs.declared.judged.Judged.TheVariants.{Explained, Contradicted, Unknown}
 use Rattle.judgements.specs.declared.outcome.Outcome.{Outcome}
 use Rattle.judgements.specs.declared.outcome.Outcome.TheVariants as outcome
-use Rattle.judgements.specs.Judgements.{HasOneClock, IsContradicted, IsExplained, IsJudged, IsOutcome, outcome_of}
+use Rattle.judgements.specs.rule.Judgements.{HasOneClock, IsContradicted, IsExplained, IsJudged, IsOutcome, outcome_of}
 
 -- the outcome of the first files is true of them, where the history has one clock: each is explained, or one isn't
 pub record SoFar (history : History) (said : Outcome) (count : ℕ) : Type 0 where

@@ -1,1 +1,1 @@
-pub mod Judgements
+pub mod rule

@@ -1,7 +1,7 @@
 //! The judgement of a history's files, one by one. A function here that gives a `Result` answers `AllocError` where a
 //! request for memory was refused.
 ghost use Rattle.std.specs.Prelude.{◌≡◌, IfOk};
-ghost use Rattle.judgements.specs.Judgements.{HasOneClock, IsJudged, IsOutcome};
+ghost use Rattle.judgements.specs.rule.Judgements.{HasOneClock, IsJudged, IsOutcome};
 
 use crate::clocks::widened;
 use crate::draw::drawn;

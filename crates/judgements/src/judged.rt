@@ -1,6 +1,6 @@
 //! The judgement of one file's calls.
 ghost use Rattle.std.specs.Prelude.{◌≡◌, IfOk};
-ghost use Rattle.judgements.specs.Judgements.{IsContradicted, IsJudged, outcome_of};
+ghost use Rattle.judgements.specs.rule.Judgements.{IsContradicted, IsJudged, outcome_of};
 
 use crate::before::{Before, tables_before};
 use crate::outcome::Outcome;

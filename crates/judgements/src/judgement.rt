@@ -1,7 +1,7 @@
 //! The judgement of a history, as it is printed.
 ghost use Rattle.std.specs.Prelude.{IfOk};
-ghost use Rattle.history_text.specs.Histories.{IsHistoryOf};
-ghost use Rattle.judgements.specs.Judgements.{IsJudgement, IsOrdered};
+ghost use Rattle.history_text.specs.rule.Histories.{IsHistoryOf};
+ghost use Rattle.judgements.specs.rule.Judgements.{IsJudgement, IsOrdered};
 
 use crate::error::JudgeError;
 use crate::file_judgement::files_judged;

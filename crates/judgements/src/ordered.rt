@@ -1,7 +1,7 @@
 //! The test whether given orders explain the files of a history. A function here that gives a `Result` answers
 //! `AllocError` where a request for memory was refused.
 ghost use Rattle.std.specs.Prelude.{◌≡◌, None, true, All, IfOk};
-ghost use Rattle.judgements.specs.Judgements.{HasOneClock, IsExplained};
+ghost use Rattle.judgements.specs.rule.Judgements.{HasOneClock, IsExplained};
 
 use crate::clocks::widened;
 use crate::orders::indexes_of;

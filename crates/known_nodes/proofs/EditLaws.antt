@@ -4,16 +4,16 @@ use Rattle.std.proofs.lemmas.Bool.Decides.{eqb_tells, nat_tests}
 use Rattle.std.specs.Prelude.{Bool, true, false, cond, ◌≡◌, ◌≢◌, ℕ, ◌+◌, ◌-◌, ◌<◌, ◌≤◌, ◌==◌, ◌&&◌, nat_lt, if◌then◌else◌, List, length, slice_set, slice_index_or, Option, Some, None, MatchOption}
 use Rattle.std.proofs.Common.{inl, inr, sym, refl, ap, ◌∙◌, arith}
 use Rattle.std.proofs.lemmas.Option.{slice_get_past}
-use Rattle.model.specs.Limits.{IsNumber}
+use Rattle.model.specs.rule.Limits.{IsNumber}
 use Rattle.known_nodes.specs.declared.known_node.KnownNode.{KnownNode}
 use Rattle.known_nodes.specs.declared.row_edit.RowEdit.{RowEdit}
 use Rattle.known_nodes.specs.declared.token_holder.RowView.{RowView}
 use Rattle.known_nodes.specs.declared.node_change.Changed.{Changed}
-use Rattle.known_nodes.specs.Rows.{Row}
-use Rattle.known_nodes.specs.Parts.{row_seen, row_of, dead_of, known_node_at, rows_of, deaths_of}
-use Rattle.known_nodes.specs.Changes.{row_after, dead_after, rows_after, deaths_after}
+use Rattle.known_nodes.specs.rule.Rows.{Row}
+use Rattle.known_nodes.specs.rule.Parts.{row_seen, row_of, dead_of, known_node_at, rows_of, deaths_of}
+use Rattle.known_nodes.specs.code.Changes.{row_after, dead_after, rows_after, deaths_after}
 use Rattle.known_nodes.specs.declared.given.Given.{Given}
-use Rattle.known_nodes.specs.Edits.{seen, seen_row, row_kept, given_to_known_node, with_given_row, rows_overlaid, deaths_with, deaths_overlaid}
+use Rattle.known_nodes.specs.code.Edits.{seen, seen_row, row_kept, given_to_known_node, with_given_row, rows_overlaid, deaths_with, deaths_overlaid}
 use Rattle.known_nodes.proofs.KnownNodeLaws.{known_node_at-read, known_node_at-place, changed_at}
 
 -- the row of a node that is in the list is the row kept with it

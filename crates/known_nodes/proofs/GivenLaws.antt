@@ -4,11 +4,11 @@ use Rattle.std.specs.List.{list_any}
 use Rattle.std.proofs.Common.{refl, sym, ap, ◌∙◌, inl, inr, arith}
 use Rattle.std.proofs.lemmas.Bool.{both_ways, eq-eqb}
 use Rattle.std.proofs.lemmas.Bool.Decides.{eqb_tells}
-use Rattle.known_nodes.specs.Rows.{Row}
+use Rattle.known_nodes.specs.rule.Rows.{Row}
 use Rattle.known_nodes.specs.declared.known_node.KnownNode.{KnownNode}
 use Rattle.known_nodes.specs.declared.given.Given.{Given}
-use Rattle.known_nodes.specs.Parts.{known_node_at, rows_of}
-use Rattle.known_nodes.specs.Edits.{given_to_known_node, with_given_row, given_rows}
+use Rattle.known_nodes.specs.rule.Parts.{known_node_at, rows_of}
+use Rattle.known_nodes.specs.code.Edits.{given_to_known_node, with_given_row, given_rows}
 
 -- the last new row is made, unless one of the others is of its node
 pub given_rows-last : (known_nodes after : List KnownNode) (gs : List Given) (g : Given) → (n : ℕ) → rows_of after n ≡ with_given_row g known_nodes n → ((m : ℕ) → (m ≡ g.place + 1 → ⊥) → known_node_at after m ≡ known_node_at known_nodes m) → list_any (λ x. x.place == g.place) gs ≡ false → given_rows gs after n ≡ given_rows (gs ++ g ∷ []) known_nodes n

@@ -4,9 +4,9 @@ use Rattle.std.proofs.Common.{refl, sym, ap, subst, ◌∙◌, inl, inr, arith}
 use Rattle.std.proofs.lemmas.Bool.Decides.{eqb_tells}
 use Rattle.std.proofs.lemmas.Bool.{cases_lt}
 use Rattle.std.proofs.lemmas.Option.{slice_get_read, slice_get_past, slice_get-get_or}
-use Rattle.model.specs.Limits.{IsNumber}
+use Rattle.model.specs.rule.Limits.{IsNumber}
 use Rattle.known_nodes.specs.declared.known_node.KnownNode.{KnownNode}
-use Rattle.known_nodes.specs.Parts.{row_of, dead_of, known_node_at, rows_of, deaths_of, SameKnown, SameKnownNodes}
+use Rattle.known_nodes.specs.rule.Parts.{row_of, dead_of, known_node_at, rows_of, deaths_of, SameKnown, SameKnownNodes}
 
 -- a read of the place that was written gives what was written
 slice_get-set_same : {X : Type 0} (xs : List X) (i : ℕ) (x : X) → i < length xs → slice_get (slice_set xs i x) i ≡ Some x

@@ -4,16 +4,16 @@ use Rattle.std.proofs.Common.{refl, sym, ap, ◌∙◌, inl, inr, arith}
 use Rattle.std.proofs.lemmas.List.{length-set}
 use Rattle.std.proofs.lemmas.Bool.{both_ways, false_from_ne_true, or_parts}
 use Rattle.std.proofs.lemmas.Bool.Decides.{eqb_tells}
-use Rattle.intervals.specs.Bytes.{Range, greatest, whole, NoneIn}
+use Rattle.intervals.specs.rule.Bytes.{Range, greatest, whole, NoneIn}
 use Rattle.model.specs.declared.mode.Mode.TheVariants.{Read}
 use Rattle.token_set.proofs.TokenLaws.{conflicts-none, none-conflicts}
 use Rattle.known_nodes.specs.declared.known_node.KnownNode.{KnownNode}
 use Rattle.known_nodes.specs.declared.row_edit.RowEdit.{RowEdit}
 use Rattle.known_nodes.specs.declared.token_holder.TokenHolder.{TokenHolder}
-use Rattle.known_nodes.specs.Rows.{Row, row_conflicts, row_conflicts_at}
-use Rattle.known_nodes.specs.Parts.{row_seen, row_of, known_node_at, rows_of}
-use Rattle.known_nodes.specs.Marks.{NoneExclusive}
-use Rattle.known_nodes.specs.Edits.{row_kept, given_to_known_node, rows_overlaid}
+use Rattle.known_nodes.specs.rule.Rows.{Row, row_conflicts, row_conflicts_at}
+use Rattle.known_nodes.specs.rule.Parts.{row_seen, row_of, known_node_at, rows_of}
+use Rattle.known_nodes.specs.code.Marks.{NoneExclusive}
+use Rattle.known_nodes.specs.code.Edits.{row_kept, given_to_known_node, rows_overlaid}
 use Rattle.known_nodes.proofs.KnownNodeLaws.{known_node_at-read, known_node_at-set_same}
 use Rattle.model.specs.declared.mode.Mode.{Mode}
 

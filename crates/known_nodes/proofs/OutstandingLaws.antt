@@ -7,8 +7,8 @@ use Rattle.std.proofs.lemmas.List.FromFn.{map-range_with_len_more}
 use Rattle.std.proofs.lemmas.List.Elements.{filter_map-append}
 use Rattle.messages.specs.declared.message.Message.{Message}
 use Rattle.known_nodes.specs.declared.known_node.KnownNode.{KnownNode}
-use Rattle.known_nodes.specs.Rows.{Row, outstanding_of, outstanding_to}
-use Rattle.known_nodes.specs.Parts.{row_seen, row_of, rows_of}
+use Rattle.known_nodes.specs.rule.Rows.{Row, outstanding_of, outstanding_to}
+use Rattle.known_nodes.specs.rule.Parts.{row_seen, row_of, rows_of}
 use Rattle.known_nodes.proofs.KnownNodeLaws.{known_node_at-place}
 
 counting_more : (a n j : ℕ) → a + n ≡ j → range_with_len a (n + 1) ≡ range_with_len a n ++ j ∷ []

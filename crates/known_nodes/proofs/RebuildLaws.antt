@@ -4,16 +4,16 @@ use Rattle.std.proofs.Common.{refl, sym, ap, subst, ◌∙◌, inl, inr, arith}
 use Rattle.std.proofs.lemmas.Bool.{cases_lt, and_from, le-leb, lt-leb}
 use Rattle.std.proofs.lemmas.Option.{slice_get_past}
 use Rattle.model.specs.declared.mode.Mode.TheVariants.{Read}
-use Rattle.messages.specs.Shapes.{ShapeFields}
-use Rattle.messages.specs.Epochs.{before_epoch}
-use Rattle.messages.specs.Messages.{is_within}
-use Rattle.members.specs.Parts.{MembersParts, incarnation_of, members_state}
+use Rattle.messages.specs.rule.Shapes.{ShapeFields}
+use Rattle.messages.specs.rule.Epochs.{before_epoch}
+use Rattle.messages.specs.rule.Messages.{is_within}
+use Rattle.members.specs.rule.Parts.{MembersParts, incarnation_of, members_state}
 use Rattle.members.proofs.Numbered.{numbered-outside}
 use Rattle.known_nodes.specs.declared.known_node.KnownNode.{KnownNode}
-use Rattle.known_nodes.specs.Rows.{Row, awaited_row, row_conflicts_at}
-use Rattle.known_nodes.specs.Parts.{row_of, dead_of, known_node_at, rows_of, deaths_of}
-use Rattle.known_nodes.specs.Marks.{NoneExclusive}
-use Rattle.known_nodes.specs.Rebuilds.{rebuilt_row, rebuilt_dead, AreRebuilt, rebuilt_rows}
+use Rattle.known_nodes.specs.rule.Rows.{Row, awaited_row, row_conflicts_at}
+use Rattle.known_nodes.specs.rule.Parts.{row_of, dead_of, known_node_at, rows_of, deaths_of}
+use Rattle.known_nodes.specs.code.Marks.{NoneExclusive}
+use Rattle.known_nodes.specs.code.Rebuilds.{rebuilt_row, rebuilt_dead, AreRebuilt, rebuilt_rows}
 
 within-cluster : (nodes k : ℕ) → k < nodes → is_within nodes (suc k) ≡ true
 within-cluster nodes k below = and_from (nat_le 1 (suc k)) (nat_le (suc k) nodes) (le-leb 1 (suc k) (omega arith)) (le-leb (suc k) nodes (omega arith))

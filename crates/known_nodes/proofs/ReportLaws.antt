@@ -3,14 +3,14 @@ use Rattle.std.specs.Prelude.{◌≡◌, ℕ, zero, suc, ◌+◌, ◌<◌, ◌�
 use Rattle.std.proofs.Common.{refl, ap, ◌∙◌, drop, arith}
 use Rattle.std.proofs.lemmas.Bool.{and_parts, ltb-true, leb-true, false_from_ne_true}
 use Rattle.std.proofs.lemmas.List.Elements.{All-head, All-tail}
-use Rattle.intervals.specs.Bytes.{is_in}
+use Rattle.intervals.specs.rule.Bytes.{is_in}
 use Rattle.model.specs.declared.level.Level.{Level}
 use Rattle.model.specs.declared.level.Level.TheVariants.{Shared, Exclusive}
-use Rattle.token_set.specs.Tokens.{raised_level, raised}
+use Rattle.token_set.specs.rule.Tokens.{raised_level, raised}
 use Rattle.messages.specs.declared.token_run.TokenRun.{TokenRun}
-use Rattle.messages.specs.TokenRuns.{same_level, go_on_after, are_longest}
-use Rattle.messages.specs.Reports.{reported}
-use Rattle.known_nodes.specs.Rebuilds.{mode_of}
+use Rattle.messages.specs.rule.TokenRuns.{same_level, go_on_after, are_longest}
+use Rattle.messages.specs.rule.Reports.{reported}
+use Rattle.known_nodes.specs.code.Rebuilds.{mode_of}
 
 -- the run has a byte
 abbrev pub HasByte : TokenRun → Type 0

@@ -1,11 +1,11 @@
 //! The commands of a token server: grants, revokes and hellos, as the server keeps them while they have no answer. A
 //! function here that gives a `Result` answers `AllocError` where a request for memory was refused.
 ghost use Rattle.std.specs.Prelude.{◌≡◌, ◌≤◌, IfOk, IfSome, Some};
-ghost use Rattle.token_set.specs.Sets.{token_of};
-ghost use Rattle.token_set.specs.Edits.{edited as edited_token};
-ghost use Rattle.known_nodes.specs.Rows.{is_hello, is_grant, revoked_mode, asks_token};
-ghost use Rattle.known_nodes.specs.Orders.{message_of};
-ghost use Rattle.known_nodes.specs.Sent.{promised, bars};
+ghost use Rattle.token_set.specs.code.Sets.{token_of};
+ghost use Rattle.token_set.specs.code.Edits.{edited as edited_token};
+ghost use Rattle.known_nodes.specs.rule.Rows.{is_hello, is_grant, revoked_mode, asks_token};
+ghost use Rattle.known_nodes.specs.code.Orders.{message_of};
+ghost use Rattle.known_nodes.specs.code.Sent.{promised, bars};
 
 use intervals::span::Span;
 use messages::command_number::CommandNumber;
@@ -59,8 +59,8 @@ impl Model for Command {
 
     ghost Value = { Message };
 
-    ghost use Rattle.messages.specs.Messages.{file_of};
-    ghost use Rattle.known_nodes.specs.Orders.{message_of, order_of};
+    ghost use Rattle.messages.specs.rule.Messages.{file_of};
+    ghost use Rattle.known_nodes.specs.code.Orders.{message_of, order_of};
     ghost use Rattle.std.proofs.Common.{rules};
 
     ghost view = { λ c. message_of c.file c.order };

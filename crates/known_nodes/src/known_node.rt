@@ -2,14 +2,14 @@
 //! request for memory was refused.
 ghost use Rattle.std.specs.Prelude.{◌≡◌, ◌-◌, ◌≤◌, ◌↔◌, ◌||◌, true, IsTrue, IfOk, Some, None};
 ghost use Rattle.std.specs.Option.{option_map};
-ghost use Rattle.intervals.specs.Bytes.{whole};
-ghost use Rattle.model.specs.Limits.{IsNumber, most_nodes};
-ghost use Rattle.members.specs.Parts.{members_state};
-ghost use Rattle.known_nodes.specs.Rows.{row_above, row_conflicts, outstanding_of};
-ghost use Rattle.known_nodes.specs.Parts.{row_seen, SameKnown};
-ghost use Rattle.known_nodes.specs.Changes.{answering, relieved, row_or_empty, row_after, dead_after};
-ghost use Rattle.known_nodes.specs.Rebuilds.{rebuilt_row, rebuilt_dead};
-ghost use Rattle.known_nodes.specs.Edits.{seen_row, row_with, row_kept, row_promised};
+ghost use Rattle.intervals.specs.rule.Bytes.{whole};
+ghost use Rattle.model.specs.rule.Limits.{IsNumber, most_nodes};
+ghost use Rattle.members.specs.rule.Parts.{members_state};
+ghost use Rattle.known_nodes.specs.rule.Rows.{row_above, row_conflicts, outstanding_of};
+ghost use Rattle.known_nodes.specs.rule.Parts.{row_seen, SameKnown};
+ghost use Rattle.known_nodes.specs.code.Changes.{answering, relieved, row_or_empty, row_after, dead_after};
+ghost use Rattle.known_nodes.specs.code.Rebuilds.{rebuilt_row, rebuilt_dead};
+ghost use Rattle.known_nodes.specs.code.Edits.{seen_row, row_with, row_kept, row_promised};
 
 use crate::command::Command;
 use crate::commands::Commands;

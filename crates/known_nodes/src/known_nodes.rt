@@ -3,16 +3,16 @@
 ghost use Rattle.std.specs.Prelude.{◌≡◌, ◌≢◌, ℕ, ◌+◌, ◌<◌, ◌≤◌, ◌↔◌, true, length, IsTrue, IfOk, IfSome, OnSome, MatchOption, [], ◌∷◌, ◌++◌, ◌==◌, Some, None};
 ghost use Rattle.std.specs.List.{list_any};
 ghost use Rattle.std.specs.Option.{option_copied};
-ghost use Rattle.intervals.specs.Search.{some_passes};
-ghost use Rattle.model.specs.Limits.{IsNumber, most_nodes};
-ghost use Rattle.messages.specs.Epochs.{before_epoch};
-ghost use Rattle.members.specs.Parts.{members_state};
-ghost use Rattle.known_nodes.specs.Rows.{is_awaited, outstanding_to, row_of_incarnation};
-ghost use Rattle.known_nodes.specs.Rebuilds.{rebuilt_rows, rebuilt_dead, AreRebuilt};
-ghost use Rattle.known_nodes.specs.Parts.{row_seen, row_state, known_node_at, rows_of, deaths_of, SameKnownNodes};
-ghost use Rattle.known_nodes.specs.Changes.{rows_after, deaths_after};
-ghost use Rattle.known_nodes.specs.Edits.{seen, row_promised, given_to_known_node, with_given_row, given_rows, given_of, rows_overlaid, deaths_overlaid, deaths_with};
-ghost use Rattle.known_nodes.specs.Marks.{NoneExclusive};
+ghost use Rattle.intervals.specs.rule.Search.{some_passes};
+ghost use Rattle.model.specs.rule.Limits.{IsNumber, most_nodes};
+ghost use Rattle.messages.specs.rule.Epochs.{before_epoch};
+ghost use Rattle.members.specs.rule.Parts.{members_state};
+ghost use Rattle.known_nodes.specs.rule.Rows.{is_awaited, outstanding_to, row_of_incarnation};
+ghost use Rattle.known_nodes.specs.code.Rebuilds.{rebuilt_rows, rebuilt_dead, AreRebuilt};
+ghost use Rattle.known_nodes.specs.rule.Parts.{row_seen, row_state, known_node_at, rows_of, deaths_of, SameKnownNodes};
+ghost use Rattle.known_nodes.specs.code.Changes.{rows_after, deaths_after};
+ghost use Rattle.known_nodes.specs.code.Edits.{seen, row_promised, given_to_known_node, with_given_row, given_rows, given_of, rows_overlaid, deaths_overlaid, deaths_with};
+ghost use Rattle.known_nodes.specs.code.Marks.{NoneExclusive};
 
 use crate::command::Command;
 use crate::commands::Commands;
@@ -48,8 +48,8 @@ impl Model for KnownNodes {
     ghost view = { λ c. c.nodes.items };
 
     ghost use Rattle.std.specs.Prelude.{◌≡◌, false};
-    ghost use Rattle.known_nodes.specs.Parts.{rows_of};
-    ghost use Rattle.known_nodes.specs.Marks.{NoneExclusive};
+    ghost use Rattle.known_nodes.specs.rule.Parts.{rows_of};
+    ghost use Rattle.known_nodes.specs.code.Marks.{NoneExclusive};
 
     ghost invariant = { λ c. c.may_exclude ≡ false → NoneExclusive (rows_of c.nodes.items) };
 }

@@ -1,6 +1,6 @@
 //! The change that an event makes of what a token server knows of one node.
 ghost use Rattle.std.specs.Prelude.{◌≡◌};
-ghost use Rattle.known_nodes.specs.Changes.{dropped_to, dead_after, may_bar};
+ghost use Rattle.known_nodes.specs.code.Changes.{dropped_to, dead_after, may_bar};
 
 use intervals::span::Span;
 use messages::token_run::TokenRuns;

@@ -1,8 +1,8 @@
 //! Tokens that nodes report to a token server that was rebuilt.
 ghost use Rattle.std.specs.Prelude.{◌≡◌, IfOk};
-ghost use Rattle.token_set.specs.Sets.{token_of};
-ghost use Rattle.messages.specs.Reports.{reported};
-ghost use Rattle.known_nodes.specs.Rebuilds.{mode_of};
+ghost use Rattle.token_set.specs.code.Sets.{token_of};
+ghost use Rattle.messages.specs.rule.Reports.{reported};
+ghost use Rattle.known_nodes.specs.code.Rebuilds.{mode_of};
 
 use messages::token_run::TokenRuns;
 use model::level::Level;

@@ -1,11 +1,11 @@
 //! Rows as they will stand after a planned step of a token server.
 ghost use Rattle.std.specs.Prelude.{◌≡◌, false, Option, IfOk};
-ghost use Rattle.intervals.specs.Bytes.{whole};
+ghost use Rattle.intervals.specs.rule.Bytes.{whole};
 ghost use Rattle.model.specs.declared.mode.Mode.TheVariants.{Read};
-ghost use Rattle.known_nodes.specs.Rows.{row_conflicts};
-ghost use Rattle.known_nodes.specs.Parts.{row_seen};
+ghost use Rattle.known_nodes.specs.rule.Rows.{row_conflicts};
+ghost use Rattle.known_nodes.specs.rule.Parts.{row_seen};
 ghost use Rattle.known_nodes.specs.declared.token_holder.TokenHolder.{TokenHolder};
-ghost use Rattle.known_nodes.specs.Edits.{seen_row, row_with, row_promised};
+ghost use Rattle.known_nodes.specs.code.Edits.{seen_row, row_with, row_promised};
 
 use crate::command::Command;
 use crate::commands::Commands;

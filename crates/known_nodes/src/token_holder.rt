@@ -1,10 +1,10 @@
 //! The row of a node at a token server.
 ghost use Rattle.std.specs.Prelude.{◌≡◌, ◌↔◌, IsTrue, IfOk};
-ghost use Rattle.intervals.specs.Bytes.{whole};
-ghost use Rattle.token_set.specs.Tokens.{conflicts};
-ghost use Rattle.token_set.specs.Sets.{token_of};
-ghost use Rattle.known_nodes.specs.Parts.{SameRow, row_state};
-ghost use Rattle.known_nodes.specs.Edits.{seen};
+ghost use Rattle.intervals.specs.rule.Bytes.{whole};
+ghost use Rattle.token_set.specs.rule.Tokens.{conflicts};
+ghost use Rattle.token_set.specs.code.Sets.{token_of};
+ghost use Rattle.known_nodes.specs.rule.Parts.{SameRow, row_state};
+ghost use Rattle.known_nodes.specs.code.Edits.{seen};
 
 use crate::commands::Commands;
 use intervals::span::{GREATEST, Span};

@@ -6,9 +6,9 @@ use Rattle.std.specs.declared.cmp.Ordering.TheVariants.{Less, Greater}
 use Rattle.std.proofs.lemmas.Bool.{and_left, ltb-true, ltb-false, leb-true, leb-false, lt-ltb, cases_lt}
 use Rattle.std.proofs.lemmas.List.{length-take, length-drop, get_or-take, get_or-drop}
 use Rattle.model.specs.declared.owner.Owner.{Owner}
-use Rattle.model.specs.Owners.{same_owner}
+use Rattle.model.specs.rule.Owners.{same_owner}
 use Rattle.lock_table.specs.declared.owner_locks.OwnerLocks.{OwnerLocks}
-use Rattle.lock_table.specs.Rows.{rows_held, row_cmp, AllAfter, AreRows}
+use Rattle.lock_table.specs.code.Rows.{rows_held, row_cmp, AllAfter, AreRows}
 
 -- a row behind a place is of the same file or of a later one
 after_file : (r : OwnerLocks) (f : ℕ) (o : Owner) → row_cmp r f o ≡ Greater → f ≤ r.file

@@ -6,7 +6,7 @@ use Rattle.std.proofs.lemmas.Nat.Bits.{bit_at_ones, bit_at-zero, bit_at_or, bit_
 use Rattle.std.proofs.lemmas.Bool.{cases_order}
 use Rattle.std.proofs.lemmas.List.{get_or-set_same}
 use Rattle.lock_table.specs.declared.flag_set.FlagSet.{FlagSet}
-use Rattle.lock_table.specs.Pages.{HasFlag}
+use Rattle.lock_table.specs.code.Pages.{HasFlag}
 
 four_words : (w q : ℕ) → q < 4 → get_or (w ∷ w ∷ w ∷ w ∷ []) q 0 ≡ w
 four_words w zero lt = refl

@@ -2,7 +2,7 @@
 use Rattle.std.specs.Prelude.{◌≡◌, ℕ, ◌≤◌, ◌⊎◌}
 use Rattle.std.proofs.Common.{inl, inr, arith}
 use Rattle.std.proofs.lemmas.Bool.{cases_lt}
-use Rattle.intervals.specs.Bytes.{Range, NoneIn, IsLargest}
+use Rattle.intervals.specs.rule.Bytes.{Range, NoneIn, IsLargest}
 
 -- two kinds of the same bytes have the same largest span
 pub IsLargest-iff : (P Q : ℕ → Type 0) (required within s : Range) → ((b : ℕ) → P b → Q b) → ((b : ℕ) → Q b → P b) → IsLargest P required within s → IsLargest Q required within s

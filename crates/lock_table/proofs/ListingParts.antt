@@ -7,9 +7,9 @@ use Rattle.std.proofs.lemmas.Cmp.{tied_itself}
 use Rattle.std.proofs.lemmas.List.Elements.{recursion_from_All}
 use Rattle.model.specs.declared.owner.Owner.{Owner}
 use Rattle.model.specs.declared.lock_info.LockInfo.{LockInfo}
-use Rattle.model.specs.Owners.{same_owner, owner_cmp}
-use Rattle.model.specs.Locks.{FileLocks}
-use Rattle.lock_table.specs.Listing.{IsBefore, IsListing, same_start, ListsRegions}
+use Rattle.model.specs.rule.Owners.{same_owner, owner_cmp}
+use Rattle.model.specs.rule.Locks.{FileLocks}
+use Rattle.lock_table.specs.code.Listing.{IsBefore, IsListing, same_start, ListsRegions}
 use Rattle.model.proofs.OwnerLaws.{owner_exact}
 use Rattle.lock_table.proofs.Orders.{owners_total}
 

@@ -8,7 +8,7 @@ use Rattle.std.specs.declared.cmp.Ordering.TheVariants.{Less, Equal, Greater}
 use Rattle.model.specs.declared.owner.Kind.{Kind}
 use Rattle.model.specs.declared.owner.Kind.TheVariants.{OfProcess, OfDescription}
 use Rattle.model.specs.declared.owner.Owner.{Owner}
-use Rattle.model.specs.Owners.{kind_cmp, owner_cmp}
+use Rattle.model.specs.rule.Owners.{kind_cmp, owner_cmp}
 
 kind_rank : Kind → ℕ
 kind_rank OfProcess = 0

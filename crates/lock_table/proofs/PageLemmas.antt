@@ -4,21 +4,21 @@ use Rattle.std.specs.List.{All}
 use Rattle.std.proofs.lemmas.Bool.{cases_Bool, and_parts, eqb-true}
 use Rattle.std.proofs.lemmas.Bool.Decides.{nat_tests}
 use Rattle.std.proofs.lemmas.List.{get_or_default, drop_all}
-use Rattle.intervals.specs.Bytes.{Range, nothing, is_in, put}
-use Rattle.intervals.specs.Runs.{value_at}
+use Rattle.intervals.specs.rule.Bytes.{Range, nothing, is_in, put}
+use Rattle.intervals.specs.code.Runs.{value_at}
 use Rattle.model.specs.declared.mode.Mode.{Mode}
 use Rattle.model.specs.declared.owner.Owner.{Owner}
-use Rattle.model.specs.Locks.{FileLocks, Locks, replace, without_owner_anywhere}
-use Rattle.model.specs.Owners.{same_owner}
+use Rattle.model.specs.rule.Locks.{FileLocks, Locks, replace, without_owner_anywhere}
+use Rattle.model.specs.rule.Owners.{same_owner}
 use Rattle.lock_table.specs.declared.owner_locks.OwnerLocks.{OwnerLocks}
 use Rattle.lock_table.specs.declared.page_index.PageIndex.{PageIndex}
-use Rattle.lock_table.specs.Rows.{rows_held, AreRows}
+use Rattle.lock_table.specs.code.Rows.{rows_held, AreRows}
 use Rattle.lock_table.proofs.RowLemmas.{is_of, row_place, row_at_from, held-at}
 use Rattle.model.proofs.OwnerLaws.{owner_exact}
 use Rattle.lock_table.proofs.Orders.{place_itself}
 use Rattle.lock_table.proofs.SameRows.{drop_read}
 use Rattle.lock_table.specs.declared.owner_set.OwnerSet.{OwnerSet}
-use Rattle.lock_table.specs.Pages.{Has, MayHold, Covers, slot_of}
+use Rattle.lock_table.specs.code.Pages.{Has, MayHold, Covers, slot_of}
 
 -- a byte that the remaining rows hold is held by the first of them or by the other ones
 pub row-step : (rows : List OwnerLocks) (i : ℕ) (r : OwnerLocks) (f : ℕ) (o : Owner) (b : ℕ) (m : Mode) → i < length rows → r ≡ get_or rows i r → rows_held (drop i rows) f o b ≡ Some m → ((r.file ≡ f) × (r.owner ≡ o) × (value_at r.spans b ≡ Some m)) ⊎ (rows_held (drop (i + 1) rows) f o b ≡ Some m)

@@ -4,16 +4,16 @@ use Rattle.std.specs.List.{insert, remove}
 use Rattle.std.proofs.lemmas.Bool.{le-leb}
 use Rattle.intervals.specs.declared.run.Run.{Run}
 use Rattle.intervals.specs.declared.span_edit.SpanEdit.{SpanEdit}
-use Rattle.intervals.specs.Bytes.{nothing, put}
-use Rattle.intervals.specs.Edits.{written}
-use Rattle.intervals.specs.Runs.{value_at}
+use Rattle.intervals.specs.rule.Bytes.{nothing, put}
+use Rattle.intervals.specs.code.Edits.{written}
+use Rattle.intervals.specs.code.Runs.{value_at}
 use Rattle.model.specs.declared.mode.Mode.{Mode}
 use Rattle.model.specs.declared.owner.Owner.{Owner}
-use Rattle.model.specs.Locks.{replace, with_lock}
+use Rattle.model.specs.rule.Locks.{replace, with_lock}
 use Rattle.lock_table.specs.declared.owner_locks.OwnerLocks.{OwnerLocks}
 use Rattle.lock_table.specs.declared.page_index.PageIndex.{PageIndex}
-use Rattle.lock_table.specs.Pages.{MayHold, Covers}
-use Rattle.lock_table.specs.Rows.{rows_held, AreRows, IsRowAt, IsGap, HasRuns, HoldsSome}
+use Rattle.lock_table.specs.code.Pages.{MayHold, Covers}
+use Rattle.lock_table.specs.code.Rows.{rows_held, AreRows, IsRowAt, IsGap, HasRuns, HoldsSome}
 use Rattle.lock_table.proofs.RowLemmas.{held-at, held-gap, held-set, held-insert, held-remove, held-same, rows-set, rows-insert, rows-remove, place_of, row_alone}
 use Rattle.lock_table.proofs.PageLemmas.{covers-changed}
 

@@ -1,6 +1,1 @@
-pub mod SharedSpans
-pub mod Regions
-pub mod Rows
-pub mod Blockers
-pub mod Listing
-pub mod Pages
+pub mod code

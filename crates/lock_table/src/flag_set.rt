@@ -1,6 +1,6 @@
 //! Sets of 256 flags, as bits of four words.
 ghost use Rattle.std.specs.Prelude.{◌≡◌, ℕ, ◌<◌, ◌/◌, IsTrue, ◌↔◌};
-ghost use Rattle.lock_table.specs.Pages.{HasFlag};
+ghost use Rattle.lock_table.specs.code.Pages.{HasFlag};
 
 // The number of flags in a word.
 const WORD: usize = 64;

@@ -1,5 +1,5 @@
 //! A law of locks that block.
-ghost use Rattle.lock_table.specs.Blockers.{LowestBlockerIsOne};
+ghost use Rattle.lock_table.specs.code.Blockers.{LowestBlockerIsOne};
 
 /// At most one lock is the lowest that blocks an owner, so the answer of `LockTable::blocker` is
 /// determined.

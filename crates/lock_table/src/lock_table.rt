@@ -1,15 +1,15 @@
 //! The table of the record locks of one node.
 ghost use Rattle.std.specs.Prelude.{◌≡◌, ℕ, ◌≤◌, ◌<◌, ◌+◌, ◌-◌, ◌/◌, All, IfOk, IfSome, length, insert, [], IsTrue, ◌↔◌, OnOk, OnErr, Err, Some, None, MatchOption, MatchResult};
 ghost use Rattle.std.specs.List.{AllZip};
-ghost use Rattle.intervals.specs.Bytes.{nothing, put, IsLargest};
-ghost use Rattle.model.specs.Locks.{no_locks, with_lock, without_owner, without_owner_anywhere, regions, IsFree, IsRegion, IsLowestBlocker, IsClear, IsLowestInWay};
+ghost use Rattle.intervals.specs.rule.Bytes.{nothing, put, IsLargest};
+ghost use Rattle.model.specs.rule.Locks.{no_locks, with_lock, without_owner, without_owner_anywhere, regions, IsFree, IsRegion, IsLowestBlocker, IsClear, IsLowestInWay};
 ghost use Rattle.model.specs.declared.mode.Mode.{Mode as SomeMode};
 ghost use Rattle.lock_table.specs.declared.error.LockError.TheVariants.{NoLocks};
 ghost use Rattle.std.specs.Vec.{vec_capacity};
-ghost use Rattle.lock_table.specs.Rows.{rows_held, held, IsSameTable, HoldsLess, HasRoom, HasRuns, AreRows, IsRowAt, IsGap, IsSameRow};
-ghost use Rattle.lock_table.specs.Blockers.{IsLowestBut, HasInWay};
-ghost use Rattle.lock_table.specs.Listing.{IsListing};
-ghost use Rattle.lock_table.specs.Pages.{HasFlag, IsKept};
+ghost use Rattle.lock_table.specs.code.Rows.{rows_held, held, IsSameTable, HoldsLess, HasRoom, HasRuns, AreRows, IsRowAt, IsGap, IsSameRow};
+ghost use Rattle.lock_table.specs.code.Blockers.{IsLowestBut, HasInWay};
+ghost use Rattle.lock_table.specs.code.Listing.{IsListing};
+ghost use Rattle.lock_table.specs.code.Pages.{HasFlag, IsKept};
 
 use crate::error::LockError;
 use crate::flag_set::FlagSet;
@@ -40,8 +40,8 @@ pub struct LockTable {
 }
 
 impl Model for LockTable {
-    ghost use Rattle.lock_table.specs.Rows.{TableParts, AreRows, rows_held};
-    ghost use Rattle.lock_table.specs.Pages.{Covers};
+    ghost use Rattle.lock_table.specs.code.Rows.{TableParts, AreRows, rows_held};
+    ghost use Rattle.lock_table.specs.code.Pages.{Covers};
 
     ghost Value = { TableParts };
 

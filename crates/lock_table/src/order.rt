@@ -1,7 +1,7 @@
 //! The order of regions: by first byte, then by owner.
 ghost use Rattle.std.specs.Prelude.{◌≡◌, ◌⊎◌, IfSome, IsSomeAnd};
-ghost use Rattle.model.specs.Locks.{IsNotAfter};
-ghost use Rattle.lock_table.specs.Listing.{lock_cmp};
+ghost use Rattle.model.specs.rule.Locks.{IsNotAfter};
+ghost use Rattle.lock_table.specs.code.Listing.{lock_cmp};
 
 use model::lock_info::LockInfo;
 use std::cmp::Ordering;

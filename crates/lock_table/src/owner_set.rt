@@ -1,7 +1,7 @@
 //! Sets of owners that can have more owners than were added.
 ghost use Rattle.std.specs.Prelude.{◌≡◌, ◌<◌, IsTrue, ◌↔◌};
 ghost use Rattle.model.specs.declared.owner.Owner.{Owner as SomeOwner};
-ghost use Rattle.lock_table.specs.Pages.{flag_of, Has};
+ghost use Rattle.lock_table.specs.code.Pages.{flag_of, Has};
 
 use crate::flag_set::FlagSet;
 use model::owner::Owner;

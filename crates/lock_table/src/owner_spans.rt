@@ -2,11 +2,11 @@
 //!
 //! Each function here that can fail errs with `AllocError`, where a request for memory was refused.
 ghost use Rattle.std.specs.Prelude.{◌≡◌, ◌≤◌, ◌<◌, ◌↔◌, ℕ, length, None, [], IfOk, IsTrue, MatchOption};
-ghost use Rattle.intervals.specs.Bytes.{greatest, nothing, put, IsBarred, IsFirstIn, IsLargest, IsRun, NoneIn};
-ghost use Rattle.intervals.specs.Runs.{value_at};
-ghost use Rattle.intervals.specs.Edits.{written};
-ghost use Rattle.intervals.specs.Entries.{NoneFrom, IsNext};
-ghost use Rattle.model.specs.Locks.{regions};
+ghost use Rattle.intervals.specs.rule.Bytes.{greatest, nothing, put, IsBarred, IsFirstIn, IsLargest, IsRun, NoneIn};
+ghost use Rattle.intervals.specs.code.Runs.{value_at};
+ghost use Rattle.intervals.specs.code.Edits.{written};
+ghost use Rattle.intervals.specs.code.Entries.{NoneFrom, IsNext};
+ghost use Rattle.model.specs.rule.Locks.{regions};
 
 use intervals::run::Run;
 use intervals::span::Span;
@@ -30,8 +30,8 @@ impl Model for OwnerSpans {
     ghost use Rattle.std.specs.Prelude.{◌≡◌, List, true};
     ghost use Rattle.intervals.specs.declared.run.Run.{Run};
     ghost use Rattle.model.specs.declared.mode.Mode.{Mode as SomeMode};
-    ghost use Rattle.intervals.specs.Runs.{value_at};
-    ghost use Rattle.lock_table.specs.SharedSpans.{IsShared};
+    ghost use Rattle.intervals.specs.code.Runs.{value_at};
+    ghost use Rattle.lock_table.specs.code.SharedSpans.{IsShared};
 
     ghost Value = { List (Run SomeMode) };
 

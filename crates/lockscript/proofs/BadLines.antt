@@ -4,13 +4,13 @@ use Rattle.std.specs.Prelude.{◌⊎◌}
 use Rattle.std.specs.List.{All}
 use Rattle.std.proofs.lemmas.List.Elements.{All-head, All-nil, All-tail}
 use Rattle.model.specs.declared.policy.Policy.TheVariants.{Wide}
-use Rattle.messages.specs.Shapes.{ShapeFields}
+use Rattle.messages.specs.rule.Shapes.{ShapeFields}
 use Rattle.messages.specs.declared.version.Version.TheVariants.{Second}
-use Rattle.texts.specs.FirstBadLine.{Begins, IsBadNext, IsFirstBadOf}
-use Rattle.texts.specs.FirstBadLine.IsBadNext.{has_no_line, stands_wrong as may_not_stand}
-use Rattle.texts.specs.LineFeeds.{line_feeds, is_skipped, kept_lines, FindsLine, PassesLines}
-use Rattle.lockscript.specs.Scripts.{AreScript, Begun, IsBad, IsBadFirst, IsBadLine, IsLine, IsMisplaced, IsNoLine, IsNoShape, IsRefused, LineFields, ScriptFields, Writes, line_text, script_of, shape_text}
-use Rattle.lockscript.specs.Scripts.IsBad.{has_no_cluster, has_no_end, stands_wrong}
+use Rattle.texts.specs.rule.FirstBadLine.{Begins, IsBadNext, IsFirstBadOf}
+use Rattle.texts.specs.rule.FirstBadLine.IsBadNext.{has_no_line, stands_wrong as may_not_stand}
+use Rattle.texts.specs.rule.LineFeeds.{line_feeds, is_skipped, kept_lines, FindsLine, PassesLines}
+use Rattle.lockscript.specs.rule.Scripts.{AreScript, Begun, IsBad, IsBadFirst, IsBadLine, IsLine, IsMisplaced, IsNoLine, IsNoShape, IsRefused, LineFields, ScriptFields, Writes, line_text, script_of, shape_text}
+use Rattle.lockscript.specs.rule.Scripts.IsBad.{has_no_cluster, has_no_end, stands_wrong}
 use Rattle.lockscript.specs.declared.error.ParseError.{ParseError}
 use Rattle.lockscript.specs.declared.error.ParseError.TheVariants.{NoMemory, BadLine}
 use Rattle.lockscript.proofs.Begun.{passes-more}

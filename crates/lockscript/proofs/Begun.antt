@@ -2,9 +2,9 @@
 use Rattle.std.proofs.Common.{◌≡◌, ℕ, List, [], ◌∷◌, ◌++◌, map, sym, ap, ◌∙◌}
 use Rattle.std.proofs.lemmas.List.{append-nil, map-append}
 use Rattle.std.proofs.lemmas.List.Elements.{All-nil, All-push}
-use Rattle.messages.specs.Shapes.{ShapeFields}
-use Rattle.texts.specs.LineFeeds.{FindsLine, PassesLines}
-use Rattle.lockscript.specs.Scripts.{Begun, IsLine, IsScript, IsScriptShape, LineFields, ScriptFields, line_text, script_of, shape_text}
+use Rattle.messages.specs.rule.Shapes.{ShapeFields}
+use Rattle.texts.specs.rule.LineFeeds.{FindsLine, PassesLines}
+use Rattle.lockscript.specs.rule.Scripts.{Begun, IsLine, IsScript, IsScriptShape, LineFields, ScriptFields, line_text, script_of, shape_text}
 use Rattle.lockscript.proofs.Passes.{passes-join, passes-found}
 
 -- skipped lines add nothing to a script

@@ -3,14 +3,14 @@ use Rattle.std.proofs.Common.{◌≡◌, ℕ, List, Some, Result, Ok, Err, refl,
 use Rattle.std.specs.Prelude.{⊤, IfOk, IsOk, ◌↔◌}
 use Rattle.std.specs.Result.{result_ok}
 use Rattle.std.proofs.lemmas.Bool.{false≢true}
-use Rattle.model.specs.Limits.{IsNumber, most_nodes}
+use Rattle.model.specs.rule.Limits.{IsNumber, most_nodes}
 use Rattle.model.specs.declared.policy.Policy.{Policy}
-use Rattle.messages.specs.Shapes.{IsShape, IsServed, ShapeFields, most_files}
+use Rattle.messages.specs.rule.Shapes.{IsShape, IsServed, ShapeFields, most_files}
 use Rattle.messages.specs.declared.version.Version.{Version}
 use Rattle.messages.specs.declared.version.Version.TheVariants.{Second}
-use Rattle.texts.specs.Reads.{Reads, Both, after_text, pair_text}
-use Rattle.lockscript.specs.Scripts.{IsScriptShape, IsShapeOf, counts_text, shape_text}
-use Rattle.texts.specs.Words.{policy_text}
+use Rattle.texts.specs.rule.Reads.{Reads, Both, after_text, pair_text}
+use Rattle.lockscript.specs.rule.Scripts.{IsScriptShape, IsShapeOf, counts_text, shape_text}
+use Rattle.texts.specs.rule.Words.{policy_text}
 use Rattle.message_text.proofs.AreTexts.{AreTexts, both, viewed}
 use Rattle.message_text.proofs.FieldTexts.{file}
 use Rattle.message_text.proofs.Views.{Views, view-unfit}

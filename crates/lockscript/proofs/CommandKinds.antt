@@ -1,10 +1,10 @@
 -- The kinds of commands, by the words with which their lines begin.
 use Rattle.std.proofs.Common.{ℕ, List, [], ◌∷◌, inl, inr, refl, arith, codes, decimal}
-use Rattle.model.specs.Limits.{IsNumber}
-use Rattle.cluster_core.specs.World.{most_incarnations}
+use Rattle.model.specs.rule.Limits.{IsNumber}
+use Rattle.cluster_core.specs.rule.World.{most_incarnations}
 use Rattle.texts.proofs.FirstWords.{BeginsWithWord}
 use Rattle.lockscript.specs.declared.script_line.Command.TheVariants.{Call, Deliver, Lose, Settle, Interrupt, Retry, Resend, Declare, Restart, Learn, FailServer, StartServer}
-use Rattle.lockscript.specs.Scripts.{IsCommand, command_text, greatest_message}
+use Rattle.lockscript.specs.rule.Scripts.{IsCommand, command_text, greatest_message}
 use Rattle.message_text.proofs.AreTexts.{AreTexts, both, up_to}
 use Rattle.message_text.proofs.FieldTexts.{file, pid}
 use Rattle.message_text.proofs.Variants.{Variant, of_variants, variant}

@@ -1,8 +1,8 @@
 -- The line feeds of a text that is split at its first one.
 use Rattle.std.proofs.Common.{◌≡◌, ◌≢◌, ℕ, suc, ◌+◌, ◌<◌, ◌++◌, List, [], ◌∷◌, length, get_or, Option, Some, None, MatchOption, Bor, refl, arith, eqb, cond}
 use Rattle.std.proofs.lemmas.List.Sums.{sum_by-append, sum_by-cons}
-use Rattle.texts.specs.LineFeeds.{line_feed, line_feeds, BeginsWithLine}
-use Rattle.texts.specs.Reads.{Lacks}
+use Rattle.texts.specs.rule.LineFeeds.{line_feed, line_feeds, BeginsWithLine}
+use Rattle.texts.specs.rule.Reads.{Lacks}
 
 -- a text has no line feed where no byte of it is one
 pub none_is-line_feeds : (bs : List ℕ) → ((i : ℕ) → i < length bs → get_or bs i 0 ≢ line_feed) → line_feeds bs ≡ 0

@@ -2,20 +2,20 @@
 use Rattle.std.proofs.Common.{◌≡◌, ℕ, suc, true, ℤ, pos, negsuc, List, [], ◌∷◌, refl, arith, codes, decimal, FitsSigned, w64}
 use Rattle.std.specs.Prelude.{⊤}
 use Rattle.std.specs.Fmt.{signed_decimal}
-use Rattle.model.specs.Limits.{IsNumber, most_nodes}
+use Rattle.model.specs.rule.Limits.{IsNumber, most_nodes}
 use Rattle.model.specs.declared.access.Access.TheVariants.{ReadOnly, WriteOnly, ReadWrite}
 use Rattle.model.specs.declared.owner.Kind.TheVariants.{OfProcess, OfDescription}
 use Rattle.model.specs.declared.policy.Policy.TheVariants.{Wide, Exact}
-use Rattle.texts.specs.LineFeeds.{line_feed}
-use Rattle.texts.specs.Reads.{after_text}
-use Rattle.texts.specs.Words.{access_text, kind_text, policy_text}
+use Rattle.texts.specs.rule.LineFeeds.{line_feed}
+use Rattle.texts.specs.rule.Reads.{after_text}
+use Rattle.texts.specs.rule.Words.{access_text, kind_text, policy_text}
 use Rattle.texts.proofs.FieldValues.{apart-access, apart-byte, apart-kind, apart-offset, apart-policy}
 use Rattle.texts.proofs.Pairs.{AllLack, apart-after}
 use Rattle.texts.proofs.SingleWords.{byte_words, kind_words, lacks-tested, offset_words}
 use Rattle.message_text.proofs.AreTexts.{AreFields, AreTexts, both, has_no_feed, number, up_to}
 use Rattle.message_text.proofs.Words.{lacks-append}
-use Rattle.lockscript.specs.Served.{IsDescriptor}
-use Rattle.lockscript.specs.Texts.{segment_text}
+use Rattle.lockscript.specs.rule.Served.{IsDescriptor}
+use Rattle.lockscript.specs.rule.Texts.{segment_text}
 
 pub node : AreFields decimal (IsNumber most_nodes)
 node = up_to most_nodes (omega arith)

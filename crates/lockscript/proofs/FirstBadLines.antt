@@ -5,10 +5,10 @@ use Rattle.std.specs.List.{All, flat_map}
 use Rattle.std.proofs.lemmas.List.{append-nil}
 use Rattle.std.proofs.lemmas.List.Elements.{All-head, All-tail}
 use Rattle.std.proofs.lemmas.List.Sums.{sum_by-cons}
-use Rattle.texts.specs.FirstBadLine.{Begins, IsBadNext, IsFirstBadOf, Passes}
-use Rattle.texts.specs.FirstBadLine.IsBadNext.{has_no_line, stands_wrong}
-use Rattle.texts.specs.LineFeeds.{line_feed, line_feeds, kept_lines, BeginsWithLine, PassesLines}
-use Rattle.texts.specs.Reads.{Lacks}
+use Rattle.texts.specs.rule.FirstBadLine.{Begins, IsBadNext, IsFirstBadOf, Passes}
+use Rattle.texts.specs.rule.FirstBadLine.IsBadNext.{has_no_line, stands_wrong}
+use Rattle.texts.specs.rule.LineFeeds.{line_feed, line_feeds, kept_lines, BeginsWithLine, PassesLines}
+use Rattle.texts.specs.rule.Reads.{Lacks}
 use Rattle.texts.proofs.Pairs.{same-split}
 use Rattle.lockscript.proofs.Feeds.{line_feeds-line}
 use Rattle.lockscript.proofs.Passes.{IsSingle, ended, kept_lines-append}

@@ -1,9 +1,9 @@
 -- Each text is one script, or has one first bad line.
 use Rattle.std.proofs.Common.{◌≡◌, ℕ, List, ◌∷◌, map, sym, ap, subst, ◌∙◌}
-use Rattle.messages.specs.Shapes.{ShapeFields}
-use Rattle.texts.specs.LineFeeds.{kept_lines}
-use Rattle.lockscript.specs.Readings.{HasOneReading}
-use Rattle.lockscript.specs.Scripts.{AreScript, IsScript, LineFields, ScriptFields, Writes, line_text, shape_text, script_of}
+use Rattle.messages.specs.rule.Shapes.{ShapeFields}
+use Rattle.texts.specs.rule.LineFeeds.{kept_lines}
+use Rattle.lockscript.specs.code.Readings.{HasOneReading}
+use Rattle.lockscript.specs.rule.Scripts.{AreScript, IsScript, LineFields, ScriptFields, Writes, line_text, shape_text, script_of}
 use Rattle.lockscript.proofs.Clusters.{shape as shape_texts}
 use Rattle.lockscript.proofs.FirstBadLines.{not_both, one_bad_line, passes-of, same-whole}
 use Rattle.lockscript.proofs.SameLines.{first-same, lines-same, rest-same}

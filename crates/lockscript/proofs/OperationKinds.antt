@@ -11,12 +11,12 @@ use Rattle.model.specs.declared.op.ProcessCall.TheVariants.{Spawn, Fork, Open, D
 use Rattle.model.specs.declared.op.LockCall.{LockCall}
 use Rattle.model.specs.declared.op.LockCommand.{LockCommand}
 use Rattle.model.specs.declared.op.LockCommand.TheVariants.{Set, Wait, Query}
-use Rattle.model.specs.Limits.{IsNumber, most_processes}
-use Rattle.messages.specs.Shapes.{most_files}
-use Rattle.texts.specs.Reads.{has_no_space}
+use Rattle.model.specs.rule.Limits.{IsNumber, most_processes}
+use Rattle.messages.specs.rule.Shapes.{most_files}
+use Rattle.texts.specs.rule.Reads.{has_no_space}
 use Rattle.texts.proofs.FirstWords.{BeginsWithWord, first_word, is_among}
-use Rattle.lockscript.specs.Served.{IsDescriptor, IsServedOp}
-use Rattle.lockscript.specs.Texts.{command_front, lock_of, op_text}
+use Rattle.lockscript.specs.rule.Served.{IsDescriptor, IsServedOp}
+use Rattle.lockscript.specs.rule.Texts.{command_front, lock_of, op_text}
 use Rattle.message_text.proofs.AreTexts.{AreTexts, both, has_no_feed, mode}
 use Rattle.message_text.proofs.FieldTexts.{file, pid}
 use Rattle.message_text.proofs.Variants.{Variant, is_of, of_variants, variant}

@@ -3,7 +3,7 @@ use Rattle.std.proofs.Common.{◌≡◌, ℕ, ◌+◌, ◌<◌, Bool, true, fals
 use Rattle.std.specs.List.{flat_map}
 use Rattle.std.proofs.lemmas.Grind.{flat_map-append}
 use Rattle.std.proofs.lemmas.List.Elements.{All-append, All-cons, All-nil}
-use Rattle.texts.specs.LineFeeds.{line_feed, line_feeds, is_skipped, kept_lines, BeginsWithLine, FindsLine, PassesLines}
+use Rattle.texts.specs.rule.LineFeeds.{line_feed, line_feeds, is_skipped, kept_lines, BeginsWithLine, FindsLine, PassesLines}
 
 abbrev pub ended : List ℕ → List ℕ
 ended line = line ++ line_feed ∷ []

@@ -3,7 +3,7 @@ use Rattle.std.proofs.Common.{◌≡◌, ℕ, List, [], ◌∷◌, map, refl, ap
 use Rattle.std.specs.List.{All}
 use Rattle.std.proofs.lemmas.List.Elements.{All-head, All-tail}
 use Rattle.lockscript.specs.declared.script_line.Command.{Command}
-use Rattle.lockscript.specs.Scripts.{IsLine, LineFields, line_text}
+use Rattle.lockscript.specs.rule.Scripts.{IsLine, LineFields, line_text}
 use Rattle.lockscript.proofs.CommandKinds.{command}
 
 line-same : (l m : LineFields) → IsLine l → IsLine m → line_text l ≡ line_text m → l ≡ m

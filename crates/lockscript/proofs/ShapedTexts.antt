@@ -2,12 +2,12 @@
 use Rattle.std.proofs.Common.{◌≡◌, ◌≢◌, ℕ, ◌+◌, List, [], ◌∷◌, ◌++◌, length, map, inl, inr, sym, ap, subst, ◌∙◌}
 use Rattle.std.specs.Prelude.{◌⊎◌}
 use Rattle.std.proofs.lemmas.List.{append-nil}
-use Rattle.messages.specs.Shapes.{ShapeFields}
-use Rattle.texts.specs.FirstBadLine.{Begins}
-use Rattle.texts.specs.LineFeeds.{PassesLines, kept_lines}
-use Rattle.lockscript.specs.Scripts.{AreScript, Begun, IsBadFirst, IsFirstBad, IsRefused, IsScript, ScriptFields, Writes, line_text, script_of, shape_text}
-use Rattle.lockscript.specs.ShapedScripts.{IsClusterLine, IsForShape, IsRefusedForShape, NamesAnother}
-use Rattle.lockscript.specs.ShapedScripts.IsBadForShape.{names_another, stands_wrong}
+use Rattle.messages.specs.rule.Shapes.{ShapeFields}
+use Rattle.texts.specs.rule.FirstBadLine.{Begins}
+use Rattle.texts.specs.rule.LineFeeds.{PassesLines, kept_lines}
+use Rattle.lockscript.specs.rule.Scripts.{AreScript, Begun, IsBadFirst, IsFirstBad, IsRefused, IsScript, ScriptFields, Writes, line_text, script_of, shape_text}
+use Rattle.lockscript.specs.rule.ShapedScripts.{IsClusterLine, IsForShape, IsRefusedForShape, NamesAnother}
+use Rattle.lockscript.specs.rule.ShapedScripts.IsBadForShape.{names_another, stands_wrong}
 use Rattle.lockscript.specs.declared.error.ParseError.{ParseError}
 use Rattle.lockscript.specs.declared.error.ParseError.TheVariants.{NoMemory, BadLine}
 use Rattle.lockscript.proofs.Begun.{begun-first}

@@ -4,11 +4,11 @@ use Rattle.std.specs.Option.{option_map}
 use Rattle.std.specs.List.{All, find}
 use Rattle.std.proofs.lemmas.List.Elements.{All-cons, All-head, All-nil, All-push, All-tail}
 use Rattle.std.proofs.lemmas.Option.{none-some}
-use Rattle.texts.specs.FirstBadLine.{Begins}
-use Rattle.texts.specs.FirstBadLine.IsBadNext.{stands_wrong}
-use Rattle.texts.specs.LineFeeds.{line_feeds, is_skipped, kept_lines, FindsLine, PassesLines}
-use Rattle.lockscript.specs.Scripts.{AreScript, Begun, IsBadFirst, IsLine, IsNoLine, IsRefused, IsScript, LineFields, ScriptFields, Writes, command_text, line_text, script_of, shape_text}
-use Rattle.lockscript.specs.ThreadLines.{bad_line, is_for_threads, AreForThreads, IsBadOnThreads, IsForThreads, IsRefusedOnThreads}
+use Rattle.texts.specs.rule.FirstBadLine.{Begins}
+use Rattle.texts.specs.rule.FirstBadLine.IsBadNext.{stands_wrong}
+use Rattle.texts.specs.rule.LineFeeds.{line_feeds, is_skipped, kept_lines, FindsLine, PassesLines}
+use Rattle.lockscript.specs.rule.Scripts.{AreScript, Begun, IsBadFirst, IsLine, IsNoLine, IsRefused, IsScript, LineFields, ScriptFields, Writes, command_text, line_text, script_of, shape_text}
+use Rattle.lockscript.specs.rule.ThreadLines.{bad_line, is_for_threads, AreForThreads, IsBadOnThreads, IsForThreads, IsRefusedOnThreads}
 use Rattle.lockscript.specs.declared.error.ParseError.{ParseError}
 use Rattle.lockscript.specs.declared.error.ParseError.TheVariants.{NoMemory, BadLine}
 use Rattle.lockscript.proofs.BadLines.{among-lines, good-begun, kept-behind, line-of, smallest, smallest-behind, unfinished-of}

@@ -1,8 +1,2 @@
-pub mod Texts
-pub mod Served
-pub mod Scripts
-pub mod ThreadLines
-pub mod ShapedScripts
-pub mod Readings
-pub mod Layout
-pub mod Listing
+pub mod rule
+pub mod code

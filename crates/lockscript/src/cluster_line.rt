@@ -1,7 +1,7 @@
 //! The cluster line of a script, which names the shape of a cluster.
 ghost use Rattle.std.specs.Prelude.{codes};
-ghost use Rattle.texts.specs.Reads.{Reads};
-ghost use Rattle.lockscript.specs.Scripts.{IsScriptShape, IsShapeOf, counts_text, shape_text};
+ghost use Rattle.texts.specs.rule.Reads.{Reads};
+ghost use Rattle.lockscript.specs.rule.Scripts.{IsScriptShape, IsShapeOf, counts_text, shape_text};
 
 use message_text::numbers::{FileField, NodeField};
 use messages::shape::Shape;

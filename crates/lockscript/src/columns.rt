@@ -1,9 +1,9 @@
 //! The columns of listings: texts that are filled up with spaces to a width.
 ghost use Rattle.std.specs.Prelude.{◌≡◌, ◌≤◌, ◌-◌, ◌++◌, codes, decimal, replicate, string_bytes, string_len, OnOk};
-ghost use Rattle.lockscript.specs.Layout.{left_in, right_in};
-ghost use Rattle.texts.specs.Layout.{space};
-ghost use Rattle.lockscript.specs.Listing.{placed, span_columns};
-ghost use Rattle.message_text.specs.Names.{call_text, host_text};
+ghost use Rattle.lockscript.specs.rule.Layout.{left_in, right_in};
+ghost use Rattle.texts.specs.rule.Layout.{space};
+ghost use Rattle.lockscript.specs.rule.Listing.{placed, span_columns};
+ghost use Rattle.message_text.specs.rule.Names.{call_text, host_text};
 
 use intervals::span::Span;
 use itoa::Buffer;
@@ -50,7 +50,7 @@ fn fill_column(out: &mut String, start: usize, width: usize) -> Result<(), Alloc
 }
 
 // Adds a number at the right end of a column of this width.
-#[tactic(auto, unfolding(crate::specs::Layout::right_in))]
+#[tactic(auto, unfolding(crate::specs::rule::Layout::right_in))]
 fn push_right(out: &mut String, number: u64, width: usize) -> Result<(), AllocError>
     requires { width ≤ 19 }
     ensures { OnOk result (string_bytes out.new ≡ string_bytes out.old ++ right_in width (decimal number)) }
@@ -62,7 +62,7 @@ fn push_right(out: &mut String, number: u64, width: usize) -> Result<(), AllocEr
 }
 
 /// Adds the name of a call or of an owner, at the left end of its column.
-#[tactic(auto, unfolding(crate::specs::Layout::left_in))]
+#[tactic(auto, unfolding(crate::specs::rule::Layout::left_in))]
 pub(crate) fn push_name_column<F: Text>(out: &mut String, name: &F::Value) -> Result<(), AllocError>
     ensures { OnOk result (string_bytes out.new ≡ string_bytes out.old ++ left_in 16 (F.text_of name.now)) }
 {
@@ -72,7 +72,7 @@ pub(crate) fn push_name_column<F: Text>(out: &mut String, name: &F::Value) -> Re
 }
 
 /// Adds a node with its incarnation, at the left end of its column.
-#[tactic(auto, unfolding(crate::specs::Layout::left_in))]
+#[tactic(auto, unfolding(crate::specs::rule::Layout::left_in))]
 pub(crate) fn push_host_column(
     out: &mut String,
     node: u8,

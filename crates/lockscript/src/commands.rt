@@ -1,6 +1,6 @@
 //! Reads the commands of the lines of scripts.
-ghost use Rattle.texts.specs.Reads.{Reads};
-ghost use Rattle.lockscript.specs.Scripts.{IsCommand, command_text};
+ghost use Rattle.texts.specs.rule.Reads.{Reads};
+ghost use Rattle.lockscript.specs.rule.Scripts.{IsCommand, command_text};
 
 use crate::operations::Operation;
 use crate::script_line::Command;

@@ -1,7 +1,7 @@
 //! The lines of a text, with their numbers.
 ghost use Rattle.std.specs.Prelude.{◌≡◌, ◌≢◌, ◌+◌, ◌<◌, ◌^◌, [], length, IfOk, IfErr, OnErr, MatchOption, IfSome};
 ghost use Rattle.lockscript.specs.declared.error.ParseError.TheVariants.{BadLine};
-ghost use Rattle.texts.specs.LineFeeds.{line_feeds, is_skipped, BeginsWithLine, FindsLine, PassesLines};
+ghost use Rattle.texts.specs.rule.LineFeeds.{line_feeds, is_skipped, BeginsWithLine, FindsLine, PassesLines};
 
 use crate::error::ParseError;
 use texts::text::split_at_first;

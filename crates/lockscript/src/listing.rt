@@ -2,7 +2,7 @@
 //!
 //! Each function here that can fail errs with `AllocError`, where a request for memory was refused.
 ghost use Rattle.std.specs.Prelude.{◌≡◌, ◌++◌, codes, flat_map, string_bytes, IfOk, OnOk};
-ghost use Rattle.lockscript.specs.Listing.{listing_text, listing_start, history_text, lock_line, refused_line, replied, reply_lines, token_line, history_line};
+ghost use Rattle.lockscript.specs.rule.Listing.{listing_text, listing_start, history_text, lock_line, refused_line, replied, reply_lines, token_line, history_line};
 
 use crate::columns::{
     push_host_column, push_name_column, push_placed, push_position, push_span_line,
@@ -145,7 +145,7 @@ fn push_history(out: &mut String, history: &[Item]) -> Result<(), AllocError>
 }
 
 /// Adds the line of an item of a history.
-#[tactic(auto, unfolding(crate::specs::Layout::left_in))]
+#[tactic(auto, unfolding(crate::specs::rule::Layout::left_in))]
 pub fn push_item(out: &mut String, item: &Item) -> Result<(), AllocError>
     ensures { OnOk result (string_bytes out.new ≡ string_bytes out.old ++ history_line item.now) }
 {

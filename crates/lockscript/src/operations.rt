@@ -1,9 +1,9 @@
 //! Operations in scripts.
 ghost use Rattle.std.specs.Prelude.{◌≡◌, ◌∷◌, ◌++◌, string_bytes, OnOk};
-ghost use Rattle.texts.specs.Layout.{space};
-ghost use Rattle.texts.specs.Reads.{Lacks, Reads};
-ghost use Rattle.lockscript.specs.Served.{IsServedOp};
-ghost use Rattle.lockscript.specs.Texts.{lock_of, op_text};
+ghost use Rattle.texts.specs.rule.Layout.{space};
+ghost use Rattle.texts.specs.rule.Reads.{Lacks, Reads};
+ghost use Rattle.lockscript.specs.rule.Served.{IsServedOp};
+ghost use Rattle.lockscript.specs.rule.Texts.{lock_of, op_text};
 
 use message_text::numbers::{DescriptorField, FileField, PidField};
 use message_text::writing::push;

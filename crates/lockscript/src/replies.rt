@@ -2,7 +2,7 @@
 //!
 //! Each function here that can fail errs with `AllocError`, where a request for memory was refused.
 ghost use Rattle.std.specs.Prelude.{◌≡◌, ◌++◌, string_bytes, OnOk};
-ghost use Rattle.lockscript.specs.Texts.{reply_text};
+ghost use Rattle.lockscript.specs.rule.Texts.{reply_text};
 
 use message_text::names::push_lock;
 use model::reply::Reply;

@@ -1,9 +1,9 @@
 //! Scripts, and how they are read from texts.
 ghost use Rattle.std.specs.Prelude.{◌≡◌, ◌≢◌, ◌≤◌, ℕ, List, [], IfErr, IfOk, OnOk};
 ghost use Rattle.lockscript.specs.declared.error.ParseError.TheVariants.{BadLine, NoMemory};
-ghost use Rattle.lockscript.specs.Scripts.{Begun, HasScript, IsBadFirst, IsBadLine, IsLine, IsNoLine, IsRefused, IsScript, ScriptFields, line_text, script_of};
-ghost use Rattle.lockscript.specs.ShapedScripts.{IsClusterLine, IsForShape, IsRefusedForShape};
-ghost use Rattle.lockscript.specs.ThreadLines.{bad_line, IsForThreads, IsRefusedOnThreads};
+ghost use Rattle.lockscript.specs.rule.Scripts.{Begun, HasScript, IsBadFirst, IsBadLine, IsLine, IsNoLine, IsRefused, IsScript, ScriptFields, line_text, script_of};
+ghost use Rattle.lockscript.specs.rule.ShapedScripts.{IsClusterLine, IsForShape, IsRefusedForShape};
+ghost use Rattle.lockscript.specs.rule.ThreadLines.{bad_line, IsForThreads, IsRefusedOnThreads};
 
 use crate::cluster_line::shape_of;
 use crate::commands::command_of;
@@ -22,7 +22,7 @@ pub struct Script {
 }
 
 impl Model for Script {
-    ghost use Rattle.lockscript.specs.Scripts.{ScriptFields};
+    ghost use Rattle.lockscript.specs.rule.Scripts.{ScriptFields};
 
     ghost Value = { ScriptFields };
 

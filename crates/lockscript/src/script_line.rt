@@ -64,7 +64,7 @@ pub enum Command {
 
 impl Command {
     ghost use Rattle.std.specs.Prelude.{◌≡◌};
-    ghost use Rattle.lockscript.specs.ThreadLines.{is_for_threads};
+    ghost use Rattle.lockscript.specs.rule.ThreadLines.{is_for_threads};
 
     /// Whether a script for threads may have a line with this command: a call, `settle`, `declare`,
     /// `restart`, `fail-server` or `start-server`. On threads no line says which message is
@@ -94,7 +94,7 @@ pub struct ScriptLine {
 }
 
 impl Model for ScriptLine {
-    ghost use Rattle.lockscript.specs.Scripts.{LineFields, IsLine};
+    ghost use Rattle.lockscript.specs.rule.Scripts.{LineFields, IsLine};
 
     ghost Value = { LineFields };
 
@@ -107,8 +107,8 @@ impl Model for ScriptLine {
 
 impl ScriptLine {
     ghost use Rattle.std.specs.Prelude.{◌≡◌, ◌≤◌};
-    ghost use Rattle.model.specs.Limits.{IsNumber};
-    ghost use Rattle.lockscript.specs.Scripts.{IsCommand, greatest_line};
+    ghost use Rattle.model.specs.rule.Limits.{IsNumber};
+    ghost use Rattle.lockscript.specs.rule.Scripts.{IsCommand, greatest_line};
 
     /// The line with this number and this command.
     pub(crate) fn new(number: u32, command: Command) -> ScriptLine

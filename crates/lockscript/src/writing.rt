@@ -2,7 +2,7 @@
 //!
 //! Each function here that can fail errs with `AllocError`, where a request for memory was refused.
 ghost use Rattle.std.specs.Prelude.{◌≡◌, ◌++◌, string_bytes, OnOk};
-ghost use Rattle.lockscript.specs.Scripts.{command_text};
+ghost use Rattle.lockscript.specs.rule.Scripts.{command_text};
 
 use crate::operations::Operation;
 use crate::script_line::Command;

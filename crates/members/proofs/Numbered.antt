@@ -3,8 +3,8 @@ use Rattle.std.specs.Prelude.{slice_set, slice_index_or, ◌==◌, ◌-◌}
 use Rattle.std.proofs.Common.{◌≡◌, ℕ, zero, suc, ◌+◌, ◌<◌, ◌≤◌, Bool, true, false, if◌then◌else◌, refl, sym, ◌∙◌, ap, subst, arith, List, [], ◌∷◌, ◌++◌, length, length-append}
 use Rattle.std.proofs.lemmas.Bool.{eqb-true}
 use Rattle.std.proofs.lemmas.Bool.Decides.{nat_tests}
-use Rattle.messages.specs.Messages.{is_within}
-use Rattle.members.specs.Numbered.{numbered, IsRest}
+use Rattle.messages.specs.rule.Messages.{is_within}
+use Rattle.members.specs.rule.Numbered.{numbered, IsRest}
 use Rattle.members.proofs.Choices.{if_again, at_number}
 
 -- a number after `from` is not `from`

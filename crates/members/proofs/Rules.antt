@@ -3,12 +3,12 @@ use Rattle.std.specs.Prelude.{slice_set, slice_index_or, ◌==◌, ◌-◌}
 use Rattle.std.proofs.Common.{◌≡◌, ℕ, ◌+◌, ◌<◌, ◌≤◌, Bool, true, false, not, nat_le, nat_lt, ◌&&◌, if◌then◌else◌, refl, sym, ◌∙◌, ap, subst, arith, List, length, Some, None, Result, Ok, Err}
 use Rattle.std.proofs.lemmas.Bool.Decides.{nat_tests}
 use Rattle.std.proofs.lemmas.List.{length-set}
-use Rattle.messages.specs.Messages.{is_within}
+use Rattle.messages.specs.rule.Messages.{is_within}
 use Rattle.messages.specs.declared.refusal.Refused.{Refused}
 use Rattle.messages.specs.declared.refusal.Refused.TheVariants.{Stranger, NotAlive, NotDead, TooManyRestarts}
-use Rattle.members.specs.Members.{MembersState, most_incarnations, first_members, live_incarnation, was_declared, with_declared, with_restarted, declared_failed, restarted}
-use Rattle.members.specs.Parts.{MemberParts, incarnation_of, alive_in, incarnation_in, members_state}
-use Rattle.members.specs.Numbered.{IsRest}
+use Rattle.members.specs.rule.Members.{MembersState, most_incarnations, first_members, live_incarnation, was_declared, with_declared, with_restarted, declared_failed, restarted}
+use Rattle.members.specs.rule.Parts.{MemberParts, incarnation_of, alive_in, incarnation_in, members_state}
+use Rattle.members.specs.rule.Numbered.{IsRest}
 use Rattle.members.proofs.Choices.{at_number}
 use Rattle.members.proofs.Numbered.{within_is, put_at, read_number, numbered-outside}
 

@@ -1,3 +1,1 @@
-pub mod Numbered
-pub mod Members
-pub mod Parts
+pub mod rule

@@ -1,8 +1,8 @@
 //! The members of a cluster: its nodes and its token servers.
 ghost use Rattle.std.specs.Prelude.{◌≡◌, ◌-◌, ◌≤◌, IfSome, IfOk, IfErr, OnErr, Ok, Err};
-ghost use Rattle.model.specs.Limits.{IsNumber};
-ghost use Rattle.members.specs.Members.{most_incarnations, first_members, live_incarnation, was_declared, with_restarted, declared_failed, restarted};
-ghost use Rattle.members.specs.Parts.{members_state};
+ghost use Rattle.model.specs.rule.Limits.{IsNumber};
+ghost use Rattle.members.specs.rule.Members.{most_incarnations, first_members, live_incarnation, was_declared, with_restarted, declared_failed, restarted};
+ghost use Rattle.members.specs.rule.Parts.{members_state};
 
 use crate::crowd::Crowd;
 use messages::refusal::Refused;
@@ -20,7 +20,7 @@ pub struct Members {
 }
 
 impl Model for Members {
-    ghost use Rattle.members.specs.Parts.{MembersParts};
+    ghost use Rattle.members.specs.rule.Parts.{MembersParts};
 
     ghost Value = { MembersParts };
 

@@ -2,12 +2,12 @@
 use Rattle.std.proofs.Common.{◌≡◌, ℕ, ◌<◌, ◌^◌, Bool, true, not, eqb, List, [], ◌∷◌, refl, sym, subst, arith, codes, decimal}
 use Rattle.std.specs.Prelude.{⊤}
 use Rattle.std.specs.List.{list_all}
-use Rattle.model.specs.Limits.{IsNumber}
+use Rattle.model.specs.rule.Limits.{IsNumber}
 use Rattle.model.specs.declared.mode.Mode.TheVariants.{Read, Write}
-use Rattle.texts.specs.Layout.{space}
-use Rattle.texts.specs.LineFeeds.{line_feed}
-use Rattle.texts.specs.Reads.{Both, Lacks, joined_text, pair_text}
-use Rattle.texts.specs.Words.{mode_text}
+use Rattle.texts.specs.rule.Layout.{space}
+use Rattle.texts.specs.rule.LineFeeds.{line_feed}
+use Rattle.texts.specs.rule.Reads.{Both, Lacks, joined_text, pair_text}
+use Rattle.texts.specs.rule.Words.{mode_text}
 use Rattle.texts.proofs.FieldValues.{apart-mode, apart-number}
 use Rattle.texts.proofs.Pairs.{AllLack, AreApart, AreWords, apart-joined}
 use Rattle.texts.proofs.SingleWords.{decimal-lacks, lacks-tested, mode_words, number_words}

@@ -2,14 +2,14 @@
 use Rattle.std.proofs.Common.{◌≡◌, ℕ, zero, ◌+◌, ◌-◌, ◌*◌, ◌/◌, ◌<◌, ◌≤◌, List, refl, sym, ◌∙◌, ap, arith, decimal}
 use Rattle.std.proofs.Math.Nat.{div-lt_iff_lt-mul, div-mul-le_self, lt-div-mul-add}
 use Rattle.std.proofs.lemmas.Nat.{div-mul-add}
-use Rattle.messages.specs.Epochs.{IsCommand, IsEpoch, IsRebuilt, before_epoch, begin_of, epoch_of}
+use Rattle.messages.specs.rule.Epochs.{IsCommand, IsEpoch, IsRebuilt, before_epoch, begin_of, epoch_of}
 use Rattle.messages.specs.declared.version.Version.TheVariants.{Second}
-use Rattle.texts.specs.Reads.{Both, pair_text}
+use Rattle.texts.specs.rule.Reads.{Both, pair_text}
 use Rattle.texts.proofs.FieldValues.{apart-number}
 use Rattle.texts.proofs.Pairs.{AreApart, AreWords}
 use Rattle.texts.proofs.SingleWords.{Lacks-decimal}
-use Rattle.message_text.specs.Served.{IsCommandNumber, IsCounted}
-use Rattle.message_text.specs.Texts.{command_text, epoch_text}
+use Rattle.message_text.specs.rule.Served.{IsCommandNumber, IsCounted}
+use Rattle.message_text.specs.rule.Texts.{command_text, epoch_text}
 use Rattle.message_text.proofs.Views.{Views}
 
 -- the epoch of a number that is less than an epoch's size past the begin of that epoch

@@ -3,22 +3,22 @@ use Rattle.std.proofs.Common.{ℕ, List, [], ◌∷◌, All, length, refl, arith
 use Rattle.std.specs.Prelude.{⊤}
 use Rattle.std.specs.List.{flat_map}
 use Rattle.std.proofs.lemmas.List.Elements.{All-head, All-tail}
-use Rattle.model.specs.Limits.{IsNumber, most_processes}
+use Rattle.model.specs.rule.Limits.{IsNumber, most_processes}
 use Rattle.model.specs.declared.level.Level.TheVariants.{Shared, Exclusive}
-use Rattle.messages.specs.Epochs.{IsRebuilt, epoch_of}
-use Rattle.messages.specs.Shapes.{most_files}
+use Rattle.messages.specs.rule.Epochs.{IsRebuilt, epoch_of}
+use Rattle.messages.specs.rule.Shapes.{most_files}
 use Rattle.messages.specs.declared.message.Blocking.TheVariants.{No, Yes}
 use Rattle.messages.specs.declared.token_run.TokenRun.{TokenRun}
 use Rattle.messages.specs.declared.version.Version.{Version}
 use Rattle.messages.specs.declared.version.Version.TheVariants.{First, Second}
-use Rattle.texts.specs.Layout.{space}
-use Rattle.texts.specs.LineFeeds.{line_feed}
-use Rattle.texts.specs.Reads.{Both, Lacks}
-use Rattle.texts.specs.Words.{level_text}
+use Rattle.texts.specs.rule.Layout.{space}
+use Rattle.texts.specs.rule.LineFeeds.{line_feed}
+use Rattle.texts.specs.rule.Reads.{Both, Lacks}
+use Rattle.texts.specs.rule.Words.{level_text}
 use Rattle.texts.proofs.Pairs.{AllLack}
 use Rattle.texts.proofs.SingleWords.{lacks-tested}
-use Rattle.message_text.specs.Served.{AreServedRuns, IsCommandNumber, IsCounted, IsFile, IsServedSpan}
-use Rattle.message_text.specs.Texts.{command_text, epoch_text, run_text, runs_text, span_text, blocking_text}
+use Rattle.message_text.specs.rule.Served.{AreServedRuns, IsCommandNumber, IsCounted, IsFile, IsServedSpan}
+use Rattle.message_text.specs.rule.Texts.{command_text, epoch_text, run_text, runs_text, span_text, blocking_text}
 use Rattle.message_text.proofs.AreTexts.{AreFields, AreTexts, both, number, up_to, viewed}
 use Rattle.message_text.proofs.Commands.{apart-epoch, command-back, epoch_words, with_epochs}
 use Rattle.message_text.proofs.ReportWords.{apart-runs, few_runs}

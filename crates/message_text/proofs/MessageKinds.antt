@@ -1,11 +1,11 @@
 -- The kinds of messages, by the words with which their texts begin.
 use Rattle.std.proofs.Common.{◌≡◌, true, ℕ, List, [], ◌∷◌, inl, inr, refl, codes}
 use Rattle.messages.specs.declared.message.Message.TheVariants.{Request, Grant, Revoke, Taken, Released, Conflict, Deny, Freed, Hello, Report}
-use Rattle.messages.specs.Versions.{may_rebuild}
+use Rattle.messages.specs.rule.Versions.{may_rebuild}
 use Rattle.messages.specs.declared.version.Version.{Version}
 use Rattle.texts.proofs.FirstWords.{BeginsWithWord}
-use Rattle.message_text.specs.Served.{IsServedMessage}
-use Rattle.message_text.specs.Texts.{message_text}
+use Rattle.message_text.specs.rule.Served.{IsServedMessage}
+use Rattle.message_text.specs.rule.Texts.{message_text}
 use Rattle.message_text.proofs.AreTexts.{AreTexts, both, mode, where_so}
 use Rattle.message_text.proofs.FieldTexts.{epoch, file, numbered, runs, blocking}
 use Rattle.message_text.proofs.NameTexts.{call, holder}

@@ -7,11 +7,11 @@ use Rattle.model.specs.declared.host.Host.{Host}
 use Rattle.model.specs.declared.owner.Kind.{Kind}
 use Rattle.model.specs.declared.owner.Kind.TheVariants.{OfProcess, OfDescription}
 use Rattle.model.specs.declared.owner.Owner.{Owner}
-use Rattle.model.specs.Limits.{IsCall, IsNumber, IsOwner, most_descriptions, most_nodes, most_of, most_processes}
-use Rattle.texts.specs.Reads.{Both, Reads, joined_text}
-use Rattle.message_text.specs.Names.{call_text, host_text, owner_letter, owner_text, dot, holder_text, server_text}
-use Rattle.message_text.specs.Parts.{AreServerParts, at_sign}
-use Rattle.message_text.specs.Served.{IsCounted, IsHolder}
+use Rattle.model.specs.rule.Limits.{IsCall, IsNumber, IsOwner, most_descriptions, most_nodes, most_of, most_processes}
+use Rattle.texts.specs.rule.Reads.{Both, Reads, joined_text}
+use Rattle.message_text.specs.rule.Names.{call_text, host_text, owner_letter, owner_text, dot, holder_text, server_text}
+use Rattle.message_text.specs.code.Parts.{AreServerParts, at_sign}
+use Rattle.message_text.specs.rule.Served.{IsCounted, IsHolder}
 use Rattle.texts.proofs.Pairs.{AllLack}
 use Rattle.texts.proofs.SingleWords.{decimal-lacks}
 use Rattle.message_text.proofs.AreTexts.{AreFields, AreTexts, joined, up_to, viewed}

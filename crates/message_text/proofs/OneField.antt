@@ -2,13 +2,13 @@
 use Rattle.std.proofs.Common.{◌≡◌, ℕ, true, ◌++◌, refl, arith, codes, decimal}
 use Rattle.model.specs.declared.call.CallId.{CallId}
 use Rattle.model.specs.declared.host.Host.{Host}
-use Rattle.model.specs.Limits.{IsCall}
-use Rattle.messages.specs.Epochs.{IsRebuilt, epoch_of}
+use Rattle.model.specs.rule.Limits.{IsCall}
+use Rattle.messages.specs.rule.Epochs.{IsRebuilt, epoch_of}
 use Rattle.texts.proofs.OneField.{append_is_one_field, decimal_is_one_field}
-use Rattle.texts.specs.Reads.{has_no_space}
-use Rattle.message_text.specs.Names.{call_text, host_text, holder_text}
-use Rattle.message_text.specs.Served.{IsHolder}
-use Rattle.message_text.specs.Texts.{epoch_text}
+use Rattle.texts.specs.rule.Reads.{has_no_space}
+use Rattle.message_text.specs.rule.Names.{call_text, host_text, holder_text}
+use Rattle.message_text.specs.rule.Served.{IsHolder}
+use Rattle.message_text.specs.rule.Texts.{epoch_text}
 
 pub holder_is_one_field : (h : Host) → IsHolder h → has_no_space (holder_text h) ≡ true
 holder_is_one_field h fits =

@@ -1,16 +1,16 @@
 -- Texts behind `report` that belong to no report.
 use Rattle.std.proofs.Common.{◌≡◌, ◌≢◌, ℕ, List, ◌∷◌, ◌++◌, None, codes, decimal}
 use Rattle.model.specs.declared.host.Host.{Host}
-use Rattle.messages.specs.Epochs.{IsRebuilt}
+use Rattle.messages.specs.rule.Epochs.{IsRebuilt}
 use Rattle.messages.specs.declared.version.Version.{Version}
-use Rattle.texts.specs.Layout.{space}
-use Rattle.texts.specs.Reads.{Reads}
+use Rattle.texts.specs.rule.Layout.{space}
+use Rattle.texts.specs.rule.Reads.{Reads}
 use Rattle.texts.proofs.Pairs.{same-split}
 use Rattle.message_text.proofs.SingleWords.{file_words}
-use Rattle.message_text.specs.Reports.{IsRunsText}
-use Rattle.message_text.specs.Served.{IsFile, IsHolder, IsServedMessage}
-use Rattle.message_text.specs.Texts.{epoch_text, message_text, runs_text}
-use Rattle.message_text.specs.Names.{holder_text}
+use Rattle.message_text.specs.code.Reports.{IsRunsText}
+use Rattle.message_text.specs.rule.Served.{IsFile, IsHolder, IsServedMessage}
+use Rattle.message_text.specs.rule.Texts.{epoch_text, message_text, runs_text}
+use Rattle.message_text.specs.rule.Names.{holder_text}
 use Rattle.message_text.proofs.Commands.{epoch_words}
 use Rattle.message_text.proofs.MessageKinds.{reports}
 use Rattle.message_text.proofs.ReportWords.{is_runs_text}

@@ -7,21 +7,21 @@ use Rattle.std.proofs.lemmas.Bool.{and_parts, and_from, eqb-true, false≢true, 
 use Rattle.std.proofs.lemmas.Bool.Decides.{nat_tests}
 use Rattle.std.proofs.lemmas.Fmt.{decimal_is_IsNumeral, decimal_injective}
 use Rattle.std.proofs.lemmas.List.Elements.{All-cons, All-head, All-nil, All-tail}
-use Rattle.intervals.specs.Bytes.{greatest}
+use Rattle.intervals.specs.rule.Bytes.{greatest}
 use Rattle.model.specs.declared.level.Level.{Level}
 use Rattle.model.specs.declared.level.Level.TheVariants.{Shared, Exclusive}
-use Rattle.messages.specs.TokenRuns.{are_longest, may_follow}
+use Rattle.messages.specs.rule.TokenRuns.{are_longest, may_follow}
 use Rattle.messages.specs.declared.token_run.TokenRun.{TokenRun}
-use Rattle.texts.specs.Layout.{space}
+use Rattle.texts.specs.rule.Layout.{space}
 use Rattle.texts.proofs.OneField.{decimal_is_one_field}
-use Rattle.texts.specs.Reads.{IsOneField, Lacks, has_no_space}
-use Rattle.texts.specs.Words.{level_text}
+use Rattle.texts.specs.rule.Reads.{IsOneField, Lacks, has_no_space}
+use Rattle.texts.specs.rule.Words.{level_text}
 use Rattle.texts.proofs.FirstWords.{has_no_space-one}
 use Rattle.texts.proofs.Pairs.{AreApart}
 use Rattle.texts.proofs.SingleWords.{Lacks-decimal, one-word}
-use Rattle.message_text.specs.Reports.{IsRunsText, level_of, may_stand, run_words, runs_in, runs_of_words, with_byte, words_of}
-use Rattle.message_text.specs.Served.{AreServedRuns, IsServedSpan}
-use Rattle.message_text.specs.Texts.{run_text, runs_text}
+use Rattle.message_text.specs.code.Reports.{IsRunsText, level_of, may_stand, run_words, runs_in, runs_of_words, with_byte, words_of}
+use Rattle.message_text.specs.rule.Served.{AreServedRuns, IsServedSpan}
+use Rattle.message_text.specs.rule.Texts.{run_text, runs_text}
 
 -- a word without a space is the only word of its text
 words_of-one : (word : List ℕ) → has_no_space word ≡ true → words_of word ≡ word ∷ []

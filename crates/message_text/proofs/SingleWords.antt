@@ -1,8 +1,8 @@
 -- The numbers in messages are each one field.
 use Rattle.std.proofs.Common.{arith, decimal}
-use Rattle.model.specs.Limits.{IsNumber}
-use Rattle.messages.specs.Messages.{greatest_number}
-use Rattle.messages.specs.Shapes.{most_files}
+use Rattle.model.specs.rule.Limits.{IsNumber}
+use Rattle.messages.specs.rule.Messages.{greatest_number}
+use Rattle.messages.specs.rule.Shapes.{most_files}
 use Rattle.texts.proofs.Pairs.{AreWords}
 use Rattle.texts.proofs.SingleWords.{number_words}
 

@@ -2,19 +2,19 @@
 use Rattle.std.proofs.Common.{◌≡◌, ℕ, ◌≤◌, List, ◌∷◌, ◌++◌, arith, append_assoc, ap, codes, decimal, refl}
 use Rattle.std.specs.Prelude.{⊤}
 use Rattle.std.proofs.lemmas.Fmt.{decimal_injective}
-use Rattle.intervals.specs.Bytes.{Range, greatest}
+use Rattle.intervals.specs.rule.Bytes.{Range, greatest}
 use Rattle.model.specs.declared.lock_info.LockInfo.{LockInfo}
 use Rattle.model.specs.declared.mode.Mode.{Mode}
 use Rattle.model.specs.declared.owner.Owner.{Owner}
-use Rattle.model.specs.Limits.{IsOwner}
-use Rattle.messages.specs.Wants.{Wants}
-use Rattle.texts.specs.Reads.{Both, IsWithin, pair_text}
-use Rattle.message_text.specs.Names.{lock_text, owner_text}
-use Rattle.texts.specs.Words.{mode_text}
+use Rattle.model.specs.rule.Limits.{IsOwner}
+use Rattle.messages.specs.rule.Wants.{Wants}
+use Rattle.texts.specs.rule.Reads.{Both, IsWithin, pair_text}
+use Rattle.message_text.specs.rule.Names.{lock_text, owner_text}
+use Rattle.texts.specs.rule.Words.{mode_text}
 use Rattle.texts.proofs.Pairs.{AreWords}
 use Rattle.texts.proofs.SingleWords.{Lacks-decimal}
-use Rattle.message_text.specs.Served.{AreServedWants, IsServedLock, IsServedSpan}
-use Rattle.message_text.specs.Texts.{span_text, wants_text}
+use Rattle.message_text.specs.rule.Served.{AreServedWants, IsServedLock, IsServedSpan}
+use Rattle.message_text.specs.rule.Texts.{span_text, wants_text}
 use Rattle.message_text.proofs.AreTexts.{AreFields, AreTexts, both, mode, number, viewed}
 use Rattle.message_text.proofs.NameTexts.{owner}
 use Rattle.message_text.proofs.Views.{Views}

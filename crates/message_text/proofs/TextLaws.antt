@@ -2,10 +2,10 @@
 use Rattle.std.proofs.Common.{◌≡◌, Option, Some, None, refl, sym, ap}
 use Rattle.messages.specs.declared.message.Message.{Message}
 use Rattle.messages.specs.declared.version.Version.{Version}
-use Rattle.texts.specs.Reads.{Reads}
-use Rattle.message_text.specs.OneText.{MessagesHaveTexts}
-use Rattle.message_text.specs.Served.{IsServedMessage}
-use Rattle.message_text.specs.Texts.{message_text}
+use Rattle.texts.specs.rule.Reads.{Reads}
+use Rattle.message_text.specs.code.OneText.{MessagesHaveTexts}
+use Rattle.message_text.specs.rule.Served.{IsServedMessage}
+use Rattle.message_text.specs.rule.Texts.{message_text}
 use Rattle.message_text.proofs.MessageKinds.{message}
 
 read-again : (version : Version) (m : Message) → IsServedMessage version m → (found : Option Message) → Reads (message_text version) (IsServedMessage version) (message_text version m) found → found ≡ Some m

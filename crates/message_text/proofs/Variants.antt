@@ -2,8 +2,8 @@
 use Rattle.std.proofs.Common.{◌≡◌, ℕ, Bool, false, true, eqb, if◌then◌else◌, List, [], ◌∷◌, ◌++◌, None, inl, inr, sym, ap, subst, ◌∙◌}
 use Rattle.std.specs.Prelude.{◌⊎◌}
 use Rattle.std.specs.List.{starts_with}
-use Rattle.texts.specs.LineFeeds.{line_feed}
-use Rattle.texts.specs.Reads.{Lacks, Reads}
+use Rattle.texts.specs.rule.LineFeeds.{line_feed}
+use Rattle.texts.specs.rule.Reads.{Lacks, Reads}
 use Rattle.texts.proofs.OfKinds.{IsKind, apart-kind, reads-kind}
 use Rattle.texts.proofs.SingleWords.{lacks-tested}
 use Rattle.message_text.proofs.AreTexts.{AreTexts, has_no_feed}

@@ -1,6 +1,6 @@
 -- Values that are made of others and have the same texts.
 use Rattle.std.proofs.Common.{◌≡◌, ℕ, List, Some, None, sym, ◌∙◌}
-use Rattle.texts.specs.Reads.{Reads}
+use Rattle.texts.specs.rule.Reads.{Reads}
 use Rattle.texts.proofs.Pairs.{AreApart}
 
 -- the values of B are made of values of A, and have their texts

@@ -1,15 +1,15 @@
 -- The names of nodes, calls and owners have no space, and so are words.
 use Rattle.std.proofs.Common.{ℕ, zero, suc, List, [], ◌∷◌, ◌++◌, refl, arith, codes}
 use Rattle.std.specs.Prelude.{⊤}
-use Rattle.model.specs.Limits.{IsCall}
+use Rattle.model.specs.rule.Limits.{IsCall}
 use Rattle.messages.specs.declared.message.Blocking.TheVariants.{No, Yes}
-use Rattle.texts.specs.Layout.{space}
-use Rattle.texts.specs.Reads.{Lacks}
-use Rattle.message_text.specs.Names.{call_text, holder_text}
+use Rattle.texts.specs.rule.Layout.{space}
+use Rattle.texts.specs.rule.Reads.{Lacks}
+use Rattle.message_text.specs.rule.Names.{call_text, holder_text}
 use Rattle.texts.proofs.Pairs.{AreApart, AreWords, heads}
 use Rattle.texts.proofs.SingleWords.{lacks-tested, one-word}
-use Rattle.message_text.specs.Served.{IsHolder}
-use Rattle.message_text.specs.Texts.{blocking_text}
+use Rattle.message_text.specs.rule.Served.{IsHolder}
+use Rattle.message_text.specs.rule.Texts.{blocking_text}
 use Rattle.message_text.proofs.OneField.{call_is_one_field, holder_is_one_field}
 
 -- two texts that lack a byte lack it together

@@ -1,7 +1,2 @@
-pub mod Names
-pub mod Texts
-pub mod Served
-pub mod Reports
-pub mod Forms
-pub mod Parts
-pub mod OneText
+pub mod rule
+pub mod code

@@ -1,12 +1,12 @@
 //! The fields of messages, as types.
 ghost use Rattle.std.specs.Prelude.{◌≡◌, ◌≢◌, ◌++◌, ◌∷◌, ℕ, List, decimal, string_bytes, MatchOption, OnOk, ⊤};
-ghost use Rattle.messages.specs.Epochs.{IsRebuilt};
+ghost use Rattle.messages.specs.rule.Epochs.{IsRebuilt};
 ghost use Rattle.messages.specs.declared.version.Version.TheVariants.{First, Second};
-ghost use Rattle.texts.specs.Layout.{space};
-ghost use Rattle.texts.specs.Reads.{Both, Reads};
-ghost use Rattle.message_text.specs.Names.{lock_text};
-ghost use Rattle.message_text.specs.Served.{AreServedWants, IsCommandNumber, IsFile, IsServedLock, IsServedSpan};
-ghost use Rattle.message_text.specs.Texts.{command_text, epoch_text, span_text, blocking_text, wants_text};
+ghost use Rattle.texts.specs.rule.Layout.{space};
+ghost use Rattle.texts.specs.rule.Reads.{Both, Reads};
+ghost use Rattle.message_text.specs.rule.Names.{lock_text};
+ghost use Rattle.message_text.specs.rule.Served.{AreServedWants, IsCommandNumber, IsFile, IsServedLock, IsServedSpan};
+ghost use Rattle.message_text.specs.rule.Texts.{command_text, epoch_text, span_text, blocking_text, wants_text};
 
 use crate::edition::Edition;
 use crate::names::{OwnerName, push_lock};

@@ -1,9 +1,9 @@
 //! Laws that say what the types of a message's parts guarantee; each is the contract of a function
 //! that does nothing.
-ghost use Rattle.model.specs.Limits.{IsCall};
-ghost use Rattle.messages.specs.Epochs.{IsCommand, IsRebuilt};
+ghost use Rattle.model.specs.rule.Limits.{IsCall};
+ghost use Rattle.messages.specs.rule.Epochs.{IsCommand, IsRebuilt};
 ghost use Rattle.messages.specs.declared.version.Version.TheVariants.{Second};
-ghost use Rattle.message_text.specs.Served.{AreServedRuns, AreServedWants, IsHolder, IsServedLock, IsServedMessage, IsServedSpan};
+ghost use Rattle.message_text.specs.rule.Served.{AreServedRuns, AreServedWants, IsHolder, IsServedLock, IsServedMessage, IsServedSpan};
 
 use intervals::span::Span;
 use messages::command_number::CommandNumber;

@@ -1,8 +1,8 @@
 //! Reads messages from their texts, in either version.
 ghost use Rattle.std.specs.Prelude.{◌++◌, codes};
-ghost use Rattle.texts.specs.Reads.{Reads};
-ghost use Rattle.message_text.specs.Served.{IsServedMessage};
-ghost use Rattle.message_text.specs.Texts.{message_text};
+ghost use Rattle.texts.specs.rule.Reads.{Reads};
+ghost use Rattle.message_text.specs.rule.Served.{IsServedMessage};
+ghost use Rattle.message_text.specs.rule.Texts.{message_text};
 
 use crate::edition::{Edition, FirstEdition, SecondEdition};
 use crate::fields::{EpochName, FileName, first_field};

@@ -1,10 +1,10 @@
 //! The names of nodes, calls, owners and servers, and their texts.
 ghost use Rattle.std.specs.Prelude.{◌≡◌, ◌++◌, codes, string_bytes, OnOk};
-ghost use Rattle.model.specs.Limits.{IsCall, IsOwner};
-ghost use Rattle.texts.specs.Reads.{Reads};
-ghost use Rattle.message_text.specs.Names.{call_text, holder_text, host_text, lock_text, owner_letter, owner_text, server_text};
-ghost use Rattle.message_text.specs.Parts.{AreServerParts};
-ghost use Rattle.message_text.specs.Served.{IsHolder};
+ghost use Rattle.model.specs.rule.Limits.{IsCall, IsOwner};
+ghost use Rattle.texts.specs.rule.Reads.{Reads};
+ghost use Rattle.message_text.specs.rule.Names.{call_text, holder_text, host_text, lock_text, owner_letter, owner_text, server_text};
+ghost use Rattle.message_text.specs.code.Parts.{AreServerParts};
+ghost use Rattle.message_text.specs.rule.Served.{IsHolder};
 
 use crate::joined::{AtSign, Dot, Joined};
 use crate::numbers::{

@@ -4,9 +4,9 @@
 //! Each function here that can fail errs with `AllocError`, where a request for memory was refused.
 ghost use Rattle.std.specs.Prelude.{◌≡◌, ◌≢◌, ◌++◌, ◌∷◌, [], ◌↔◌, ◌<◌, ◌^◌, ℕ, List, true, decimal, IsTrue, IfOk, MatchOption, OnOk, string_bytes};
 ghost use Rattle.messages.specs.declared.token_run.TokenRun.{TokenRun as Run};
-ghost use Rattle.message_text.specs.Reports.{IsRunsText, may_stand, run_words, runs_in, words_of};
-ghost use Rattle.message_text.specs.Served.{IsServedSpan};
-ghost use Rattle.message_text.specs.Texts.{runs_text};
+ghost use Rattle.message_text.specs.code.Reports.{IsRunsText, may_stand, run_words, runs_in, words_of};
+ghost use Rattle.message_text.specs.rule.Served.{IsServedSpan};
+ghost use Rattle.message_text.specs.rule.Texts.{runs_text};
 
 use crate::fields::SpanText;
 use crate::numbers::Offset;
@@ -31,7 +31,7 @@ struct Words<'a> {
 
 impl<'a> Model for Words<'a> {
     ghost use Rattle.std.specs.Prelude.{ℕ, List, [], if◌then◌else◌};
-    ghost use Rattle.message_text.specs.Reports.{words_of};
+    ghost use Rattle.message_text.specs.code.Reports.{words_of};
 
     ghost Value = { List (List ℕ) };
 

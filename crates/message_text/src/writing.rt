@@ -2,9 +2,9 @@
 //!
 //! Each function here that can fail errs with `AllocError`, where a request for memory was refused.
 ghost use Rattle.std.specs.Prelude.{◌≡◌, ◌++◌, codes, decimal, string_bytes, true, OnOk};
-ghost use Rattle.texts.specs.Reads.{pair_text};
-ghost use Rattle.message_text.specs.Names.{holder_text};
-ghost use Rattle.message_text.specs.Texts.{epoch_text, is_about_revoke, message_text, runs_text};
+ghost use Rattle.texts.specs.rule.Reads.{pair_text};
+ghost use Rattle.message_text.specs.rule.Names.{holder_text};
+ghost use Rattle.message_text.specs.rule.Texts.{epoch_text, is_about_revoke, message_text, runs_text};
 
 use crate::edition::{Edition, FirstEdition, SecondEdition};
 use crate::operands::{

@@ -1,8 +1,8 @@
 //! Messages as they are read from their texts.
 ghost use Rattle.std.specs.Prelude.{◌≡◌, IfOk};
 ghost use Rattle.messages.specs.declared.message.Message.TheVariants as message;
-ghost use Rattle.message_text.specs.Forms.{message_in, IsForm};
-ghost use Rattle.message_text.specs.Reports.{IsRunsText, runs_in};
+ghost use Rattle.message_text.specs.code.Forms.{message_in, IsForm};
+ghost use Rattle.message_text.specs.code.Reports.{IsRunsText, runs_in};
 
 use crate::reports::read_runs;
 use messages::epoch_number::EpochNumber;
@@ -55,7 +55,7 @@ pub struct WrittenMessage<'a> {
 
 impl<'a> Model for WrittenMessage<'a> {
     ghost use Rattle.messages.specs.declared.message.Message.{Message};
-    ghost use Rattle.message_text.specs.Forms.{message_in, IsForm};
+    ghost use Rattle.message_text.specs.code.Forms.{message_in, IsForm};
 
     ghost Value = { Message };
 

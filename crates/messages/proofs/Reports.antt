@@ -3,12 +3,12 @@ use Rattle.std.specs.Prelude.{◌==◌, slice_index_or}
 use Rattle.std.proofs.Common.{◌≡◌, ◌≢◌, ◌⊎◌, ℕ, zero, suc, ◌+◌, ◌-◌, ◌<◌, ◌≤◌, Bool, true, false, not, ◌&&◌, if◌then◌else◌, inl, inr, refl, sym, ◌∙◌, ap, subst, arith, List, [], ◌∷◌, length, map, All, AllPairs, Contains, Option, Some, None}
 use Rattle.std.proofs.lemmas.Bool.{and_parts, and_from, cases_lt, cases_order, eqb-true, false≢true, false_from_ne_true}
 use Rattle.std.proofs.lemmas.Bool.Decides.{nat_tests}
-use Rattle.intervals.specs.Bytes.{Range, greatest, is_in, AllAre, IsRun}
+use Rattle.intervals.specs.rule.Bytes.{Range, greatest, is_in, AllAre, IsRun}
 use Rattle.model.specs.declared.level.Level.{Level}
 use Rattle.messages.specs.declared.token_run.TokenRun.{TokenRun}
-use Rattle.messages.specs.TokenRuns.{same_level, may_follow, go_on_after, are_longest, run_of}
+use Rattle.messages.specs.rule.TokenRuns.{same_level, may_follow, go_on_after, are_longest, run_of}
 use Rattle.messages.proofs.SameRuns.{level_exact, level_refl}
-use Rattle.messages.specs.Reports.{joined, runs_from, runs_of, reported}
+use Rattle.messages.specs.rule.Reports.{joined, runs_from, runs_of, reported}
 
 -- a token has no byte past the greatest offset
 abbrev pub Ends : (ℕ → Option Level) → Type 0

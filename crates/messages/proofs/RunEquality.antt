@@ -3,7 +3,7 @@ use Rattle.std.specs.Cmp.Lexicographic.{pointwise, pointwise_decides}
 use Rattle.std.proofs.Common.{◌≡◌, Bool, true, false, Decides, List, rules, refl, sym, subst}
 use Rattle.messages.specs.contracts.token_run.TokenRunPartialEq.TheImpl as derived
 use Rattle.messages.specs.declared.token_run.TokenRun.{TokenRun}
-use Rattle.messages.specs.TokenRuns.{same_run, same_runs}
+use Rattle.messages.specs.rule.TokenRuns.{same_run, same_runs}
 use Rattle.messages.proofs.SameRuns.{run_exact, run_refl, runs_decide}
 
 run_eq : (a b : TokenRun) → derived.ghosts.eq a b ≡ same_run a b

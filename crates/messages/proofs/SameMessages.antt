@@ -3,7 +3,7 @@ use Rattle.std.specs.Prelude.{true, ℕ, ◌&&◌, ◌==◌}
 use Rattle.std.proofs.Common.{◌≡◌, Bool, Decides, rules, arith, refl, sym, ap, subst}
 use Rattle.std.proofs.lemmas.Bool.{false≢true}
 use Rattle.std.proofs.lemmas.Bool.Decides.{Decides-and, Decides-at, Decides-eqb, Decides-like}
-use Rattle.intervals.specs.Bytes.{Range}
+use Rattle.intervals.specs.rule.Bytes.{Range}
 use Rattle.std.proofs.lemmas.Grind.{common_steps}
 use Rattle.model.specs.declared.call.CallId.{CallId}
 use Rattle.model.specs.declared.host.Host.{Host}
@@ -19,12 +19,12 @@ use Rattle.model.specs.contracts.op.OpPartialEq.TheImpl as derived_of_ops
 use Rattle.model.specs.contracts.op.ProcessCallPartialEq.TheImpl as derived_of_process_calls
 use Rattle.model.specs.contracts.op.LockCallPartialEq.TheImpl as derived_of_lock_calls
 use Rattle.model.specs.declared.owner.Owner.{Owner}
-use Rattle.model.specs.Owners.{same_mode, same_owner}
+use Rattle.model.specs.rule.Owners.{same_mode, same_owner}
 use Rattle.model.proofs.OwnerLaws.{owner_exact, owner_refl}
 pub use Rattle.model.proofs.OwnerLaws.{host_refl}
 use Rattle.messages.specs.contracts.message.MessagePartialEq.TheImpl as derived
 use Rattle.messages.specs.contracts.event.EventPartialEq.TheImpl as derived_of_events
-use Rattle.messages.specs.Wants.{Wants}
+use Rattle.messages.specs.rule.Wants.{Wants}
 use Rattle.messages.specs.declared.event.Event.{Event}
 use Rattle.messages.specs.declared.event.Event.TheVariants.{Call, Deliver, Interrupt, Retry, Resend, Declare, Restart, Learn, FailServer, StartServer}
 use Rattle.messages.specs.declared.message.Blocking.{Blocking}
@@ -33,8 +33,8 @@ use Rattle.messages.specs.declared.message.Message.{Message}
 use Rattle.messages.specs.declared.message.Message.TheVariants.{Request, Grant, Revoke, Taken, Released, Conflict, Deny, Freed, Hello, Report}
 use Rattle.messages.proofs.RunEquality.{runs_eq}
 use Rattle.messages.proofs.SameRuns.{range_exact, range_refl, runs_decide}
-use Rattle.messages.specs.TokenRuns.{same_range}
-use Rattle.messages.specs.Messages.{same_call, same_wants, same_blocking, same_host, same_lock, same_message, SameMessageIsEquality}
+use Rattle.messages.specs.rule.TokenRuns.{same_range}
+use Rattle.messages.specs.rule.Messages.{same_call, same_wants, same_blocking, same_host, same_lock, same_message, SameMessageIsEquality}
 
 -- a test that passes only equal values, and each value with itself, decides equality
 exact_Decides : {A : Type 0} (same : A → A → Bool) → ((a b : A) → same a b ≡ true → a ≡ b) → ((a : A) → same a a ≡ true) → (a b : A) → Decides (same a b) (a ≡ b)

@@ -2,11 +2,11 @@
 use Rattle.std.specs.Prelude.{true, List, [], ◌∷◌}
 use Rattle.std.proofs.Common.{◌≡◌, Decides, refl, subst, eq-eqb}
 use Rattle.std.proofs.lemmas.Bool.{and_parts, and_from, eqb-true, false≢true}
-use Rattle.intervals.specs.Bytes.{Range}
+use Rattle.intervals.specs.rule.Bytes.{Range}
 use Rattle.model.specs.declared.level.Level.{Level}
 use Rattle.model.specs.declared.level.Level.TheVariants.{Shared, Exclusive}
 use Rattle.messages.specs.declared.token_run.TokenRun.{TokenRun}
-use Rattle.messages.specs.TokenRuns.{same_range, same_level, same_run, same_runs}
+use Rattle.messages.specs.rule.TokenRuns.{same_range, same_level, same_run, same_runs}
 
 pub range_exact : (a b : Range) → same_range a b ≡ true → a ≡ b
 range_exact a b h =

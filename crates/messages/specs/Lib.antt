@@ -1,10 +1,2 @@
-pub mod Versions
-pub mod Shapes
-pub mod Epochs
-pub mod TokenRuns
-pub mod Wants
-pub mod Messages
-pub mod Reports
-pub mod KeptOutcomes
-pub mod Entries
-pub mod Refusals
+pub mod rule
+pub mod code

@@ -1,6 +1,6 @@
 //! The entries of the journal: an event with its reply and the messages that it sends.
 ghost use Rattle.std.specs.Prelude.{◌≡◌, ◌↔◌, IsTrue};
-ghost use Rattle.messages.specs.Entries.{NamesItsCall, NamesItsIncarnation, entry_of, kept_name};
+ghost use Rattle.messages.specs.code.Entries.{NamesItsCall, NamesItsIncarnation, entry_of, kept_name};
 
 use crate::event::Event;
 use crate::kept_outcome::KeptOutcome;
@@ -26,7 +26,7 @@ pub struct Entry {
 }
 
 impl Model for Entry {
-    ghost use Rattle.messages.specs.Entries.{EntryFields, kept, IsKept};
+    ghost use Rattle.messages.specs.code.Entries.{EntryFields, kept, IsKept};
 
     ghost Value = { EntryFields };
 

@@ -1,7 +1,7 @@
 //! The numbers of files, as a type that admits no other numbers.
 ghost use Rattle.std.specs.Prelude.{◌≡◌, ◌↔◌, IfSome, IsSome};
-ghost use Rattle.model.specs.Limits.{IsNumber};
-ghost use Rattle.messages.specs.Shapes.{most_files};
+ghost use Rattle.model.specs.rule.Limits.{IsNumber};
+ghost use Rattle.messages.specs.rule.Shapes.{most_files};
 
 use crate::shape::MOST_FILES;
 use std::marker::Model;
@@ -14,8 +14,8 @@ pub struct FileNumber {
 
 impl Model for FileNumber {
     ghost use Rattle.std.specs.Prelude.{ℕ};
-    ghost use Rattle.model.specs.Limits.{IsNumber};
-    ghost use Rattle.messages.specs.Shapes.{most_files};
+    ghost use Rattle.model.specs.rule.Limits.{IsNumber};
+    ghost use Rattle.messages.specs.rule.Shapes.{most_files};
 
     ghost Value = { ℕ };
 

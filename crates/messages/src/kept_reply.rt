@@ -2,7 +2,7 @@
 //!
 //! Each function here that can fail errs with `AllocError`, where a request for memory was refused.
 ghost use Rattle.std.specs.Prelude.{◌≡◌, None, IfOk};
-ghost use Rattle.messages.specs.KeptOutcomes.{reply_of};
+ghost use Rattle.messages.specs.code.KeptOutcomes.{reply_of};
 
 use model::call::CallId;
 use model::reply::Reply;
@@ -28,7 +28,7 @@ impl Model for KeptReply {
     ghost use Rattle.std.specs.Prelude.{Option};
     ghost use Rattle.model.specs.declared.reply.Reply.{Reply};
     ghost use Rattle.model.specs.declared.call.CallId.{CallId};
-    ghost use Rattle.messages.specs.KeptOutcomes.{reply_of};
+    ghost use Rattle.messages.specs.code.KeptOutcomes.{reply_of};
 
     ghost Value = { Option (CallId × Reply) };
 

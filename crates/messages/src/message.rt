@@ -1,8 +1,8 @@
 //! The messages between nodes and token servers.
 ghost use Rattle.std.specs.Prelude.{◌≡◌, ◌↔◌, IsTrue, IfOk};
-ghost use Rattle.model.specs.Limits.{IsNumber};
-ghost use Rattle.messages.specs.Messages.{addressee, host_of, file_of, SameMessageIsEquality};
-ghost use Rattle.messages.specs.Shapes.{most_files};
+ghost use Rattle.model.specs.rule.Limits.{IsNumber};
+ghost use Rattle.messages.specs.rule.Messages.{addressee, host_of, file_of, SameMessageIsEquality};
+ghost use Rattle.messages.specs.rule.Shapes.{most_files};
 
 use crate::actor::Actor;
 use crate::command_number::CommandNumber;

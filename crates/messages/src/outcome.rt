@@ -1,6 +1,6 @@
 //! The outcomes of steps: the name of a call, a reply, and messages.
 ghost use Rattle.std.specs.Prelude.{◌≡◌};
-ghost use Rattle.messages.specs.Messages.{sending};
+ghost use Rattle.messages.specs.rule.Messages.{sending};
 
 use crate::items::Items;
 use crate::message::Message;

@@ -2,7 +2,7 @@
 //!
 //! Each function here that can fail errs with `AllocError`, where a request for memory was refused.
 ghost use Rattle.std.specs.Prelude.{◌≡◌, ◌↔◌, IsTrue, [], ◌∷◌, IfOk};
-ghost use Rattle.messages.specs.KeptOutcomes.{messages_of};
+ghost use Rattle.messages.specs.code.KeptOutcomes.{messages_of};
 
 use crate::items::Items;
 use crate::message::Message;
@@ -29,7 +29,7 @@ pub struct Sends {
 impl Model for Sends {
     ghost use Rattle.std.specs.Prelude.{List};
     ghost use Rattle.messages.specs.declared.message.Message.{Message};
-    ghost use Rattle.messages.specs.KeptOutcomes.{messages_of};
+    ghost use Rattle.messages.specs.code.KeptOutcomes.{messages_of};
 
     ghost Value = { List Message };
 

@@ -1,8 +1,8 @@
 //! The shape of a cluster: its version, its size and its policy.
 ghost use Rattle.std.specs.Prelude.{◌≡◌, ◌↔◌, IfOk, IsOk};
-ghost use Rattle.model.specs.Limits.{IsNumber, most_nodes};
-ghost use Rattle.messages.specs.Versions.{most_regions};
-ghost use Rattle.messages.specs.Shapes.{most_files, IsServed};
+ghost use Rattle.model.specs.rule.Limits.{IsNumber, most_nodes};
+ghost use Rattle.messages.specs.rule.Versions.{most_regions};
+ghost use Rattle.messages.specs.rule.Shapes.{most_files, IsServed};
 
 use crate::version::Version;
 use model::limits::MOST_NODES;
@@ -24,7 +24,7 @@ pub struct Shape {
 }
 
 impl Model for Shape {
-    ghost use Rattle.messages.specs.Shapes.{ShapeFields, IsShape};
+    ghost use Rattle.messages.specs.rule.Shapes.{ShapeFields, IsShape};
 
     ghost Value = { ShapeFields };
 

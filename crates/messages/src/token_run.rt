@@ -2,7 +2,7 @@
 //!
 //! Each function here that can fail errs with `AllocError`, where a request for memory was refused.
 ghost use Rattle.std.specs.Prelude.{◌≡◌, ◌↔◌, true, IfOk, IfSome, IsSome, IsTrue, map};
-ghost use Rattle.messages.specs.TokenRuns.{are_longest, may_follow, run_of};
+ghost use Rattle.messages.specs.rule.TokenRuns.{are_longest, may_follow, run_of};
 
 use intervals::span::Span;
 use model::level::Level;
@@ -26,7 +26,7 @@ pub struct TokenRuns {
 impl Model for TokenRuns {
     ghost use Rattle.std.specs.Prelude.{◌≡◌, true, List};
     ghost use Rattle.messages.specs.declared.token_run.TokenRun.{TokenRun};
-    ghost use Rattle.messages.specs.TokenRuns.{are_longest};
+    ghost use Rattle.messages.specs.rule.TokenRuns.{are_longest};
 
     ghost Value = { List TokenRun };
 

@@ -2,21 +2,21 @@
 use Rattle.std.proofs.Common.{◌≡◌, ℕ, zero, suc, ◌<◌, ◌≤◌, Bool, true, false, if◌then◌else◌, ◌&&◌, ◌==◌, ◌⊎◌, inl, inr, refl, sym, ◌∙◌, ap, subst, arith, Option, Some, None}
 use Rattle.std.proofs.lemmas.Bool.{and_parts, and_from, eqb-true, eq-eqb, ne_eqb, cases_Bool, cases_eq, both_ways, false_from_ne_true}
 use Rattle.std.proofs.lemmas.Option.{none-some, same_Some}
-use Rattle.intervals.specs.Bytes.{nothing}
+use Rattle.intervals.specs.rule.Bytes.{nothing}
 use Rattle.model.specs.declared.mode.Mode.{Mode}
 use Rattle.model.specs.declared.owner.Kind.{Kind}
 use Rattle.model.specs.declared.owner.Kind.TheVariants.{OfProcess, OfDescription}
 use Rattle.model.specs.declared.owner.Owner.{Owner}
 use Rattle.model.specs.declared.opened.Opened.{Opened}
 use Rattle.model.specs.declared.process.Process.{Process}
-use Rattle.model.specs.Limits.{most_processes, most_descriptors}
-use Rattle.model.specs.Owners.{same_owner, process_owner, description_owner}
-use Rattle.model.specs.Locks.{Locks, without_owner, without_owner_anywhere}
-use Rattle.model.specs.Descriptors.{Processes, no_processes, with_process, with_descriptor, is_of, is_open}
-use Rattle.model.specs.Table.{Table, around, descriptor, is_running, with_processes, closed, closed_if, closed_below, exited, exited_if, exited_to, gone}
+use Rattle.model.specs.rule.Limits.{most_processes, most_descriptors}
+use Rattle.model.specs.rule.Owners.{same_owner, process_owner, description_owner}
+use Rattle.model.specs.rule.Locks.{Locks, without_owner, without_owner_anywhere}
+use Rattle.model.specs.rule.Descriptors.{Processes, no_processes, with_process, with_descriptor, is_of, is_open}
+use Rattle.model.specs.rule.Table.{Table, around, descriptor, is_running, with_processes, closed, closed_if, closed_below, exited, exited_if, exited_to, gone}
 use Rattle.model.proofs.OwnerLaws.{owner_exact, owner_refl}
-use Rattle.intervals.specs.Search.{first, some_passes}
-use Rattle.model.specs.Anchors.{Hangs, AreAnchored, IsAnchored}
+use Rattle.intervals.specs.rule.Search.{first, some_passes}
+use Rattle.model.specs.rule.Anchors.{Hangs, AreAnchored, IsAnchored}
 use Rattle.model.proofs.SearchLaws.{first-passes}
 use Rattle.model.proofs.Hanging.{hangs_on, itself}
 use Rattle.model.proofs.LimitLaws.{gone_limit}

@@ -2,7 +2,7 @@
 use Rattle.std.specs.Prelude.{◌≡◌, ℕ, ◌+◌, ◌<◌, ◌≤◌, true, false, if◌then◌else◌, Option, Some, None, is_some, MatchOption, refl}
 use Rattle.std.proofs.Common.{arith}
 use Rattle.std.proofs.lemmas.Bool.{ltb-true, ltb-false}
-use Rattle.intervals.specs.Search.{first, some_passes, first_answer, IsFirst}
+use Rattle.intervals.specs.rule.Search.{first, some_passes, first_answer, IsFirst}
 use Rattle.intervals.proofs.SearchLaws.{first_is_first}
 
 -- f has answer x at number k, and no answer at the numbers from lo that come before k

@@ -6,16 +6,16 @@ use Rattle.std.specs.Ordering.{nat_cmp, ordering_then}
 use Rattle.std.proofs.Common.{arith, ap, sym, ◌∙◌, inl, inr, subst}
 use Rattle.std.proofs.lemmas.Bool.{cases_lt, cases_order, cases_Bool, le-leb, leb-true, both_ways}
 use Rattle.std.proofs.lemmas.Bool.Decides.{nat_tests}
-use Rattle.intervals.specs.Search.{first_answer}
-use Rattle.intervals.specs.Bytes.{Range, greatest, is_start, run_from, IsRun}
+use Rattle.intervals.specs.rule.Search.{first_answer}
+use Rattle.intervals.specs.rule.Bytes.{Range, greatest, is_start, run_from, IsRun}
 use Rattle.model.specs.declared.mode.Mode.{Mode}
 use Rattle.model.specs.declared.owner.Kind.{Kind}
 use Rattle.model.specs.declared.owner.Kind.TheVariants.{OfProcess, OfDescription}
 use Rattle.model.specs.declared.owner.Owner.{Owner}
 use Rattle.model.specs.declared.lock_info.LockInfo.{LockInfo}
-use Rattle.model.specs.Limits.{most_processes}
-use Rattle.model.specs.Owners.{same_mode, same_owner, kind_cmp, owner_cmp, owner_at, most_owners}
-use Rattle.model.specs.Locks.{FileLocks, excludes, bars, IsFree, IsRegion, Blocks, IsNotAfter, IsLowestBlocker, region_at, blocking_at, lowest_blocker, IsOfNode, LowestIsLowest}
+use Rattle.model.specs.rule.Limits.{most_processes}
+use Rattle.model.specs.rule.Owners.{same_mode, same_owner, kind_cmp, owner_cmp, owner_at, most_owners}
+use Rattle.model.specs.rule.Locks.{FileLocks, excludes, bars, IsFree, IsRegion, Blocks, IsNotAfter, IsLowestBlocker, region_at, blocking_at, lowest_blocker, IsOfNode, LowestIsLowest}
 use Rattle.model.proofs.OwnerLaws.{owner_exact, owner_refl}
 use Rattle.model.proofs.AnswerLaws.{Answers, IsFirstAnswer, first_answer_is}
 use Rattle.model.proofs.RunLaws.{some_start, start_from, run_ends, run_from-is_run}

@@ -7,12 +7,12 @@ use Rattle.model.specs.declared.opened.Opened.{Opened}
 use Rattle.model.specs.declared.process.Process.{Process}
 use Rattle.model.specs.declared.reply.Reply.{Reply}
 use Rattle.model.specs.declared.reply.Reply.TheVariants.{Done, NoProcess}
-use Rattle.model.specs.Limits.{most_descriptors}
-use Rattle.model.specs.Owners.{same_owner, process_owner, description_owner}
-use Rattle.model.specs.Locks.{Locks, without_owner, without_owner_anywhere, IsOfNode}
-use Rattle.model.specs.Descriptors.{Processes, with_process, with_descriptor, is_open}
-use Rattle.model.specs.Table.{Table, around, is_running, descriptor, with_processes, closed, closed_at, closed_if, closed_below, after_close, exited, after_exit}
-use Rattle.model.specs.Anchors.{IsOwn}
+use Rattle.model.specs.rule.Limits.{most_descriptors}
+use Rattle.model.specs.rule.Owners.{same_owner, process_owner, description_owner}
+use Rattle.model.specs.rule.Locks.{Locks, without_owner, without_owner_anywhere, IsOfNode}
+use Rattle.model.specs.rule.Descriptors.{Processes, with_process, with_descriptor, is_open}
+use Rattle.model.specs.rule.Table.{Table, around, is_running, descriptor, with_processes, closed, closed_at, closed_if, closed_below, after_close, exited, after_exit}
+use Rattle.model.specs.rule.Anchors.{IsOwn}
 use Rattle.model.proofs.NodeTables.{Follows, same_follows}
 use Rattle.model.proofs.Anchors.{left, left_open, Leaves, closed_leaves, shut_goes_on, exits}
 

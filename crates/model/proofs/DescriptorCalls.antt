@@ -1,7 +1,7 @@
 -- The laws of closes, exits and forks.
 use Rattle.std.proofs.Common.{◌≡◌, ℕ, Bool, true, false, if◌then◌else◌, ◌&&◌, ◌==◌, refl, sym, ◌∙◌, ap, subst, Option, Some, None, Result, Ok, Err}
 use Rattle.std.proofs.lemmas.Bool.{and_from, eq-eqb, both_ways}
-use Rattle.intervals.specs.Bytes.{nothing}
+use Rattle.intervals.specs.rule.Bytes.{nothing}
 use Rattle.model.specs.declared.mode.Mode.{Mode}
 use Rattle.model.specs.declared.opened.Opened.{Opened}
 use Rattle.model.specs.declared.process.Process.{Process}
@@ -12,13 +12,13 @@ use Rattle.model.specs.declared.op.LockCommand.{LockCommand}
 use Rattle.model.specs.declared.op.LockCommand.TheVariants.{Set, Wait, Query}
 use Rattle.model.specs.declared.reply.Reply.{Reply}
 use Rattle.model.specs.declared.reply.Reply.TheVariants.{Done, Again, Free, Blocked, Interrupted, Exists, NoProcess, NoLocks}
-use Rattle.model.specs.Owners.{same_owner, process_owner, description_owner}
-use Rattle.model.specs.Locks.{without_owner, without_owner_anywhere}
-use Rattle.model.specs.Descriptors.{Processes, with_process, with_descriptor, is_open}
-use Rattle.model.specs.Table.{Table, LockTarget, around, descriptor, is_running, beside, with_processes, need_of, call_target, lock_within, closed, closed_at, exited}
-use Rattle.model.specs.Anchors.{IsAnchored, IsOwn}
-use Rattle.model.specs.Step.{Step, AfterTests, SetStep, WaitStep, QueryStep, LockStep}
-use Rattle.model.specs.Laws.{ClosedFileHasNoLock, LastCloseDropsLocks, HasGone, ExitLeavesNothing, IsChild, sibling, ForkSharesDescriptions, CallsKeepAnchors}
+use Rattle.model.specs.rule.Owners.{same_owner, process_owner, description_owner}
+use Rattle.model.specs.rule.Locks.{without_owner, without_owner_anywhere}
+use Rattle.model.specs.rule.Descriptors.{Processes, with_process, with_descriptor, is_open}
+use Rattle.model.specs.rule.Table.{Table, LockTarget, around, descriptor, is_running, beside, with_processes, need_of, call_target, lock_within, closed, closed_at, exited}
+use Rattle.model.specs.rule.Anchors.{IsAnchored, IsOwn}
+use Rattle.model.specs.rule.Step.{Step, AfterTests, SetStep, WaitStep, QueryStep, LockStep}
+use Rattle.model.specs.rule.Laws.{ClosedFileHasNoLock, LastCloseDropsLocks, HasGone, ExitLeavesNothing, IsChild, sibling, ForkSharesDescriptions, CallsKeepAnchors}
 use Rattle.model.proofs.OwnerLaws.{owner_refl}
 use Rattle.model.proofs.Hanging.{itself, target_hangs}
 use Rattle.model.proofs.Anchors.{exits}

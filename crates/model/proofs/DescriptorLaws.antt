@@ -2,10 +2,10 @@
 use Rattle.std.specs.Prelude.{◌≡◌, ℕ, ◌+◌, ◌-◌, ◌*◌, ◌<◌, ◌≤◌, Bool, true, false, not, Option, Some, None, is_none, refl}
 use Rattle.std.proofs.Common.{arith, ap, sym, ◌∙◌, inl, inr}
 use Rattle.std.proofs.lemmas.Bool.{cases_lt, eqb-true}
-use Rattle.intervals.specs.Search.{first, some_passes, IsFirst}
+use Rattle.intervals.specs.rule.Search.{first, some_passes, IsFirst}
 use Rattle.model.specs.declared.opened.Opened.{Opened}
-use Rattle.model.specs.Limits.{IsNumber, most_processes, most_descriptors, most_descriptions}
-use Rattle.model.specs.Descriptors.{Processes, lowest_fd, is_of, is_open, lowest_description}
+use Rattle.model.specs.rule.Limits.{IsNumber, most_processes, most_descriptors, most_descriptions}
+use Rattle.model.specs.rule.Descriptors.{Processes, lowest_fd, is_of, is_open, lowest_description}
 use Rattle.intervals.proofs.SearchLaws.{first_is_first}
 use Rattle.model.proofs.SearchLaws.{first-passes, some_passes-none}
 use Rattle.model.proofs.Pigeons.{no_hole}

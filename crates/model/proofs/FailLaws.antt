@@ -2,9 +2,9 @@
 use Rattle.std.specs.Prelude.{◌≡◌, ℕ, zero, suc, ◌+◌, ◌-◌, ◌≤◌, false, None, refl}
 use Rattle.std.proofs.Common.{arith, ap, sym, ◌∙◌}
 use Rattle.model.specs.declared.process.Process.{Process}
-use Rattle.model.specs.Limits.{most_descriptors}
-use Rattle.model.specs.Descriptors.{with_process}
-use Rattle.model.specs.Table.{Table, around, with_processes, descriptor, closed_if, closed_below, exited, exited_if, exited_to, gone}
+use Rattle.model.specs.rule.Limits.{most_descriptors}
+use Rattle.model.specs.rule.Descriptors.{with_process}
+use Rattle.model.specs.rule.Table.{Table, around, with_processes, descriptor, closed_if, closed_below, exited, exited_if, exited_to, gone}
 
 pub closed_below-none : (t : Table) (p : Process) → closed_below t p 0 ≡ t
 unfolding closed_below

@@ -2,7 +2,7 @@
 use Rattle.std.proofs.Common.{◌≡◌, ℕ, true, ◌&&◌, ◌==◌, refl, subst, ℤ, Option, Some, Ok}
 use Rattle.std.proofs.lemmas.Bool.{and_from, eq-eqb}
 use Rattle.std.proofs.lemmas.Option.{none-some}
-use Rattle.intervals.specs.Segment.{seg}
+use Rattle.intervals.specs.rule.Segment.{seg}
 use Rattle.model.specs.declared.mode.Mode.{Mode}
 use Rattle.model.specs.declared.owner.Kind.{Kind}
 use Rattle.model.specs.declared.owner.Kind.TheVariants.{OfProcess, OfDescription}
@@ -10,10 +10,10 @@ use Rattle.model.specs.declared.owner.Owner.{Owner}
 use Rattle.model.specs.declared.opened.Opened.{Opened}
 use Rattle.model.specs.declared.process.Process.{Process}
 use Rattle.model.specs.declared.reply.Reply.TheVariants.{NoProcess}
-use Rattle.model.specs.Locks.{Locks}
-use Rattle.model.specs.Descriptors.{Processes, no_processes}
-use Rattle.model.specs.Table.{Table, LockTarget, is_running, descriptor, target, target_at, owner_of}
-use Rattle.model.specs.Anchors.{Hangs, AreAnchored}
+use Rattle.model.specs.rule.Locks.{Locks}
+use Rattle.model.specs.rule.Descriptors.{Processes, no_processes}
+use Rattle.model.specs.rule.Table.{Table, LockTarget, is_running, descriptor, target, target_at, owner_of}
+use Rattle.model.specs.rule.Anchors.{Hangs, AreAnchored}
 use Rattle.model.proofs.Refusals.{if_then}
 use Rattle.model.proofs.Targets.{passes_at}
 

@@ -9,12 +9,12 @@ use Rattle.model.specs.declared.op.LockCommand.{LockCommand}
 use Rattle.model.specs.declared.op.LockCommand.TheVariants.{Set, Wait, Query}
 use Rattle.model.specs.declared.reply.Reply.{Reply}
 use Rattle.model.specs.declared.reply.Reply.TheVariants.{Done, Again, Free, Blocked, Interrupted, NoProcess, NoLocks}
-use Rattle.model.specs.Limits.{most_processes, most_descriptors}
-use Rattle.model.specs.Owners.{process_owner, description_owner}
-use Rattle.model.specs.Locks.{without_owner, without_owner_anywhere}
-use Rattle.model.specs.Descriptors.{Processes, with_descriptor, is_open, after}
-use Rattle.model.specs.Table.{Table, LockTarget, around, descriptor, is_running, beside, with_processes, target, call_target, locked, lock_within, regions_with, after_unlock, closed, closed_if, closed_at, closed_below, after_close, exited, exited_if, exited_to, gone, after_exit}
-use Rattle.model.specs.Step.{Is, AfterTests, SetStep, WaitStep, QueryStep, LockStep, Step}
+use Rattle.model.specs.rule.Limits.{most_processes, most_descriptors}
+use Rattle.model.specs.rule.Owners.{process_owner, description_owner}
+use Rattle.model.specs.rule.Locks.{without_owner, without_owner_anywhere}
+use Rattle.model.specs.rule.Descriptors.{Processes, with_descriptor, is_open, after}
+use Rattle.model.specs.rule.Table.{Table, LockTarget, around, descriptor, is_running, beside, with_processes, target, call_target, locked, lock_within, regions_with, after_unlock, closed, closed_if, closed_at, closed_below, after_close, exited, exited_if, exited_to, gone, after_exit}
+use Rattle.model.specs.rule.Step.{Is, AfterTests, SetStep, WaitStep, QueryStep, LockStep, Step}
 
 beside_limit : (t : Table) (p : Process) (r : Result (Processes × Reply) Reply) → (beside t p r).0.limit ≡ t.limit
 beside_limit t p (Ok answer) = refl

@@ -3,8 +3,8 @@ use Rattle.std.proofs.Common.{◌≡◌, ℕ, ◌<◌, ◌≤◌, Bool, true, fa
 use Rattle.std.proofs.lemmas.Bool.{and_parts, eqb-true, eq-eqb, cases_Bool, both_ways, not-true}
 use Rattle.std.proofs.lemmas.Bool.Decides.{nat_tests}
 use Rattle.std.proofs.lemmas.Option.{none-some, same_Some}
-use Rattle.intervals.specs.Bytes.{Range, greatest, put, is_in}
-use Rattle.intervals.specs.Search.{some_passes}
+use Rattle.intervals.specs.rule.Bytes.{Range, greatest, put, is_in}
+use Rattle.intervals.specs.rule.Search.{some_passes}
 use Rattle.intervals.proofs.SearchLaws.{first_is_first}
 use Rattle.model.specs.declared.mode.Mode.{Mode}
 use Rattle.model.specs.declared.owner.Kind.{Kind}
@@ -18,13 +18,13 @@ use Rattle.model.specs.declared.op.ProcessCall.TheVariants.{Spawn, Fork, Open, D
 use Rattle.model.specs.declared.process.Process.{Process}
 use Rattle.model.specs.declared.reply.Reply.{Reply}
 use Rattle.model.specs.declared.reply.Reply.TheVariants.{Done, Fd, Exists, NoProcess, TooManyFiles, NoLocks}
-use Rattle.model.specs.Limits.{IsNumber, most_processes, most_descriptors, most_descriptions}
-use Rattle.model.specs.Owners.{same_owner, owner_at, most_owners}
-use Rattle.model.specs.Locks.{Locks, IsOfNode, with_lock}
-use Rattle.model.specs.Descriptors.{Processes, with_process, with_descriptor, is_of, is_open, lowest_fd, lowest_description, after, after_spawn, after_fork, after_open, after_dup, again_on, on_lowest_fd}
-use Rattle.model.specs.Table.{Table, LockTarget, empty_table, target, beside, with_processes, lock_within, locked, regions_with, after_unlock}
-use Rattle.model.specs.Step.{IsPossible}
-use Rattle.model.specs.Anchors.{Hangs, AreAnchored, IsOwn}
+use Rattle.model.specs.rule.Limits.{IsNumber, most_processes, most_descriptors, most_descriptions}
+use Rattle.model.specs.rule.Owners.{same_owner, owner_at, most_owners}
+use Rattle.model.specs.rule.Locks.{Locks, IsOfNode, with_lock}
+use Rattle.model.specs.rule.Descriptors.{Processes, with_process, with_descriptor, is_of, is_open, lowest_fd, lowest_description, after, after_spawn, after_fork, after_open, after_dup, again_on, on_lowest_fd}
+use Rattle.model.specs.rule.Table.{Table, LockTarget, empty_table, target, beside, with_processes, lock_within, locked, regions_with, after_unlock}
+use Rattle.model.specs.rule.Step.{IsPossible}
+use Rattle.model.specs.rule.Anchors.{Hangs, AreAnchored, IsOwn}
 use Rattle.model.proofs.OwnerLaws.{owner_exact}
 use Rattle.model.proofs.SearchLaws.{some_passes-found}
 use Rattle.model.proofs.DescriptorLaws.{lowest_description-number, lowest_fd-free}

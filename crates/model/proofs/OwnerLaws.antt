@@ -6,7 +6,7 @@ use Rattle.model.specs.declared.host.Host.{Host}
 use Rattle.model.specs.declared.owner.Kind.{Kind}
 use Rattle.model.specs.declared.owner.Kind.TheVariants.{OfProcess, OfDescription}
 use Rattle.model.specs.declared.owner.Owner.{Owner}
-use Rattle.model.specs.Owners.{same_kind, same_owner, same_host}
+use Rattle.model.specs.rule.Owners.{same_kind, same_owner, same_host}
 
 kind_exact : (a b : Kind) → same_kind a b ≡ true → a ≡ b
 kind_exact OfProcess OfProcess h = refl

@@ -10,10 +10,10 @@ use Rattle.model.specs.declared.op.LockCommand.{LockCommand}
 use Rattle.model.specs.declared.op.LockCommand.TheVariants.{Set, Wait, Query}
 use Rattle.model.specs.declared.reply.Reply.{Reply}
 use Rattle.model.specs.declared.reply.Reply.TheVariants.{Done, Fd, Again, Free, Blocked, Interrupted, NoProcess, Exists, TooManyFiles, NoLocks}
-use Rattle.model.specs.Descriptors.{Processes, again_on, after}
-use Rattle.model.specs.Table.{Table, LockTarget, around, descriptor, is_running, beside, target, call_target, locked, lock_within, regions_with, after_unlock, closed_at, after_close, exited, after_exit}
-use Rattle.model.specs.Step.{Is, AfterTests, SetStep, WaitStep, QueryStep, LockStep}
-use Rattle.model.specs.Laws.{TellsNoChange, OnlyDoneCallsChange}
+use Rattle.model.specs.rule.Descriptors.{Processes, again_on, after}
+use Rattle.model.specs.rule.Table.{Table, LockTarget, around, descriptor, is_running, beside, target, call_target, locked, lock_within, regions_with, after_unlock, closed_at, after_close, exited, after_exit}
+use Rattle.model.specs.rule.Step.{Is, AfterTests, SetStep, WaitStep, QueryStep, LockStep}
+use Rattle.model.specs.rule.Laws.{TellsNoChange, OnlyDoneCallsChange}
 
 -- a reply that says that nothing changed comes with the old table
 abbrev Keeps : Table → Table × Reply → Type 0

@@ -5,8 +5,8 @@ use Rattle.std.proofs.lemmas.Bool.{both_ways, cases_lt}
 use Rattle.std.proofs.lemmas.Bool.Decides.{nat_tests}
 use Rattle.intervals.specs.declared.span.SpanError.{SpanError}
 use Rattle.intervals.specs.declared.span.SpanError.TheVariants.{Invalid, Overflow}
-use Rattle.intervals.specs.Bytes.{Range, greatest, IsRun}
-use Rattle.intervals.specs.Segment.{seg, up_to}
+use Rattle.intervals.specs.rule.Bytes.{Range, greatest, IsRun}
+use Rattle.intervals.specs.rule.Segment.{seg, up_to}
 use Rattle.intervals.proofs.SpanLaws.{runs_are_one}
 use Rattle.model.specs.declared.mode.Mode.{Mode}
 use Rattle.model.specs.declared.owner.Kind.{Kind}
@@ -23,11 +23,11 @@ use Rattle.model.specs.declared.op.LockCommand.{LockCommand}
 use Rattle.model.specs.declared.op.LockCommand.TheVariants.{Set, Wait, Query}
 use Rattle.model.specs.declared.reply.Reply.{Reply}
 use Rattle.model.specs.declared.reply.Reply.TheVariants.{Done, Fd, Again, Free, Blocked, Interrupted, NoProcess, Exists, TooManyFiles, NoLocks}
-use Rattle.model.specs.Locks.{excludes, bars}
-use Rattle.model.specs.Descriptors.{Processes, again_on, after, after_spawn, after_fork, after_open, after_dup}
-use Rattle.model.specs.Table.{Table, LockTarget, around, beside, is_running, descriptor, allows, target_at, target, need_of, call_target, lock_within, after_unlock, closed_at, exited}
-use Rattle.model.specs.Step.{BlocksCall, Unblocked, AfterTests, SetStep, WaitStep, QueryStep, LockStep, Step}
-use Rattle.model.specs.Replay.{NeverAnswers, NamesNoLock}
+use Rattle.model.specs.rule.Locks.{excludes, bars}
+use Rattle.model.specs.rule.Descriptors.{Processes, again_on, after, after_spawn, after_fork, after_open, after_dup}
+use Rattle.model.specs.rule.Table.{Table, LockTarget, around, beside, is_running, descriptor, allows, target_at, target, need_of, call_target, lock_within, after_unlock, closed_at, exited}
+use Rattle.model.specs.rule.Step.{BlocksCall, Unblocked, AfterTests, SetStep, WaitStep, QueryStep, LockStep, Step}
+use Rattle.model.specs.rule.Replay.{NeverAnswers, NamesNoLock}
 
 -- a segment that is valid has a byte
 abbrev HasByte : Result Range SpanError → Type 0

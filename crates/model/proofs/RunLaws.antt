@@ -2,11 +2,11 @@
 use Rattle.std.specs.Prelude.{◌≡◌, ◌≢◌, ℕ, zero, suc, pred, ◌+◌, ◌-◌, ◌<◌, ◌≤◌, true, false, not, Option, Some, None, refl}
 use Rattle.std.proofs.Common.{arith, ap, sym, ◌∙◌, inl, inr}
 use Rattle.std.proofs.lemmas.Bool.{cases_lt, cases_order, cases_Bool, not-true, not-false, both_ways}
-use Rattle.intervals.specs.Search.{first, IsFirst}
-use Rattle.intervals.specs.Bytes.{Range, greatest, has, begins_after, is_start, run_from, IsRun}
+use Rattle.intervals.specs.rule.Search.{first, IsFirst}
+use Rattle.intervals.specs.rule.Bytes.{Range, greatest, has, begins_after, is_start, run_from, IsRun}
 use Rattle.model.specs.declared.mode.Mode.{Mode}
 use Rattle.model.specs.declared.mode.Mode.TheVariants.{Read, Write}
-use Rattle.model.specs.Owners.{same_mode}
+use Rattle.model.specs.rule.Owners.{same_mode}
 use Rattle.intervals.proofs.SearchLaws.{first_is_first}
 
 -- the test `has` holds of a byte exactly where the byte has the mode

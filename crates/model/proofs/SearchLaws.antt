@@ -3,7 +3,7 @@ use Rattle.std.specs.Prelude.{◌≡◌, ℕ, ◌+◌, ◌<◌, ◌≤◌, Bool,
 use Rattle.std.proofs.Common.{arith, ap, ◌∙◌, inl, inr}
 use Rattle.std.proofs.lemmas.Bool.{cases_order, cases_lt, both_ways}
 use Rattle.std.proofs.lemmas.Bool.Decides.{nat_tests}
-use Rattle.intervals.specs.Search.{first, some_passes, IsFirst}
+use Rattle.intervals.specs.rule.Search.{first, some_passes, IsFirst}
 use Rattle.intervals.proofs.SearchLaws.{first_is_first}
 
 none : (j lo : ℕ) → lo ≤ j → j < lo → ⊥

@@ -3,8 +3,8 @@ use Rattle.std.proofs.Common.{◌≡◌, ℕ, zero, suc, ◌+◌, ◌-◌, ◌<�
 use Rattle.std.proofs.lemmas.Bool.Decides.{nat_tests}
 use Rattle.intervals.specs.declared.span.SpanError.{SpanError}
 use Rattle.intervals.specs.declared.span.SpanError.TheVariants.{Invalid, Overflow}
-use Rattle.intervals.specs.Bytes.{Range, greatest}
-use Rattle.intervals.specs.Segment.{seg, up_to}
+use Rattle.intervals.specs.rule.Bytes.{Range, greatest}
+use Rattle.intervals.specs.rule.Segment.{seg, up_to}
 use Rattle.model.specs.declared.mode.Mode.{Mode}
 use Rattle.model.specs.declared.owner.Kind.{Kind}
 use Rattle.model.specs.declared.owner.Kind.TheVariants.{OfProcess, OfDescription}
@@ -12,9 +12,9 @@ use Rattle.model.specs.declared.owner.Owner.{Owner}
 use Rattle.model.specs.declared.opened.Opened.{Opened}
 use Rattle.model.specs.declared.process.Process.{Process}
 use Rattle.model.specs.declared.reply.Reply.TheVariants.{NoProcess, BadFd}
-use Rattle.model.specs.Limits.{IsNumber, most_processes, most_descriptions}
-use Rattle.model.specs.Owners.{owner_at, most_owners, process_owner, description_owner}
-use Rattle.model.specs.Table.{Table, LockTarget, is_running, descriptor, target, target_at, owner_of, allows}
+use Rattle.model.specs.rule.Limits.{IsNumber, most_processes, most_descriptions}
+use Rattle.model.specs.rule.Owners.{owner_at, most_owners, process_owner, description_owner}
+use Rattle.model.specs.rule.Table.{Table, LockTarget, is_running, descriptor, target, target_at, owner_of, allows}
 use Rattle.model.proofs.Refusals.{if_ok, if_then}
 
 -- bytes of a file, at least one

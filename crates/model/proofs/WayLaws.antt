@@ -2,15 +2,15 @@
 use Rattle.std.specs.Prelude.{◌≡◌, ◌≢◌, ℕ, ◌+◌, ◌≤◌, Bool, true, false, ◌==◌, nat_lt, if◌then◌else◌, Option, Some, None, MatchOption, refl}
 use Rattle.std.proofs.Common.{arith, ne_eqb, ap, sym, ◌∙◌, subst, inl, inr}
 use Rattle.std.proofs.lemmas.Bool.{and_right, cases_lt, both_ways}
-use Rattle.intervals.specs.Search.{first_answer}
-use Rattle.intervals.specs.Bytes.{Range, greatest}
+use Rattle.intervals.specs.rule.Search.{first_answer}
+use Rattle.intervals.specs.rule.Bytes.{Range, greatest}
 use Rattle.model.specs.declared.mode.Mode.{Mode}
 use Rattle.model.specs.declared.owner.Owner.{Owner}
 use Rattle.model.specs.declared.owner.Kind.TheVariants.{OfProcess}
 use Rattle.model.specs.declared.lock_info.LockInfo.{LockInfo}
-use Rattle.model.specs.Limits.{most_processes}
-use Rattle.model.specs.Owners.{same_owner, owner_at, most_owners}
-use Rattle.model.specs.Locks.{FileLocks, bars, IsFree, IsRegion, Blocks, IsLowestBlocker, region_at, blocking_at, lowest_blocker, IsOfNode, IsClear, IsInWay, IsLowestInWay, lowest_in_way, LowestInWayIsLowest, LowestInWayIsOne}
+use Rattle.model.specs.rule.Limits.{most_processes}
+use Rattle.model.specs.rule.Owners.{same_owner, owner_at, most_owners}
+use Rattle.model.specs.rule.Locks.{FileLocks, bars, IsFree, IsRegion, Blocks, IsLowestBlocker, region_at, blocking_at, lowest_blocker, IsOfNode, IsClear, IsInWay, IsLowestInWay, lowest_in_way, LowestInWayIsLowest, LowestInWayIsOne}
 use Rattle.model.proofs.OwnerLaws.{owner_refl}
 use Rattle.model.proofs.BlockerLaws.{owner_if, lowest_is_lowest, one_region, barred_blocks, blocks_bars}
 

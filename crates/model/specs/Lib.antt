@@ -1,10 +1,2 @@
-pub mod Limits
-pub mod Owners
-pub mod Equality
-pub mod Locks
-pub mod Descriptors
-pub mod Table
-pub mod Step
-pub mod Replay
-pub mod Anchors
-pub mod Laws
+pub mod rule
+pub mod code

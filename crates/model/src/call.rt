@@ -1,6 +1,6 @@
 //! The number that names a call in the whole cluster.
 ghost use Rattle.std.specs.Prelude.{◌≡◌};
-ghost use Rattle.model.specs.Owners.{host_of_call};
+ghost use Rattle.model.specs.rule.Owners.{host_of_call};
 
 use crate::host::Host;
 use std::marker::Model;
@@ -15,7 +15,7 @@ pub struct CallId {
 }
 
 impl Model for CallId {
-    ghost use Rattle.model.specs.Limits.{CallFields, IsCall};
+    ghost use Rattle.model.specs.rule.Limits.{CallFields, IsCall};
 
     ghost Value = { CallFields };
 

@@ -1,5 +1,5 @@
 //! Laws that say that the definitions' tests of modes and of owners are equality.
-ghost use Rattle.model.specs.Equality.{SameModeIsEquality, SameOwnerIsEquality};
+ghost use Rattle.model.specs.code.Equality.{SameModeIsEquality, SameOwnerIsEquality};
 
 /// The test `same_mode` of the definitions holds exactly of two equal modes.
 pub fn same_mode_is_equality()

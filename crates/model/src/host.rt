@@ -9,7 +9,7 @@ pub struct Host {
 }
 
 impl Model for Host {
-    ghost use Rattle.model.specs.Limits.{HostFields, IsHost};
+    ghost use Rattle.model.specs.rule.Limits.{HostFields, IsHost};
 
     ghost Value = { HostFields };
 

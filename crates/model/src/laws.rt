@@ -1,7 +1,7 @@
 //! Laws of the one table: what calls leave of locks and descriptors, and what the searches for
 //! locks find.
-ghost use Rattle.model.specs.Locks.{LowestIsLowest, LowestInWayIsLowest, LowestInWayIsOne};
-ghost use Rattle.model.specs.Laws.{ClosedFileHasNoLock, LastCloseDropsLocks, ExitLeavesNothing, ForkSharesDescriptions, CallsKeepAnchors, OnlyDoneCallsChange, WaitsAreNotDenied};
+ghost use Rattle.model.specs.rule.Locks.{LowestIsLowest, LowestInWayIsLowest, LowestInWayIsOne};
+ghost use Rattle.model.specs.rule.Laws.{ClosedFileHasNoLock, LastCloseDropsLocks, ExitLeavesNothing, ForkSharesDescriptions, CallsKeepAnchors, OnlyDoneCallsChange, WaitsAreNotDenied};
 
 /// The search for the lowest lock that blocks an owner finds that lock, and finds none exactly
 /// where no other owner's lock on the span excludes the mode.

@@ -12,7 +12,7 @@ pub struct LockTarget {
 }
 
 impl Model for LockTarget {
-    ghost use Rattle.model.specs.Table.{LockTarget as LockTargetFields};
+    ghost use Rattle.model.specs.rule.Table.{LockTarget as LockTargetFields};
 
     ghost Value = { LockTargetFields };
 

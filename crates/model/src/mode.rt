@@ -11,7 +11,7 @@ pub enum Mode {
 
 impl Mode {
     ghost use Rattle.std.specs.Prelude.{◌≡◌};
-    ghost use Rattle.model.specs.Locks.{bar_of, excludes};
+    ghost use Rattle.model.specs.rule.Locks.{bar_of, excludes};
 
     /// The mode of the locks that may not stand on a byte beside a lock of this mode; `None` where
     /// locks of neither mode may.

@@ -1,6 +1,6 @@
 //! Operations.
 ghost use Rattle.std.specs.Prelude.{◌≡◌};
-ghost use Rattle.model.specs.Table.{need_of};
+ghost use Rattle.model.specs.rule.Table.{need_of};
 
 use crate::access::Access;
 use crate::mode::Mode;

@@ -22,7 +22,7 @@ pub struct Owner {
 }
 
 impl Model for Owner {
-    ghost use Rattle.model.specs.Limits.{OwnerFields, IsOwner};
+    ghost use Rattle.model.specs.rule.Limits.{OwnerFields, IsOwner};
 
     ghost Value = { OwnerFields };
 

@@ -12,7 +12,7 @@ pub struct Process {
 
 impl Model for Process {
     ghost use Rattle.std.specs.Prelude.{◌≤◌};
-    ghost use Rattle.model.specs.Limits.{ProcessFields, IsProcess};
+    ghost use Rattle.model.specs.rule.Limits.{ProcessFields, IsProcess};
 
     ghost Value = { ProcessFields };
 

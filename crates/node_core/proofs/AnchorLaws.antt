@@ -3,7 +3,7 @@ use Rattle.std.specs.Prelude.{◌≡◌, ℕ, zero, suc, ◌+◌, ◌==◌, ◌+
 use Rattle.std.proofs.Common.{ap, sym, subst, ◌∙◌, get_or, inl, inr}
 use Rattle.std.proofs.lemmas.Bool.{and_parts, eq-eqb, both_ways, cases_Bool, not-true}
 use Rattle.std.proofs.lemmas.List.Elements.{All-nil, All-cons, All-push, All-filter, All-weaker, filter_passes}
-use Rattle.intervals.specs.Segment.{seg}
+use Rattle.intervals.specs.rule.Segment.{seg}
 use Rattle.model.specs.declared.lock_info.LockInfo.{LockInfo}
 use Rattle.model.specs.declared.mode.Mode.{Mode}
 use Rattle.model.specs.declared.op.Op.{Op}
@@ -15,39 +15,39 @@ use Rattle.model.specs.declared.owner.Owner.{Owner}
 use Rattle.model.specs.declared.process.Process.{Process}
 use Rattle.model.specs.declared.reply.Reply.{Reply}
 use Rattle.model.specs.declared.reply.Reply.TheVariants.{Free, NoProcess}
-use Rattle.model.specs.Limits.{IsNumber, most_processes}
-use Rattle.model.specs.Locks.{no_locks, lowest_blocker}
-use Rattle.lock_table.specs.Rows.{held}
-use Rattle.descriptors.specs.Rows.{processes}
-use Rattle.model.specs.Descriptors.{Processes, no_processes, is_of_file, has_open, after}
-use Rattle.model.specs.Table.{Table, LockTarget, empty_table, around, descriptor, is_running, beside, target, need_of, call_target, target_at, owner_of, lock_within, after_unlock, after_close, after_exit}
-use Rattle.model.specs.Anchors.{Hangs, IsOwn}
+use Rattle.model.specs.rule.Limits.{IsNumber, most_processes}
+use Rattle.model.specs.rule.Locks.{no_locks, lowest_blocker}
+use Rattle.lock_table.specs.code.Rows.{held}
+use Rattle.descriptors.specs.code.Rows.{processes}
+use Rattle.model.specs.rule.Descriptors.{Processes, no_processes, is_of_file, has_open, after}
+use Rattle.model.specs.rule.Table.{Table, LockTarget, empty_table, around, descriptor, is_running, beside, target, need_of, call_target, target_at, owner_of, lock_within, after_unlock, after_close, after_exit}
+use Rattle.model.specs.rule.Anchors.{Hangs, IsOwn}
 use Rattle.model.proofs.Refusals.{if_then}
 use Rattle.model.proofs.Targets.{IsOwner, IsTarget, owner_is, passes_at, target_span}
 use Rattle.model.proofs.NodeTables.{GoesOn, Follows, same_goes_on, own_empty, call_follows, unlock_follows, lock_processes, lock_own}
 use Rattle.model.proofs.Closings.{close_follows, exit_follows}
-use Rattle.token_set.specs.Tokens.{covers}
+use Rattle.token_set.specs.rule.Tokens.{covers}
 use Rattle.messages.specs.declared.message.Message.{Message}
 use Rattle.messages.specs.declared.message.Message.TheVariants.{Grant, Revoke, Deny, Freed, Hello, Report}
-use Rattle.messages.specs.Reports.{runs_of}
+use Rattle.messages.specs.rule.Reports.{runs_of}
 use Rattle.messages.specs.declared.refusal.StepError.{StepError}
 use Rattle.messages.specs.declared.refusal.StepError.TheVariants.{Stranger, Busy, Spent}
 use Rattle.messages.specs.declared.outcome.Outcome.{Outcome}
-use Rattle.messages.specs.Messages.{addressee, host_of, file_of, is_within, greatest_number}
+use Rattle.messages.specs.rule.Messages.{addressee, host_of, file_of, is_within, greatest_number}
 use Rattle.node_core.specs.declared.event.NodeEvent.{NodeEvent}
 use Rattle.node_core.specs.declared.event.NodeEvent.TheVariants as event
 use Rattle.model.specs.declared.op.LockCommand.{LockCommand}
 use Rattle.model.specs.declared.op.LockCommand.TheVariants as lock_command
 use Rattle.node_core.specs.declared.open_call.OpenCall.{OpenCall}
-use Rattle.node_core.specs.State.{NodeState, Effect, answered, quiet, sent, outcome, with_file, without_call_of, open_call, open_call_of, host, process, target_of}
-use Rattle.node_core.specs.Try.{settled, requested, refusal_of, answered_if, may_free, with_freed, with_freed_of, locked_by, answered_here, tried, tried_against, tried_if}
-use Rattle.node_core.specs.Calls.{is_pid, is_in_shape, is_busy, lock_call, unlock_call, shut_by, called, after_call, call_rule}
-use Rattle.node_core.specs.Commands.{in_epoch, remembered, in_order, granted, revoked, denied, delivered, is_node, deliver_rule}
-use Rattle.node_core.specs.Interrupts.{interruption_of, interrupted, interrupt_rule}
-use Rattle.node_core.specs.Retries.{retry_rule}
-use Rattle.node_core.specs.Node.{node_rule}
-use Rattle.node_core.specs.Anchors.{Waits, AreAnchored, IsAnchored}
-use Rattle.node_core.specs.Parts.{NodeParts, table_of}
+use Rattle.node_core.specs.rule.State.{NodeState, Effect, answered, quiet, sent, outcome, with_file, without_call_of, open_call, open_call_of, host, process, target_of}
+use Rattle.node_core.specs.rule.Try.{settled, requested, refusal_of, answered_if, may_free, with_freed, with_freed_of, locked_by, answered_here, tried, tried_against, tried_if}
+use Rattle.node_core.specs.rule.Calls.{is_pid, is_in_shape, is_busy, lock_call, unlock_call, shut_by, called, after_call, call_rule}
+use Rattle.node_core.specs.rule.Commands.{in_epoch, remembered, in_order, granted, revoked, denied, delivered, is_node, deliver_rule}
+use Rattle.node_core.specs.rule.Interrupts.{interruption_of, interrupted, interrupt_rule}
+use Rattle.node_core.specs.rule.Retries.{retry_rule}
+use Rattle.node_core.specs.rule.Node.{node_rule}
+use Rattle.node_core.specs.code.Anchors.{Waits, AreAnchored, IsAnchored}
+use Rattle.node_core.specs.rule.Parts.{NodeParts, table_of}
 use Rattle.node_core.proofs.NodeLaws.{find-own, if-both, within, possible_call}
 
 -- the lock of an open call would depend on a descriptor that is open

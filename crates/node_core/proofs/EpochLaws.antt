@@ -3,21 +3,21 @@ use Rattle.std.specs.Prelude.{◌≡◌, ℕ, ◌+◌, ◌==◌, ◌||◌, Bool,
 use Rattle.std.specs.declared.alloc.AllocError.{AllocError}
 use Rattle.std.proofs.Common.{ap, sym, subst, ◌∙◌}
 use Rattle.std.proofs.lemmas.Bool.{eq-eqb}
-use Rattle.intervals.specs.Bytes.{Range}
+use Rattle.intervals.specs.rule.Bytes.{Range}
 use Rattle.model.specs.declared.mode.Mode.{Mode}
 use Rattle.model.specs.declared.call.CallId.{CallId}
-use Rattle.token_set.specs.Tokens.{Token, raised}
-use Rattle.token_set.specs.Releases.{gave_up, after_giving_up}
+use Rattle.token_set.specs.rule.Tokens.{Token, raised}
+use Rattle.token_set.specs.rule.Releases.{gave_up, after_giving_up}
 use Rattle.messages.specs.declared.message.Message.{Message}
 use Rattle.messages.specs.declared.message.Message.TheVariants.{Taken}
-use Rattle.messages.specs.Epochs.{begin_of}
-use Rattle.messages.specs.Wants.{Wants}
-use Rattle.node_core.specs.State.{FileState, NodeState, Effect, sent, host, open_call}
-use Rattle.node_core.specs.Try.{tried_if}
-use Rattle.node_core.specs.Commands.{renewed, in_epoch, in_order, before, after_command, answer_to, is_conflict, granted, revoked}
+use Rattle.messages.specs.rule.Epochs.{begin_of}
+use Rattle.messages.specs.rule.Wants.{Wants}
+use Rattle.node_core.specs.rule.State.{FileState, NodeState, Effect, sent, host, open_call}
+use Rattle.node_core.specs.rule.Try.{tried_if}
+use Rattle.node_core.specs.rule.Commands.{renewed, in_epoch, in_order, before, after_command, answer_to, is_conflict, granted, revoked}
 use Rattle.node_core.specs.declared.effect.Effect.{Effect as EffectFields}
-use Rattle.node_core.specs.Parts.{NodeParts, out_of_order}
-use Rattle.node_core.specs.Plans.{effect_of}
+use Rattle.node_core.specs.rule.Parts.{NodeParts, out_of_order}
+use Rattle.node_core.specs.code.Plans.{effect_of}
 use Rattle.node_core.proofs.PlanLaws.{on, if-if}
 
 -- the file of the command is as `renewed` says

@@ -4,10 +4,10 @@ use Rattle.std.specs.List.{slice_get}
 use Rattle.std.proofs.Common.{arith, ap, sym, ◌∙◌, inl, inr}
 use Rattle.std.proofs.lemmas.Bool.{cases_eq, cases_lt, eq-eqb, ne_eqb}
 use Rattle.std.proofs.lemmas.Option.{slice_get_read, slice_get_past}
-use Rattle.model.specs.Limits.{IsNumber}
+use Rattle.model.specs.rule.Limits.{IsNumber}
 use Rattle.node_core.specs.declared.file_row.FileRow.{FileRow}
-use Rattle.node_core.specs.State.{FileState, first_file}
-use Rattle.node_core.specs.Files.{state_of, state_or, file_state}
+use Rattle.node_core.specs.rule.State.{FileState, first_file}
+use Rattle.node_core.specs.rule.Files.{state_of, state_or, file_state}
 
 -- the empty list of rows knows nothing of each file
 pub file_state-none : file_state [] ≡ (λ file. first_file)

@@ -6,7 +6,7 @@ use Rattle.std.proofs.lemmas.Bool.Decides.{nat_tests}
 use Rattle.std.proofs.lemmas.List.Elements.{All-head, All-tail}
 use Rattle.intervals.specs.declared.span.SpanError.{SpanError}
 use Rattle.intervals.specs.declared.span.SpanError.TheVariants.{Invalid}
-use Rattle.intervals.specs.Bytes.{Range, greatest, whole}
+use Rattle.intervals.specs.rule.Bytes.{Range, greatest, whole}
 use Rattle.model.specs.declared.mode.Mode.{Mode}
 use Rattle.model.specs.declared.access.Access.{Access}
 use Rattle.model.specs.declared.owner.Kind.{Kind}
@@ -15,39 +15,39 @@ use Rattle.model.specs.declared.opened.Opened.{Opened}
 use Rattle.model.specs.declared.reply.Reply.{Reply}
 use Rattle.model.specs.declared.reply.Reply.TheVariants.{Done, Fd}
 use Rattle.model.specs.declared.reply.Reply.TheVariants as reply
-use Rattle.model.specs.Limits.{IsNumber, most_processes, most_descriptors}
+use Rattle.model.specs.rule.Limits.{IsNumber, most_processes, most_descriptors}
 use Rattle.model.specs.declared.lock_info.LockInfo.{LockInfo}
 use Rattle.model.specs.declared.policy.Policy.{Policy}
 use Rattle.model.specs.declared.policy.Policy.TheVariants.{Wide, Exact}
-use Rattle.model.specs.Locks.{no_locks, IsFree, IsLowestBlocker, lowest_blocker, IsRegion, IsOfNode}
+use Rattle.model.specs.rule.Locks.{no_locks, IsFree, IsLowestBlocker, lowest_blocker, IsRegion, IsOfNode}
 use Rattle.model.proofs.BlockerLaws.{is_lowest_blocker}
-use Rattle.model.specs.Descriptors.{Processes, after, no_processes, with_descriptor, lowest_fd, lowest_description, after_open, after_spawn, with_process, after_fork, after_dup, again_on}
-use Rattle.model.specs.Table.{LockTarget, around, beside, with_processes, target_at}
-use Rattle.lock_table.specs.Rows.{TableParts, held, IsSameTable}
-use Rattle.messages.specs.Versions.{most_regions}
-use Rattle.token_set.specs.Tokens.{Token, desired, holds_nothing}
-use Rattle.token_set.specs.Releases.{IsRevocable, IsGivenUp, gave_up}
+use Rattle.model.specs.rule.Descriptors.{Processes, after, no_processes, with_descriptor, lowest_fd, lowest_description, after_open, after_spawn, with_process, after_fork, after_dup, again_on}
+use Rattle.model.specs.rule.Table.{LockTarget, around, beside, with_processes, target_at}
+use Rattle.lock_table.specs.code.Rows.{TableParts, held, IsSameTable}
+use Rattle.messages.specs.rule.Versions.{most_regions}
+use Rattle.token_set.specs.rule.Tokens.{Token, desired, holds_nothing}
+use Rattle.token_set.specs.rule.Releases.{IsRevocable, IsGivenUp, gave_up}
 use Rattle.token_set.specs.declared.gave_up.GaveUp.{GaveUp}
 use Rattle.token_set.proofs.ReleaseLaws.{gave_up_is_one}
-use Rattle.messages.specs.Shapes.{ShapeFields}
+use Rattle.messages.specs.rule.Shapes.{ShapeFields}
 use Rattle.descriptors.specs.declared.process_entry.ProcessEntry.{ProcessEntry}
 use Rattle.descriptors.specs.declared.error.FdError.{FdError}
 use Rattle.node_core.specs.declared.file_row.FileRow.{FileRow}
 use Rattle.node_core.specs.declared.open_call.OpenCall.{OpenCall}
-use Rattle.node_core.specs.State.{NodeState, first_file, first_node, host, process}
-use Rattle.descriptors.specs.Rows.{processes, resolved, fd_reply}
+use Rattle.node_core.specs.rule.State.{NodeState, first_file, first_node, host, process}
+use Rattle.descriptors.specs.code.Rows.{processes, resolved, fd_reply}
 use Rattle.fcntl_table.proofs.TargetLaws.{target_in, target-err, target-ok, resolved_ok}
-use Rattle.node_core.specs.Files.{file_state}
-use Rattle.node_core.specs.Parts.{NodeParts, node_state, IsOwnCall, IsNode}
+use Rattle.node_core.specs.rule.Files.{file_state}
+use Rattle.node_core.specs.rule.Parts.{NodeParts, node_state, IsOwnCall, IsNode}
 use Rattle.descriptors.specs.declared.edit.ProcessEdit.{ProcessEdit}
-use Rattle.descriptors.specs.Edits.{edited, Fits as ProcessFits}
+use Rattle.descriptors.specs.code.Edits.{edited, Fits as ProcessFits}
 use Rattle.model.specs.declared.op.Op.TheVariants.{Process}
 use Rattle.model.specs.declared.op.ProcessCall.{ProcessCall}
 use Rattle.model.specs.declared.op.ProcessCall.TheVariants.{Spawn, Fork, Open, Dup}
-use Rattle.model.specs.Step.{IsPossible}
-use Rattle.messages.specs.Messages.{is_within}
-use Rattle.node_core.specs.Calls.{is_in_shape}
-use Rattle.node_core.specs.Plans.{table_after, TableFits}
+use Rattle.model.specs.rule.Step.{IsPossible}
+use Rattle.messages.specs.rule.Messages.{is_within}
+use Rattle.node_core.specs.rule.Calls.{is_in_shape}
+use Rattle.node_core.specs.code.Plans.{table_after, TableFits}
 use Rattle.node_core.specs.declared.edit.TableEdit.TheVariants.{OfProcess as OfProcessEdit}
 
 -- a node's own numbers pass the test for them

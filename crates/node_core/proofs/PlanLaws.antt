@@ -7,25 +7,25 @@ use Rattle.std.proofs.lemmas.List.Elements.{All-nil, All-cons, All-head, All-tai
 use Rattle.model.specs.declared.call.CallId.{CallId}
 use Rattle.model.specs.declared.host.Host.{Host}
 use Rattle.model.specs.declared.opened.Opened.{Opened}
-use Rattle.model.specs.Descriptors.{Processes, no_processes}
-use Rattle.model.specs.Limits.{IsNumber}
-use Rattle.model.specs.Table.{descriptor}
+use Rattle.model.specs.rule.Descriptors.{Processes, no_processes}
+use Rattle.model.specs.rule.Limits.{IsNumber}
+use Rattle.model.specs.rule.Table.{descriptor}
 use Rattle.model.proofs.Closings.{open_if, open_exited}
-use Rattle.fcntl_table.specs.Hosts.{process_at, shown, with_host}
+use Rattle.fcntl_table.specs.rule.Hosts.{process_at, shown, with_host}
 use Rattle.fcntl_table.proofs.ExitLaws.{at_node}
-use Rattle.lock_table.specs.Rows.{TableParts, held}
+use Rattle.lock_table.specs.code.Rows.{TableParts, held}
 use Rattle.messages.specs.declared.message.Message.{Message}
 use Rattle.messages.specs.declared.message.Message.TheVariants.{Freed}
 use Rattle.messages.specs.declared.refusal.StepError.{StepError}
 use Rattle.messages.specs.declared.outcome.Outcome.{Outcome}
 use Rattle.node_core.specs.declared.change.Change.{Change}
 use Rattle.node_core.specs.declared.event.NodeEvent.{NodeEvent}
-use Rattle.node_core.specs.Anchors.{IsAnchored}
-use Rattle.node_core.specs.Node.{node_rule}
+use Rattle.node_core.specs.code.Anchors.{IsAnchored}
+use Rattle.node_core.specs.rule.Node.{node_rule}
 use Rattle.node_core.proofs.AnchorLaws.{rule-anchored}
 use Rattle.descriptors.specs.declared.process_entry.ProcessEntry.{ProcessEntry}
 use Rattle.descriptors.specs.declared.edit.ProcessEdit.{ProcessEdit}
-use Rattle.descriptors.specs.Edits.{edited}
+use Rattle.descriptors.specs.code.Edits.{edited}
 use Rattle.node_core.specs.declared.edit.Edit.{Edit}
 use Rattle.node_core.specs.declared.edit.TableEdit.{TableEdit}
 use Rattle.node_core.specs.declared.edit.TableEdit.TheVariants.{Nothing, OfProcess, OfLocks, Closes, Exits}
@@ -34,12 +34,12 @@ use Rattle.node_core.specs.declared.file_row.FileRow.{FileRow}
 use Rattle.node_core.specs.declared.open_call.OpenCall.{OpenCall}
 use Rattle.node_core.specs.declared.open_calls.CallsEdit.{CallsEdit}
 use Rattle.node_core.specs.declared.open_calls.CallsEdit.TheVariants.{Same, Put, Gone, Left}
-use Rattle.descriptors.specs.Rows.{processes}
-use Rattle.node_core.specs.Files.{file_state}
-use Rattle.node_core.specs.State.{FileState, NodeState, Effect, host, outcome}
-use Rattle.node_core.specs.Try.{with_freed}
-use Rattle.node_core.specs.Parts.{NodeParts, node_state, IsOwnCall, IsNode}
-use Rattle.node_core.specs.Plans.{calls_after, table_after, pending_after, files_after, told, files_told, drafted, planned, effect_of, TableFits, CallsFit, PartsFit, Fits}
+use Rattle.descriptors.specs.code.Rows.{processes}
+use Rattle.node_core.specs.rule.Files.{file_state}
+use Rattle.node_core.specs.rule.State.{FileState, NodeState, Effect, host, outcome}
+use Rattle.node_core.specs.rule.Try.{with_freed}
+use Rattle.node_core.specs.rule.Parts.{NodeParts, node_state, IsOwnCall, IsNode}
+use Rattle.node_core.specs.code.Plans.{calls_after, table_after, pending_after, files_after, told, files_told, drafted, planned, effect_of, TableFits, CallsFit, PartsFit, Fits}
 use Rattle.node_core.proofs.NodeLaws.{around-own}
 
 pub on : {A : Type 0} (b : Bool) (x y : A) → b ≡ true → (if b then x else y) ≡ x

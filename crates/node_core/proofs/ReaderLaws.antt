@@ -4,21 +4,21 @@ use Rattle.std.proofs.Common.{refl, ap, sym, subst, arith, ◌∙◌}
 use Rattle.std.proofs.lemmas.Bool.Decides.{nat_tests}
 use Rattle.std.proofs.lemmas.List.Elements.{All-nil}
 use Rattle.std.proofs.lemmas.Option.{slice_get_past}
-use Rattle.intervals.specs.Bytes.{Range, greatest, IsRun}
+use Rattle.intervals.specs.rule.Bytes.{Range, greatest, IsRun}
 use Rattle.model.specs.declared.level.Level.{Level}
-use Rattle.model.specs.Limits.{IsNumber}
-use Rattle.model.specs.Locks.{IsOfNode}
-use Rattle.model.specs.Anchors.{IsAnchored}
-use Rattle.messages.specs.Messages.{is_within}
-use Rattle.messages.specs.Reports.{runs_of}
-use Rattle.messages.specs.TokenRuns.{run_of, are_longest}
+use Rattle.model.specs.rule.Limits.{IsNumber}
+use Rattle.model.specs.rule.Locks.{IsOfNode}
+use Rattle.model.specs.rule.Anchors.{IsAnchored}
+use Rattle.messages.specs.rule.Messages.{is_within}
+use Rattle.messages.specs.rule.Reports.{runs_of}
+use Rattle.messages.specs.rule.TokenRuns.{run_of, are_longest}
 use Rattle.messages.proofs.Reports.{lists_runs_of, runs_of-longest}
-use Rattle.token_set.specs.Tokens.{Token, no_token}
-use Rattle.token_set.specs.Runs.{ListsRuns}
+use Rattle.token_set.specs.rule.Tokens.{Token, no_token}
+use Rattle.token_set.specs.code.Runs.{ListsRuns}
 use Rattle.node_core.specs.declared.file_row.FileRow.{FileRow}
-use Rattle.node_core.specs.State.{FileState, first_file}
-use Rattle.node_core.specs.Files.{state_or, file_state}
-use Rattle.node_core.specs.Parts.{NodeParts, node_state, IsNode}
+use Rattle.node_core.specs.rule.State.{FileState, first_file}
+use Rattle.node_core.specs.rule.Files.{state_or, file_state}
+use Rattle.node_core.specs.rule.Parts.{NodeParts, node_state, IsNode}
 
 -- the empty token has no runs
 pub no_runs : ListsRuns no_token []

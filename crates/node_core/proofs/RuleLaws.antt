@@ -5,8 +5,8 @@ use Rattle.std.proofs.lemmas.Bool.{and_from, eq-eqb, le-leb, lt-ltb}
 use Rattle.std.proofs.lemmas.Bool.Decides.{nat_tests}
 use Rattle.intervals.specs.declared.span.SpanError.{SpanError}
 use Rattle.intervals.specs.declared.span.SpanError.TheVariants.{Invalid, Overflow}
-use Rattle.intervals.specs.Bytes.{Range, greatest, is_in}
-use Rattle.intervals.specs.Segment.{seg, up_to}
+use Rattle.intervals.specs.rule.Bytes.{Range, greatest, is_in}
+use Rattle.intervals.specs.rule.Segment.{seg, up_to}
 use Rattle.model.specs.declared.mode.Mode.{Mode}
 use Rattle.model.specs.declared.mode.Mode.TheVariants.{Read, Write}
 use Rattle.model.specs.declared.owner.Kind.{Kind}
@@ -22,29 +22,29 @@ use Rattle.model.specs.declared.opened.Opened.{Opened}
 use Rattle.model.specs.declared.process.Process.{Process}
 use Rattle.model.specs.declared.reply.Reply.{Reply}
 use Rattle.model.specs.declared.reply.Reply.TheVariants.{Done, NoLocks, NoProcess}
-use Rattle.model.specs.Locks.{FileLocks, IsRegion, IsFree, IsOfNode, IsClear}
-use Rattle.model.specs.Table.{Table, LockTarget, is_running, descriptor, allows, target_at, target, need_of, call_target, regions_with, locked, lock_within}
+use Rattle.model.specs.rule.Locks.{FileLocks, IsRegion, IsFree, IsOfNode, IsClear}
+use Rattle.model.specs.rule.Table.{Table, LockTarget, is_running, descriptor, allows, target_at, target, need_of, call_target, regions_with, locked, lock_within}
 use Rattle.model.proofs.BlockerLaws.{is_lowest_blocker}
 use Rattle.model.proofs.WayLaws.{clear_has_none}
-use Rattle.token_set.specs.Tokens.{Token, level_conflicts, conflicts, covers}
+use Rattle.token_set.specs.rule.Tokens.{Token, level_conflicts, conflicts, covers}
 use Rattle.token_set.specs.declared.gave_up.GaveUp.{GaveUp}
 use Rattle.token_set.specs.declared.gave_up.GaveUp.TheVariants.{Released, Conflict}
-use Rattle.token_set.specs.Releases.{lowered_level, lowered, gave_up, after_giving_up, IsGivenUp}
+use Rattle.token_set.specs.rule.Releases.{lowered_level, lowered, gave_up, after_giving_up, IsGivenUp}
 use Rattle.token_set.proofs.SearchLaws.{none_passes-from}
 use Rattle.token_set.proofs.ReleaseLaws.{gave_up_is_given_up}
 use Rattle.messages.specs.declared.outcome.Outcome.{Outcome}
 use Rattle.messages.specs.declared.refusal.StepError.{StepError}
 use Rattle.messages.specs.declared.refusal.StepError.TheVariants.{Stranger, Busy, Spent}
-use Rattle.messages.specs.Messages.{is_within}
+use Rattle.messages.specs.rule.Messages.{is_within}
 use Rattle.node_core.specs.declared.open_call.OpenCall.{OpenCall}
-use Rattle.node_core.specs.State.{FileState, NodeState, Effect, host, process, id_of, open_call_of, target_of, outcome}
-use Rattle.node_core.specs.Try.{settled, requested, answered_if, may_free, with_freed, locked_by, answered_here, tried_against}
-use Rattle.node_core.specs.Calls.{is_pid, is_in_shape, is_exit, is_busy, lock_call, after_call, call_rule}
-use Rattle.node_core.specs.Commands.{in_epoch, answer_to, is_conflict, revoked}
-use Rattle.node_core.specs.Interrupts.{interruption_of, interrupted}
-use Rattle.node_core.specs.Parts.{IsSpan}
+use Rattle.node_core.specs.rule.State.{FileState, NodeState, Effect, host, process, id_of, open_call_of, target_of, outcome}
+use Rattle.node_core.specs.rule.Try.{settled, requested, answered_if, may_free, with_freed, locked_by, answered_here, tried_against}
+use Rattle.node_core.specs.rule.Calls.{is_pid, is_in_shape, is_exit, is_busy, lock_call, after_call, call_rule}
+use Rattle.node_core.specs.rule.Commands.{in_epoch, answer_to, is_conflict, revoked}
+use Rattle.node_core.specs.rule.Interrupts.{interruption_of, interrupted}
+use Rattle.node_core.specs.rule.Parts.{IsSpan}
 use Rattle.node_core.proofs.EpochLaws.{in_epoch-file}
-use Rattle.node_core.specs.Laws.{MayCall, CoveredLockIsDone, IsUntouched, InterruptChangesNothing, GivesUp, ClearRevokeGivesUp}
+use Rattle.node_core.specs.rule.Laws.{MayCall, CoveredLockIsDone, IsUntouched, InterruptChangesNothing, GivesUp, ClearRevokeGivesUp}
 
 -- a branch whose test holds is taken
 taken : {A : Type 0} (P : A → Type 0) (b : Bool) (x y : A) → b ≡ true → P x → P (if b then x else y)

@@ -8,19 +8,19 @@ use Rattle.model.specs.declared.process.Process.{Process}
 use Rattle.model.specs.declared.reply.Reply.{Reply}
 use Rattle.model.specs.declared.reply.Reply.TheVariants as reply
 use Rattle.model.specs.declared.reply.Reply.TheVariants.{Done}
-use Rattle.model.specs.Limits.{IsNumber}
-use Rattle.model.specs.Descriptors.{Processes, is_of_file, has_open}
-use Rattle.model.specs.Table.{Table, around, descriptor, is_running, exited}
+use Rattle.model.specs.rule.Limits.{IsNumber}
+use Rattle.model.specs.rule.Descriptors.{Processes, is_of_file, has_open}
+use Rattle.model.specs.rule.Table.{Table, around, descriptor, is_running, exited}
 use Rattle.descriptors.specs.declared.error.FdError.{FdError}
 use Rattle.descriptors.specs.declared.error.FdError.TheVariants.{NoProcess, BadFd}
-use Rattle.descriptors.specs.Rows.{processes, resolved, fd_reply}
+use Rattle.descriptors.specs.code.Rows.{processes, resolved, fd_reply}
 use Rattle.fcntl_table.proofs.TableLaws.{found_there, closes_there, refused_there}
 use Rattle.node_core.specs.declared.edit.TableEdit.TheVariants.{Closes, Exits}
-use Rattle.node_core.specs.State.{NodeState, Effect, without_call_of, host, process}
-use Rattle.node_core.specs.Try.{may_free, settled, with_freed, with_freed_of}
-use Rattle.node_core.specs.Calls.{called, shut_by}
-use Rattle.node_core.specs.Parts.{NodeParts, node_state, IsNode}
-use Rattle.node_core.specs.Plans.{numbered, table_after}
+use Rattle.node_core.specs.rule.State.{NodeState, Effect, without_call_of, host, process}
+use Rattle.node_core.specs.rule.Try.{may_free, settled, with_freed, with_freed_of}
+use Rattle.node_core.specs.rule.Calls.{called, shut_by}
+use Rattle.node_core.specs.rule.Parts.{NodeParts, node_state, IsNode}
+use Rattle.node_core.specs.code.Plans.{numbered, table_after}
 use Rattle.node_core.proofs.NodeLaws.{around-own}
 
 -- if one file passes, a Freed is sent for it if it is among the files up to n

@@ -1,6 +1,6 @@
 //! The answers to commands of token servers.
 ghost use Rattle.std.specs.Prelude.{◌≡◌};
-ghost use Rattle.node_core.specs.Answers.{message_of};
+ghost use Rattle.node_core.specs.rule.Answers.{message_of};
 
 use messages::command_number::CommandNumber;
 use messages::file_number::FileNumber;

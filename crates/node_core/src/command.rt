@@ -1,8 +1,8 @@
 //! The commands of token servers, a grant or a revoke, by what both have.
 ghost use Rattle.std.specs.Prelude.{◌≡◌};
 ghost use Rattle.messages.specs.declared.message.Message.TheVariants.{Taken};
-ghost use Rattle.node_core.specs.Answers.{message_of};
-ghost use Rattle.node_core.specs.Commands.{answer_to};
+ghost use Rattle.node_core.specs.rule.Answers.{message_of};
+ghost use Rattle.node_core.specs.rule.Commands.{answer_to};
 
 use crate::answer::{Answer, AnswerBody};
 use messages::command_number::CommandNumber;

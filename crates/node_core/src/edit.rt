@@ -1,8 +1,8 @@
 //! What a step of a node changes, as plain data.
 ghost use Rattle.std.specs.Prelude.{◌≡◌, ℕ, true, false, Some, None, []};
-ghost use Rattle.fcntl_table.specs.Hosts.{shown};
-ghost use Rattle.model.specs.Descriptors.{Processes as ProcessTable};
-ghost use Rattle.node_core.specs.Plans.{table_after, RowsFit};
+ghost use Rattle.fcntl_table.specs.rule.Hosts.{shown};
+ghost use Rattle.model.specs.rule.Descriptors.{Processes as ProcessTable};
+ghost use Rattle.node_core.specs.code.Plans.{table_after, RowsFit};
 ghost use Rattle.node_core.specs.declared.edit.TableEdit.TheVariants.{Nothing};
 ghost use Rattle.node_core.specs.declared.open_calls.CallsEdit.TheVariants.{Same};
 

@@ -2,12 +2,12 @@
 //!
 //! Each function here that can fail errs with `AllocError`, where a request for memory was refused.
 ghost use Rattle.std.specs.Prelude.{◌≡◌, ◌↔◌, false, IfOk, IsTrue};
-ghost use Rattle.node_core.specs.State.{first_file};
-ghost use Rattle.node_core.specs.Answers.{answer_of};
-ghost use Rattle.node_core.specs.Commands.{is_conflict, renewed};
-ghost use Rattle.node_core.specs.Files.{state_of};
-ghost use Rattle.node_core.specs.Parts.{granted_file, revoked_file};
-ghost use Rattle.node_core.specs.Plans.{file_after};
+ghost use Rattle.node_core.specs.rule.State.{first_file};
+ghost use Rattle.node_core.specs.rule.Answers.{answer_of};
+ghost use Rattle.node_core.specs.rule.Commands.{is_conflict, renewed};
+ghost use Rattle.node_core.specs.rule.Files.{state_of};
+ghost use Rattle.node_core.specs.rule.Parts.{granted_file, revoked_file};
+ghost use Rattle.node_core.specs.code.Plans.{file_after};
 
 use crate::answer::Answer;
 use crate::command::Command;

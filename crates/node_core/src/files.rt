@@ -3,10 +3,10 @@
 //! Each function here that can fail errs with `AllocError`, where a request for memory was refused.
 ghost use Rattle.std.specs.Prelude.{◌≡◌, ◌-◌, ◌↔◌, Some, IfOk, IsTrue, All, length};
 ghost use Rattle.std.specs.List.{slice_get};
-ghost use Rattle.model.specs.Limits.{IsNumber};
-ghost use Rattle.node_core.specs.State.{first_file};
-ghost use Rattle.node_core.specs.Files.{state_of, file_state};
-ghost use Rattle.node_core.specs.Plans.{files_after, told, files_told, CommandFits};
+ghost use Rattle.model.specs.rule.Limits.{IsNumber};
+ghost use Rattle.node_core.specs.rule.State.{first_file};
+ghost use Rattle.node_core.specs.rule.Files.{state_of, file_state};
+ghost use Rattle.node_core.specs.code.Plans.{files_after, told, files_told, CommandFits};
 
 use crate::file_row::{FileEdit, FileRow};
 use std::alloc::{AllocError, Global};

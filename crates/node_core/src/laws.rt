@@ -1,5 +1,5 @@
 //! Laws of a node's rule, each the contract of a function that does nothing.
-ghost use Rattle.node_core.specs.Laws.{CoveredLockIsDone, InterruptChangesNothing, ClearRevokeGivesUp};
+ghost use Rattle.node_core.specs.rule.Laws.{CoveredLockIsDone, InterruptChangesNothing, ClearRevokeGivesUp};
 
 /// A set or a wait that no lock of another owner of the node blocks, whose bytes the node's token covers,
 /// and that leaves its owner within the limit of regions, is answered Done in its own step.

@@ -1,6 +1,6 @@
 //! Which changes of locks may help other nodes.
 ghost use Rattle.std.specs.Prelude.{◌≡◌};
-ghost use Rattle.node_core.specs.Try.{may_free};
+ghost use Rattle.node_core.specs.rule.Try.{may_free};
 
 use model::mode::Mode;
 use model::reply::Reply;

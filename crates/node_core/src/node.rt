@@ -1,13 +1,13 @@
 //! The node, and how its steps are planned and applied.
 ghost use Rattle.std.specs.Prelude.{◌≡◌, ◌≢◌, ◌≤◌, ◌-◌, ◌↔◌, Some, Ok, Err, IfOk, IfErr, IfSome, IsTrue};
 ghost use Rattle.std.specs.List.{slice_get};
-ghost use Rattle.model.specs.Limits.{IsNumber, most_processes};
+ghost use Rattle.model.specs.rule.Limits.{IsNumber, most_processes};
 ghost use Rattle.node_core.specs.declared.event.NodeEvent.TheVariants.{Deliver};
-ghost use Rattle.node_core.specs.State.{first_node, host, process, id_of, open_call, open_call_of};
-ghost use Rattle.node_core.specs.Node.{node_rule};
-ghost use Rattle.node_core.specs.Files.{state_of};
-ghost use Rattle.node_core.specs.Parts.{node_state, IsCallOf};
-ghost use Rattle.node_core.specs.Plans.{planned, Fits};
+ghost use Rattle.node_core.specs.rule.State.{first_node, host, process, id_of, open_call, open_call_of};
+ghost use Rattle.node_core.specs.rule.Node.{node_rule};
+ghost use Rattle.node_core.specs.rule.Files.{state_of};
+ghost use Rattle.node_core.specs.rule.Parts.{node_state, IsCallOf};
+ghost use Rattle.node_core.specs.code.Plans.{planned, Fits};
 
 use crate::change::Change;
 use crate::edit::{Draft, Edit, apply_table};
@@ -45,8 +45,8 @@ pub struct Node {
 }
 
 impl Model for Node {
-    ghost use Rattle.node_core.specs.Files.{state_of};
-    ghost use Rattle.node_core.specs.Parts.{NodeParts, IsNode};
+    ghost use Rattle.node_core.specs.rule.Files.{state_of};
+    ghost use Rattle.node_core.specs.rule.Parts.{NodeParts, IsNode};
 
     ghost Value = { NodeParts };
 
@@ -124,7 +124,7 @@ impl Node {
         })
     }
 
-    #[tactic(auto, unfolding(crate::specs::Parts::node_state))]
+    #[tactic(auto, unfolding(crate::specs::rule::Parts::node_state))]
     fn process(&self, pid: u16) -> Process
         requires { IsNumber most_processes pid }
         ensures { result ≡ process (node_state self.now) pid }
@@ -136,7 +136,7 @@ impl Node {
         }
     }
 
-    #[tactic(auto, unfolding(crate::specs::Parts::node_state))]
+    #[tactic(auto, unfolding(crate::specs::rule::Parts::node_state))]
     fn id(&self, number: u32) -> CallId
         requires { 1 ≤ number }
         ensures { result ≡ id_of (node_state self.now) number }
@@ -149,7 +149,7 @@ impl Node {
     }
 
     /// The node and its incarnation.
-    #[tactic(auto, unfolding(crate::specs::Parts::node_state))]
+    #[tactic(auto, unfolding(crate::specs::rule::Parts::node_state))]
     pub fn host(&self) -> Host
         ensures { result ≡ host (node_state self.now) }
     {
@@ -160,7 +160,7 @@ impl Node {
     }
 
     // The open call with this number.
-    #[tactic(auto, unfolding(crate::specs::Parts::node_state))]
+    #[tactic(auto, unfolding(crate::specs::rule::Parts::node_state))]
     fn open_call(&self, number: u32) -> Option<OpenCall>
         ensures value { result ≡ open_call (node_state self.now) number }
         ensures own { IfSome result (IsCallOf (node_state self.now)) }
@@ -169,7 +169,7 @@ impl Node {
     }
 
     // The open call of the process.
-    #[tactic(auto, unfolding(crate::specs::Parts::node_state))]
+    #[tactic(auto, unfolding(crate::specs::rule::Parts::node_state))]
     fn open_call_of(&self, pid: u16) -> Option<OpenCall>
         ensures value { result ≡ open_call_of (node_state self.now) pid }
         ensures own { IfSome result (IsCallOf (node_state self.now)) }
@@ -187,7 +187,7 @@ impl Node {
     }
 
     // The number of a file of the shape, as messages have it.
-    #[tactic(auto, unfolding(crate::specs::Parts::node_state))]
+    #[tactic(auto, unfolding(crate::specs::rule::Parts::node_state))]
     fn file_number(&self, file: u16) -> FileNumber
         requires { IsNumber (node_state self.now).shape.files file }
         ensures { result ≡ file }
@@ -232,7 +232,7 @@ impl Node {
     }
 
     // Makes a planned change of each part of the node.
-    #[tactic(auto, unfolding(crate::specs::Parts::node_state))]
+    #[tactic(auto, unfolding(crate::specs::rule::Parts::node_state))]
     fn apply_edit(&mut self, edit: Edit)
         requires { Fits self.old edit }
         ensures { node_state self.new ≡ planned self.old edit }

@@ -1,10 +1,10 @@
 //! Tests of the numbers of processes, files, nodes and commands.
 ghost use Rattle.std.specs.Prelude.{◌≡◌};
-ghost use Rattle.messages.specs.Epochs.{begin_of};
-ghost use Rattle.messages.specs.Messages.{is_within};
-ghost use Rattle.node_core.specs.Calls.{is_pid};
-ghost use Rattle.node_core.specs.Commands.{is_node};
-ghost use Rattle.node_core.specs.Plans.{calls_after, NumberFits};
+ghost use Rattle.messages.specs.rule.Epochs.{begin_of};
+ghost use Rattle.messages.specs.rule.Messages.{is_within};
+ghost use Rattle.node_core.specs.rule.Calls.{is_pid};
+ghost use Rattle.node_core.specs.rule.Commands.{is_node};
+ghost use Rattle.node_core.specs.code.Plans.{calls_after, NumberFits};
 
 use messages::actor::Actor;
 use messages::command_number::GREATEST_NUMBER;

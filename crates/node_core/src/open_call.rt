@@ -1,8 +1,8 @@
 //! The open calls of processes: what they want, and what they are about.
 ghost use Rattle.std.specs.Prelude.{◌≡◌, ◌↔◌, IsTrue};
-ghost use Rattle.node_core.specs.State.{target_of};
-ghost use Rattle.node_core.specs.Try.{refusal_of, blocking_of};
-ghost use Rattle.node_core.specs.Interrupts.{interruption_of};
+ghost use Rattle.node_core.specs.rule.State.{target_of};
+ghost use Rattle.node_core.specs.rule.Try.{refusal_of, blocking_of};
+ghost use Rattle.node_core.specs.rule.Interrupts.{interruption_of};
 
 use intervals::span::Span;
 use messages::message::Blocking;

@@ -3,7 +3,7 @@
 //! Each function here that can fail errs with `AllocError`, where a request for memory was refused.
 ghost use Rattle.std.specs.Prelude.{◌≡◌, ◌==◌, ◌↔◌, ◌++◌, ◌∷◌, ◌<◌, ◌≤◌, [], not, IfOk, IsTrue, is_some, find, filter, length};
 ghost use Rattle.std.specs.Vec.{vec_capacity};
-ghost use Rattle.node_core.specs.Plans.{pending_after, HasRoom};
+ghost use Rattle.node_core.specs.code.Plans.{pending_after, HasRoom};
 
 use crate::hints::Hints;
 use crate::open_call::OpenCall;
@@ -40,7 +40,7 @@ impl Model for OpenCalls {
     ghost view = { λ c. c.calls.items };
 
     ghost use Rattle.std.specs.Prelude.{All};
-    ghost use Rattle.node_core.specs.Hints.{IsHinted};
+    ghost use Rattle.node_core.specs.code.Hints.{IsHinted};
 
     ghost invariant = { λ c. All (IsHinted c.hints) c.calls.items };
 }

@@ -2,8 +2,8 @@
 //!
 //! Each function here that can fail errs with `AllocError`, where a request for memory was refused.
 ghost use Rattle.std.specs.Prelude.{◌≡◌, IfOk};
-ghost use Rattle.messages.specs.Reports.{runs_of};
-ghost use Rattle.token_set.specs.Sets.{token_of};
+ghost use Rattle.messages.specs.rule.Reports.{runs_of};
+ghost use Rattle.token_set.specs.code.Sets.{token_of};
 
 use messages::token_run::TokenRuns;
 use std::alloc::{AllocError, Global};

@@ -3,7 +3,7 @@ use Rattle.std.proofs.Common.{◌≡◌, ℕ, zero, suc, ◌+◌, ◌≤◌, Boo
 use Rattle.std.specs.List.{position_from}
 use Rattle.pictures.specs.declared.piece.Piece.{Piece}
 use Rattle.pictures.specs.declared.stay.Stay.{Stay}
-use Rattle.pictures.specs.Shares.{goes_on, with_piece}
+use Rattle.pictures.specs.rule.Shares.{goes_on, with_piece}
 
 -- a place is counted from that of the first element on
 from_first : {A : Type 0} (test : A → Bool) (n k : ℕ) (xs : List A) → position_from test n xs ≡ Some k → n ≤ k

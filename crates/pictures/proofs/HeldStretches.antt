@@ -3,13 +3,13 @@ use Rattle.std.proofs.Common.{◌≡◌, ℕ, zero, suc, ◌+◌, ◌<◌, Bool,
 use Rattle.std.specs.List.{enumerate_from}
 use Rattle.std.proofs.lemmas.Bool.Decides.{nat_tests}
 use Rattle.messages.specs.declared.entry.Entry.{Entry}
-use Rattle.cluster_core.specs.Journals.{JournalFields}
-use Rattle.cluster_core.specs.Listings.{IsTokenListing, IsLockListing}
-use Rattle.cluster_core.specs.Runs.{Leads}
-use Rattle.cluster_core.specs.World.{WorldState, first_world}
+use Rattle.cluster_core.specs.rule.Journals.{JournalFields}
+use Rattle.cluster_core.specs.rule.Listings.{IsTokenListing, IsLockListing}
+use Rattle.cluster_core.specs.rule.Runs.{Leads}
+use Rattle.cluster_core.specs.rule.World.{WorldState, first_world}
 use Rattle.cluster_core.proofs.common.Places.{drop_read}
 use Rattle.cluster_core.proofs.runs.Replayed.{Replayed}
-use Rattle.pictures.specs.Holdings.{AreHeldBehind, HoldingsFields}
+use Rattle.pictures.specs.rule.Holdings.{AreHeldBehind, HoldingsFields}
 
 -- the position is one from the first to the last
 abbrev pub within : ℕ → ℕ → ℕ → Bool

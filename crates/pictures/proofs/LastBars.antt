@@ -3,15 +3,15 @@ use Rattle.std.proofs.Common.{◌≡◌, ◌∙◌, ℕ, ◌+◌, List, [], ◌�
 use Rattle.std.specs.Prelude.{option_and_then, option_map, option_to_list, IfSome}
 use Rattle.std.specs.List.{cons_option}
 use Rattle.std.proofs.lemmas.List.{append-nil, reverse-append}
-use Rattle.messages.specs.Entries.{EntryFields}
+use Rattle.messages.specs.code.Entries.{EntryFields}
 use Rattle.stories.specs.declared.made_call.MadeCall.{MadeCall}
-use Rattle.stories.specs.OpenIndexes.{EndsByEnding}
+use Rattle.stories.specs.code.OpenIndexes.{EndsByEnding}
 use Rattle.stories.proofs.OpenEnds.{KnowsEnds, first_end-is}
 use Rattle.pictures.specs.declared.bar.Bar.{Bar}
 use Rattle.pictures.specs.declared.window.Window.{Window}
-use Rattle.pictures.specs.Bars.{bar_among, bar_of}
-use Rattle.pictures.specs.Indexes.{bar_with}
-use Rattle.pictures.specs.Places.{answer_to}
+use Rattle.pictures.specs.rule.Bars.{bar_among, bar_of}
+use Rattle.pictures.specs.code.Indexes.{bar_with}
+use Rattle.pictures.specs.rule.Places.{answer_to}
 
 -- what comes last stands first, seen from the end
 turned : {A : Type 0} (o : Option A) (xs : List A) → reverse (xs ++ option_to_list o) ≡ cons_option o (reverse xs)

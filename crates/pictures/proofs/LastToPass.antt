@@ -2,8 +2,8 @@
 use Rattle.std.proofs.Common.{◌≡◌, ◌⊎◌, inl, inr, ℕ, suc, ◌+◌, Bool, true, false, ◌||◌, List, [], ◌∷◌, ◌++◌, length, Option, Some, None, refl, ◌∙◌, ap, arith}
 use Rattle.std.specs.Prelude.{filter_map, MatchOption}
 use Rattle.std.specs.List.{cons_option, enumerate_from, last_or, list_any}
-use Rattle.pictures.specs.Laws.{IsLastToPass}
-use Rattle.pictures.specs.Places.{last_some, position_if}
+use Rattle.pictures.specs.rule.Laws.{IsLastToPass}
+use Rattle.pictures.specs.rule.Places.{last_some, position_if}
 
 -- an element of these, of which the first has this number, is the last one that passes, and the number is its own
 record Found {A : Type 0} (test : A → Bool) (n : ℕ) (xs : List A) (number : Option ℕ) : Type 0 where

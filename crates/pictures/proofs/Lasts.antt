@@ -12,14 +12,14 @@ use Rattle.messages.specs.declared.event.Event.{Event}
 use Rattle.messages.specs.declared.event.Event.TheVariants.{Call, Deliver, Interrupt, Retry, Resend, Declare, Restart, Learn, FailServer, StartServer}
 use Rattle.messages.specs.declared.message.Message.{Message}
 use Rattle.messages.specs.contracts.message.MessagePartialEq.TheImpl as derived
-use Rattle.messages.specs.Entries.{EntryFields}
-use Rattle.messages.specs.Messages.{is_among, same_message}
+use Rattle.messages.specs.code.Entries.{EntryFields}
+use Rattle.messages.specs.rule.Messages.{is_among, same_message}
 use Rattle.messages.proofs.SameMessages.{message_eq-Decides, same_message-is-equality}
 use Rattle.stories.proofs.Passes.{drop_here}
-use Rattle.stories.specs.About.{delivers}
+use Rattle.stories.specs.rule.About.{delivers}
 use Rattle.pictures.specs.declared.answer.Answer.{Answer}
-use Rattle.pictures.specs.Indexes.{is_past, last_come}
-use Rattle.pictures.specs.Places.{answer_at, answer_to, is_lost, last_sent, last_some, position_if}
+use Rattle.pictures.specs.code.Indexes.{is_past, last_come}
+use Rattle.pictures.specs.rule.Places.{answer_at, answer_to, is_lost, last_sent, last_some, position_if}
 
 -- an element comes last
 more : {A B : Type 0} (g : ℕ × A → Option B) (o : Option B) (n : ℕ) (xs : List A) (x : A) → last_or o (filter_map g (enumerate_from n (xs ++ x ∷ []))) ≡ option_or (g (n + length xs, x)) (last_or o (filter_map g (enumerate_from n xs)))

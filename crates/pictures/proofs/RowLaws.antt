@@ -13,10 +13,10 @@ use Rattle.messages.proofs.SameMessages.{host_exact}
 use Rattle.pictures.specs.declared.bar.Bar.{Bar}
 use Rattle.pictures.specs.declared.row.Row.{Row}
 use Rattle.pictures.specs.declared.row.Row.TheVariants.{Lane, Process}
-use Rattle.pictures.specs.Actors.{same_actor}
-use Rattle.pictures.specs.Laws.{EachRowIsThere}
-use Rattle.pictures.specs.Rows.{above_its_own, below_its_own, busy, if_busy, is_busy, is_of, process_rows, row_of, rows, rows_of, same_row, with_row}
-use Rattle.pictures.specs.Stretches.{PlacedFields}
+use Rattle.pictures.specs.rule.Actors.{same_actor}
+use Rattle.pictures.specs.rule.Laws.{EachRowIsThere}
+use Rattle.pictures.specs.rule.Rows.{above_its_own, below_its_own, busy, if_busy, is_busy, is_of, process_rows, row_of, rows, rows_of, same_row, with_row}
+use Rattle.pictures.specs.rule.Stretches.{PlacedFields}
 
 -- one of two tests
 left : (a b : Bool) → a ≡ true → (a || b) ≡ true

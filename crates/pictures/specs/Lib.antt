@@ -1,15 +1,2 @@
-pub mod Places
-pub mod Actors
-pub mod Stretches
-pub mod Outcomes
-pub mod Bars
-pub mod Indexes
-pub mod Rows
-pub mod Holdings
-pub mod Pieces
-pub mod Shares
-pub mod Tracks
-pub mod History
-pub mod Drawings
-pub mod Around
-pub mod Laws
+pub mod rule
+pub mod code

@@ -1,9 +1,9 @@
 //! Who takes part in an entry.
 ghost use Rattle.std.specs.Prelude.{◌≡◌};
 ghost use Rattle.std.specs.List.{list_any};
-ghost use Rattle.messages.specs.Messages.{addressee};
-ghost use Rattle.stories.specs.About.{delivers};
-ghost use Rattle.pictures.specs.Actors.{actor_of, same_actor, sender_of, takes_part};
+ghost use Rattle.messages.specs.rule.Messages.{addressee};
+ghost use Rattle.stories.specs.rule.About.{delivers};
+ghost use Rattle.pictures.specs.rule.Actors.{actor_of, same_actor, sender_of, takes_part};
 
 use messages::actor::Actor;
 use messages::entry::Entry;

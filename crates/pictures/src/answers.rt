@@ -1,7 +1,7 @@
 //! The answers to calls. Each error is `AllocError`: a request for memory was refused.
 ghost use Rattle.std.specs.Prelude.{◌≡◌, ◌+◌, ◌++◌, ◌∷◌, [], List, length, IfOk, OnOk};
-ghost use Rattle.messages.specs.Entries.{EntryFields};
-ghost use Rattle.pictures.specs.Indexes.{KnowsAnswers};
+ghost use Rattle.messages.specs.code.Entries.{EntryFields};
+ghost use Rattle.pictures.specs.code.Indexes.{KnowsAnswers};
 
 use crate::answer::Answer;
 use messages::entry::Entry;

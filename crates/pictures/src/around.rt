@@ -1,8 +1,8 @@
 //! The stretch of a journal about a call.
 ghost use Rattle.std.specs.Prelude.{◌≡◌, ◌≤◌, length, IfSome};
 ghost use Rattle.std.specs.Option.{option_or};
-ghost use Rattle.pictures.specs.Places.{position_if};
-ghost use Rattle.pictures.specs.Around.{around, first_of, last_of};
+ghost use Rattle.pictures.specs.rule.Places.{position_if};
+ghost use Rattle.pictures.specs.rule.Around.{around, first_of, last_of};
 
 use crate::window::Window;
 use messages::entry::Entry;

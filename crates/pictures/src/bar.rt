@@ -1,7 +1,7 @@
 //! Bars of calls.
 ghost use Rattle.std.specs.Prelude.{◌≡◌};
-ghost use Rattle.pictures.specs.Bars.{bar_of, is_drawn, is_over_from, right_end};
-ghost use Rattle.pictures.specs.Outcomes.{over_at};
+ghost use Rattle.pictures.specs.rule.Bars.{bar_of, is_drawn, is_over_from, right_end};
+ghost use Rattle.pictures.specs.rule.Outcomes.{over_at};
 
 use crate::answer::Answer;
 use crate::window::Window;

@@ -1,8 +1,8 @@
 //! The calls that are drawn. Each error is `AllocError`: a request for memory was refused.
 ghost use Rattle.std.specs.Prelude.{◌≡◌, option_map, IfOk, List};
-ghost use Rattle.messages.specs.Entries.{EntryFields};
-ghost use Rattle.pictures.specs.Bars.{bars};
-ghost use Rattle.pictures.specs.Indexes.{KnowsAnswers, bar_with};
+ghost use Rattle.messages.specs.code.Entries.{EntryFields};
+ghost use Rattle.pictures.specs.rule.Bars.{bars};
+ghost use Rattle.pictures.specs.code.Indexes.{KnowsAnswers, bar_with};
 
 use crate::answers::{Answers, answers_of};
 use crate::bar::Bar;

@@ -15,8 +15,8 @@ pub(crate) struct Deliveries<'a> {
 
 impl<'a> Model for Deliveries<'a> {
     ghost use Rattle.std.specs.Prelude.{List};
-    ghost use Rattle.messages.specs.Entries.{EntryFields};
-    ghost use Rattle.pictures.specs.Indexes.{KnowsCome};
+    ghost use Rattle.messages.specs.code.Entries.{EntryFields};
+    ghost use Rattle.pictures.specs.code.Indexes.{KnowsCome};
 
     ghost Value = { List EntryFields };
 
@@ -27,7 +27,7 @@ impl<'a> Model for Deliveries<'a> {
 
 impl<'a> Deliveries<'a> {
     ghost use Rattle.std.specs.Prelude.{◌≡◌, IfOk};
-    ghost use Rattle.pictures.specs.Places.{is_lost};
+    ghost use Rattle.pictures.specs.rule.Places.{is_lost};
 
     /// Those of these entries.
     pub(crate) fn of(alloc: Global, entries: &'a [Entry]) -> Result<Deliveries<'a>, AllocError>
@@ -51,8 +51,8 @@ impl<'a> Deliveries<'a> {
 }
 
 ghost use Rattle.std.specs.Prelude.{◌≡◌, ◌+◌, ◌++◌, ◌∷◌, [], List, length, OnOk};
-ghost use Rattle.messages.specs.Entries.{EntryFields};
-ghost use Rattle.pictures.specs.Indexes.{KnowsCome, is_past};
+ghost use Rattle.messages.specs.code.Entries.{EntryFields};
+ghost use Rattle.pictures.specs.code.Indexes.{KnowsCome, is_past};
 
 // Whether the last entry at which a message comes is none behind this position.
 fn is_past(position: u64, last: Option<u64>) -> bool

@@ -32,7 +32,7 @@ pub struct Drawing<'a> {
 }
 
 impl<'a> Model for Drawing<'a> {
-    ghost use Rattle.pictures.specs.Drawings.{DrawingFields};
+    ghost use Rattle.pictures.specs.rule.Drawings.{DrawingFields};
 
     ghost Value = { DrawingFields };
 
@@ -41,7 +41,7 @@ impl<'a> Model for Drawing<'a> {
 
 impl<'a> Drawing<'a> {
     ghost use Rattle.std.specs.Prelude.{◌≡◌, IfOk};
-    ghost use Rattle.pictures.specs.Drawings.{drawing_of};
+    ghost use Rattle.pictures.specs.rule.Drawings.{drawing_of};
 
     /// What the picture shows of these entries of a journal of a cluster of this shape, the first at position 1, of
     /// their history, and of what nodes hold, as far as the window shows them.

@@ -1,6 +1,6 @@
 //! What becomes of the messages that entries send. Each error is `AllocError`: a request for memory was refused.
 ghost use Rattle.std.specs.Prelude.{◌≡◌, map, take, IfOk};
-ghost use Rattle.pictures.specs.Places.{fate_of};
+ghost use Rattle.pictures.specs.rule.Places.{fate_of};
 
 use crate::deliveries::Deliveries;
 use crate::fate::Fate;

@@ -1,6 +1,6 @@
 //! What nodes hold.
 ghost use Rattle.std.specs.Prelude.{◌≡◌};
-ghost use Rattle.pictures.specs.Pieces.{node_of, same_held};
+ghost use Rattle.pictures.specs.rule.Pieces.{node_of, same_held};
 
 use model::level::Level;
 use model::mode::Mode;

@@ -1,7 +1,7 @@
 //! What the live nodes hold behind entries. Each error is `AllocError`: a request for memory was refused.
 ghost use Rattle.std.specs.Prelude.{◌≡◌, IfOk};
-ghost use Rattle.cluster_core.specs.Listings.{IsLockListing, IsTokenListing};
-ghost use Rattle.cluster_core.specs.Parts.{world_state};
+ghost use Rattle.cluster_core.specs.rule.Listings.{IsLockListing, IsTokenListing};
+ghost use Rattle.cluster_core.specs.rule.Parts.{world_state};
 
 use cluster_core::held_lock::HeldLock;
 use cluster_core::token_run::TokenRun;
@@ -21,7 +21,7 @@ pub struct Holdings {
 }
 
 impl Model for Holdings {
-    ghost use Rattle.pictures.specs.Holdings.{HoldingsFields};
+    ghost use Rattle.pictures.specs.rule.Holdings.{HoldingsFields};
 
     ghost Value = { HoldingsFields };
 

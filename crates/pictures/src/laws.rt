@@ -1,5 +1,5 @@
 //! What holds of each picture.
-ghost use Rattle.pictures.specs.Laws.{EachArrowIsFromTheLastSend, EachEntryIsBetweenTheEdges, EachRowIsThere, TimeGoesRight};
+ghost use Rattle.pictures.specs.rule.Laws.{EachArrowIsFromTheLastSend, EachEntryIsBetweenTheEdges, EachRowIsThere, TimeGoesRight};
 
 /// Each node and each server of the cluster that takes part in an entry has a row, and so has each
 /// process of such a node whose call is drawn.

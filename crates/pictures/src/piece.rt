@@ -1,6 +1,6 @@
 //! What nodes hold behind entries.
 ghost use Rattle.std.specs.Prelude.{◌≡◌};
-ghost use Rattle.pictures.specs.Pieces.{covers, is_of_file, is_of_node};
+ghost use Rattle.pictures.specs.rule.Pieces.{covers, is_of_file, is_of_node};
 
 use crate::held::Held;
 use intervals::span::Span;

@@ -1,7 +1,7 @@
 //! What nodes hold behind the entries of the window, piece by piece.
 //! Each error is `AllocError`: a request for memory was refused.
 ghost use Rattle.std.specs.Prelude.{◌≡◌, map, IfOk};
-ghost use Rattle.pictures.specs.Pieces.{lock_piece, pieces, token_piece};
+ghost use Rattle.pictures.specs.rule.Pieces.{lock_piece, pieces, token_piece};
 
 use crate::held::Held;
 use crate::holdings::Holdings;

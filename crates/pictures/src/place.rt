@@ -1,6 +1,6 @@
 //! Where a history has calls. Each error is `AllocError`: a request for memory was refused.
 ghost use Rattle.std.specs.Prelude.{◌≡◌, IfOk};
-ghost use Rattle.pictures.specs.History.{place_of, places, taker_at};
+ghost use Rattle.pictures.specs.rule.History.{place_of, places, taker_at};
 
 use crate::actors::actor_of;
 use crate::window::Window;

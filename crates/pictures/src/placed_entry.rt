@@ -1,9 +1,9 @@
 //! The entries that are drawn. Each error is `AllocError`: a request for memory was refused.
 ghost use Rattle.std.specs.Prelude.{◌≡◌, ◌++◌, List, option_to_list, IfOk, OnOk};
-ghost use Rattle.messages.specs.Entries.{EntryFields};
-ghost use Rattle.pictures.specs.Indexes.{KnowsSent};
-ghost use Rattle.pictures.specs.Places.{fate_of};
-ghost use Rattle.pictures.specs.Stretches.{placed_at, stretch};
+ghost use Rattle.messages.specs.code.Entries.{EntryFields};
+ghost use Rattle.pictures.specs.code.Indexes.{KnowsSent};
+ghost use Rattle.pictures.specs.rule.Places.{fate_of};
+ghost use Rattle.pictures.specs.rule.Stretches.{placed_at, stretch};
 
 use crate::fate::Fate;
 use crate::fates::Fates;
@@ -26,7 +26,7 @@ pub struct PlacedEntry<'a> {
 }
 
 impl<'a> Model for PlacedEntry<'a> {
-    ghost use Rattle.pictures.specs.Stretches.{PlacedFields};
+    ghost use Rattle.pictures.specs.rule.Stretches.{PlacedFields};
 
     ghost Value = { PlacedFields };
 

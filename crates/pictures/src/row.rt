@@ -1,6 +1,6 @@
 //! Rows of a picture.
 ghost use Rattle.std.specs.Prelude.{◌≡◌};
-ghost use Rattle.pictures.specs.Rows.{is_of, row_of, same_row};
+ghost use Rattle.pictures.specs.rule.Rows.{is_of, row_of, same_row};
 
 use crate::actors::is_same_actor;
 use crate::bar::Bar;

@@ -3,8 +3,8 @@ ghost use Rattle.std.specs.Prelude.{◌≡◌, ◌++◌, filter, IfOk, OnOk};
 ghost use Rattle.std.specs.List.{list_any};
 ghost use Rattle.messages.specs.declared.actor.Actor.TheVariants.{Node, Server};
 ghost use Rattle.pictures.specs.declared.row.Row.TheVariants.{Lane};
-ghost use Rattle.pictures.specs.Actors.{takes_part};
-ghost use Rattle.pictures.specs.Rows.{above_its_own, below_its_own, busy, if_busy, is_of, process_rows, rows, rows_of, same_row, with_row};
+ghost use Rattle.pictures.specs.rule.Actors.{takes_part};
+ghost use Rattle.pictures.specs.rule.Rows.{above_its_own, below_its_own, busy, if_busy, is_of, process_rows, rows, rows_of, same_row, with_row};
 
 use crate::actors::takes_part;
 use crate::bar::Bar;
@@ -97,7 +97,7 @@ fn busy_servers(
 }
 
 // The actor comes last, if it takes part, or one of the processes is its own.
-#[tactic(auto, unfolding(crate::specs::Rows::if_busy))]
+#[tactic(auto, unfolding(crate::specs::rule::Rows::if_busy))]
 fn add_busy(
     actors: &mut Vec<Actor>,
     part: &[PlacedEntry<'_>],
@@ -150,7 +150,7 @@ fn rows_of(
 }
 
 // The row of a node comes last, below those of its processes.
-#[tactic(auto, unfolding(crate::specs::Rows::below_its_own))]
+#[tactic(auto, unfolding(crate::specs::rule::Rows::below_its_own))]
 fn add_below_its_own(rows: &mut Vec<Row>, processes: &[Row], node: &Actor) -> Result<(), AllocError>
     ensures { OnOk result (rows.new.items ≡ rows.old.items ++ below_its_own processes.now node.now) }
 {
@@ -160,7 +160,7 @@ fn add_below_its_own(rows: &mut Vec<Row>, processes: &[Row], node: &Actor) -> Re
 }
 
 // The row of a node comes last, above those of its processes.
-#[tactic(auto, unfolding(crate::specs::Rows::above_its_own))]
+#[tactic(auto, unfolding(crate::specs::rule::Rows::above_its_own))]
 fn add_above_its_own(rows: &mut Vec<Row>, processes: &[Row], node: &Actor) -> Result<(), AllocError>
     ensures { OnOk result (rows.new.items ≡ rows.old.items ++ above_its_own processes.now node.now) }
 {

@@ -1,8 +1,8 @@
 //! Where messages are sent. Each error is `AllocError`: a request for memory was refused.
 ghost use Rattle.std.specs.Prelude.{◌≡◌, ◌+◌, ◌++◌, ◌∷◌, [], List, length, OnOk};
-ghost use Rattle.messages.specs.Entries.{EntryFields};
-ghost use Rattle.pictures.specs.Indexes.{KnowsSent};
-ghost use Rattle.pictures.specs.Stretches.{origin_of};
+ghost use Rattle.messages.specs.code.Entries.{EntryFields};
+ghost use Rattle.pictures.specs.code.Indexes.{KnowsSent};
+ghost use Rattle.pictures.specs.rule.Stretches.{origin_of};
 
 use messages::entry::Entry;
 use messages::event::Event;

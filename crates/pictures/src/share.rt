@@ -15,7 +15,7 @@ pub struct Share {
 }
 
 impl Model for Share {
-    ghost use Rattle.pictures.specs.Shares.{ShareFields};
+    ghost use Rattle.pictures.specs.rule.Shares.{ShareFields};
 
     ghost Value = { ShareFields };
 
@@ -24,7 +24,7 @@ impl Model for Share {
 
 impl Share {
     ghost use Rattle.std.specs.Prelude.{◌≡◌, IfOk};
-    ghost use Rattle.pictures.specs.Shares.{share};
+    ghost use Rattle.pictures.specs.rule.Shares.{share};
 
     /// The share of the node in a stretch with these pieces, where so many others stand before it.
     pub(crate) fn of(
@@ -50,7 +50,7 @@ impl Share {
 
 ghost use Rattle.std.specs.Prelude.{◌≡◌, ◌<◌, length, IfOk, IfSome, OnOk};
 ghost use Rattle.std.specs.List.{position_from};
-ghost use Rattle.pictures.specs.Shares.{goes_on, stays, with_piece};
+ghost use Rattle.pictures.specs.rule.Shares.{goes_on, stays, with_piece};
 
 // How long the node holds each of the pieces of its own.
 fn stays(alloc: Global, node: u64, pieces: &[Piece]) -> Result<Vec<Stay>, AllocError>

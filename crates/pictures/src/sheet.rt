@@ -1,6 +1,6 @@
 //! Where things stand in a picture. Its unit is a pixel at scale 1.
 ghost use Rattle.std.specs.Prelude.{◌≡◌, ◌<◌, ◌^◌};
-ghost use Rattle.pictures.specs.Drawings.{right_edge, x_of};
+ghost use Rattle.pictures.specs.rule.Drawings.{right_edge, x_of};
 
 use crate::drawing::Drawing;
 use crate::row::Row;
@@ -22,7 +22,7 @@ const TRACK: u128 = 16;
 
 /// How far from the left edge an entry at this position stands: those before the window on the left
 /// edge of the rows, those behind it on the right one.
-#[tactic(auto, unfolding(crate::specs::Drawings::x_of))]
+#[tactic(auto, unfolding(crate::specs::rule::Drawings::x_of))]
 pub(crate) fn x_of(window: &Window, position: u128) -> u128
     ensures value { result ≡ x_of window.now position }
     ensures within { result < 2 ^ 72 }

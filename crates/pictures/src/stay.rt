@@ -1,6 +1,6 @@
 //! How long something is held.
 ghost use Rattle.std.specs.Prelude.{◌≡◌};
-ghost use Rattle.pictures.specs.Shares.{goes_on};
+ghost use Rattle.pictures.specs.rule.Shares.{goes_on};
 
 use crate::held::Held;
 use crate::piece::Piece;

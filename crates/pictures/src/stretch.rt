@@ -1,10 +1,10 @@
 //! What the live nodes hold behind a stretch of a journal.
 //! Each error is `AllocError`: a request for memory was refused.
 ghost use Rattle.std.specs.Prelude.{◌≡◌, ◌<◌, All, Ok, map, take, IfOk, OnOk};
-ghost use Rattle.cluster_core.specs.Next.{next};
-ghost use Rattle.cluster_core.specs.Parts.{world_state};
-ghost use Rattle.cluster_core.specs.World.{WorldState, journal_limit};
-ghost use Rattle.pictures.specs.Holdings.{AreHeldBehind, positions_within};
+ghost use Rattle.cluster_core.specs.rule.Next.{next};
+ghost use Rattle.cluster_core.specs.rule.Parts.{world_state};
+ghost use Rattle.cluster_core.specs.rule.World.{WorldState, journal_limit};
+ghost use Rattle.pictures.specs.rule.Holdings.{AreHeldBehind, positions_within};
 
 use crate::holdings::Holdings;
 use cluster_core::journal::{Journal, comes_next};

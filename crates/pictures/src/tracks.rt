@@ -1,7 +1,7 @@
 //! The bytes of files, and who holds them. Each error is `AllocError`: a request for memory was refused.
 ghost use Rattle.std.specs.Prelude.{◌≡◌, ◌++◌, filter, flat_map, IfOk, OnOk};
-ghost use Rattle.pictures.specs.Pieces.{covers, is_of_file};
-ghost use Rattle.pictures.specs.Tracks.{ends, files, nodes, shared_by, stretches, stretches_from, tracks, tracks_of_file, tracks_of_stretch};
+ghost use Rattle.pictures.specs.rule.Pieces.{covers, is_of_file};
+ghost use Rattle.pictures.specs.rule.Tracks.{ends, files, nodes, shared_by, stretches, stretches_from, tracks, tracks_of_file, tracks_of_stretch};
 
 use crate::piece::Piece;
 use crate::share::Share;
@@ -56,7 +56,7 @@ fn ends(alloc: Global, pieces: &[Piece]) -> Result<Vec<u64>, AllocError>
 }
 
 // A file, with those of the pieces that are its own, under its heading.
-#[tactic(auto, unfolding(crate::specs::Tracks::tracks_of_file))]
+#[tactic(auto, unfolding(crate::specs::rule::Tracks::tracks_of_file))]
 fn add_file(
     tracks: &mut Vec<Track>,
     alloc: Global,
@@ -116,7 +116,7 @@ fn add_stretches_from(
 }
 
 // The nodes that hold a stretch, each with its share of those of the pieces that have it.
-#[tactic(auto, unfolding(crate::specs::Tracks::tracks_of_stretch))]
+#[tactic(auto, unfolding(crate::specs::rule::Tracks::tracks_of_stretch))]
 fn add_stretch(
     tracks: &mut Vec<Track>,
     alloc: Global,
@@ -142,7 +142,7 @@ fn over(alloc: Global, pieces: &[Piece], lo: u64, hi: u64) -> Result<Vec<Piece>,
 }
 
 // The nodes that hold a stretch with these pieces, each with its share.
-#[tactic(auto, unfolding(crate::specs::Tracks::shared_by))]
+#[tactic(auto, unfolding(crate::specs::rule::Tracks::shared_by))]
 fn add_shares(
     tracks: &mut Vec<Track>,
     alloc: Global,

@@ -1,6 +1,6 @@
 //! What of a run is drawn.
 ghost use Rattle.std.specs.Prelude.{◌≡◌};
-ghost use Rattle.pictures.specs.Stretches.{cut, has};
+ghost use Rattle.pictures.specs.rule.Stretches.{cut, has};
 
 /// The entries from one position to another, with both of them; positions count from 1.
 #[derive(Clone, Copy)]

@@ -9,11 +9,11 @@ use Rattle.std.proofs.lemmas.Grind.{common_steps}
 use Rattle.model.specs.declared.call.CallId.{CallId}
 use Rattle.model.specs.declared.host.Host.{Host}
 use Rattle.model.specs.contracts.host.HostPartialEq.TheImpl as derived
-use Rattle.model.specs.Owners.{host_of_call, same_host}
-use Rattle.messages.specs.Messages.{same_call}
+use Rattle.model.specs.rule.Owners.{host_of_call, same_host}
+use Rattle.messages.specs.rule.Messages.{same_call}
 use Rattle.messages.proofs.SameMessages.{host_exact, call_exact}
 use Rattle.placement.specs.declared.call_index.CallIndex.{CallIndex}
-use Rattle.placement.specs.CallIndexes.{Rows, row_of, in_row, entry_of, TakesIn}
+use Rattle.placement.specs.code.CallIndexes.{Rows, row_of, in_row, entry_of, TakesIn}
 use Rattle.placement.proofs.Index.{option_or-none, not_found}
 
 -- the derived `==` of hosts is the test of the definitions

@@ -7,7 +7,7 @@ use Rattle.std.proofs.lemmas.List.{get_or-append_right, get_or_append_left}
 use Rattle.std.proofs.lemmas.Option.{get_or_from_slice_get}
 use Rattle.model.specs.declared.op.Op.{Op}
 use Rattle.placement.specs.declared.made_call.MadeCall.{MadeCall}
-use Rattle.placement.specs.CallsMade.{called_by_entry, called_from, AreMade}
+use Rattle.placement.specs.code.CallsMade.{called_by_entry, called_from, AreMade}
 
 abbrev pub NoneOf : List MadeCall → ℕ → Type 0
 NoneOf calls k = (j : ℕ) (d : MadeCall) → j < length calls → (get_or calls j d).entry ≢ k

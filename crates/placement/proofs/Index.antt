@@ -6,12 +6,12 @@ use Rattle.model.specs.declared.op.Op.{Op}
 use Rattle.messages.specs.declared.event.Event.{Event}
 use Rattle.messages.specs.declared.event.Event.TheVariants.{Call, Deliver, Interrupt, Retry, Resend, Declare, Restart, Learn, FailServer, StartServer}
 use Rattle.messages.specs.declared.entry.Entry.{Entry}
-use Rattle.messages.specs.Messages.{same_call}
-use Rattle.cluster_core.specs.Placement.{is_named, called_by, find_call}
+use Rattle.messages.specs.rule.Messages.{same_call}
+use Rattle.cluster_core.specs.code.Placement.{is_named, called_by, find_call}
 use Rattle.placement.specs.declared.call_index.CallIndex.{CallIndex}
-use Rattle.placement.specs.CallIndexes.{entry_of, TakesIn}
-use Rattle.placement.specs.Indexes.{Indexes, call_at}
-use Rattle.placement.specs.Standing.{made_by}
+use Rattle.placement.specs.code.CallIndexes.{entry_of, TakesIn}
+use Rattle.placement.specs.code.Indexes.{Indexes, call_at}
+use Rattle.placement.specs.code.Standing.{made_by}
 
 -- the call of one entry, if it has that name
 abbrev call_in : Entry → CallId → Option (ℕ × Op)

@@ -17,11 +17,11 @@ use Rattle.messages.specs.declared.message.Message.TheVariants.{Deny}
 use Rattle.messages.specs.declared.event.Event.{Event}
 use Rattle.messages.specs.declared.event.Event.TheVariants.{Deliver}
 use Rattle.messages.specs.declared.entry.Entry.{Entry}
-use Rattle.messages.specs.Messages.{is_conflict}
-use Rattle.cluster_core.specs.Histories.{names_conflict}
+use Rattle.messages.specs.rule.Messages.{is_conflict}
+use Rattle.cluster_core.specs.rule.Histories.{names_conflict}
 use Rattle.placement.specs.declared.revoke_id.RevokeId.{RevokeId}
 use Rattle.placement.specs.contracts.revoke_id.RevokeIdPartialEq.TheImpl as derived
-use Rattle.placement.specs.Indexes.{Conflicts, same_revoke, Locates, Notes, AreBefore, slot_of}
+use Rattle.placement.specs.code.Indexes.{Conflicts, same_revoke, Locates, Notes, AreBefore, slot_of}
 use Rattle.placement.proofs.Index.{option_or-none}
 
 -- the derived `==` of revokes is the test of the definitions

@@ -1,15 +1,15 @@
 -- The history of a run as a value.
 use Rattle.std.proofs.Common.{◌≡◌, refl, sym, ◌∙◌, ap, subst, List, Option}
-use Rattle.messages.specs.Shapes.{ShapeFields, IsShape}
+use Rattle.messages.specs.rule.Shapes.{ShapeFields, IsShape}
 use Rattle.messages.specs.declared.entry.Entry.{Entry}
 use Rattle.cluster_core.specs.declared.item.Item.{Item}
-use Rattle.cluster_core.specs.Runs.{IsRun}
-use Rattle.cluster_core.specs.Histories.{HasHistory, EachAtItsPlace}
-use Rattle.cluster_core.specs.Placement.{items_in, history_of}
+use Rattle.cluster_core.specs.rule.Runs.{IsRun}
+use Rattle.cluster_core.specs.rule.Histories.{HasHistory, EachAtItsPlace}
+use Rattle.cluster_core.specs.code.Placement.{items_in, history_of}
 use Rattle.cluster_core.proofs.runs.Runs.{has_history}
 use Rattle.placement.specs.declared.slot.Slot.{Slot}
-use Rattle.placement.specs.Standing.{standing}
-use Rattle.placement.specs.Rests.{ArePlaces}
+use Rattle.placement.specs.code.Standing.{standing}
+use Rattle.placement.specs.code.Rests.{ArePlaces}
 
 -- the items are the history of the run
 pub record IsPlaced (shape : ShapeFields) (es : List Entry) (h : List Item) : Type 0 where

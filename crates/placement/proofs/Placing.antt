@@ -12,14 +12,14 @@ use Rattle.messages.specs.declared.event.Event.{Event}
 use Rattle.messages.specs.declared.event.Event.TheVariants.{Deliver}
 use Rattle.messages.specs.declared.entry.Entry.{Entry}
 use Rattle.cluster_core.specs.declared.item.Item.{Item}
-use Rattle.cluster_core.specs.Placement.{Slots, find_call, item_of, filled, placed_by, slots_after, slots_from, slots_of, items_in, gone_at}
+use Rattle.cluster_core.specs.code.Placement.{Slots, find_call, item_of, filled, placed_by, slots_after, slots_from, slots_of, items_in, gone_at}
 use Rattle.cluster_core.proofs.history.Slots.{slots_of-push}
 use Rattle.placement.specs.declared.slot.Slot.{Slot}
 use Rattle.placement.specs.declared.slot.Slot.TheVariants.{Empty, Declared}
 use Rattle.placement.specs.declared.call_index.CallIndex.{CallIndex}
-use Rattle.placement.specs.CallIndexes.{entry_of}
-use Rattle.placement.specs.Indexes.{Conflicts, Indexes, Locates, AreBefore, slot_of, call_at}
-use Rattle.placement.specs.Standing.{declared_by, answered_so, answered_by, stands, standing}
+use Rattle.placement.specs.code.CallIndexes.{entry_of}
+use Rattle.placement.specs.code.Indexes.{Conflicts, Indexes, Locates, AreBefore, slot_of, call_at}
+use Rattle.placement.specs.code.Standing.{declared_by, answered_so, answered_by, stands, standing}
 use Rattle.placement.proofs.Locating.{located_before, located_none}
 use Rattle.placement.proofs.Index.{indexes_start}
 

@@ -3,13 +3,13 @@ use Rattle.std.specs.Prelude.{◌↔◌, IsTrue}
 use Rattle.std.proofs.Common.{◌≡◌, ℕ, ◌+◌, ◌<◌, ◌≤◌, true, false, refl, sym, ◌∙◌, subst, List, ◌∷◌, length, drop, get_or, drop-cons, add-one}
 use Rattle.std.proofs.lemmas.List.{drop_all}
 use Rattle.std.proofs.lemmas.Bool.{false≢true}
-use Rattle.model.specs.Table.{Table, empty_table}
+use Rattle.model.specs.rule.Table.{Table, empty_table}
 use Rattle.model.proofs.ReplayLaws.{tables_are_one}
 use Rattle.messages.specs.declared.version.Version.{Version}
-use Rattle.messages.specs.Versions.{most_regions}
+use Rattle.messages.specs.rule.Versions.{most_regions}
 use Rattle.cluster_core.specs.declared.item.Item.{Item}
 use Rattle.cluster_core.specs.declared.item.Item.TheVariants.{Answered, Gone}
-use Rattle.cluster_core.specs.Histories.{caller, ItemStep, Legal, IsLegal}
+use Rattle.cluster_core.specs.rule.Histories.{caller, ItemStep, Legal, IsLegal}
 
 -- from this table the items lead to some table
 abbrev pub LegalFrom : Table → List Item → Type 0

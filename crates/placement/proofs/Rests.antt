@@ -8,8 +8,8 @@ use Rattle.messages.specs.declared.entry.Entry.{Entry}
 use Rattle.cluster_core.specs.declared.item.Item.{Item}
 use Rattle.placement.specs.declared.slot.Slot.{Slot}
 use Rattle.placement.specs.declared.slot.Slot.TheVariants.{Empty, Declared, Answered}
-use Rattle.placement.specs.Standing.{made_by, declared_by, answered_by, stands, standing}
-use Rattle.placement.specs.Rests.{RestFields, Takes, called_at, stands_from, IsAhead, AreAhead}
+use Rattle.placement.specs.code.Standing.{made_by, declared_by, answered_by, stands, standing}
+use Rattle.placement.specs.code.Rests.{RestFields, Takes, called_at, stands_from, IsAhead, AreAhead}
 
 -- a slot more, and another in the place of one
 pub ahead_push : (k : ℕ) (slots : List Slot) (s : Slot) → AreAhead k slots → IsAhead (k + length slots) s → AreAhead k (slots ++ s ∷ [])

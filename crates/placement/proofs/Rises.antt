@@ -4,7 +4,7 @@ use Rattle.std.proofs.Common.{◌≡◌, true, false, refl, ℕ, zero, suc, ◌+
 use Rattle.std.proofs.lemmas.Option.{slice_get_within, slice_get-get_or, get_or_from_slice_get}
 use Rattle.std.proofs.lemmas.Bool.{cases_lt, false≢true}
 use Rattle.cluster_core.specs.declared.item.Item.{Item}
-use Rattle.cluster_core.specs.Histories.{position_of, Rising}
+use Rattle.cluster_core.specs.rule.Histories.{position_of, Rising}
 
 -- of the first n items each has a greater position than the one before it
 pub record RisesTo (h : List Item) (n : ℕ) : Type 0 where

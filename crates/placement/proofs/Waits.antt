@@ -11,12 +11,12 @@ use Rattle.model.specs.declared.op.LockCommand.TheVariants.{Set, Wait, Query}
 use Rattle.model.specs.declared.process.Process.{Process}
 use Rattle.model.specs.declared.reply.Reply.{Reply}
 use Rattle.model.specs.declared.reply.Reply.TheVariants.{Again, Blocked, Interrupted}
-use Rattle.model.specs.Table.{Table, LockTarget, call_target}
-use Rattle.model.specs.Step.{BlocksCall, AfterTests, LockStep, Step}
-use Rattle.model.specs.Replay.{NeverAnswers, NamesNoLock}
+use Rattle.model.specs.rule.Table.{Table, LockTarget, call_target}
+use Rattle.model.specs.rule.Step.{BlocksCall, AfterTests, LockStep, Step}
+use Rattle.model.specs.rule.Replay.{NeverAnswers, NamesNoLock}
 use Rattle.model.proofs.ReplayLaws.{passed, replies_are_one, blocked-waits}
-use Rattle.placement.specs.Waits.{GoesOn}
-use Rattle.placement.specs.Blocking.{BlocksOp}
+use Rattle.placement.specs.code.Waits.{GoesOn}
+use Rattle.placement.specs.code.Blocking.{BlocksOp}
 
 -- a wait alone is interrupted
 is_wait : (t : Table) (command : LockCommand) (mode : Mode) (new : Table) (c : LockTarget) → LockStep t command mode Interrupted new c → command ≡ Wait

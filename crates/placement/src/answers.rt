@@ -2,11 +2,11 @@
 ghost use Rattle.std.specs.Prelude.{◌≡◌, ◌≢◌, true, false, IsTrue, ◌↔◌, IfOk, IsOkAnd};
 ghost use Rattle.model.specs.declared.op.Op.TheVariants.{Unlock};
 ghost use Rattle.model.specs.declared.reply.Reply.TheVariants.{Interrupted};
-ghost use Rattle.model.specs.Step.{BlocksCall, IsPossible, Step};
-ghost use Rattle.model.specs.Replay.{NeverAnswers, NamesNoLock};
-ghost use Rattle.fcntl_table.specs.Tables.{table_of};
-ghost use Rattle.placement.specs.Waits.{GoesOn};
-ghost use Rattle.placement.specs.Blocking.{BlocksOp};
+ghost use Rattle.model.specs.rule.Step.{BlocksCall, IsPossible, Step};
+ghost use Rattle.model.specs.rule.Replay.{NeverAnswers, NamesNoLock};
+ghost use Rattle.fcntl_table.specs.rule.Tables.{table_of};
+ghost use Rattle.placement.specs.code.Waits.{GoesOn};
+ghost use Rattle.placement.specs.code.Blocking.{BlocksOp};
 
 use fcntl_table::table::FcntlTable;
 use model::limits::MOST_PROCESSES;

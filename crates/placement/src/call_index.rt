@@ -2,8 +2,8 @@
 ghost use Rattle.std.specs.Prelude.{◌≡◌, ◌==◌, ◌&&◌, ◌+◌, ◌∷◌, ◌++◌, [], if◌then◌else◌, length, None, IfOk, OnOk};
 ghost use Rattle.model.specs.declared.call.CallId.{CallId};
 ghost use Rattle.model.specs.declared.host.Host.{Host};
-ghost use Rattle.model.specs.Owners.{host_of_call, same_host};
-ghost use Rattle.placement.specs.CallIndexes.{row_of, entry_of, TakesIn};
+ghost use Rattle.model.specs.rule.Owners.{host_of_call, same_host};
+ghost use Rattle.placement.specs.code.CallIndexes.{row_of, entry_of, TakesIn};
 
 use model::call::CallId;
 use model::host::Host;

@@ -1,6 +1,6 @@
 //! Histories as values: items whose positions rise.
 ghost use Rattle.std.specs.Prelude.{◌≡◌, ◌↔◌, IfOk, IsOk, IsTrue};
-ghost use Rattle.cluster_core.specs.Histories.{position_of, Rising};
+ghost use Rattle.cluster_core.specs.rule.Histories.{position_of, Rising};
 
 use cluster_core::item::Item;
 use messages::version::Version;
@@ -15,8 +15,8 @@ pub struct History {
 }
 
 impl Model for History {
-    ghost use Rattle.cluster_core.specs.Histories.{Rising};
-    ghost use Rattle.placement.specs.Histories.{HistoryParts};
+    ghost use Rattle.cluster_core.specs.rule.Histories.{Rising};
+    ghost use Rattle.placement.specs.rule.Histories.{HistoryParts};
 
     ghost Value = { HistoryParts };
 

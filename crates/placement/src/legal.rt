@@ -1,10 +1,10 @@
 //! The test whether a single machine's table allows a history. A function here that gives a `Result` answers
 //! `AllocError` where a request for memory was refused.
 ghost use Rattle.std.specs.Prelude.{◌≡◌, true, false, ◌↔◌, IsTrue, IfOk, MatchOption};
-ghost use Rattle.model.specs.Limits.{IsProcess};
-ghost use Rattle.model.specs.Table.{Table};
-ghost use Rattle.cluster_core.specs.Histories.{caller, ItemStep, IsLegal};
-ghost use Rattle.fcntl_table.specs.Tables.{table_of};
+ghost use Rattle.model.specs.rule.Limits.{IsProcess};
+ghost use Rattle.model.specs.rule.Table.{Table};
+ghost use Rattle.cluster_core.specs.rule.Histories.{caller, ItemStep, IsLegal};
+ghost use Rattle.fcntl_table.specs.rule.Tables.{table_of};
 
 use crate::answers::take;
 use crate::history::History;

@@ -1,8 +1,8 @@
 //! The calls that entries of a run made, kept after the entries themselves are gone.
 ghost use Rattle.std.specs.Prelude.{◌≡◌, ◌<◌, ◌++◌, ◌∷◌, [], length, slice_index_or, None, OnOk, OnErr};
 ghost use Rattle.std.specs.List.Sorted.{IsNonDecreasingBy};
-ghost use Rattle.cluster_core.specs.World.{journal_limit};
-ghost use Rattle.placement.specs.CallsMade.{called_by_entry};
+ghost use Rattle.cluster_core.specs.rule.World.{journal_limit};
+ghost use Rattle.placement.specs.code.CallsMade.{called_by_entry};
 
 use crate::made_call::MadeCall;
 use model::op::Op;
@@ -21,7 +21,7 @@ pub(crate) struct Made {
 impl Model for Made {
     ghost use Rattle.std.specs.Prelude.{ℕ, List, Option};
     ghost use Rattle.model.specs.declared.op.Op.{Op};
-    ghost use Rattle.placement.specs.CallsMade.{called_from, AreMade};
+    ghost use Rattle.placement.specs.code.CallsMade.{called_from, AreMade};
 
     ghost Value = { List (Option (ℕ × Op)) };
 

@@ -3,13 +3,13 @@ ghost use Rattle.std.specs.Prelude.{ℕ, ◌≡◌, ◌≤◌, ◌<◌, ⊤, Lis
 ghost use Rattle.model.specs.declared.call.CallId.{CallId};
 ghost use Rattle.model.specs.declared.reply.Reply.{Reply};
 ghost use Rattle.messages.specs.declared.entry.Entry.{Entry};
-ghost use Rattle.cluster_core.specs.World.{journal_limit};
-ghost use Rattle.cluster_core.specs.Safe.{LeadsToSafe};
-ghost use Rattle.cluster_core.specs.Histories.{HasHistory, EachAtItsPlace};
-ghost use Rattle.cluster_core.specs.Placement.{find_call, item_of, slots_after, slots_of, items_in, history_of};
-ghost use Rattle.placement.specs.Indexes.{Indexes, Locates, Notes, AreBefore, slot_of};
-ghost use Rattle.placement.specs.Standing.{stands, standing};
-ghost use Rattle.placement.specs.Rests.{IsAhead, AreAhead};
+ghost use Rattle.cluster_core.specs.rule.World.{journal_limit};
+ghost use Rattle.cluster_core.specs.rule.Safe.{LeadsToSafe};
+ghost use Rattle.cluster_core.specs.rule.Histories.{HasHistory, EachAtItsPlace};
+ghost use Rattle.cluster_core.specs.code.Placement.{find_call, item_of, slots_after, slots_of, items_in, history_of};
+ghost use Rattle.placement.specs.code.Indexes.{Indexes, Locates, Notes, AreBefore, slot_of};
+ghost use Rattle.placement.specs.code.Standing.{stands, standing};
+ghost use Rattle.placement.specs.code.Rests.{IsAhead, AreAhead};
 
 use crate::call_index::CallIndex;
 use crate::history::History;

@@ -1,8 +1,8 @@
 //! The entries of a run, taken out one by one, each with the item that stands there in the history.
 ghost use Rattle.std.specs.Prelude.{◌≡◌, ◌<◌, ◌≤◌, ◌-◌, reverse as reversed, length, slice_get, option_copied, IfOk, OnErr};
-ghost use Rattle.cluster_core.specs.World.{journal_limit};
-ghost use Rattle.placement.specs.Standing.{made_by, standing};
-ghost use Rattle.placement.specs.Rests.{Takes, IsAhead, AreAhead, called_at, stands_from};
+ghost use Rattle.cluster_core.specs.rule.World.{journal_limit};
+ghost use Rattle.placement.specs.code.Standing.{made_by, standing};
+ghost use Rattle.placement.specs.code.Rests.{Takes, IsAhead, AreAhead, called_at, stands_from};
 
 use crate::made::Made;
 use crate::slot::{Slot, answered_at, gone_at, made_by};
@@ -28,7 +28,7 @@ pub struct PlacedEntries {
 
 impl Model for PlacedEntries {
     ghost use Rattle.std.specs.Prelude.{length, map, reverse};
-    ghost use Rattle.placement.specs.Rests.{RestFields, AreLeft, stands_from};
+    ghost use Rattle.placement.specs.code.Rests.{RestFields, AreLeft, stands_from};
 
     ghost Value = { RestFields };
 

@@ -1,7 +1,7 @@
 //! A run whose calls have their places in the history.
 ghost use Rattle.std.specs.Prelude.{◌≡◌, IfOk};
-ghost use Rattle.cluster_core.specs.Histories.{HasHistory, EachAtItsPlace};
-ghost use Rattle.cluster_core.specs.Placement.{items_in, slots_of};
+ghost use Rattle.cluster_core.specs.rule.Histories.{HasHistory, EachAtItsPlace};
+ghost use Rattle.cluster_core.specs.code.Placement.{items_in, slots_of};
 
 use crate::placed::slots_of;
 use crate::placed_entries::PlacedEntries;
@@ -19,8 +19,8 @@ pub struct PlacedRun {
 }
 
 impl Model for PlacedRun {
-    ghost use Rattle.cluster_core.specs.Journals.{JournalFields};
-    ghost use Rattle.placement.specs.Rests.{ArePlaces};
+    ghost use Rattle.cluster_core.specs.rule.Journals.{JournalFields};
+    ghost use Rattle.placement.specs.code.Rests.{ArePlaces};
 
     ghost Value = { JournalFields };
 

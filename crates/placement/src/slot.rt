@@ -1,8 +1,8 @@
 //! A slot of a history: what stands at an entry of a run.
 ghost use Rattle.std.specs.Prelude.{◌≡◌};
-ghost use Rattle.cluster_core.specs.Calls.{called_by};
-ghost use Rattle.cluster_core.specs.Placement.{gone_at};
-ghost use Rattle.placement.specs.Standing.{answered_so, stands};
+ghost use Rattle.cluster_core.specs.code.Calls.{called_by};
+ghost use Rattle.cluster_core.specs.code.Placement.{gone_at};
+ghost use Rattle.placement.specs.code.Standing.{answered_so, stands};
 
 use cluster_core::item::Item;
 use messages::entry::Entry;

@@ -4,8 +4,8 @@ use Rattle.std.proofs.Common.{arith, ap, sym, ◌∙◌, inl, inr}
 use Rattle.std.proofs.lemmas.Bool.{cases_eq, cases_lt, eq-eqb, ne_eqb, lt-ltb, le-ltb}
 use Rattle.std.proofs.Math.Bool.{or-false}
 use Rattle.std.proofs.lemmas.List.{get_or-set_same, get_or-set_other}
-use Rattle.player.specs.Progress.{with_settled, IsLeastUnsettled}
-use Rattle.player.specs.Settled.{SettledParts, settled_in}
+use Rattle.player.specs.rule.Progress.{with_settled, IsLeastUnsettled}
+use Rattle.player.specs.code.Settled.{SettledParts, settled_in}
 
 or_true : (b : Bool) → (b || true) ≡ true
 or_true true = refl

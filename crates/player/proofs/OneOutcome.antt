@@ -10,15 +10,15 @@ use Rattle.messages.specs.declared.refusal.Refused.TheVariants.{NoMemory, Fenced
 use Rattle.messages.specs.declared.event.Event.TheVariants as event
 use Rattle.messages.specs.declared.message.Message.{Message}
 use Rattle.messages.specs.declared.entry.Entry.{Entry}
-use Rattle.cluster_core.specs.World.{WorldState}
-use Rattle.cluster_core.specs.Next.{kept_next}
-use Rattle.cluster_core.specs.Journals.{delivery}
+use Rattle.cluster_core.specs.rule.World.{WorldState}
+use Rattle.cluster_core.specs.rule.Next.{kept_next}
+use Rattle.cluster_core.specs.rule.Journals.{delivery}
 use Rattle.lockscript.specs.declared.script_line.Command.{Command}
 use Rattle.lockscript.specs.declared.script_line.Command.TheVariants.{Call, Deliver, Lose, Settle, Interrupt, Retry, Resend, Declare, Restart, Learn, FailServer, StartServer}
-use Rattle.lockscript.specs.Scripts.{LineFields}
-use Rattle.player.specs.Progress.{Progress, End, first_progress, after_delivery, index_of, settling, Ends, InTurn, Passes, IsLeastUnsettled, IsNextMessage, Delivers, IsSettled, Does}
-use Rattle.player.specs.Played.{played_of}
-use Rattle.player.specs.Laws.{ComesToOne, FullComesToNothing}
+use Rattle.lockscript.specs.rule.Scripts.{LineFields}
+use Rattle.player.specs.rule.Progress.{Progress, End, first_progress, after_delivery, index_of, settling, Ends, InTurn, Passes, IsLeastUnsettled, IsNextMessage, Delivers, IsSettled, Does}
+use Rattle.player.specs.rule.Played.{played_of}
+use Rattle.player.specs.code.Laws.{ComesToOne, FullComesToNothing}
 
 ends_one : (line : ℕ) (p : Progress) (q s : End) (r : Result (WorldState × Entry) Refused) → Ends line p r q → Ends line p r s → q ≡ s
 ends_one line p q s (Ok made) a b = a ∙ sym b

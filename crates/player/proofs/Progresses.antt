@@ -10,16 +10,16 @@ use Rattle.messages.specs.declared.event.Event.{Event}
 use Rattle.messages.specs.declared.event.Event.TheVariants as event
 use Rattle.messages.specs.declared.message.Message.{Message}
 use Rattle.messages.specs.declared.entry.Entry.{Entry}
-use Rattle.cluster_core.specs.World.{WorldState, journal_limit}
-use Rattle.cluster_core.specs.Next.{next, kept_next}
-use Rattle.cluster_core.specs.Journals.{delivery}
-use Rattle.cluster_core.specs.Runs.{Leads}
+use Rattle.cluster_core.specs.rule.World.{WorldState, journal_limit}
+use Rattle.cluster_core.specs.rule.Next.{next, kept_next}
+use Rattle.cluster_core.specs.rule.Journals.{delivery}
+use Rattle.cluster_core.specs.rule.Runs.{Leads}
 use Rattle.cluster_core.proofs.runs.JournalRuns.{leads_push, entry_event}
 use Rattle.cluster_core.proofs.steps.Steps.{kept_taken}
 use Rattle.lockscript.specs.declared.script_line.Command.{Command}
 use Rattle.lockscript.specs.declared.script_line.Command.TheVariants.{Call, Deliver, Lose, Settle, Interrupt, Retry, Resend, Declare, Restart, Learn, FailServer, StartServer}
-use Rattle.lockscript.specs.Scripts.{LineFields}
-use Rattle.player.specs.Progress.{Progress, End, after_entry, after_refusal, index_of, lost, settling, Comes, Ends, Happens, InTurn, Passes, IsLeastUnsettled, IsNextMessage, Delivers, Does, RunsTo}
+use Rattle.lockscript.specs.rule.Scripts.{LineFields}
+use Rattle.player.specs.rule.Progress.{Progress, End, after_entry, after_refusal, index_of, lost, settling, Comes, Ends, Happens, InTurn, Passes, IsLeastUnsettled, IsNextMessage, Delivers, Does, RunsTo}
 
 -- the entries of a run lead from its first world to its world so far
 abbrev pub LeadsFrom : WorldState → Progress → Type 0

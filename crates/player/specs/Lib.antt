@@ -1,5 +1,2 @@
-pub mod Progress
-pub mod Settled
-pub mod Played
-pub mod Laws
-pub mod Parts
+pub mod rule
+pub mod code

@@ -1,15 +1,15 @@
 //! Runs whole scripts, from the beginning or behind a journal.
 ghost use Rattle.std.specs.Prelude.{◌≡◌, None, IfErr, IfOk};
-ghost use Rattle.cluster_core.specs.Histories.{HasOneHistory};
-ghost use Rattle.cluster_core.specs.Parts.{world_state};
-ghost use Rattle.cluster_core.specs.Runs.{Leads};
-ghost use Rattle.cluster_core.specs.Safe.{IsSafe};
-ghost use Rattle.cluster_core.specs.World.{first_world};
+ghost use Rattle.cluster_core.specs.rule.Histories.{HasOneHistory};
+ghost use Rattle.cluster_core.specs.rule.Parts.{world_state};
+ghost use Rattle.cluster_core.specs.rule.Runs.{Leads};
+ghost use Rattle.cluster_core.specs.rule.Safe.{IsSafe};
+ghost use Rattle.cluster_core.specs.rule.World.{first_world};
 ghost use Rattle.messages.specs.declared.version.Version.TheVariants.{Second};
 ghost use Rattle.lockscript.specs.declared.play_error.PlayError.TheVariants.{JournalFull};
-ghost use Rattle.player.specs.Parts.{progress, state_of};
-ghost use Rattle.player.specs.Played.{ComesFrom, ComesTo, FillsBehind, FillsJournal, GoesOnTo};
-ghost use Rattle.player.specs.Progress.{RunsTo};
+ghost use Rattle.player.specs.code.Parts.{progress, state_of};
+ghost use Rattle.player.specs.rule.Played.{ComesFrom, ComesTo, FillsBehind, FillsJournal, GoesOnTo};
+ghost use Rattle.player.specs.rule.Progress.{RunsTo};
 
 use crate::played::Played;
 use crate::player::Player;

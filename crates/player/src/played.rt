@@ -1,10 +1,10 @@
 //! The outcome of a script: a journal, the last world, and the refused lines.
 ghost use Rattle.std.specs.Prelude.{◌≡◌};
-ghost use Rattle.cluster_core.specs.Parts.{world_state};
-ghost use Rattle.cluster_core.specs.Runs.{Leads};
-ghost use Rattle.cluster_core.specs.Safe.{IsSafe};
-ghost use Rattle.cluster_core.specs.World.{first_world};
-ghost use Rattle.player.specs.Played.{EndsIn};
+ghost use Rattle.cluster_core.specs.rule.Parts.{world_state};
+ghost use Rattle.cluster_core.specs.rule.Runs.{Leads};
+ghost use Rattle.cluster_core.specs.rule.Safe.{IsSafe};
+ghost use Rattle.cluster_core.specs.rule.World.{first_world};
+ghost use Rattle.player.specs.rule.Played.{EndsIn};
 
 use cluster_core::journal::Journal;
 use cluster_core::world::World;
@@ -21,9 +21,9 @@ pub struct Played {
 }
 
 impl Model for Played {
-    ghost use Rattle.cluster_core.specs.Parts.{world_state};
-    ghost use Rattle.player.specs.Parts.{PlayedParts};
-    ghost use Rattle.player.specs.Played.{EndsIn};
+    ghost use Rattle.cluster_core.specs.rule.Parts.{world_state};
+    ghost use Rattle.player.specs.code.Parts.{PlayedParts};
+    ghost use Rattle.player.specs.rule.Played.{EndsIn};
 
     ghost Value = { PlayedParts };
 

@@ -1,15 +1,15 @@
 //! Runs a script line by line.
 ghost use Rattle.std.specs.Prelude.{◌≡◌, ◌+◌, ◌<◌, ◌≤◌, true, false, Err, Some, None, IfErr, IfOk, OnOk};
-ghost use Rattle.cluster_core.specs.Histories.{HasOneHistory};
-ghost use Rattle.cluster_core.specs.Parts.{world_state};
-ghost use Rattle.cluster_core.specs.Runs.{Leads};
-ghost use Rattle.cluster_core.specs.Safe.{IsSafe};
-ghost use Rattle.cluster_core.specs.World.{first_world};
+ghost use Rattle.cluster_core.specs.rule.Histories.{HasOneHistory};
+ghost use Rattle.cluster_core.specs.rule.Parts.{world_state};
+ghost use Rattle.cluster_core.specs.rule.Runs.{Leads};
+ghost use Rattle.cluster_core.specs.rule.Safe.{IsSafe};
+ghost use Rattle.cluster_core.specs.rule.World.{first_world};
 ghost use Rattle.messages.specs.declared.message.Message.{Message};
 ghost use Rattle.lockscript.specs.declared.play_error.PlayError.TheVariants.{NoMemory, JournalFull};
-ghost use Rattle.player.specs.Parts.{progress, state_of};
-ghost use Rattle.player.specs.Played.{played_of};
-ghost use Rattle.player.specs.Progress.{first_progress, progress_after, Delivers, Does, Ends, Happens, IsNextMessage, IsSettled, Settles};
+ghost use Rattle.player.specs.code.Parts.{progress, state_of};
+ghost use Rattle.player.specs.rule.Played.{played_of};
+ghost use Rattle.player.specs.rule.Progress.{first_progress, progress_after, Delivers, Does, Ends, Happens, IsNextMessage, IsSettled, Settles};
 
 use crate::played::Played;
 use crate::settled::Settled;
@@ -34,7 +34,7 @@ pub struct Player {
 }
 
 impl Model for Player {
-    ghost use Rattle.player.specs.Parts.{PlayerParts};
+    ghost use Rattle.player.specs.code.Parts.{PlayerParts};
 
     ghost Value = { PlayerParts };
 

@@ -2,7 +2,7 @@
 use Rattle.std.specs.Prelude.{◌≡◌, ℕ, suc, ◌+◌, List, [], ◌++◌, refl}
 use Rattle.std.proofs.Common.{arith}
 use Rattle.recordings.specs.declared.line.Line.{Line}
-use Rattle.recordings.specs.Texts.{empties_text, empty_text}
+use Rattle.recordings.specs.rule.Texts.{empties_text, empty_text}
 
 pub empties-zero : (lines : List Line) → empties_text lines 0 ≡ []
 unfolding empties_text

@@ -1,8 +1,8 @@
 -- What stands before the first line feed.
 use Rattle.std.proofs.Common.{◌≡◌, ℕ, List, [], ◌∷◌, ◌++◌, refl, ap, ◌∙◌, arith, eqb, cond}
 use Rattle.std.proofs.lemmas.List.Sums.{sum_by-cons}
-use Rattle.texts.specs.LineFeeds.{line_feed, line_feeds, BeginsWithLine}
-use Rattle.recordings.specs.Texts.{first_line}
+use Rattle.texts.specs.rule.LineFeeds.{line_feed, line_feeds, BeginsWithLine}
+use Rattle.recordings.specs.rule.Texts.{first_line}
 
 pub first-alone : (bs : List ℕ) → line_feeds bs ≡ 0 → first_line bs ≡ bs
 first-alone [] none = refl

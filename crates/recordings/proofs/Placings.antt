@@ -3,13 +3,13 @@ use Rattle.std.proofs.Common.{◌≡◌, ◌≢◌, ◌∙◌, ◌<◌, ◌^◌,
 use Rattle.std.specs.Option.{option_zip}
 use Rattle.std.proofs.lemmas.List.{append_assoc, length-append}
 use Rattle.std.proofs.lemmas.List.Elements.{All-cons, All-head, All-nil, All-tail}
-use Rattle.model.specs.Limits.{IsNumber, most_nodes}
-use Rattle.texts.specs.Reads.{Both, Lacks, Reads, joined_text}
+use Rattle.model.specs.rule.Limits.{IsNumber, most_nodes}
+use Rattle.texts.specs.rule.Reads.{Both, Lacks, Reads, joined_text}
 use Rattle.texts.proofs.Pairs.{AllLack, reads-joined, reads-joined_none, same-split}
 use Rattle.texts.proofs.SingleWords.{decimal-lacks, lacks-tested}
 use Rattle.message_text.proofs.Words.{lacks-append}
-use Rattle.recordings.specs.Places.{PlacingFields}
-use Rattle.recordings.specs.Placings.{HasPlacings, IsPlacing, WritesPlacings, comma, equals_sign, most_pids, placing_text, placings_text}
+use Rattle.recordings.specs.rule.Places.{PlacingFields}
+use Rattle.recordings.specs.rule.Placings.{HasPlacings, IsPlacing, WritesPlacings, comma, equals_sign, most_pids, placing_text, placings_text}
 
 -- numbers have no `=` and no comma, and so a placing has none
 pid-lacks : AllLack equals_sign decimal (IsNumber most_pids)

@@ -1,5 +1,1 @@
-pub mod Places
-pub mod Placings
-pub mod Known
-pub mod Steps
-pub mod Texts
+pub mod rule

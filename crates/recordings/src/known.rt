@@ -1,9 +1,9 @@
 //! What is known of recorded processes.
 ghost use Rattle.std.specs.Prelude.{◌≡◌, OnOk};
-ghost use Rattle.model.specs.Limits.{IsNumber, most_nodes};
-ghost use Rattle.lockscript.specs.Served.{IsServedOp};
-ghost use Rattle.recordings.specs.Known.{file_of, free_place, running_of};
-ghost use Rattle.recordings.specs.Steps.{arrived, asked_by, asks, begun, bound, closed, closed_in_turn, closes, closes_range, copied, duplicates, ended, executes, finished, followed, follows, forked, forked_by, forks, freed, given_up, gone, happened, held_of, left_out, locking, op_of, opens, opens_file, refers, retried, returned, settled, shut, start, step, turn_after, why_not, with_answer, with_call, with_held, with_left, with_line, with_locked, with_note, with_running, with_shared, with_thread, with_waiting};
+ghost use Rattle.model.specs.rule.Limits.{IsNumber, most_nodes};
+ghost use Rattle.lockscript.specs.rule.Served.{IsServedOp};
+ghost use Rattle.recordings.specs.rule.Known.{file_of, free_place, running_of};
+ghost use Rattle.recordings.specs.rule.Steps.{arrived, asked_by, asks, begun, bound, closed, closed_in_turn, closes, closes_range, copied, duplicates, ended, executes, finished, followed, follows, forked, forked_by, forks, freed, given_up, gone, happened, held_of, left_out, locking, op_of, opens, opens_file, refers, retried, returned, settled, shut, start, step, turn_after, why_not, with_answer, with_call, with_held, with_left, with_line, with_locked, with_note, with_running, with_shared, with_thread, with_waiting};
 
 use crate::answer::Answer;
 use crate::asked::{Asked, Wish};
@@ -54,8 +54,8 @@ pub(crate) struct Known<'a> {
 }
 
 impl<'a> Model for Known<'a> {
-    ghost use Rattle.model.specs.Limits.{IsNumber, most_nodes};
-    ghost use Rattle.recordings.specs.Known.{KnownFields};
+    ghost use Rattle.model.specs.rule.Limits.{IsNumber, most_nodes};
+    ghost use Rattle.recordings.specs.rule.Known.{KnownFields};
 
     ghost Value = { KnownFields };
 
@@ -106,7 +106,7 @@ impl<'a> Known<'a> {
     }
 
     // Takes an event at this line, of the process or thread of the first PID, which is of the process of the second.
-    #[tactic(auto, unfolding(crate::specs::Steps::happened))]
+    #[tactic(auto, unfolding(crate::specs::rule::Steps::happened))]
     fn happen(
         &mut self,
         line: u64,
@@ -237,7 +237,7 @@ impl<'a> Known<'a> {
     }
 
     // The process of that PID runs or stays out; else it begins, or stays out where its node has no room.
-    #[tactic(auto, unfolding(crate::specs::Steps::arrived))]
+    #[tactic(auto, unfolding(crate::specs::rule::Steps::arrived))]
     fn arrive(&mut self, line: u64, pid: u32) -> Result<(), AllocError>
         ensures { OnOk result (self.new ≡ arrived line pid self.old) }
     {
@@ -251,7 +251,7 @@ impl<'a> Known<'a> {
     }
 
     // The process begins on the node, or stays out where that has no room.
-    #[tactic(auto, unfolding(crate::specs::Steps::begun))]
+    #[tactic(auto, unfolding(crate::specs::rule::Steps::begun))]
     fn begin(&mut self, line: u64, pid: u32, node: u8, in_turn: bool) -> Result<(), AllocError>
         requires { IsNumber most_nodes node }
         ensures { OnOk result (self.new ≡ begun line pid in_turn (free_place self.old.running node) self.old) }
@@ -293,7 +293,7 @@ impl<'a> Known<'a> {
     }
 
     // The process opens a file.
-    #[tactic(auto, unfolding(crate::specs::Steps::opens_file))]
+    #[tactic(auto, unfolding(crate::specs::rule::Steps::opens_file))]
     fn open_file(
         &mut self,
         line: u64,
@@ -309,7 +309,7 @@ impl<'a> Known<'a> {
     }
 
     // The descriptor refers to the file, and is opened where it isn't known.
-    #[tactic(auto, unfolding(crate::specs::Steps::refers))]
+    #[tactic(auto, unfolding(crate::specs::rule::Steps::refers))]
     fn refer(&mut self, line: u64, pid: u32, fd: u32, path: u32) -> Result<(), AllocError>
         ensures { OnOk result (self.new ≡ refers line pid fd path self.old) }
     {
@@ -320,7 +320,7 @@ impl<'a> Known<'a> {
     }
 
     // The process opens a file, if it runs.
-    #[tactic(auto, unfolding(crate::specs::Steps::opens, crate::specs::Steps::opened))]
+    #[tactic(auto, unfolding(crate::specs::rule::Steps::opens, crate::specs::rule::Steps::opened))]
     fn open(
         &mut self,
         by: Option<Running>,
@@ -362,7 +362,7 @@ impl<'a> Known<'a> {
     }
 
     // The process gets a descriptor of what another refers to.
-    #[tactic(auto, unfolding(crate::specs::Steps::duplicates, crate::specs::Steps::duplicated))]
+    #[tactic(auto, unfolding(crate::specs::rule::Steps::duplicates, crate::specs::rule::Steps::duplicated))]
     fn duplicate(&mut self, by: Option<Running>, fd: u32, to: u32) -> Result<(), AllocError>
         ensures { OnOk result (self.new ≡ duplicates by fd to self.old) }
     {
@@ -402,7 +402,7 @@ impl<'a> Known<'a> {
     }
 
     // The descriptor of the process goes, if it runs.
-    #[tactic(auto, unfolding(crate::specs::Steps::closes))]
+    #[tactic(auto, unfolding(crate::specs::rule::Steps::closes))]
     fn close(&mut self, by: Option<Running>, fd: u32) -> Result<(), AllocError>
         ensures { OnOk result (self.new ≡ closes by fd self.old) }
     {
@@ -413,7 +413,7 @@ impl<'a> Known<'a> {
     }
 
     // The descriptor of the process goes.
-    #[tactic(auto, unfolding(crate::specs::Steps::closed))]
+    #[tactic(auto, unfolding(crate::specs::rule::Steps::closed))]
     fn close_at(&mut self, place: Place, fd: u32) -> Result<(), AllocError>
         ensures { OnOk result (self.new ≡ closed place fd self.old) }
     {
@@ -437,7 +437,7 @@ impl<'a> Known<'a> {
     }
 
     // The descriptors of the process from the first number to the last go.
-    #[tactic(auto, unfolding(crate::specs::Steps::closes_range))]
+    #[tactic(auto, unfolding(crate::specs::rule::Steps::closes_range))]
     fn close_range(&mut self, by: Option<Running>, first: u32, last: u32) -> Result<(), AllocError>
         ensures { OnOk result (self.new ≡ closes_range by first last self.old) }
     {
@@ -460,7 +460,7 @@ impl<'a> Known<'a> {
     }
 
     // The process executes a program, where its descriptors stay open.
-    #[tactic(auto, unfolding(crate::specs::Steps::executes))]
+    #[tactic(auto, unfolding(crate::specs::rule::Steps::executes))]
     fn execute(&mut self, line: u64, by: Option<Running>) -> Result<(), AllocError>
         ensures { OnOk result (self.new ≡ executes line by self.old) }
     {
@@ -474,7 +474,7 @@ impl<'a> Known<'a> {
     }
 
     // The process makes a process, which stays out where that one does.
-    #[tactic(auto, unfolding(crate::specs::Steps::forks))]
+    #[tactic(auto, unfolding(crate::specs::rule::Steps::forks))]
     fn fork(&mut self, line: u64, pid: u32, child: u32, shares: bool) -> Result<(), AllocError>
         ensures { OnOk result (self.new ≡ forks line pid child shares self.old) }
     {
@@ -507,7 +507,7 @@ impl<'a> Known<'a> {
     }
 
     // The process makes a process there, or one that stays out where its node has no room.
-    #[tactic(auto, unfolding(crate::specs::Steps::forked))]
+    #[tactic(auto, unfolding(crate::specs::rule::Steps::forked))]
     fn fork_at(
         &mut self,
         line: u64,
@@ -540,7 +540,7 @@ impl<'a> Known<'a> {
     }
 
     // None has that PID any more.
-    #[tactic(auto, unfolding(crate::specs::Steps::freed))]
+    #[tactic(auto, unfolding(crate::specs::rule::Steps::freed))]
     fn free(&mut self, pid: u32) -> Result<(), AllocError>
         ensures { OnOk result (self.new ≡ freed pid self.old) }
     {
@@ -549,7 +549,7 @@ impl<'a> Known<'a> {
     }
 
     // The thread of that PID exits, or the process to which the PID belongs.
-    #[tactic(auto, unfolding(crate::specs::Steps::gone))]
+    #[tactic(auto, unfolding(crate::specs::rule::Steps::gone))]
     fn end_pid(&mut self, pid: u32, whole: bool) -> Result<(), AllocError>
         ensures { OnOk result (self.new ≡ gone pid whole self.old) }
     {
@@ -562,7 +562,7 @@ impl<'a> Known<'a> {
     }
 
     // The process of that PID exits, if it runs, with its threads, or stays out no more.
-    #[tactic(auto, unfolding(crate::specs::Steps::finished))]
+    #[tactic(auto, unfolding(crate::specs::rule::Steps::finished))]
     fn finish(&mut self, pid: u32) -> Result<(), AllocError>
         ensures { OnOk result (self.new ≡ finished pid self.old) }
     {
@@ -575,7 +575,7 @@ impl<'a> Known<'a> {
     }
 
     // The process is gone, with its descriptors and its waits.
-    #[tactic(auto, unfolding(crate::specs::Steps::ended))]
+    #[tactic(auto, unfolding(crate::specs::rule::Steps::ended))]
     fn end(&mut self, place: Place) -> Result<(), AllocError>
         ensures { OnOk result (self.new ≡ ended place self.old) }
     {
@@ -587,7 +587,7 @@ impl<'a> Known<'a> {
     }
 
     // The process of that PID makes a lock call through the descriptor.
-    #[tactic(auto, unfolding(crate::specs::Steps::asks, crate::specs::Steps::asked_through))]
+    #[tactic(auto, unfolding(crate::specs::rule::Steps::asks, crate::specs::rule::Steps::asked_through))]
     fn ask(
         &mut self,
         line: u64,
@@ -609,7 +609,7 @@ impl<'a> Known<'a> {
     }
 
     // There is a lock call on the file.
-    #[tactic(auto, unfolding(crate::specs::Steps::with_locked))]
+    #[tactic(auto, unfolding(crate::specs::rule::Steps::with_locked))]
     fn lock(&mut self, path: u32) -> Result<(), AllocError>
         ensures { OnOk result (self.new ≡ with_locked path self.old) }
     {
@@ -710,7 +710,7 @@ impl<'a> Known<'a> {
     }
 
     // Messages are delivered, and open waits tried again.
-    #[tactic(auto, unfolding(crate::specs::Steps::settled))]
+    #[tactic(auto, unfolding(crate::specs::rule::Steps::settled))]
     fn settle(&mut self) -> Result<(), AllocError>
         ensures { OnOk result (self.new ≡ settled self.old) }
     {

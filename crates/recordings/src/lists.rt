@@ -2,10 +2,10 @@
 ghost use Rattle.std.specs.Prelude.{◌≡◌, ◌==◌, filter, find, not, IfOk, OnOk, map, ◌++◌};
 ghost use Rattle.std.specs.List.{list_any};
 ghost use Rattle.std.specs.Option.{option_map};
-ghost use Rattle.model.specs.Limits.{IsNumber, most_nodes};
-ghost use Rattle.recordings.specs.Known.{fds_within, file_of, free_place, free_slot, has_pid, has_slot, held_by, is_file, is_held, is_left, is_of, is_scripted, is_slot, is_thread, is_thread_of, is_within, place_of, process_of, running_of, runs_at};
-ghost use Rattle.recordings.specs.Places.{has_placed, is_at, placing_of};
-ghost use Rattle.recordings.specs.Steps.{has_room, in_child, retry_of};
+ghost use Rattle.model.specs.rule.Limits.{IsNumber, most_nodes};
+ghost use Rattle.recordings.specs.rule.Known.{fds_within, file_of, free_place, free_slot, has_pid, has_slot, held_by, is_file, is_held, is_left, is_of, is_scripted, is_slot, is_thread, is_thread_of, is_within, place_of, process_of, running_of, runs_at};
+ghost use Rattle.recordings.specs.rule.Places.{has_placed, is_at, placing_of};
+ghost use Rattle.recordings.specs.rule.Steps.{has_room, in_child, retry_of};
 
 use crate::held::Held;
 use crate::line::Line;

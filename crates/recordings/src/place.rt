@@ -9,7 +9,7 @@ pub(crate) struct Place {
 }
 
 impl Model for Place {
-    ghost use Rattle.recordings.specs.Places.{PlaceFields, IsPlace};
+    ghost use Rattle.recordings.specs.rule.Places.{PlaceFields, IsPlace};
 
     ghost Value = { PlaceFields };
 
@@ -22,8 +22,8 @@ impl Model for Place {
 
 impl Place {
     ghost use Rattle.std.specs.Prelude.{◌≡◌};
-    ghost use Rattle.model.specs.Limits.{IsNumber, most_nodes, most_processes};
-    ghost use Rattle.recordings.specs.Places.{is_at};
+    ghost use Rattle.model.specs.rule.Limits.{IsNumber, most_nodes, most_processes};
+    ghost use Rattle.recordings.specs.rule.Places.{is_at};
 
     /// The process of this number on the node.
     pub(crate) fn new(node: u8, number: u16) -> Place

@@ -1,6 +1,6 @@
 //! Processes that are placed by hand.
 ghost use Rattle.std.specs.Prelude.{◌≡◌, IfErr, IfOk};
-ghost use Rattle.recordings.specs.Placings.{HasPlacings, WritesPlacings};
+ghost use Rattle.recordings.specs.rule.Placings.{HasPlacings, WritesPlacings};
 ghost use Rattle.recordings.specs.declared.placing.PlacingError.TheVariants.{Form, NoMemory};
 
 use std::alloc::{AllocError, AllocFailed, Global};
@@ -47,8 +47,8 @@ pub struct Placing {
 }
 
 impl Model for Placing {
-    ghost use Rattle.model.specs.Limits.{IsNumber, most_nodes};
-    ghost use Rattle.recordings.specs.Places.{PlacingFields};
+    ghost use Rattle.model.specs.rule.Limits.{IsNumber, most_nodes};
+    ghost use Rattle.recordings.specs.rule.Places.{PlacingFields};
 
     ghost Value = { PlacingFields };
 
@@ -62,9 +62,9 @@ impl Model for Placing {
 impl Placing {
     ghost use Rattle.std.specs.Prelude.{◌≡◌, Some};
     ghost use Rattle.std.specs.Option.{IfSome};
-    ghost use Rattle.model.specs.Limits.{IsNumber, most_nodes};
-    ghost use Rattle.texts.specs.Reads.{Reads};
-    ghost use Rattle.recordings.specs.Placings.{IsPlacing, placing_text};
+    ghost use Rattle.model.specs.rule.Limits.{IsNumber, most_nodes};
+    ghost use Rattle.texts.specs.rule.Reads.{Reads};
+    ghost use Rattle.recordings.specs.rule.Placings.{IsPlacing, placing_text};
 
     /// The placing of a PID on a node, if a cluster can have that.
     pub fn new(pid: u32, node: u8) -> Option<Placing>

@@ -1,6 +1,6 @@
 //! Why something is left out.
 ghost use Rattle.std.specs.Prelude.{◌≡◌};
-ghost use Rattle.recordings.specs.Texts.{reason_text};
+ghost use Rattle.recordings.specs.rule.Texts.{reason_text};
 
 /// Why something that is recorded isn't in the script.
 #[derive(Clone, Copy)]

@@ -1,11 +1,11 @@
 //! Scripts of recordings.
 ghost use Rattle.std.specs.Prelude.{◌≡◌, ◌≢◌, ◌↔◌, ◌++◌, string_bytes, true, Err, IfErr, IfOk, IsTrue, OnOk};
 ghost use Rattle.std.specs.List.{list_any};
-ghost use Rattle.model.specs.Limits.{IsNumber, most_nodes};
-ghost use Rattle.lockscript.specs.Scripts.{HasScript};
-ghost use Rattle.recordings.specs.Texts.{HasBadLine, IsOfEvents, notes_made, script_made, script_text};
-ghost use Rattle.recordings.specs.Places.{is_past};
-ghost use Rattle.recordings.specs.Steps.{is_full, known, known_at_end};
+ghost use Rattle.model.specs.rule.Limits.{IsNumber, most_nodes};
+ghost use Rattle.lockscript.specs.rule.Scripts.{HasScript};
+ghost use Rattle.recordings.specs.rule.Texts.{HasBadLine, IsOfEvents, notes_made, script_made, script_text};
+ghost use Rattle.recordings.specs.rule.Places.{is_past};
+ghost use Rattle.recordings.specs.rule.Steps.{is_full, known, known_at_end};
 ghost use Rattle.recordings.specs.declared.error.RecordingError.TheVariants.{Nodes, Placed, TooLong};
 
 use crate::error::RecordingError;
@@ -162,7 +162,7 @@ fn known_after<'a>(
 }
 
 // Writes the script.
-#[tactic(auto, unfolding(crate::specs::Texts::script_text))]
+#[tactic(auto, unfolding(crate::specs::rule::Texts::script_text))]
 fn push_script(
     out: &mut String,
     paths: &[&str],

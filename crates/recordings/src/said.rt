@@ -12,7 +12,7 @@ pub(crate) struct Said {
 
 impl Model for Said {
     ghost use Rattle.lockscript.specs.declared.script_line.Command.{Command};
-    ghost use Rattle.lockscript.specs.Scripts.{IsCommand};
+    ghost use Rattle.lockscript.specs.rule.Scripts.{IsCommand};
 
     ghost Value = { Command };
 
@@ -25,8 +25,8 @@ impl Model for Said {
 
 impl Said {
     ghost use Rattle.std.specs.Prelude.{◌≡◌};
-    ghost use Rattle.lockscript.specs.Scripts.{IsCommand};
-    ghost use Rattle.lockscript.specs.Served.{IsServedOp};
+    ghost use Rattle.lockscript.specs.rule.Scripts.{IsCommand};
+    ghost use Rattle.lockscript.specs.rule.Served.{IsServedOp};
     ghost use Rattle.lockscript.specs.declared.script_line.Command.TheVariants.{Call, Settle, Interrupt, Retry};
 
     /// A process makes a call.

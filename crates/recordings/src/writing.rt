@@ -1,11 +1,11 @@
 //! The texts of a script that is made, and of notes.
 ghost use Rattle.std.specs.Prelude.{◌≡◌, ◌++◌, codes, decimal, flat_map, slice_get, length, string_bytes, OnOk};
 ghost use Rattle.std.specs.List.{list_any};
-ghost use Rattle.lockscript.specs.Scripts.{shape_text};
-ghost use Rattle.model.specs.Limits.{IsNumber, most_nodes};
+ghost use Rattle.lockscript.specs.rule.Scripts.{shape_text};
+ghost use Rattle.model.specs.rule.Limits.{IsNumber, most_nodes};
 ghost use Rattle.messages.specs.declared.version.Version.TheVariants.{Second};
-ghost use Rattle.texts.specs.Reads.{pair_text};
-ghost use Rattle.recordings.specs.Texts.{answer_text, at_least_one, begins_on, empties_text, empty_text, file_text, first_line, line_text, note_text, notes_text, others_text, shape_of, shown, told, with_feed};
+ghost use Rattle.texts.specs.rule.Reads.{pair_text};
+ghost use Rattle.recordings.specs.rule.Texts.{answer_text, at_least_one, begins_on, empties_text, empty_text, file_text, first_line, line_text, note_text, notes_text, others_text, shape_of, shown, told, with_feed};
 
 use crate::answer::Answer;
 use crate::line::Line;
@@ -65,7 +65,7 @@ pub(crate) fn push_files(
 }
 
 // Writes which recorded file a file of the script is.
-#[tactic(auto, unfolding(crate::specs::Texts::file_text))]
+#[tactic(auto, unfolding(crate::specs::rule::Texts::file_text))]
 fn push_file(out: &mut String, paths: &[&str], file: &NumberedFile) -> Result<(), AllocError>
     ensures { OnOk result (string_bytes out.new ≡ string_bytes out.old ++ with_feed (file_text paths.now file.now)) }
 {
@@ -125,7 +125,7 @@ pub(crate) fn push_lines(out: &mut String, lines: &[Line]) -> Result<(), AllocEr
 }
 
 // Writes a line.
-#[tactic(auto, unfolding(crate::specs::Texts::line_text))]
+#[tactic(auto, unfolding(crate::specs::rule::Texts::line_text))]
 fn push_line(out: &mut String, line: &Line) -> Result<(), AllocError>
     ensures { OnOk result (string_bytes out.new ≡ string_bytes out.old ++ with_feed (line_text line.now)) }
 {
@@ -148,7 +148,7 @@ fn push_line(out: &mut String, line: &Line) -> Result<(), AllocError>
 }
 
 // Writes an answer.
-#[tactic(auto, unfolding(crate::specs::Texts::answer_text))]
+#[tactic(auto, unfolding(crate::specs::rule::Texts::answer_text))]
 fn push_answer(out: &mut String, answer: Answer) -> Result<(), AllocError>
     ensures { OnOk result (string_bytes out.new ≡ string_bytes out.old ++ answer_text answer) }
 {
@@ -188,7 +188,7 @@ pub(crate) fn push_empties(out: &mut String, lines: &[Line], nodes: u8) -> Resul
 }
 
 // Writes that the node has no process, if it has none.
-#[tactic(auto, unfolding(crate::specs::Texts::empty_text))]
+#[tactic(auto, unfolding(crate::specs::rule::Texts::empty_text))]
 fn push_empty(out: &mut String, lines: &[Line], node: u8) -> Result<(), AllocError>
     ensures { OnOk result (string_bytes out.new ≡ string_bytes out.old ++ empty_text lines.now node) }
 {
@@ -264,7 +264,7 @@ fn push_note(out: &mut String, note: &Note) -> Result<(), AllocError>
 }
 
 // Writes how many of so many notes aren't told one by one.
-#[tactic(auto, unfolding(crate::specs::Texts::others_text))]
+#[tactic(auto, unfolding(crate::specs::rule::Texts::others_text))]
 fn push_others(out: &mut String, count: usize) -> Result<(), AllocError>
     ensures { OnOk result (string_bytes out.new ≡ string_bytes out.old ++ others_text count) }
 {

@@ -3,8 +3,8 @@ use Rattle.std.proofs.Common.{◌≡◌, false}
 use Rattle.history_text.specs.declared.rule.Allowed.{Allowed}
 use Rattle.history_text.specs.declared.rule.Rule.{Rule}
 use Rattle.history_text.specs.declared.rule.Rule.TheVariants.{WaitDrops, CloseOwnDescriptor, NoQuery, StaleReadDenial, LostAt}
-use Rattle.history_text.specs.Rules.{allows}
-use Rattle.replay.specs.Judging.{no_rule}
+use Rattle.history_text.specs.rule.Rules.{allows}
+use Rattle.replay.specs.rule.Judging.{no_rule}
 
 -- where none is allowed
 pub none_allowed : (allowed : Allowed) → ((rule : Rule) → allows allowed rule ≡ false) → allowed ≡ no_rule

@@ -2,14 +2,14 @@
 use Rattle.std.proofs.Common.{◌≡◌, ℕ, ◌+◌, ◌<◌, ◌≤◌, true, false, List, [], ◌∷◌, ◌++◌, Option, Some, None, Ok, inl, inr, refl, ap, ◌∙◌, arith, length, append_assoc, length-append}
 use Rattle.std.specs.Prelude.{◌≢◌, is_some}
 use Rattle.std.proofs.lemmas.Bool.{cases_lt}
-use Rattle.messages.specs.Shapes.{ShapeFields}
+use Rattle.messages.specs.rule.Shapes.{ShapeFields}
 use Rattle.messages.specs.declared.entry.Entry.{Entry}
-use Rattle.cluster_core.specs.Next.{next}
-use Rattle.cluster_core.specs.World.{WorldState, first_world, journal_limit}
+use Rattle.cluster_core.specs.rule.Next.{next}
+use Rattle.cluster_core.specs.rule.World.{WorldState, first_world, journal_limit}
 use Rattle.cluster_core.proofs.common.Lengths.{leads-count}
 use Rattle.cluster_core.proofs.runs.JournalRuns.{leads_push}
-use Rattle.cluster_core.specs.Journals.{IsFirstWrong}
-use Rattle.replay.specs.Audits.{Counts, IsVerdict, Tells}
+use Rattle.cluster_core.specs.rule.Journals.{IsFirstWrong}
+use Rattle.replay.specs.rule.Audits.{Counts, IsVerdict, Tells}
 
 -- one entry more is counted, up to one more than a journal may have
 pub counts-more : (taken after : ℕ) (es : List Entry) (e : Entry) → (taken ≤ journal_limit → after ≡ taken + 1) → (journal_limit < taken → after ≡ taken) → Counts taken es → Counts after (es ++ e ∷ [])

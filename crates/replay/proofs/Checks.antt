@@ -5,9 +5,9 @@ use Rattle.std.proofs.lemmas.List.{take_all}
 use Rattle.std.proofs.lemmas.List.Elements.{All-more}
 use Rattle.replay.specs.declared.fault.Fault.{Fault}
 use Rattle.replay.specs.declared.fault.Fault.TheVariants.{BadLine, CannotRead, CannotWrite, CannotWriteOutput, NoMemory, JournalFull, OldJournal, Faulty}
-use Rattle.replay.specs.Checks.{IsAtFault, IsGood}
-use Rattle.replay.specs.Stores.{Files, HasNoText, SameFiles}
-use Rattle.replay.specs.ToolFaults.{IsToolFault}
+use Rattle.replay.specs.rule.Checks.{IsAtFault, IsGood}
+use Rattle.replay.specs.rule.Stores.{Files, HasNoText, SameFiles}
+use Rattle.replay.specs.rule.ToolFaults.{IsToolFault}
 use Rattle.replay.proofs.Stores.{had-no_text, had-text, same-after}
 
 -- what is so of a file was so, as no file changed

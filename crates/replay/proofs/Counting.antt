@@ -1,7 +1,7 @@
 -- Counting one more item.
 use Rattle.std.proofs.Common.{◌≡◌, ◌<◌, ℕ, ◌+◌, List, [], ◌∷◌, ◌++◌, inl, inr, refl, ap, sym, subst, ◌∙◌, length, get_or, take}
 use Rattle.std.proofs.lemmas.List.{take_more}
-use Rattle.replay.specs.Counts.{IsCount}
+use Rattle.replay.specs.rule.Counts.{IsCount}
 
 pub one_more : {A : Type 0} (Is : A → Type 0) (xs : List A) (x : A) (count : ℕ) → IsCount Is xs count → Is x → IsCount Is (xs ++ x ∷ []) (count + 1)
 one_more Is [] x count counted is = inl (is, (0, ap (λ (n : ℕ). n + 1) counted, refl))

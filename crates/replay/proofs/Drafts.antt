@@ -2,16 +2,16 @@
 use Rattle.std.proofs.Common.{◌≡◌, ℕ, ◌+◌, List, [], ◌∷◌, ◌++◌, codes, length, reverse, refl, sym, ◌∙◌, ap, subst, append_assoc, append-nil, Some, Result, Ok, Err}
 use Rattle.std.specs.Prelude.{◌≢◌, IfOk, OnOk}
 use Rattle.std.proofs.lemmas.List.{reverse-append}
-use Rattle.journal_text.specs.Journals.{end_text, entries_text, entry_text, head_text, journal_text}
+use Rattle.journal_text.specs.rule.Journals.{end_text, entries_text, entry_text, head_text, journal_text}
 use Rattle.messages.specs.declared.entry.Entry.{Entry}
 use Rattle.messages.specs.declared.version.Version.{Version}
-use Rattle.messages.specs.Shapes.{ShapeFields}
-use Rattle.command_line.specs.Tasks.{Task, journal_path}
+use Rattle.messages.specs.rule.Shapes.{ShapeFields}
+use Rattle.command_line.specs.rule.Tasks.{Task, journal_path}
 use Rattle.replay.specs.declared.fault.Fault.{Fault}
 use Rattle.replay.specs.declared.fault.Fault.TheVariants as fault
-use Rattle.replay.specs.Commands.{HasRunOf, IsFault, IsInputFault}
-use Rattle.replay.specs.Faults.{IsUnwritten}
-use Rattle.replay.specs.Stores.{Adds, Drafted, Files, SameFiles, SameOthers}
+use Rattle.replay.specs.rule.Commands.{HasRunOf, IsFault, IsInputFault}
+use Rattle.replay.specs.rule.Faults.{IsUnwritten}
+use Rattle.replay.specs.rule.Stores.{Adds, Drafted, Files, SameFiles, SameOthers}
 use Rattle.replay.proofs.Stores.{others-after, same-after}
 
 -- no bytes came

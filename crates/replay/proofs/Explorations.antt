@@ -1,18 +1,18 @@
 -- Faults of the text of a file are faults of the file.
 use Rattle.std.proofs.Common.{◌≡◌, ℕ, Bool, List, Some, inr, refl}
 use Rattle.std.specs.Prelude.{◌≢◌, IsUtf8}
-use Rattle.command_line.specs.Tasks.{Task}
-use Rattle.explorer.specs.Schedules.{HasFullSchedule}
-use Rattle.lockscript.specs.Scripts.{ScriptFields}
-use Rattle.lockscript.specs.ThreadLines.{IsForThreads}
+use Rattle.command_line.specs.rule.Tasks.{Task}
+use Rattle.explorer.specs.rule.Schedules.{HasFullSchedule}
+use Rattle.lockscript.specs.rule.Scripts.{ScriptFields}
+use Rattle.lockscript.specs.rule.ThreadLines.{IsForThreads}
 use Rattle.lockscript.specs.declared.play_error.PlayError.{PlayError}
 use Rattle.lockscript.specs.declared.play_error.PlayError.TheVariants as play
 use Rattle.replay.specs.declared.fault.Fault.{Fault}
 use Rattle.replay.specs.declared.fault.Fault.TheVariants.{BadLine, CannotRead, CannotWrite, CannotWriteOutput, NoMemory, JournalFull, OldJournal, Faulty}
-use Rattle.replay.specs.Commands.{IsFault, IsInputFault}
-use Rattle.replay.specs.Explorations.{IsExploreFault, IsExploreTextFault}
-use Rattle.replay.specs.Faults.{fault_of_play}
-use Rattle.replay.specs.Stores.{Files, SameFiles}
+use Rattle.replay.specs.rule.Commands.{IsFault, IsInputFault}
+use Rattle.replay.specs.rule.Explorations.{IsExploreFault, IsExploreTextFault}
+use Rattle.replay.specs.rule.Faults.{fault_of_play}
+use Rattle.replay.specs.rule.Stores.{Files, SameFiles}
 
 -- of a task whose input is a script that is explored
 pub explore-fault : (failures : Bool) (old new : Files) (RanShort : Type 0) (Refuses : List ℕ → Type 0) (task : Task) (path text : List ℕ) (fault : Fault) → old path (Some text) → IsUtf8 text → SameFiles old new

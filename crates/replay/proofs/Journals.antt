@@ -1,16 +1,16 @@
 -- Lemmas on texts of journals that are audited.
 use Rattle.std.proofs.Common.{ℕ, ◌≤◌, List, Option, Some, inr, arith, Result, Ok, Err}
 use Rattle.std.specs.Prelude.{◌≢◌, IfErr, IsUtf8}
-use Rattle.cluster_core.specs.Journals.{JournalFields}
-use Rattle.cluster_core.specs.World.{journal_limit}
-use Rattle.messages.specs.Shapes.{ShapeFields}
+use Rattle.cluster_core.specs.rule.Journals.{JournalFields}
+use Rattle.cluster_core.specs.rule.World.{journal_limit}
+use Rattle.messages.specs.rule.Shapes.{ShapeFields}
 use Rattle.lockscript.specs.declared.error.ParseError.{ParseError}
 use Rattle.lockscript.specs.declared.error.ParseError.TheVariants.{NoMemory, BadLine}
-use Rattle.journal_text.specs.Readings.{HasLength, IsBadLine}
+use Rattle.journal_text.specs.rule.Readings.{HasLength, IsBadLine}
 use Rattle.replay.specs.declared.fault.Fault.{Fault}
 use Rattle.replay.specs.declared.fault.Fault.TheVariants as fault
-use Rattle.replay.specs.Audits.{HasJournal, WritesFew}
-use Rattle.replay.specs.Faults.{IsJournalFault, IsTextFault, fault_of_parse}
+use Rattle.replay.specs.rule.Audits.{HasJournal, WritesFew}
+use Rattle.replay.specs.rule.Faults.{IsJournalFault, IsTextFault, fault_of_parse}
 
 -- what the text writes, the file does
 pub has-journal : (Holds : Option (List ℕ) → Type 0) (bytes : List ℕ) (j : JournalFields) → Holds (Some bytes) → IsUtf8 bytes → WritesFew bytes j → HasJournal Holds j

@@ -9,8 +9,8 @@ use Rattle.judgements.specs.declared.outcome.Outcome.{Outcome}
 use Rattle.judgements.specs.declared.outcome.Outcome.TheVariants as outcome
 use Rattle.replay.specs.declared.shown.Shown.{Shown}
 use Rattle.replay.specs.declared.shown.Shown.TheVariants.{Text, Wanting, Partial, Noted, Undecided, Yes, No}
-use Rattle.replay.specs.Judging.{AreJudged, HasHistoryAt, IsSaidIn, IsSaidOf, shown_of}
-use Rattle.replay.specs.Stores.{Files, SameFiles}
+use Rattle.replay.specs.rule.Judging.{AreJudged, HasHistoryAt, IsSaidIn, IsSaidOf, shown_of}
+use Rattle.replay.specs.rule.Stores.{Files, SameFiles}
 use Rattle.replay.proofs.Stores.{had-text, same-after}
 
 -- what is said of a text is said of a history

@@ -1,28 +1,28 @@
 -- Lemmas on scripts that go on behind a journal.
 use Rattle.std.proofs.Common.{◌≡◌, ℕ, List, Option, Some, inl, inr, refl, subst}
 use Rattle.std.specs.Prelude.{Bool, IsUtf8}
-use Rattle.cluster_core.specs.Journals.{JournalFields}
+use Rattle.cluster_core.specs.rule.Journals.{JournalFields}
 use Rattle.messages.specs.declared.version.Version.{Version}
 use Rattle.messages.specs.declared.version.Version.TheVariants.{First, Second}
-use Rattle.journal_text.specs.Readings.{IsOld, WritesJournal}
+use Rattle.journal_text.specs.rule.Readings.{IsOld, WritesJournal}
 use Rattle.journal_text.proofs.FirstLines.{old_text}
-use Rattle.lockscript.specs.Scripts.{ScriptFields}
-use Rattle.lockscript.specs.ShapedScripts.{IsForShape, IsRefusedForShape}
+use Rattle.lockscript.specs.rule.Scripts.{ScriptFields}
+use Rattle.lockscript.specs.rule.ShapedScripts.{IsForShape, IsRefusedForShape}
 use Rattle.lockscript.specs.declared.error.ParseError.{ParseError}
 use Rattle.lockscript.specs.declared.error.ParseError.TheVariants as parse
 use Rattle.lockscript.specs.declared.play_error.PlayError.{PlayError}
 use Rattle.lockscript.specs.declared.play_error.PlayError.TheVariants as play
 use Rattle.replay.specs.declared.fault.Fault.{Fault}
 use Rattle.replay.specs.declared.fault.Fault.TheVariants.{BadLine, CannotRead, CannotWrite, CannotWriteOutput, NoMemory, JournalFull, OldJournal, Faulty}
-use Rattle.cluster_core.specs.Runs.{IsRun}
-use Rattle.replay.specs.Audits.{HasNewJournal}
+use Rattle.cluster_core.specs.rule.Runs.{IsRun}
+use Rattle.replay.specs.rule.Audits.{HasNewJournal}
 use Rattle.replay.specs.declared.shown.Shown.{Shown}
 use Rattle.replay.specs.declared.shown.Shown.TheVariants.{Text, Wanting, Partial, Noted, Undecided, Yes, No}
-use Rattle.replay.specs.Commands.{GoesOn, IsGoingFault, WentOn}
-use Rattle.replay.specs.Faults.{IsBehindFault, IsOldFault, IsTextFault, fault_of_parse, fault_of_play}
-use Rattle.player.specs.Played.{FillsBehind, PlayedState}
-use Rattle.replay.specs.Scripts.{HasComparedRun, HasComparedRunBehind, HasRun, HasRunBehind, HasScriptFor}
-use Rattle.replay.specs.Stores.{Files, SameFiles}
+use Rattle.replay.specs.rule.Commands.{GoesOn, IsGoingFault, WentOn}
+use Rattle.replay.specs.rule.Faults.{IsBehindFault, IsOldFault, IsTextFault, fault_of_parse, fault_of_play}
+use Rattle.player.specs.rule.Played.{FillsBehind, PlayedState}
+use Rattle.replay.specs.rule.Scripts.{HasComparedRun, HasComparedRunBehind, HasRun, HasRunBehind, HasScriptFor}
+use Rattle.replay.specs.rule.Stores.{Files, SameFiles}
 use Rattle.replay.proofs.Journals.{has-journal}
 use Rattle.replay.proofs.Stores.{had-no_text, had-text}
 

@@ -1,13 +1,13 @@
 -- Which files a command leaves as they were.
 use Rattle.std.proofs.Common.{ℕ, Bool, List, Option, Some, None, subst, sym}
-use Rattle.cluster_core.specs.Journals.{JournalFields}
-use Rattle.command_line.specs.Tasks.{Task, run, threads, audit, history, explain, open_calls, check, picture, from_strace, recorded_history, explore, schedule, judge, journal_path}
+use Rattle.cluster_core.specs.rule.Journals.{JournalFields}
+use Rattle.command_line.specs.rule.Tasks.{Task, run, threads, audit, history, explain, open_calls, check, picture, from_strace, recorded_history, explore, schedule, judge, journal_path}
 use Rattle.replay.specs.declared.fault.Fault.{Fault}
 use Rattle.replay.specs.declared.fault.Fault.TheVariants.{BadLine, CannotRead, CannotWrite, CannotWriteOutput, NoMemory, JournalFull, OldJournal, Faulty}
 use Rattle.replay.specs.declared.shown.Shown.{Shown}
 use Rattle.replay.specs.declared.shown.Shown.TheVariants.{Text, Wanting, Partial, Noted, Undecided, Yes, No}
-use Rattle.replay.specs.Commands.{Does, GoesOn, IsFault, KeepsJournal, SameBut}
-use Rattle.replay.specs.Stores.{Files, SameFiles}
+use Rattle.replay.specs.rule.Commands.{Does, GoesOn, IsFault, KeepsJournal, SameBut}
+use Rattle.replay.specs.rule.Stores.{Files, SameFiles}
 
 -- where no file changed
 same-but : (old new : Files) (to : Option (List ℕ)) → SameFiles old new → SameBut to old new

@@ -3,7 +3,7 @@ use Rattle.std.proofs.Common.{ℕ, List, [], ◌++◌, Option, None, Some, Resul
 use Rattle.std.specs.Prelude.{⊤}
 use Rattle.std.proofs.KnownBytes.{Appends-trans}
 use Rattle.std.specs.Io.KnownBytes.{Appends, Keeps}
-use Rattle.replay.specs.Outputs.{AppendsPart, Writes, WritesOrFails}
+use Rattle.replay.specs.rule.Outputs.{AppendsPart, Writes, WritesOrFails}
 
 -- a beginning of the first bytes is one of the whole
 pub part-before : (old new : Option (List ℕ)) (xs ys : List ℕ) → AppendsPart old new xs → AppendsPart old new (xs ++ ys)

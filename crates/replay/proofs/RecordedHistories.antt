@@ -4,9 +4,9 @@ use Rattle.std.specs.Prelude.{⊤, All}
 use Rattle.std.proofs.lemmas.List.{take_all}
 use Rattle.std.proofs.lemmas.List.Elements.{All-more}
 use Rattle.replay.specs.declared.fault.Fault.{Fault}
-use Rattle.replay.specs.RecordedHistories.{AreRecorded, HasRecordingIn, IsPathIn, IsRecordingOf}
-use Rattle.replay.specs.ToolFaults.{IsToolFault}
-use Rattle.replay.specs.Stores.{Files, SameFiles}
+use Rattle.replay.specs.rule.RecordedHistories.{AreRecorded, HasRecordingIn, IsPathIn, IsRecordingOf}
+use Rattle.replay.specs.rule.ToolFaults.{IsToolFault}
+use Rattle.replay.specs.rule.Stores.{Files, SameFiles}
 use Rattle.replay.proofs.Stores.{had-text, same-after}
 use Rattle.replay.proofs.Tools.{tool-weaker}
 

@@ -6,14 +6,14 @@ use Rattle.messages.specs.declared.entry.Entry.{Entry}
 use Rattle.cluster_core.specs.declared.held_lock.HeldLock.{HeldLock}
 use Rattle.cluster_core.specs.declared.item.Item.{Item}
 use Rattle.cluster_core.specs.declared.token_run.TokenRun.{TokenRun}
-use Rattle.cluster_core.specs.Journals.{JournalFields}
-use Rattle.cluster_core.specs.Placement.{items_in}
+use Rattle.cluster_core.specs.rule.Journals.{JournalFields}
+use Rattle.cluster_core.specs.code.Placement.{items_in}
 use Rattle.lockscript.specs.declared.refused_line.RefusedLine.{RefusedLine}
-use Rattle.lockscript.specs.Listing.{listing_text, listing_start, history_line, history_text}
-use Rattle.player.specs.Played.{PlayedState}
-use Rattle.replay.specs.Audits.{IsHistoryText}
-use Rattle.replay.specs.Commands.{IsRunText}
-use Rattle.replay.specs.Scripts.{IsListing, IsListingBegun}
+use Rattle.lockscript.specs.rule.Listing.{listing_text, listing_start, history_line, history_text}
+use Rattle.player.specs.rule.Played.{PlayedState}
+use Rattle.replay.specs.rule.Audits.{IsHistoryText}
+use Rattle.replay.specs.rule.Commands.{IsRunText}
+use Rattle.replay.specs.rule.Scripts.{IsListing, IsListingBegun}
 
 -- what begins as a listing does, and goes on with the history, is the listing
 whole_listing : (refused : List RefusedLine) (entries : List Entry) (tokens : List TokenRun) (locks : List HeldLock) (history : List Item) (start text : List ℕ) → start ≡ listing_start refused entries tokens locks → text ≡ start ++ history_text history → text ≡ listing_text refused entries tokens locks history

@@ -3,8 +3,8 @@ use Rattle.std.proofs.Common.{◌≡◌, ◌≢◌, ℕ, List, Option, Some, Non
 use Rattle.std.specs.Prelude.{◌↔◌, IsUtf8, string_bytes}
 use Rattle.std.specs.Global.{Global}
 use Rattle.std.proofs.lemmas.Str.{IsUtf8-string_bytes}
-use Rattle.replay.specs.Commands.{SameBut}
-use Rattle.replay.specs.Stores.{Files, HasNoText, HasText, SameFiles, SameOthers}
+use Rattle.replay.specs.rule.Commands.{SameBut}
+use Rattle.replay.specs.rule.Stores.{Files, HasNoText, HasText, SameFiles, SameOthers}
 
 pub same : (files : Files) → SameFiles files files
 same files = λ path file. (λ holds. holds, λ holds. holds)

@@ -2,18 +2,18 @@
 use Rattle.std.proofs.Common.{◌≡◌, ℕ, List, Option, None, Some, MatchOption, sym, ap, ◌∙◌, subst}
 use Rattle.std.specs.Prelude.{⊤, is_some}
 use Rattle.model.specs.declared.call.CallId.{CallId}
-use Rattle.model.specs.Limits.{IsCall}
-use Rattle.cluster_core.specs.Journals.{JournalFields}
+use Rattle.model.specs.rule.Limits.{IsCall}
+use Rattle.cluster_core.specs.rule.Journals.{JournalFields}
 use Rattle.lockscript.specs.declared.error.ParseError.{ParseError}
 use Rattle.lockscript.specs.declared.error.ParseError.TheVariants.{BadLine}
-use Rattle.lockscript.specs.Readings.{HasOneReading}
-use Rattle.lockscript.specs.Scripts.{HasScript, IsRefused}
-use Rattle.message_text.specs.Names.{call_text}
+use Rattle.lockscript.specs.code.Readings.{HasOneReading}
+use Rattle.lockscript.specs.rule.Scripts.{HasScript, IsRefused}
+use Rattle.message_text.specs.rule.Names.{call_text}
 use Rattle.message_text.proofs.NameTexts.{call as call_texts}
-use Rattle.stories.specs.Stories.{is_made}
+use Rattle.stories.specs.rule.Stories.{is_made}
 use Rattle.pictures.specs.declared.window.Window.{Window}
-use Rattle.pictures.specs.Around.{around}
-use Rattle.replay.specs.Tellings.{HasCall, HasNoCall, HasNoWindow, margin}
+use Rattle.pictures.specs.rule.Around.{around}
+use Rattle.replay.specs.rule.Tellings.{HasCall, HasNoCall, HasNoWindow, margin}
 
 -- a name is of one call
 same-call : (name : List ℕ) (call other : CallId) → IsCall call → name ≡ call_text call → IsCall other → name ≡ call_text other → other ≡ call

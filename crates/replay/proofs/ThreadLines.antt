@@ -3,8 +3,8 @@ use Rattle.std.proofs.Common.{List, ℕ, inr, Option, Some}
 use Rattle.std.specs.Prelude.{IsUtf8}
 use Rattle.lockscript.specs.declared.error.ParseError.{ParseError}
 use Rattle.lockscript.specs.declared.error.ParseError.TheVariants.{NoMemory, BadLine}
-use Rattle.lockscript.specs.ThreadLines.{IsRefusedOnThreads}
-use Rattle.replay.specs.Faults.{IsThreadsFault, fault_of_parse}
+use Rattle.lockscript.specs.rule.ThreadLines.{IsRefusedOnThreads}
+use Rattle.replay.specs.rule.Faults.{IsThreadsFault, fault_of_parse}
 
 -- why the text of a file is refused
 pub text_fault : (Holds : Option (List ℕ) → Type 0) (RanShort : Type 0) (path text : List ℕ) (error : ParseError) → Holds (Some text) → IsUtf8 text → IsRefusedOnThreads text error

@@ -2,13 +2,13 @@
 use Rattle.std.proofs.Common.{◌≢◌, ℕ, List, Result, sym, subst}
 use Rattle.std.specs.Prelude.{IfErr}
 use Rattle.std.proofs.lemmas.Result.{IfErr-weaker}
-use Rattle.command_line.specs.Tasks.{Task}
+use Rattle.command_line.specs.rule.Tasks.{Task}
 use Rattle.replay.specs.declared.fault.Fault.{Fault}
 use Rattle.replay.specs.declared.fault.Fault.TheVariants.{BadLine, CannotRead, CannotWrite, CannotWriteOutput, NoMemory, JournalFull, OldJournal, Faulty}
-use Rattle.replay.specs.Commands.{IsFault, IsInputFault}
-use Rattle.replay.specs.Faults.{IsTextless}
-use Rattle.replay.specs.Stores.{Files, HasNoText, SameFiles}
-use Rattle.replay.specs.ToolFaults.{IsReportOf, IsToolFault}
+use Rattle.replay.specs.rule.Commands.{IsFault, IsInputFault}
+use Rattle.replay.specs.rule.Faults.{IsTextless}
+use Rattle.replay.specs.rule.Stores.{Files, HasNoText, SameFiles}
+use Rattle.replay.specs.rule.ToolFaults.{IsReportOf, IsToolFault}
 use Rattle.replay.proofs.Stores.{had-no_text}
 
 -- a file that the tool reads has no text

@@ -1,6 +1,6 @@
 //! The rules that a judgement is asked to allow.
 ghost use Rattle.std.specs.Prelude.{◌≡◌};
-ghost use Rattle.replay.specs.Judging.{allowed_of, rule_of};
+ghost use Rattle.replay.specs.rule.Judging.{allowed_of, rule_of};
 
 use command_line::rule as asked;
 use history_text::rule::{Allowed, Rule};

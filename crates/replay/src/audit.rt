@@ -1,14 +1,14 @@
 //! Whether the journal of a file is one of a run, and its history.
 ghost use Rattle.std.specs.Prelude.{◌≡◌, ◌≢◌, ◌≤◌, length, string_bytes, IfErr, IfOk};
-ghost use Rattle.cluster_core.specs.Journals.{JournalFields};
-ghost use Rattle.cluster_core.specs.World.{journal_limit};
-ghost use Rattle.command_line.specs.Tasks.{audit, history};
-ghost use Rattle.journal_text.specs.Readings.{HasLength};
+ghost use Rattle.cluster_core.specs.rule.Journals.{JournalFields};
+ghost use Rattle.cluster_core.specs.rule.World.{journal_limit};
+ghost use Rattle.command_line.specs.rule.Tasks.{audit, history};
+ghost use Rattle.journal_text.specs.rule.Readings.{HasLength};
 ghost use Rattle.replay.specs.declared.fault.Fault.TheVariants.{CannotWriteOutput, NoMemory};
-ghost use Rattle.replay.specs.Audits.{HasJournal, HasNewJournal, IsAudited, IsHistoryText, IsHistoryUnless, IsVerdict, WritesFew};
-ghost use Rattle.replay.specs.Commands.{Does, IsFault};
-ghost use Rattle.replay.specs.Faults.{IsJournalFault, IsOldFault, IsTextFault};
-ghost use Rattle.replay.specs.Stores.{SameFiles};
+ghost use Rattle.replay.specs.rule.Audits.{HasJournal, HasNewJournal, IsAudited, IsHistoryText, IsHistoryUnless, IsVerdict, WritesFew};
+ghost use Rattle.replay.specs.rule.Commands.{Does, IsFault};
+ghost use Rattle.replay.specs.rule.Faults.{IsJournalFault, IsOldFault, IsTextFault};
+ghost use Rattle.replay.specs.rule.Stores.{SameFiles};
 
 use crate::auditor::Auditor;
 use crate::fault::Fault;

@@ -1,8 +1,8 @@
 //! Audits that go on.
 ghost use Rattle.std.specs.Prelude.{◌≡◌, ◌≤◌, ◌<◌, ◌+◌, [], None, IfOk};
-ghost use Rattle.cluster_core.specs.Parts.{world_state};
-ghost use Rattle.cluster_core.specs.World.{journal_limit};
-ghost use Rattle.replay.specs.Audits.{Knows};
+ghost use Rattle.cluster_core.specs.rule.Parts.{world_state};
+ghost use Rattle.cluster_core.specs.rule.World.{journal_limit};
+ghost use Rattle.replay.specs.rule.Audits.{Knows};
 
 use cluster_core::journal::comes_next;
 use cluster_core::world::{JOURNAL_LIMIT, World};

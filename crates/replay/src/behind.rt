@@ -1,12 +1,12 @@
 //! Running the script of a file behind the journal of another.
 ghost use Rattle.std.specs.Prelude.{◌≡◌, ◌≢◌, None, Some, IfErr, IfOk};
-ghost use Rattle.cluster_core.specs.Journals.{JournalFields};
-ghost use Rattle.command_line.specs.Tasks.{run};
+ghost use Rattle.cluster_core.specs.rule.Journals.{JournalFields};
+ghost use Rattle.command_line.specs.rule.Tasks.{run};
 ghost use Rattle.replay.specs.declared.fault.Fault.TheVariants.{CannotWriteOutput};
-ghost use Rattle.replay.specs.Audits.{HasNewJournal};
-ghost use Rattle.replay.specs.LaterRuns.{IsBehind};
-ghost use Rattle.replay.specs.Commands.{Does, IsFault, IsGoingFault};
-ghost use Rattle.replay.specs.Stores.{SameFiles};
+ghost use Rattle.replay.specs.rule.Audits.{HasNewJournal};
+ghost use Rattle.replay.specs.code.LaterRuns.{IsBehind};
+ghost use Rattle.replay.specs.rule.Commands.{Does, IsFault, IsGoingFault};
+ghost use Rattle.replay.specs.rule.Stores.{SameFiles};
 
 use crate::audit::{Audited, checked_new};
 use crate::drafted::committed;

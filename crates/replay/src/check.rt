@@ -1,11 +1,11 @@
 //! What is wrong in scripts or journals of files, and whether a journal can be written to another.
 ghost use Rattle.std.specs.Prelude.{◌≡◌, ◌≢◌, ◌⊎◌, Any, Contains, IsSomeAnd, map, option_map, IfErr, IfOk};
-ghost use Rattle.command_line.specs.Tasks.{check};
+ghost use Rattle.command_line.specs.rule.Tasks.{check};
 ghost use Rattle.replay.specs.declared.fault.Fault.TheVariants.{CannotWriteOutput};
-ghost use Rattle.replay.specs.Checks.{AreChecked, IsAtFault};
-ghost use Rattle.replay.specs.Commands.{Does, IsFault};
-ghost use Rattle.replay.specs.Stores.{SameFiles};
-ghost use Rattle.replay.specs.ToolFaults.{IsReportOf, IsToolFault};
+ghost use Rattle.replay.specs.rule.Checks.{AreChecked, IsAtFault};
+ghost use Rattle.replay.specs.rule.Commands.{Does, IsFault};
+ghost use Rattle.replay.specs.rule.Stores.{SameFiles};
+ghost use Rattle.replay.specs.rule.ToolFaults.{IsReportOf, IsToolFault};
 
 use crate::check_reports::{push_fault, push_reason};
 use crate::fault::Fault;

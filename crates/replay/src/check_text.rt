@@ -1,10 +1,10 @@
 //! What is wrong in the script or the journal of a file.
 ghost use Rattle.std.specs.Prelude.{◌≡◌, IfErr, IfOk};
-ghost use Rattle.diagnosis.specs.JournalReports.{BeginsAsJournal};
-ghost use Rattle.lockscript.specs.Scripts.{HasScript, IsScript};
-ghost use Rattle.replay.specs.Checks.{IsAtFault, IsFaulty, IsGood, IsGoodText, IsTextShown};
-ghost use Rattle.replay.specs.Stores.{SameFiles};
-ghost use Rattle.replay.specs.ToolFaults.{IsReportOf, IsToolFault};
+ghost use Rattle.diagnosis.specs.rule.JournalReports.{BeginsAsJournal};
+ghost use Rattle.lockscript.specs.rule.Scripts.{HasScript, IsScript};
+ghost use Rattle.replay.specs.rule.Checks.{IsAtFault, IsFaulty, IsGood, IsGoodText, IsTextShown};
+ghost use Rattle.replay.specs.rule.Stores.{SameFiles};
+ghost use Rattle.replay.specs.rule.ToolFaults.{IsReportOf, IsToolFault};
 
 use crate::fault::Fault;
 use crate::input::text_of;

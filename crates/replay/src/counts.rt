@@ -1,6 +1,6 @@
 //! How many receipts a journal holds.
-ghost use Rattle.book.specs.Receipts.{Holds};
-ghost use Rattle.replay.specs.Counts.{IsCount};
+ghost use Rattle.book.specs.code.Receipts.{Holds};
+ghost use Rattle.replay.specs.rule.Counts.{IsCount};
 
 use book::confirms::Confirms;
 use book::receipt::Receipt;

@@ -1,6 +1,6 @@
 //! Files that are made piece by piece.
 ghost use Rattle.std.specs.Prelude.{⊤, ℕ, List, OnOk};
-ghost use Rattle.replay.specs.Stores.{Adds};
+ghost use Rattle.replay.specs.rule.Stores.{Adds};
 
 use std::alloc::AllocError;
 

@@ -1,7 +1,7 @@
 //! Files that are made beside something else, and take their places once both are made.
 ghost use Rattle.std.specs.Prelude.{◌≡◌, ℕ, List, Some, Ok, IfErr, IfOk, OnOk};
-ghost use Rattle.replay.specs.Faults.{IsUnwritten};
-ghost use Rattle.replay.specs.Stores.{SameOthers};
+ghost use Rattle.replay.specs.rule.Faults.{IsUnwritten};
+ghost use Rattle.replay.specs.rule.Stores.{SameOthers};
 
 use crate::fault::Fault;
 use crate::reason::Reason;

@@ -1,9 +1,9 @@
 //! The picture of a journal.
 ghost use Rattle.std.specs.Prelude.{◌≢◌, ⊤, IfErr, IfOk, MatchOption, Some, option_map};
-ghost use Rattle.command_line.specs.Tasks.{picture_task_of};
+ghost use Rattle.command_line.specs.rule.Tasks.{picture_task_of};
 ghost use Rattle.replay.specs.declared.fault.Fault.TheVariants.{CannotWriteOutput};
-ghost use Rattle.replay.specs.Commands.{Does, IsFault};
-ghost use Rattle.replay.specs.Tellings.{HasNoWindow, IsDrawn};
+ghost use Rattle.replay.specs.rule.Commands.{Does, IsFault};
+ghost use Rattle.replay.specs.rule.Tellings.{HasNoWindow, IsDrawn};
 
 use crate::audit::{Audited, checked};
 use crate::explain::no_call;

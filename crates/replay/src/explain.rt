@@ -1,9 +1,9 @@
 //! What a journal tells of its calls.
 ghost use Rattle.std.specs.Prelude.{◌≢◌, IfErr, IfOk, MatchOption};
-ghost use Rattle.command_line.specs.Tasks.{explain, open_calls};
+ghost use Rattle.command_line.specs.rule.Tasks.{explain, open_calls};
 ghost use Rattle.replay.specs.declared.fault.Fault.TheVariants.{CannotWriteOutput};
-ghost use Rattle.replay.specs.Commands.{Does, IsFault};
-ghost use Rattle.replay.specs.Tellings.{HasCall, HasNoCall, IsExplained};
+ghost use Rattle.replay.specs.rule.Commands.{Does, IsFault};
+ghost use Rattle.replay.specs.rule.Tellings.{HasCall, HasNoCall, IsExplained};
 
 use crate::audit::{Audited, checked};
 use crate::fault::Fault;

@@ -1,9 +1,9 @@
 //! What may come of the script of a file under many schedules.
 ghost use Rattle.std.specs.Prelude.{◌≢◌, IfErr, IfOk};
-ghost use Rattle.command_line.specs.Tasks.{explore, schedule};
+ghost use Rattle.command_line.specs.rule.Tasks.{explore, schedule};
 ghost use Rattle.replay.specs.declared.fault.Fault.TheVariants.{CannotWriteOutput};
-ghost use Rattle.replay.specs.Commands.{Does, IsFault};
-ghost use Rattle.replay.specs.Explorations.{IsExploreTextFault, IsExplored, IsScheduled};
+ghost use Rattle.replay.specs.rule.Commands.{Does, IsFault};
+ghost use Rattle.replay.specs.rule.Explorations.{IsExploreTextFault, IsExplored, IsScheduled};
 
 use crate::fault::Fault;
 use crate::input::text_of;

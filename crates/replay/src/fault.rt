@@ -1,9 +1,9 @@
 //! Why a command was not done.
 ghost use Rattle.std.specs.Prelude.{◌≡◌};
 ghost use Rattle.replay.specs.declared.fault.Fault.TheVariants.{NoMemory};
-ghost use Rattle.replay.specs.Faults.{fault_line, fault_of_parse, fault_of_play};
-ghost use Rattle.replay.specs.Outputs.{Writes};
-ghost use Rattle.replay.specs.Statuses.{status_of};
+ghost use Rattle.replay.specs.rule.Faults.{fault_line, fault_of_parse, fault_of_play};
+ghost use Rattle.replay.specs.rule.Outputs.{Writes};
+ghost use Rattle.replay.specs.rule.Statuses.{status_of};
 
 use crate::output::{Output, WriteFailed, put_line};
 use crate::reason::Reason;

@@ -1,7 +1,7 @@
 //! Reading the files that commands read.
 ghost use Rattle.std.specs.Prelude.{string_bytes, IfErr, IfOk, Some};
-ghost use Rattle.replay.specs.Faults.{IsTextless};
-ghost use Rattle.replay.specs.Stores.{SameFiles};
+ghost use Rattle.replay.specs.rule.Faults.{IsTextless};
+ghost use Rattle.replay.specs.rule.Stores.{SameFiles};
 
 use crate::fault::Fault;
 use crate::reason::{Reason, not_text_behind};

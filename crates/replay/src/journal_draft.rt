@@ -1,7 +1,7 @@
 //! Journals that are written piece by piece.
 ghost use Rattle.std.specs.Prelude.{◌≡◌, ◌++◌, codes, reverse as reversed, OnOk};
-ghost use Rattle.journal_text.specs.Journals.{end_text, entries_text, entry_text, head_text, journal_text};
-ghost use Rattle.replay.specs.Stores.{Adds};
+ghost use Rattle.journal_text.specs.rule.Journals.{end_text, entries_text, entry_text, head_text, journal_text};
+ghost use Rattle.replay.specs.rule.Stores.{Adds};
 
 use crate::draft::Draft;
 use cluster_core::journal::Journal;

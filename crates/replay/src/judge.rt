@@ -1,9 +1,9 @@
 //! Histories of clients, judged.
 ghost use Rattle.std.specs.Prelude.{◌≡◌, ⊤, map, option_map, Some, IfErr, IfOk};
-ghost use Rattle.command_line.specs.JudgeTasks.{judge_task_of};
-ghost use Rattle.replay.specs.Judging.{AreJudged, IsJudgedWith, allowed_of, shown_of};
-ghost use Rattle.replay.specs.Stores.{SameFiles};
-ghost use Rattle.replay.specs.ToolFaults.{IsToolFault};
+ghost use Rattle.command_line.specs.rule.JudgeTasks.{judge_task_of};
+ghost use Rattle.replay.specs.rule.Judging.{AreJudged, IsJudgedWith, allowed_of, shown_of};
+ghost use Rattle.replay.specs.rule.Stores.{SameFiles};
+ghost use Rattle.replay.specs.rule.ToolFaults.{IsToolFault};
 
 use crate::allowing::allowed_of;
 use crate::check_reports::push_named;

@@ -1,8 +1,8 @@
 //! What is said of the history of a file.
 ghost use Rattle.std.specs.Prelude.{◌≡◌, ⊤, option_map, IfErr, IfOk};
-ghost use Rattle.replay.specs.Judging.{IsSaidIn, IsSaidOf};
-ghost use Rattle.replay.specs.Stores.{SameFiles};
-ghost use Rattle.replay.specs.ToolFaults.{IsReportOf, IsToolFault};
+ghost use Rattle.replay.specs.rule.Judging.{IsSaidIn, IsSaidOf};
+ghost use Rattle.replay.specs.rule.Stores.{SameFiles};
+ghost use Rattle.replay.specs.rule.ToolFaults.{IsReportOf, IsToolFault};
 
 use crate::fault::Fault;
 use crate::input::text_of;

@@ -1,17 +1,17 @@
 //! Listings of runs.
 ghost use Rattle.std.specs.Prelude.{◌≡◌, ◌≤◌, ◌++◌, [], ℕ, length, List, flat_map, string_bytes, IfOk, OnOk};
 ghost use Rattle.std.specs.List.{cons_option};
-ghost use Rattle.cluster_core.specs.Listings.{IsTokenListing, IsLockListing};
-ghost use Rattle.cluster_core.specs.Parts.{world_state};
-ghost use Rattle.cluster_core.specs.World.{journal_limit};
-ghost use Rattle.cluster_core.specs.Placement.{items_in};
-ghost use Rattle.journal_text.specs.Journals.{entries_text, journal_text};
-ghost use Rattle.lockscript.specs.Listing.{history_line};
-ghost use Rattle.player.specs.Parts.{state_of};
-ghost use Rattle.player.specs.Played.{EndsIn};
-ghost use Rattle.replay.specs.Audits.{IsHistoryText};
-ghost use Rattle.replay.specs.Scripts.{IsListing, IsListingBegun};
-ghost use Rattle.replay.specs.Stores.{Adds};
+ghost use Rattle.cluster_core.specs.rule.Listings.{IsTokenListing, IsLockListing};
+ghost use Rattle.cluster_core.specs.rule.Parts.{world_state};
+ghost use Rattle.cluster_core.specs.rule.World.{journal_limit};
+ghost use Rattle.cluster_core.specs.code.Placement.{items_in};
+ghost use Rattle.journal_text.specs.rule.Journals.{entries_text, journal_text};
+ghost use Rattle.lockscript.specs.rule.Listing.{history_line};
+ghost use Rattle.player.specs.code.Parts.{state_of};
+ghost use Rattle.player.specs.rule.Played.{EndsIn};
+ghost use Rattle.replay.specs.rule.Audits.{IsHistoryText};
+ghost use Rattle.replay.specs.rule.Scripts.{IsListing, IsListingBegun};
+ghost use Rattle.replay.specs.rule.Stores.{Adds};
 
 use crate::draft::Draft;
 use crate::journal_draft::{add_end, add_entry, add_head};

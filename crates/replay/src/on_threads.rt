@@ -1,8 +1,8 @@
 //! Scripts on threads.
 ghost use Rattle.std.specs.Prelude.{◌≡◌, None, IfErr, IfOk};
-ghost use Rattle.lockscript.specs.ThreadLines.{bad_line};
+ghost use Rattle.lockscript.specs.rule.ThreadLines.{bad_line};
 ghost use Rattle.lockscript.specs.declared.play_error.PlayError.TheVariants.{JournalFull};
-ghost use Rattle.replay.specs.Threads.{HasFullJournal, IsToldOf};
+ghost use Rattle.replay.specs.rule.Threads.{HasFullJournal, IsToldOf};
 
 use crate::threaded::Threaded;
 use actors::gate::OpenGate;

@@ -1,7 +1,7 @@
 //! Where texts are written.
 ghost use Rattle.std.specs.Prelude.{◌++◌, ◌≤◌, ⊤, ℕ, List, Option, None, codes, length, take, IfOk, OnErr, OnOk};
 ghost use Rattle.std.specs.Io.KnownBytes.{Appends, Keeps};
-ghost use Rattle.replay.specs.Outputs.{AppendsPart, Writes};
+ghost use Rattle.replay.specs.rule.Outputs.{AppendsPart, Writes};
 
 use std::io::{ErrorKind, Write};
 use thiserror::Error;

@@ -1,12 +1,12 @@
 //! Doing what a command line asks for.
 ghost use Rattle.std.specs.Prelude.{◌≡◌, ◌≢◌, ◌≤◌, ◌<◌, ◌⊎◌, false, IfErr, IfOk, OnOk};
 ghost use Rattle.std.specs.Io.KnownBytes.{Appends};
-ghost use Rattle.command_line.specs.Tasks.{journal_path, task_of};
-ghost use Rattle.replay.specs.Commands.{Does, IsCheck, IsFault, IsJudge, Leaves, SameBut, Shows, TellsFault, says_why};
-ghost use Rattle.replay.specs.Faults.{fault_line};
-ghost use Rattle.replay.specs.Outputs.{WritesOrFails};
-ghost use Rattle.replay.specs.Showing.{TellsBeside, shown_text};
-ghost use Rattle.replay.specs.Statuses.{status_of, IsStatus};
+ghost use Rattle.command_line.specs.rule.Tasks.{journal_path, task_of};
+ghost use Rattle.replay.specs.rule.Commands.{Does, IsCheck, IsFault, IsJudge, Leaves, SameBut, Shows, TellsFault, says_why};
+ghost use Rattle.replay.specs.rule.Faults.{fault_line};
+ghost use Rattle.replay.specs.rule.Outputs.{WritesOrFails};
+ghost use Rattle.replay.specs.rule.Showing.{TellsBeside, shown_text};
+ghost use Rattle.replay.specs.rule.Statuses.{status_of, IsStatus};
 
 use crate::fault::Fault;
 use crate::output::Output;

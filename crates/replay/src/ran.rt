@@ -1,15 +1,15 @@
 //! What scripts come to whose replies may be compared with what they expect.
 ghost use Rattle.std.specs.Prelude.{◌≡◌, ◌&&◌, ℕ, List, drop, Bool, string_bytes, IfErr, IfOk};
 ghost use Rattle.std.specs.Option.{option_map};
-ghost use Rattle.explorer.specs.Comparisons.{breaks_behind, IsCompared};
-ghost use Rattle.lockscript.specs.Scripts.{LineFields};
+ghost use Rattle.explorer.specs.rule.Comparisons.{breaks_behind, IsCompared};
+ghost use Rattle.lockscript.specs.rule.Scripts.{LineFields};
 ghost use Rattle.messages.specs.declared.version.Version.TheVariants.{Second};
-ghost use Rattle.player.specs.Parts.{state_of};
-ghost use Rattle.player.specs.Played.{PlayedState};
-ghost use Rattle.replay.specs.Commands.{IsRunText, ShowsRun};
-ghost use Rattle.replay.specs.Comparing.{HasRan, IsExpecting, WentBehind};
-ghost use Rattle.replay.specs.Faults.{IsBehindFault, IsScriptFault};
-ghost use Rattle.replay.specs.Stores.{SameFiles};
+ghost use Rattle.player.specs.code.Parts.{state_of};
+ghost use Rattle.player.specs.rule.Played.{PlayedState};
+ghost use Rattle.replay.specs.rule.Commands.{IsRunText, ShowsRun};
+ghost use Rattle.replay.specs.code.Comparing.{HasRan, IsExpecting, WentBehind};
+ghost use Rattle.replay.specs.rule.Faults.{IsBehindFault, IsScriptFault};
+ghost use Rattle.replay.specs.rule.Stores.{SameFiles};
 
 use crate::fault::Fault;
 use crate::input::text_of;

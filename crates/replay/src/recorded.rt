@@ -2,10 +2,10 @@
 ghost use Rattle.std.specs.Prelude.{◌≡◌, ⊤, false, IfErr, IfOk, OnOk};
 ghost use Rattle.std.specs.List.{list_any};
 ghost use Rattle.std.specs.Option.{option_map};
-ghost use Rattle.recordings.specs.Places.{is_past};
-ghost use Rattle.replay.specs.Recordings.{ArePlaced, IsMade, IsRecorded};
-ghost use Rattle.replay.specs.Stores.{HasTextAt, SameFiles};
-ghost use Rattle.replay.specs.ToolFaults.{IsReportOf, IsToolFault};
+ghost use Rattle.recordings.specs.rule.Places.{is_past};
+ghost use Rattle.replay.specs.rule.Recordings.{ArePlaced, IsMade, IsRecorded};
+ghost use Rattle.replay.specs.rule.Stores.{HasTextAt, SameFiles};
+ghost use Rattle.replay.specs.rule.ToolFaults.{IsReportOf, IsToolFault};
 
 use crate::fault::Fault;
 use crate::input::text_of;

@@ -1,8 +1,8 @@
 //! The history of clients of recordings of lock calls.
 ghost use Rattle.std.specs.Prelude.{⊤, map, IfErr, IfOk, IfSome, OnOk};
-ghost use Rattle.replay.specs.RecordedHistories.{AreRecorded, HasRecordingIn, IsPathIn, IsRecordedShown, IsRecordingOf};
-ghost use Rattle.replay.specs.Stores.{SameFiles};
-ghost use Rattle.replay.specs.ToolFaults.{IsReportOf, IsToolFault};
+ghost use Rattle.replay.specs.rule.RecordedHistories.{AreRecorded, HasRecordingIn, IsPathIn, IsRecordedShown, IsRecordingOf};
+ghost use Rattle.replay.specs.rule.Stores.{SameFiles};
+ghost use Rattle.replay.specs.rule.ToolFaults.{IsReportOf, IsToolFault};
 
 use crate::fault::Fault;
 use crate::input::text_of;

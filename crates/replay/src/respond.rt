@@ -1,15 +1,15 @@
 //! The program as a function of its words.
 ghost use Rattle.std.specs.Prelude.{◌≡◌, ◌≢◌, ◌≤◌, ◌<◌, ◌↔◌, ◌⊎◌, ℕ, false, List, Option, Some, map};
 ghost use Rattle.std.specs.Io.KnownBytes.{Appends};
-ghost use Rattle.command_line.specs.Tasks.{journal_path, Task};
-ghost use Rattle.command_line.specs.Words.{AreWrong, AsksFor, AsksForHelp};
+ghost use Rattle.command_line.specs.rule.Tasks.{journal_path, Task};
+ghost use Rattle.command_line.specs.rule.Words.{AreWrong, AsksFor, AsksForHelp};
 ghost use Rattle.replay.specs.declared.fault.Fault.TheVariants.{CannotWriteOutput, NoMemory};
-ghost use Rattle.replay.specs.Commands.{Does, IsCheck, IsFaultOrShort, IsJudge, Leaves, Shows, TellsFault, says_why};
-ghost use Rattle.replay.specs.Faults.{fault_line};
-ghost use Rattle.replay.specs.Outputs.{AppendsPart, WritesOrFails};
-ghost use Rattle.replay.specs.Showing.{TellsBeside};
-ghost use Rattle.replay.specs.Refusals.{IsHelp, refusal_status, refusal_text};
-ghost use Rattle.replay.specs.Statuses.{IsStatus};
+ghost use Rattle.replay.specs.rule.Commands.{Does, IsCheck, IsFaultOrShort, IsJudge, Leaves, Shows, TellsFault, says_why};
+ghost use Rattle.replay.specs.rule.Faults.{fault_line};
+ghost use Rattle.replay.specs.rule.Outputs.{AppendsPart, WritesOrFails};
+ghost use Rattle.replay.specs.rule.Showing.{TellsBeside};
+ghost use Rattle.replay.specs.code.Refusals.{IsHelp, refusal_status, refusal_text};
+ghost use Rattle.replay.specs.rule.Statuses.{IsStatus};
 
 use crate::fault::Fault;
 use crate::output::{Output, put_all, put_line};

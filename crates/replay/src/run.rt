@@ -1,13 +1,13 @@
 //! Running the script of a file.
 ghost use Rattle.std.specs.Prelude.{◌≡◌, ◌≢◌, [], List, None, Some, true, false, string_bytes, IfErr, IfOk, OnOk};
-ghost use Rattle.command_line.specs.Tasks.{run};
-ghost use Rattle.journal_text.specs.Journals.{journal_text};
-ghost use Rattle.journal_text.specs.Readings.{WritesJournal};
+ghost use Rattle.command_line.specs.rule.Tasks.{run};
+ghost use Rattle.journal_text.specs.rule.Journals.{journal_text};
+ghost use Rattle.journal_text.specs.rule.Readings.{WritesJournal};
 ghost use Rattle.replay.specs.declared.fault.Fault.TheVariants.{CannotWriteOutput};
-ghost use Rattle.replay.specs.Commands.{Does, IsFault, IsRunText};
-ghost use Rattle.player.specs.Parts.{state_of};
-ghost use Rattle.replay.specs.Scripts.{IsListingBegun};
-ghost use Rattle.replay.specs.Stores.{Adds};
+ghost use Rattle.replay.specs.rule.Commands.{Does, IsFault, IsRunText};
+ghost use Rattle.player.specs.code.Parts.{state_of};
+ghost use Rattle.replay.specs.rule.Scripts.{IsListingBegun};
+ghost use Rattle.replay.specs.rule.Stores.{Adds};
 
 use crate::draft::Draft;
 use crate::drafted::committed;

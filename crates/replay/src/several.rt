@@ -1,8 +1,8 @@
 //! Files that are checked together.
 ghost use Rattle.std.specs.Prelude.{Any, Contains, map, IfErr, IfOk};
-ghost use Rattle.replay.specs.Checks.{AreChecked, IsAtFault};
-ghost use Rattle.replay.specs.Stores.{SameFiles};
-ghost use Rattle.replay.specs.ToolFaults.{IsToolFault};
+ghost use Rattle.replay.specs.rule.Checks.{AreChecked, IsAtFault};
+ghost use Rattle.replay.specs.rule.Stores.{SameFiles};
+ghost use Rattle.replay.specs.rule.ToolFaults.{IsToolFault};
 
 use crate::check_reports::{push_fault, push_named};
 use crate::check_text::checked_at;
@@ -26,9 +26,9 @@ pub(crate) struct Looked {
 impl Looked {
     ghost use Rattle.std.specs.Prelude.{◌≡◌, ◌≢◌, ◌⊎◌, ⊤, true, false, IfErr, IfOk, OnOk};
     ghost use Rattle.replay.specs.declared.fault.Fault.TheVariants.{NoMemory};
-    ghost use Rattle.replay.specs.Checks.{IsAtFault, IsGood, IsTextShown};
-    ghost use Rattle.replay.specs.Stores.{SameFiles};
-    ghost use Rattle.replay.specs.ToolFaults.{IsReportOf};
+    ghost use Rattle.replay.specs.rule.Checks.{IsAtFault, IsGood, IsTextShown};
+    ghost use Rattle.replay.specs.rule.Stores.{SameFiles};
+    ghost use Rattle.replay.specs.rule.ToolFaults.{IsReportOf};
 
     fn new(alloc: Global, named: bool) -> Looked
         ensures { result.is_bad ≡ false }

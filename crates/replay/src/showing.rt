@@ -1,9 +1,9 @@
 //! What is shown of each command.
 ghost use Rattle.std.specs.Prelude.{◌≢◌, None, Some, IfErr, IfOk};
 ghost use Rattle.std.specs.Option.{option_map};
-ghost use Rattle.command_line.specs.Tasks.{run, run_task_of, task_of, threads_task_of};
+ghost use Rattle.command_line.specs.rule.Tasks.{run, run_task_of, task_of, threads_task_of};
 ghost use Rattle.replay.specs.declared.fault.Fault.TheVariants.{CannotWriteOutput};
-ghost use Rattle.replay.specs.Commands.{Does, IsFault};
+ghost use Rattle.replay.specs.rule.Commands.{Does, IsFault};
 
 use crate::audit::{audit, history};
 use crate::behind::{run_behind, run_behind_with_journal};

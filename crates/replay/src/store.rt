@@ -1,6 +1,6 @@
 //! Files.
 ghost use Rattle.std.specs.Prelude.{◌≡◌, ℕ, List, [], ⊤, IfOk, OnErr, OnOk, Option, Result, Err, None, Some};
-ghost use Rattle.replay.specs.Stores.{SameFiles, SameOthers};
+ghost use Rattle.replay.specs.rule.Stores.{SameFiles, SameOthers};
 ghost use Rattle.replay.specs.declared.reason.Reason.{Reason};
 ghost use Rattle.replay.specs.declared.store.StoreError.TheVariants.{Failed, NoMemory};
 

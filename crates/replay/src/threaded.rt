@@ -1,9 +1,9 @@
 //! What came of a script on threads.
 ghost use Rattle.std.specs.Prelude.{◌≡◌, ◌++◌, codes, decimal, flat_map, string_bytes, IfOk, OnOk};
-ghost use Rattle.cluster_core.specs.Parts.{world_state};
-ghost use Rattle.journal_text.specs.Journals.{journal_text};
-ghost use Rattle.player.specs.Played.{EndsIn};
-ghost use Rattle.replay.specs.Threads.{ShowsThreads, Tells, ThreadedFields, open_line};
+ghost use Rattle.cluster_core.specs.rule.Parts.{world_state};
+ghost use Rattle.journal_text.specs.rule.Journals.{journal_text};
+ghost use Rattle.player.specs.rule.Played.{EndsIn};
+ghost use Rattle.replay.specs.rule.Threads.{ShowsThreads, Tells, ThreadedFields, open_line};
 
 use crate::counts::held_in;
 use crate::listing::listing_of_journal;
@@ -32,8 +32,8 @@ pub struct Threaded {
 
 impl Model for Threaded {
     ghost use Rattle.std.specs.Prelude.{string_bytes};
-    ghost use Rattle.journal_text.specs.Journals.{journal_text};
-    ghost use Rattle.replay.specs.Threads.{IsThreaded, ThreadedFields};
+    ghost use Rattle.journal_text.specs.rule.Journals.{journal_text};
+    ghost use Rattle.replay.specs.rule.Threads.{IsThreaded, ThreadedFields};
 
     ghost Value = { ThreadedFields };
 

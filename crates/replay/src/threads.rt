@@ -1,12 +1,12 @@
 //! Running the script of a file on threads.
 ghost use Rattle.std.specs.Prelude.{◌≡◌, ◌≢◌, None, Some, option_map, string_bytes, IfErr, IfOk};
-ghost use Rattle.command_line.specs.Tasks.{threads};
+ghost use Rattle.command_line.specs.rule.Tasks.{threads};
 ghost use Rattle.replay.specs.declared.fault.Fault.TheVariants.{CannotWriteOutput};
-ghost use Rattle.replay.specs.Commands.{Does, IsFault};
-ghost use Rattle.replay.specs.Faults.{IsThreadsFault};
-ghost use Rattle.replay.specs.Stores.{SameFiles};
-ghost use Rattle.replay.specs.Threads.{HasThreadScript, IsTaken, IsTold};
-ghost use Rattle.lockscript.specs.ThreadLines.{bad_line};
+ghost use Rattle.replay.specs.rule.Commands.{Does, IsFault};
+ghost use Rattle.replay.specs.rule.Faults.{IsThreadsFault};
+ghost use Rattle.replay.specs.rule.Stores.{SameFiles};
+ghost use Rattle.replay.specs.rule.Threads.{HasThreadScript, IsTaken, IsTold};
+ghost use Rattle.lockscript.specs.rule.ThreadLines.{bad_line};
 
 use crate::drafted::committed;
 use crate::fault::Fault;

@@ -3,7 +3,7 @@ use Rattle.std.proofs.Common.{◌≡◌, ℕ, ◌<◌, Bool, true, false, if◌t
 use Rattle.std.proofs.lemmas.Bool.{and_parts, and_from, eqb-true, eq-eqb, cases_Bool, both_ways}
 use Rattle.std.proofs.lemmas.Bool.Decides.{nat_tests}
 use Rattle.std.proofs.lemmas.Option.{none-some}
-use Rattle.intervals.specs.Segment.{seg}
+use Rattle.intervals.specs.rule.Segment.{seg}
 use Rattle.model.specs.declared.mode.Mode.{Mode}
 use Rattle.model.specs.declared.owner.Kind.{Kind}
 use Rattle.model.specs.declared.owner.Kind.TheVariants.{OfProcess, OfDescription}
@@ -19,21 +19,21 @@ use Rattle.model.specs.declared.op.LockCommand.{LockCommand}
 use Rattle.model.specs.declared.op.LockCommand.TheVariants.{Set, Wait, Query}
 use Rattle.model.specs.declared.reply.Reply.{Reply}
 use Rattle.model.specs.declared.reply.Reply.TheVariants.{Done, Fd, Again, NoLocks, Free, Blocked, Interrupted, NoProcess, Exists, TooManyFiles}
-use Rattle.model.specs.Limits.{IsHost, IsNumber, most_processes, most_descriptors}
-use Rattle.model.specs.Owners.{same_owner}
-use Rattle.model.specs.Locks.{no_locks}
-use Rattle.model.specs.Descriptors.{Processes, no_processes, with_process, with_descriptor, lowest_fd, lowest_description, on_lowest_fd, again_on, after, after_spawn, after_fork, after_open, after_dup}
-use Rattle.model.specs.Table.{Table, LockTarget, around, beside, descriptor, is_running, with_processes, target, need_of, call_target, target_at, owner_of, locked, regions_with, after_unlock, closed_at, exited}
-use Rattle.model.specs.Step.{Is, AfterTests, SetStep, WaitStep, QueryStep, LockStep, Step}
-use Rattle.model.specs.Anchors.{Hangs, AreAnchored as AreAnchoredOn, IsAnchored, IsOwn}
+use Rattle.model.specs.rule.Limits.{IsHost, IsNumber, most_processes, most_descriptors}
+use Rattle.model.specs.rule.Owners.{same_owner}
+use Rattle.model.specs.rule.Locks.{no_locks}
+use Rattle.model.specs.rule.Descriptors.{Processes, no_processes, with_process, with_descriptor, lowest_fd, lowest_description, on_lowest_fd, again_on, after, after_spawn, after_fork, after_open, after_dup}
+use Rattle.model.specs.rule.Table.{Table, LockTarget, around, beside, descriptor, is_running, with_processes, target, need_of, call_target, target_at, owner_of, locked, regions_with, after_unlock, closed_at, exited}
+use Rattle.model.specs.rule.Step.{Is, AfterTests, SetStep, WaitStep, QueryStep, LockStep, Step}
+use Rattle.model.specs.rule.Anchors.{Hangs, AreAnchored as AreAnchoredOn, IsAnchored, IsOwn}
 use Rattle.model.proofs.OwnerLaws.{owner_exact}
 use Rattle.model.proofs.DescriptorLaws.{lowest_fd-free}
 use Rattle.model.proofs.Hanging.{hangs_on, itself, target_hangs}
 use Rattle.model.proofs.NodeTables.{call_follows}
 use Rattle.model.proofs.Refusals.{if_then}
 use Rattle.model.proofs.Targets.{passes_at}
-use Rattle.run_clients.specs.Anchored.{AreAnchored}
-use Rattle.run_clients.specs.Deeds.{DeedsLead, call_deeds, closing, exit_deeds}
+use Rattle.run_clients.specs.code.Anchored.{AreAnchored}
+use Rattle.run_clients.specs.rule.Deeds.{DeedsLead, call_deeds, closing, exit_deeds}
 use Rattle.run_clients.proofs.Drops.{close_leads, exit_leads}
 use Rattle.run_clients.proofs.Kept.{step_keeps, closed_keeps, exit_keeps}
 use Rattle.run_clients.proofs.LockDeeds.{same_locks, sets, lock_tested, unlock_tested}

@@ -1,20 +1,20 @@
 -- Closes of descriptors and exits of processes: their deeds lead from the locks before to those after.
 use Rattle.std.proofs.Common.{◌≡◌, ℕ, zero, suc, Bool, true, false, if◌then◌else◌, ◌&&◌, ◌==◌, refl, sym, ◌∙◌, ap, subst, List, [], ◌∷◌, ◌++◌, Option, Some, None}
 use Rattle.std.proofs.lemmas.Bool.{eq-eqb, both_ways}
-use Rattle.intervals.specs.Bytes.{nothing}
+use Rattle.intervals.specs.rule.Bytes.{nothing}
 use Rattle.model.specs.declared.mode.Mode.{Mode}
 use Rattle.model.specs.declared.owner.Owner.{Owner}
 use Rattle.model.specs.declared.opened.Opened.{Opened}
 use Rattle.model.specs.declared.process.Process.{Process}
-use Rattle.model.specs.Limits.{most_descriptors}
-use Rattle.model.specs.Owners.{same_owner, process_owner, description_owner}
-use Rattle.model.specs.Locks.{Locks, without_owner, without_owner_anywhere}
-use Rattle.model.specs.Descriptors.{with_descriptor, is_open}
-use Rattle.model.specs.Table.{Table, around, descriptor, is_running, with_processes, closed, closed_if, closed_below, exited, exited_if, exited_to}
-use Rattle.model.specs.Anchors.{IsAnchored}
+use Rattle.model.specs.rule.Limits.{most_descriptors}
+use Rattle.model.specs.rule.Owners.{same_owner, process_owner, description_owner}
+use Rattle.model.specs.rule.Locks.{Locks, without_owner, without_owner_anywhere}
+use Rattle.model.specs.rule.Descriptors.{with_descriptor, is_open}
+use Rattle.model.specs.rule.Table.{Table, around, descriptor, is_running, with_processes, closed, closed_if, closed_below, exited, exited_if, exited_to}
+use Rattle.model.specs.rule.Anchors.{IsAnchored}
 use Rattle.model.proofs.OwnerLaws.{owner_exact}
 use Rattle.model.proofs.Anchors.{left, closed_leaves, exits}
-use Rattle.run_clients.specs.Deeds.{DeedsLead, drop, drop_description, closing, closings_below, exit_deeds, exit_deeds_if, exits_to}
+use Rattle.run_clients.specs.rule.Deeds.{DeedsLead, drop, drop_description, closing, closings_below, exit_deeds, exit_deeds_if, exits_to}
 use Rattle.run_clients.specs.declared.deed.Deed.{Deed}
 use Rattle.run_clients.proofs.Kept.{closed_below-zero, closed_below-suc, exited_to-zero, exited_to-suc}
 

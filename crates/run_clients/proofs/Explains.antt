@@ -3,10 +3,10 @@ use Rattle.std.proofs.Common.{◌≡◌, ℕ, zero, suc, ◌+◌, ◌<◌, true,
 use Rattle.std.specs.List.{AllByRecursion}
 use Rattle.std.proofs.lemmas.Bool.{false≢true}
 use Rattle.std.proofs.lemmas.Option.{same_Some, none-some}
-use Rattle.model.specs.Locks.{Locks, no_locks}
+use Rattle.model.specs.rule.Locks.{Locks, no_locks}
 use Rattle.client_history.specs.declared.client_call.ClientCall.{ClientCall}
-use Rattle.client_history.specs.Explained.{Leads, IsAt, IsExplainedBy, always}
-use Rattle.run_clients.specs.Seen.{indexes_from}
+use Rattle.client_history.specs.rule.Explained.{Leads, IsAt, IsExplainedBy, always}
+use Rattle.run_clients.specs.rule.Seen.{indexes_from}
 use Rattle.run_clients.proofs.FileViews.{LeadAlone}
 use Rattle.run_clients.proofs.Timing.{ArePlaced, one_placed, placed_in_time}
 

@@ -3,22 +3,22 @@ use Rattle.std.proofs.Common.{◌≡◌, ℕ, Bool, true, false, if◌then◌els
 use Rattle.std.proofs.lemmas.Bool.{cases_eq, eqb-true, eq-eqb, ne_eqb}
 use Rattle.std.specs.Prelude.{map}
 use Rattle.std.specs.List.{cons_option}
-use Rattle.intervals.specs.Bytes.{nothing, put}
+use Rattle.intervals.specs.rule.Bytes.{nothing, put}
 use Rattle.model.specs.declared.mode.Mode.{Mode}
 use Rattle.model.specs.declared.op.Op.{Op}
 use Rattle.model.specs.declared.owner.Owner.{Owner}
-use Rattle.model.specs.Owners.{same_owner}
-use Rattle.model.specs.Locks.{Locks, no_locks, replace}
+use Rattle.model.specs.rule.Owners.{same_owner}
+use Rattle.model.specs.rule.Locks.{Locks, no_locks, replace}
 use Rattle.client_history.specs.declared.act.Act.{Act}
 use Rattle.client_history.specs.declared.act.Act.TheVariants.{Locks as Takes, IsDenied, IsFree, Frees, Drops}
 use Rattle.client_history.specs.declared.client_call.ClientCall.{ClientCall}
-use Rattle.client_history.specs.Acts.{ActStep}
-use Rattle.client_history.specs.Explained.{the_file}
+use Rattle.client_history.specs.rule.Acts.{ActStep}
+use Rattle.client_history.specs.rule.Explained.{the_file}
 use Rattle.run_clients.specs.declared.deed.Deed.{Deed}
 use Rattle.run_clients.specs.declared.answer.Answer.{Answer}
 use Rattle.run_clients.specs.declared.file_call.FileCall.{FileCall}
-use Rattle.run_clients.specs.Deeds.{DeedsLead}
-use Rattle.run_clients.specs.Seen.{call_of, client_call, calls_about}
+use Rattle.run_clients.specs.rule.Deeds.{DeedsLead}
+use Rattle.run_clients.specs.rule.Seen.{call_of, client_call, calls_about}
 
 -- calls about files, one after the other, lead from the old locks to the new ones
 abbrev pub CallsLead : Locks → List FileCall → Locks → Type 0

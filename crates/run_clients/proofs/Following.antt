@@ -4,8 +4,8 @@ use Rattle.model.specs.declared.opened.Opened.{Opened}
 use Rattle.model.specs.declared.process.Process.{Process}
 use Rattle.model.specs.declared.reply.Reply.{Reply}
 use Rattle.model.specs.declared.reply.Reply.TheVariants.{Done, NoProcess}
-use Rattle.model.specs.Table.{Table, descriptor, is_running, closed_at, closed_if, after_close, exited, after_exit}
-use Rattle.model.specs.Step.{Is}
+use Rattle.model.specs.rule.Table.{Table, descriptor, is_running, closed_at, closed_if, after_close, exited, after_exit}
+use Rattle.model.specs.rule.Step.{Is}
 
 abbrev close_answer : Table → Process → ℕ → Option Opened → Bool → Table × Reply
 close_answer t p fd x b = if b then closed_at t p fd x else (t, NoProcess)

@@ -3,16 +3,16 @@ use Rattle.std.proofs.Common.{◌≡◌, ℕ, ◌+◌, ◌<◌, ◌≤◌, refl,
 use Rattle.std.specs.Prelude.{map}
 use Rattle.std.specs.List.{AllByRecursion}
 use Rattle.std.proofs.lemmas.List.{drop_all}
-use Rattle.model.specs.Table.{Table}
+use Rattle.model.specs.rule.Table.{Table}
 use Rattle.messages.specs.declared.version.Version.{Version}
 use Rattle.messages.specs.declared.entry.Entry.{Entry}
 use Rattle.cluster_core.specs.declared.item.Item.{Item}
-use Rattle.cluster_core.specs.Histories.{ItemStep, IsLegal}
+use Rattle.cluster_core.specs.rule.Histories.{ItemStep, IsLegal}
 use Rattle.placement.proofs.Replays.{Follows}
 use Rattle.run_clients.specs.declared.answer.Answer.TheVariants.{At}
 use Rattle.run_clients.specs.declared.file_call.FileCall.{FileCall}
-use Rattle.run_clients.specs.Times.{IsTimed}
-use Rattle.run_clients.specs.Seen.{op_of, item_deeds, call_of, AreSeen, HasOpened, IsOpenCall}
+use Rattle.run_clients.specs.code.Times.{IsTimed}
+use Rattle.run_clients.specs.rule.Seen.{op_of, item_deeds, call_of, AreSeen, HasOpened, IsOpenCall}
 
 -- the calls seen so far, and those that will be seen from this table on, are all that are seen from the first
 abbrev pub SeenSoFar : List Entry → Table → List Item → Table → List Item → List FileCall → Type 0

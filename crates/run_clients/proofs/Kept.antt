@@ -6,14 +6,14 @@ use Rattle.model.specs.declared.mode.Mode.{Mode}
 use Rattle.model.specs.declared.owner.Owner.{Owner}
 use Rattle.model.specs.declared.opened.Opened.{Opened}
 use Rattle.model.specs.declared.process.Process.{Process}
-use Rattle.model.specs.Limits.{IsHost, IsNumber, most_descriptions}
-use Rattle.model.specs.Locks.{Locks}
-use Rattle.model.specs.Descriptors.{Processes, no_processes}
-use Rattle.model.specs.Table.{Table, empty_table, descriptor, is_running, closed, closed_if, closed_below, exited, exited_if, exited_to, gone}
-use Rattle.model.specs.Anchors.{AreAnchored as AreAnchoredOn, IsAnchored}
+use Rattle.model.specs.rule.Limits.{IsHost, IsNumber, most_descriptions}
+use Rattle.model.specs.rule.Locks.{Locks}
+use Rattle.model.specs.rule.Descriptors.{Processes, no_processes}
+use Rattle.model.specs.rule.Table.{Table, empty_table, descriptor, is_running, closed, closed_if, closed_below, exited, exited_if, exited_to, gone}
+use Rattle.model.specs.rule.Anchors.{AreAnchored as AreAnchoredOn, IsAnchored}
 use Rattle.model.proofs.Hanging.{anchored_none, itself}
 use Rattle.model.proofs.Anchors.{Leaves, closed_leaves, exits, gone_is, without_host}
-use Rattle.run_clients.specs.Anchored.{AreAnchored}
+use Rattle.run_clients.specs.code.Anchored.{AreAnchored}
 
 -- a step of a node keeps the processes and locks of other nodes
 pub record KeepsOthers (n i : ℕ) (t u : Table) : Type 0 where

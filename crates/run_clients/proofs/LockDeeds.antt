@@ -6,11 +6,11 @@ use Rattle.model.specs.declared.op.LockCommand.{LockCommand}
 use Rattle.model.specs.declared.op.LockCommand.TheVariants.{Set, Wait, Query}
 use Rattle.model.specs.declared.reply.Reply.{Reply}
 use Rattle.model.specs.declared.reply.Reply.TheVariants.{Done, Again, NoLocks, Free, Blocked, Interrupted}
-use Rattle.model.specs.Locks.{Blocks, with_lock}
-use Rattle.model.specs.Table.{Table, LockTarget, locked, regions_with, after_unlock}
-use Rattle.model.specs.Step.{Is, Unblocked, AfterTests, SetStep, WaitStep, QueryStep, LockStep}
-use Rattle.client_history.specs.Acts.{IsBlocked}
-use Rattle.run_clients.specs.Deeds.{DeedsLead, listed, locking, unlocking, asking, commanding}
+use Rattle.model.specs.rule.Locks.{Blocks, with_lock}
+use Rattle.model.specs.rule.Table.{Table, LockTarget, locked, regions_with, after_unlock}
+use Rattle.model.specs.rule.Step.{Is, Unblocked, AfterTests, SetStep, WaitStep, QueryStep, LockStep}
+use Rattle.client_history.specs.rule.Acts.{IsBlocked}
+use Rattle.run_clients.specs.rule.Deeds.{DeedsLead, listed, locking, unlocking, asking, commanding}
 
 -- a call that leaves the table leaves the locks
 pub same_locks : (t u : Table) → u ≡ t → t.locks ≡ u.locks

@@ -1,16 +1,16 @@
 -- Lookups of descriptors in a table.
 use Rattle.std.proofs.Common.{◌≡◌, ℕ, ◌+◌, ◌<◌, ◌≤◌, Bool, true, false, ◌||◌, refl, sym, ◌∙◌, ap, arith, Option, Some, None}
 use Rattle.std.proofs.lemmas.Bool.{both_ways}
-use Rattle.intervals.specs.Search.{some_passes}
+use Rattle.intervals.specs.rule.Search.{some_passes}
 use Rattle.model.specs.declared.opened.Opened.{Opened}
 use Rattle.model.specs.declared.process.Process.{Process}
-use Rattle.model.specs.Limits.{most_processes, most_descriptors}
-use Rattle.model.specs.Descriptors.{Processes, is_of, is_open}
-use Rattle.model.specs.Table.{Table, around, descriptor, is_running}
+use Rattle.model.specs.rule.Limits.{most_processes, most_descriptors}
+use Rattle.model.specs.rule.Descriptors.{Processes, is_of, is_open}
+use Rattle.model.specs.rule.Table.{Table, around, descriptor, is_running}
 use Rattle.model.proofs.DescriptorLaws.{none_refers}
 use Rattle.model.proofs.SearchLaws.{some_passes-found}
 use Rattle.descriptors.proofs.RowLaws.{some_passes-zero, some_passes-more}
-use Rattle.run_clients.specs.References.{has_description}
+use Rattle.run_clients.specs.code.References.{has_description}
 
 -- a process that doesn't run has no descriptor
 pub idle_has_none : (t : Table) (p : Process) (d : ℕ) → ((fd : ℕ) (o : Opened) → descriptor t p fd ≡ Some o → is_running t p ≡ true) → is_running t p ≡ false → false ≡ has_description (around t p) d p.pid

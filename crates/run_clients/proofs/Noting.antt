@@ -10,24 +10,24 @@ use Rattle.model.specs.declared.op.Op.{Op}
 use Rattle.model.specs.declared.process.Process.{Process}
 use Rattle.model.specs.declared.reply.Reply.{Reply}
 use Rattle.model.specs.declared.reply.Reply.TheVariants.{Done}
-use Rattle.model.specs.Table.{Table}
+use Rattle.model.specs.rule.Table.{Table}
 use Rattle.messages.specs.declared.event.Event.{Event}
 use Rattle.messages.specs.declared.event.Event.TheVariants.{Call}
 use Rattle.messages.specs.declared.entry.Entry.{Entry}
-use Rattle.messages.specs.Entries.{NamesItsCall}
-use Rattle.messages.specs.Messages.{same_call}
+use Rattle.messages.specs.code.Entries.{NamesItsCall}
+use Rattle.messages.specs.rule.Messages.{same_call}
 use Rattle.messages.proofs.SameMessages.{call_exact, call_refl}
 use Rattle.cluster_core.specs.declared.item.Item.{Item}
 use Rattle.cluster_core.specs.declared.item.Item.TheVariants.{Answered, Gone}
-use Rattle.cluster_core.specs.Histories.{caller, EntryAt, IsCalledAt, IsRepliedAt, IsOpenAt, IsPlaced, OneCall, OneReply}
+use Rattle.cluster_core.specs.rule.Histories.{caller, EntryAt, IsCalledAt, IsRepliedAt, IsOpenAt, IsPlaced, OneCall, OneReply}
 use Rattle.run_clients.specs.declared.deed.Deed.{Deed}
 use Rattle.run_clients.specs.declared.answer.Answer.TheVariants.{Never}
 use Rattle.run_clients.specs.declared.file_call.FileCall.{FileCall}
-use Rattle.run_clients.specs.Deeds.{listed, lock_deed}
-use Rattle.run_clients.specs.Seen.{call_of, HasOpened, IsOpenCall}
+use Rattle.run_clients.specs.rule.Deeds.{listed, lock_deed}
+use Rattle.run_clients.specs.rule.Seen.{call_of, HasOpened, IsOpenCall}
 use Rattle.run_clients.proofs.Runs.{within}
 use Rattle.run_clients.specs.declared.times.Times.{Times}
-use Rattle.run_clients.specs.Times.{IsTimed, Positions, position_of_call, Notes, IsMade, IsAnswered, AreFound, AreTimes, IsKnown, IsKept}
+use Rattle.run_clients.specs.code.Times.{IsTimed, Positions, position_of_call, Notes, IsMade, IsAnswered, AreFound, AreTimes, IsKnown, IsKept}
 
 -- a list has one entry at a position
 one_entry : (es : List Entry) (at : ℕ) (e d : Entry) → EntryAt es at e → EntryAt es at d → e ≡ d

@@ -3,25 +3,25 @@ use Rattle.std.proofs.Common.{◌≡◌, ℕ, zero, suc, ◌+◌, ◌≤◌, ◌
 use Rattle.std.specs.Prelude.{map}
 use Rattle.std.specs.List.{AllByRecursion, cons_option}
 use Rattle.std.proofs.lemmas.List.Elements.{filter_map-append}
-use Rattle.model.specs.Limits.{most_processes}
-use Rattle.model.specs.Locks.{Locks, no_locks}
-use Rattle.model.specs.Table.{Table, empty_table}
-use Rattle.messages.specs.Shapes.{ShapeFields}
-use Rattle.messages.specs.Versions.{most_regions}
+use Rattle.model.specs.rule.Limits.{most_processes}
+use Rattle.model.specs.rule.Locks.{Locks, no_locks}
+use Rattle.model.specs.rule.Table.{Table, empty_table}
+use Rattle.messages.specs.rule.Shapes.{ShapeFields}
+use Rattle.messages.specs.rule.Versions.{most_regions}
 use Rattle.messages.specs.declared.entry.Entry.{Entry}
-use Rattle.cluster_core.specs.World.{journal_limit}
-use Rattle.cluster_core.specs.Union.{union}
+use Rattle.cluster_core.specs.rule.World.{journal_limit}
+use Rattle.cluster_core.specs.rule.Union.{union}
 use Rattle.cluster_core.specs.declared.item.Item.{Item}
 use Rattle.cluster_core.specs.declared.item.Item.TheVariants.{Answered, Gone}
-use Rattle.cluster_core.specs.Histories.{caller, position_of, ItemStep, Rising, EntryAt, IsPlaced, IsOpenAt, Legal, HasHistory, EachAtItsPlace}
+use Rattle.cluster_core.specs.rule.Histories.{caller, position_of, ItemStep, Rising, EntryAt, IsPlaced, IsOpenAt, Legal, HasHistory, EachAtItsPlace}
 use Rattle.client_history.specs.declared.client_call.ClientCall.{ClientCall}
-use Rattle.client_history.specs.Explained.{IsExplainedBy, always}
-use Rattle.run_clients.specs.Anchored.{AreAnchored}
-use Rattle.run_clients.specs.Times.{IsTimed}
+use Rattle.client_history.specs.rule.Explained.{IsExplainedBy, always}
+use Rattle.run_clients.specs.code.Anchored.{AreAnchored}
+use Rattle.run_clients.specs.code.Times.{IsTimed}
 use Rattle.run_clients.specs.declared.answer.Answer.TheVariants.{At}
 use Rattle.run_clients.specs.declared.file_call.FileCall.{FileCall}
-use Rattle.run_clients.specs.Deeds.{DeedsLead, exits_to}
-use Rattle.run_clients.specs.Seen.{op_of, item_deeds, call_of, client_call, end_of, AreSeen, IsOpenCall, IsSeen, about, calls_about, indexes_from, AreExplained}
+use Rattle.run_clients.specs.rule.Deeds.{DeedsLead, exits_to}
+use Rattle.run_clients.specs.rule.Seen.{op_of, item_deeds, call_of, client_call, end_of, AreSeen, IsOpenCall, IsSeen, about, calls_about, indexes_from, AreExplained}
 use Rattle.run_clients.proofs.Calls.{step_leads, calls_keep_anchored}
 use Rattle.run_clients.proofs.Drops.{exits_lead}
 use Rattle.run_clients.proofs.Kept.{empty_anchored, gone_keeps}

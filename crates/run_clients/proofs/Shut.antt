@@ -6,18 +6,18 @@ use Rattle.model.specs.declared.opened.Opened.{Opened}
 use Rattle.model.specs.declared.process.Process.{Process}
 use Rattle.model.specs.declared.reply.Reply.{Reply}
 use Rattle.model.specs.declared.reply.Reply.TheVariants.{Done, NoProcess}
-use Rattle.model.specs.Limits.{IsHost, most_descriptors}
-use Rattle.model.specs.Owners.{process_owner, description_owner}
-use Rattle.model.specs.Locks.{without_owner, without_owner_anywhere}
-use Rattle.model.specs.Descriptors.{Processes, with_process, with_descriptor, is_open}
-use Rattle.model.specs.Table.{Table, around, descriptor, is_running, with_processes, closed, closed_if, closed_below, exited, exited_to, after_exit}
-use Rattle.model.specs.Step.{Is}
+use Rattle.model.specs.rule.Limits.{IsHost, most_descriptors}
+use Rattle.model.specs.rule.Owners.{process_owner, description_owner}
+use Rattle.model.specs.rule.Locks.{without_owner, without_owner_anywhere}
+use Rattle.model.specs.rule.Descriptors.{Processes, with_process, with_descriptor, is_open}
+use Rattle.model.specs.rule.Table.{Table, around, descriptor, is_running, with_processes, closed, closed_if, closed_below, exited, exited_to, after_exit}
+use Rattle.model.specs.rule.Step.{Is}
 use Rattle.model.proofs.Hanging.{itself}
 use Rattle.model.proofs.Closings.{open_if}
 use Rattle.model.proofs.FailLaws.{exited-by, exited_to-none}
-use Rattle.run_clients.specs.Anchored.{AreAnchored}
+use Rattle.run_clients.specs.code.Anchored.{AreAnchored}
 use Rattle.run_clients.specs.declared.deed.Deed.{Deed}
-use Rattle.run_clients.specs.Deeds.{closing, closings_below, exit_deeds, exit_deeds_if, exits_to}
+use Rattle.run_clients.specs.rule.Deeds.{closing, closings_below, exit_deeds, exit_deeds_if, exits_to}
 use Rattle.run_clients.proofs.Kept.{closed_below-zero, closed_below-suc}
 use Rattle.run_clients.proofs.Drops.{closings-suc, exits_to-zero, exits_to-suc}
 

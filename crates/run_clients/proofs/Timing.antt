@@ -4,12 +4,12 @@ use Rattle.std.specs.Prelude.{map, ⊤}
 use Rattle.std.specs.List.{cons_option}
 use Rattle.std.proofs.lemmas.Option.{same_Some, none-some}
 use Rattle.client_history.specs.declared.client_call.ClientCall.{ClientCall}
-use Rattle.client_history.specs.Explained.{EndsBefore}
+use Rattle.client_history.specs.rule.Explained.{EndsBefore}
 use Rattle.run_clients.specs.declared.deed.Deed.{Deed}
 use Rattle.run_clients.specs.declared.answer.Answer.TheVariants.{At}
 use Rattle.run_clients.specs.declared.file_call.FileCall.{FileCall}
 use Rattle.model.specs.declared.op.Op.{Op}
-use Rattle.run_clients.specs.Seen.{call_of, client_call, calls_about}
+use Rattle.run_clients.specs.rule.Seen.{call_of, client_call, calls_about}
 
 -- the call has a reply, stands at a place between its begin and its end, is no exit and follows no other
 pub record IsPlaced (low at most : ℕ) (c : ClientCall) : Type 0 where

@@ -1,5 +1,2 @@
-pub mod Anchored
-pub mod Deeds
-pub mod References
-pub mod Times
-pub mod Seen
+pub mod rule
+pub mod code

@@ -2,15 +2,15 @@
 //! `AllocError` where a request for memory was refused.
 ghost use Rattle.std.specs.Prelude.{◌≡◌, ◌++◌, ◌∷◌, [], ◌+◌, ℕ, List, length, map, Some, IfOk, IfSome, OnOk};
 ghost use Rattle.std.specs.List.{AllByRecursion};
-ghost use Rattle.model.specs.Limits.{IsProcess};
-ghost use Rattle.model.specs.Table.{Table};
+ghost use Rattle.model.specs.rule.Limits.{IsProcess};
+ghost use Rattle.model.specs.rule.Table.{Table};
 ghost use Rattle.messages.specs.declared.entry.Entry.{Entry};
-ghost use Rattle.cluster_core.specs.Histories.{EntryAt, ItemStep};
-ghost use Rattle.fcntl_table.specs.Tables.{table_of};
-ghost use Rattle.run_clients.specs.Anchored.{AreAnchored};
+ghost use Rattle.cluster_core.specs.rule.Histories.{EntryAt, ItemStep};
+ghost use Rattle.fcntl_table.specs.rule.Tables.{table_of};
+ghost use Rattle.run_clients.specs.code.Anchored.{AreAnchored};
 ghost use Rattle.run_clients.specs.declared.answer.Answer.TheVariants.{At};
-ghost use Rattle.run_clients.specs.Times.{AreTimes, IsKept, IsKnown};
-ghost use Rattle.run_clients.specs.Seen.{AreExplained, IsOpenCall, IsSeen, call_of, item_deeds, op_of};
+ghost use Rattle.run_clients.specs.code.Times.{AreTimes, IsKept, IsKnown};
+ghost use Rattle.run_clients.specs.rule.Seen.{AreExplained, IsOpenCall, IsSeen, call_of, item_deeds, op_of};
 
 use crate::answer::Answer;
 use crate::deed::Deed;

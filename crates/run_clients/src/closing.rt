@@ -1,12 +1,12 @@
 //! The closes of descriptors, exits of processes and failures of nodes, with what they do to locks. A function here
 //! that gives a `Result` answers `AllocError` where a request for memory was refused.
 ghost use Rattle.std.specs.Prelude.{◌≡◌, ◌↔◌, ◌++◌, true, IsTrue, OnOk};
-ghost use Rattle.model.specs.Limits.{IsHost};
-ghost use Rattle.model.specs.Owners.{process_owner};
-ghost use Rattle.model.specs.Table.{is_running, descriptor, closed_if, exited, exited_if, gone};
-ghost use Rattle.fcntl_table.specs.Tables.{table_of};
-ghost use Rattle.run_clients.specs.Deeds.{closing, exit_deeds, exit_deeds_if, gone_deeds};
-ghost use Rattle.run_clients.specs.Anchored.{AreAnchored};
+ghost use Rattle.model.specs.rule.Limits.{IsHost};
+ghost use Rattle.model.specs.rule.Owners.{process_owner};
+ghost use Rattle.model.specs.rule.Table.{is_running, descriptor, closed_if, exited, exited_if, gone};
+ghost use Rattle.fcntl_table.specs.rule.Tables.{table_of};
+ghost use Rattle.run_clients.specs.rule.Deeds.{closing, exit_deeds, exit_deeds_if, gone_deeds};
+ghost use Rattle.run_clients.specs.code.Anchored.{AreAnchored};
 
 use crate::deed::Deed;
 use crate::references::{is_open, is_running, refers};

@@ -1,8 +1,8 @@
 //! The deeds of lock calls. A function here that gives a `Result` answers `AllocError` where a request for memory was
 //! refused.
 ghost use Rattle.std.specs.Prelude.{◌≡◌, ◌++◌, ◌∷◌, [], OnOk};
-ghost use Rattle.fcntl_table.specs.Tables.{table_of};
-ghost use Rattle.run_clients.specs.Deeds.{asking, denied, listed, lock_deed, locking, unlocking};
+ghost use Rattle.fcntl_table.specs.rule.Tables.{table_of};
+ghost use Rattle.run_clients.specs.rule.Deeds.{asking, denied, listed, lock_deed, locking, unlocking};
 
 use crate::deed::Deed;
 use client_history::act::Act;

@@ -1,13 +1,13 @@
 //! A history that is followed item by item, with the deeds of its items. A function here that gives a `Result`
 //! answers `AllocError` where a request for memory was refused.
 ghost use Rattle.std.specs.Prelude.{◌≡◌, ◌++◌, OnOk};
-ghost use Rattle.model.specs.Table.{Table};
-ghost use Rattle.model.specs.Limits.{IsProcess};
-ghost use Rattle.cluster_core.specs.Histories.{caller, ItemStep};
-ghost use Rattle.fcntl_table.specs.Tables.{table_of};
-ghost use Rattle.run_clients.specs.Anchored.{AreAnchored};
-ghost use Rattle.run_clients.specs.Deeds.{listed, lock_deed};
-ghost use Rattle.run_clients.specs.Seen.{item_deeds};
+ghost use Rattle.model.specs.rule.Table.{Table};
+ghost use Rattle.model.specs.rule.Limits.{IsProcess};
+ghost use Rattle.cluster_core.specs.rule.Histories.{caller, ItemStep};
+ghost use Rattle.fcntl_table.specs.rule.Tables.{table_of};
+ghost use Rattle.run_clients.specs.code.Anchored.{AreAnchored};
+ghost use Rattle.run_clients.specs.rule.Deeds.{listed, lock_deed};
+ghost use Rattle.run_clients.specs.rule.Seen.{item_deeds};
 
 use crate::closing::{close, exit, fail};
 use crate::deed::Deed;

@@ -1,5 +1,5 @@
 //! The law of what the clients of every run saw, as the contract of a function that does nothing.
-ghost use Rattle.run_clients.specs.Seen.{EveryRunIsExplained};
+ghost use Rattle.run_clients.specs.rule.Seen.{EveryRunIsExplained};
 
 use cluster_core::laws::every_run_has_a_history;
 

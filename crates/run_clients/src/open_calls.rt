@@ -2,11 +2,11 @@
 //! request for memory was refused.
 ghost use Rattle.std.specs.Prelude.{◌≡◌, ◌≤◌, List, length, IfSome, OnOk};
 ghost use Rattle.messages.specs.declared.entry.Entry.{Entry};
-ghost use Rattle.cluster_core.specs.World.{journal_limit};
-ghost use Rattle.cluster_core.specs.Histories.{EntryAt, caller};
-ghost use Rattle.fcntl_table.specs.Tables.{table_of};
-ghost use Rattle.run_clients.specs.Times.{AreTimes};
-ghost use Rattle.run_clients.specs.Seen.{HasOpened};
+ghost use Rattle.cluster_core.specs.rule.World.{journal_limit};
+ghost use Rattle.cluster_core.specs.rule.Histories.{EntryAt, caller};
+ghost use Rattle.fcntl_table.specs.rule.Tables.{table_of};
+ghost use Rattle.run_clients.specs.code.Times.{AreTimes};
+ghost use Rattle.run_clients.specs.rule.Seen.{HasOpened};
 
 use crate::answer::Answer;
 use crate::clients::push_calls;

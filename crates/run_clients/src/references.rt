@@ -1,10 +1,10 @@
 //! The references of descriptors, in the table of a single machine.
 ghost use Rattle.std.specs.Prelude.{◌≡◌, ℕ, true, Some};
 ghost use Rattle.model.specs.declared.opened.Opened.{Opened};
-ghost use Rattle.model.specs.Descriptors.{is_of, is_open};
-ghost use Rattle.model.specs.Table.{around, is_running};
-ghost use Rattle.fcntl_table.specs.Tables.{table_of};
-ghost use Rattle.run_clients.specs.References.{refers, has_description};
+ghost use Rattle.model.specs.rule.Descriptors.{is_of, is_open};
+ghost use Rattle.model.specs.rule.Table.{around, is_running};
+ghost use Rattle.fcntl_table.specs.rule.Tables.{table_of};
+ghost use Rattle.run_clients.specs.code.References.{refers, has_description};
 
 use fcntl_table::table::FcntlTable;
 use model::limits::{MOST_DESCRIPTORS, MOST_PROCESSES};

@@ -1,9 +1,9 @@
 //! The times at which a run's calls are made and answered.
 ghost use Rattle.std.specs.Prelude.{◌≡◌, ◌≤◌, ◌+◌, ℕ, List, length, is_some, IfOk, OnOk};
 ghost use Rattle.messages.specs.declared.entry.Entry.{Entry};
-ghost use Rattle.cluster_core.specs.World.{journal_limit};
-ghost use Rattle.cluster_core.specs.Histories.{EntryAt};
-ghost use Rattle.run_clients.specs.Times.{AreFound, AreTimes, IsAnswered, IsKept, IsKnown, IsMade, Notes, position_of_call};
+ghost use Rattle.cluster_core.specs.rule.World.{journal_limit};
+ghost use Rattle.cluster_core.specs.rule.Histories.{EntryAt};
+ghost use Rattle.run_clients.specs.code.Times.{AreFound, AreTimes, IsAnswered, IsKept, IsKnown, IsMade, Notes, position_of_call};
 
 use cluster_core::item::Item;
 use messages::entry::Entry;

@@ -1,7 +1,7 @@
 //! What each span map does, at values that were worked out by hand: kept as a sorted vector, which no node has, and as a row of
 //! small sorted vectors.
 ghost use Rattle.std.specs.Prelude.{◌≤◌};
-ghost use Rattle.intervals.specs.Bytes.{greatest};
+ghost use Rattle.intervals.specs.rule.Bytes.{greatest};
 
 use intervals::replay::{Command, replay};
 use intervals::span::{GREATEST, Span};

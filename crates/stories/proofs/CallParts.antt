@@ -9,9 +9,9 @@ use Rattle.std.proofs.lemmas.List.Folds.{list_any_at}
 use Rattle.model.specs.declared.call.CallId.{CallId}
 use Rattle.messages.specs.declared.event.Event.{Event}
 use Rattle.messages.specs.declared.event.Event.TheVariants.{Call, Deliver, Interrupt, Retry, Resend, Declare, Restart, Learn, FailServer, StartServer}
-use Rattle.messages.specs.Entries.{EntryFields}
-use Rattle.stories.specs.About.{PlacedFields, answers, delivers, is_about, is_call}
-use Rattle.stories.specs.OpenIndexes.{call_come, ends_at, with_last, with_one}
+use Rattle.messages.specs.code.Entries.{EntryFields}
+use Rattle.stories.specs.rule.About.{PlacedFields, answers, delivers, is_about, is_call}
+use Rattle.stories.specs.code.OpenIndexes.{call_come, ends_at, with_last, with_one}
 
 -- the element behind others
 slice_get-behind : {A : Type 0} (xs : List A) (y : A) (k : ℕ) → k ≡ length xs → slice_get (xs ++ y ∷ []) k ≡ Some y

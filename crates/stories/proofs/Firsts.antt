@@ -6,10 +6,10 @@ use Rattle.std.specs.Option.{option_or}
 use Rattle.std.proofs.lemmas.Bool.{false≢true}
 use Rattle.messages.specs.declared.message.Message.{Message}
 use Rattle.messages.specs.contracts.message.MessagePartialEq.TheImpl as derived
-use Rattle.messages.specs.Messages.{same_message}
+use Rattle.messages.specs.rule.Messages.{same_message}
 use Rattle.messages.proofs.SameMessages.{message_eq-Decides, same_message-is-equality}
-use Rattle.stories.specs.About.{NumberedFields, number_of}
-use Rattle.stories.specs.Index.{KnowsFirsts, Numbers, number_in}
+use Rattle.stories.specs.rule.About.{NumberedFields, number_of}
+use Rattle.stories.specs.code.Index.{KnowsFirsts, Numbers, number_in}
 
 -- with one more message, the numbers are as before, but that of a new message
 pub number_of-push : (sent : List NumberedFields) (n : NumberedFields) (m : Message) → number_of (sent ++ n ∷ []) m ≡ option_or (number_of sent m) (cond (same_message m n.message) (Some n.number) None)

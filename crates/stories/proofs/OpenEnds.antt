@@ -10,13 +10,13 @@ use Rattle.model.specs.declared.op.Op.{Op}
 use Rattle.model.specs.declared.op.Op.TheVariants.{Exit}
 use Rattle.messages.specs.declared.event.Event.{Event}
 use Rattle.messages.specs.declared.event.Event.TheVariants.{Call, Deliver, Interrupt, Retry, Resend, Declare, Restart, Learn, FailServer, StartServer}
-use Rattle.messages.specs.Entries.{EntryFields}
+use Rattle.messages.specs.code.Entries.{EntryFields}
 use Rattle.stories.specs.contracts.ending.EndingPartialEq.TheImpl as derived
 use Rattle.stories.specs.declared.ending.Ending.{Ending}
 use Rattle.stories.specs.declared.made_call.MadeCall.{MadeCall}
-use Rattle.stories.specs.OpenCalls.{OpenFields, end_of, ends, is_open, open_call}
+use Rattle.stories.specs.rule.OpenCalls.{OpenFields, end_of, ends, is_open, open_call}
 use Rattle.stories.proofs.CallParts.{or_false}
-use Rattle.stories.specs.OpenIndexes.{EndsByEnding, earlier, end_in, ending_by, exit_on, failure_of, first_end, is_ending, open_with}
+use Rattle.stories.specs.code.OpenIndexes.{EndsByEnding, earlier, end_in, ending_by, exit_on, failure_of, first_end, is_ending, open_with}
 
 -- what is found among entries stands at the first position or behind it
 found_from : (test : EntryFields → Bool) (n : ℕ) (es : List EntryFields) → IfSome (find (λ (p : ℕ × EntryFields). test p.1) (enumerate_from n es)) (λ p. n ≤ p.0)

@@ -1,6 +1,2 @@
-pub mod About
-pub mod Index
-pub mod Pending
-pub mod OpenCalls
-pub mod OpenIndexes
-pub mod Stories
+pub mod rule
+pub mod code

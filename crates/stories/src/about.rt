@@ -1,8 +1,8 @@
 //! What is about a call.
 ghost use Rattle.std.specs.Prelude.{◌≡◌};
 ghost use Rattle.std.specs.List.{list_any};
-ghost use Rattle.messages.specs.Messages.{same_message};
-ghost use Rattle.stories.specs.About.{answers, belongs, call_named, delivers, is_about, makes};
+ghost use Rattle.messages.specs.rule.Messages.{same_message};
+ghost use Rattle.stories.specs.rule.About.{answers, belongs, call_named, delivers, is_about, makes};
 
 use messages::entry::Entry;
 use messages::event::Event;

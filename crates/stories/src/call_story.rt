@@ -25,7 +25,7 @@ pub struct CallStory<'a> {
 }
 
 impl<'a> Model for CallStory<'a> {
-    ghost use Rattle.stories.specs.Stories.{StoryFields};
+    ghost use Rattle.stories.specs.rule.Stories.{StoryFields};
 
     ghost Value = { StoryFields };
 
@@ -34,7 +34,7 @@ impl<'a> Model for CallStory<'a> {
 
 impl<'a> CallStory<'a> {
     ghost use Rattle.std.specs.Prelude.{◌≡◌, is_some, IfOk, IfSome};
-    ghost use Rattle.stories.specs.Stories.{is_made, story_of};
+    ghost use Rattle.stories.specs.rule.Stories.{is_made, story_of};
 
     /// The story of the call, from the entries of a journal, the first at position 1, and their history.
     /// `None` where no entry makes a call of that name.
@@ -63,8 +63,8 @@ impl<'a> CallStory<'a> {
 }
 
 ghost use Rattle.std.specs.Prelude.{◌≡◌};
-ghost use Rattle.stories.specs.OpenCalls.{ended_by};
-ghost use Rattle.stories.specs.Stories.{answered_at, is_made, place_in};
+ghost use Rattle.stories.specs.rule.OpenCalls.{ended_by};
+ghost use Rattle.stories.specs.rule.Stories.{answered_at, is_made, place_in};
 
 // Whether an entry makes the call.
 fn is_made(entries: &[Entry], call: &CallId) -> bool

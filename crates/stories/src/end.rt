@@ -12,7 +12,7 @@ pub struct End<'a> {
 
 impl<'a> Model for End<'a> {
     ghost use Rattle.std.specs.Prelude.{ℕ};
-    ghost use Rattle.messages.specs.Entries.{EntryFields};
+    ghost use Rattle.messages.specs.code.Entries.{EntryFields};
 
     ghost Value = { ℕ × EntryFields };
 
@@ -55,7 +55,7 @@ impl<'a> End<'a> {
 }
 
 ghost use Rattle.std.specs.Prelude.{◌≡◌};
-ghost use Rattle.stories.specs.OpenIndexes.{earlier};
+ghost use Rattle.stories.specs.code.OpenIndexes.{earlier};
 
 /// The one that stands earlier.
 pub(crate) fn earlier<'a>(one: Option<End<'a>>, other: Option<End<'a>>) -> Option<End<'a>>

@@ -15,7 +15,7 @@ pub struct Ending {
 
 impl Ending {
     ghost use Rattle.std.specs.Prelude.{◌≡◌};
-    ghost use Rattle.stories.specs.OpenIndexes.{ending_by, exit_on, failure_of};
+    ghost use Rattle.stories.specs.code.OpenIndexes.{ending_by, exit_on, failure_of};
 
     /// The exit of the process with this number, on the node of the call.
     pub(crate) fn exit_on(call: &CallId, pid: u16) -> Ending

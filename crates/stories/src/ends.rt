@@ -1,7 +1,7 @@
 //! Where calls without a reply end.
 ghost use Rattle.std.specs.Prelude.{◌≡◌, cond, Some, OnOk};
 ghost use Rattle.stories.specs.declared.ending.Ending.{Ending};
-ghost use Rattle.stories.specs.OpenIndexes.{end_in, first_end, is_ending};
+ghost use Rattle.stories.specs.code.OpenIndexes.{end_in, first_end, is_ending};
 
 use crate::end::{End, earlier};
 use crate::ending::Ending;

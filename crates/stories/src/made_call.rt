@@ -1,6 +1,6 @@
 //! Calls that entries make.
 ghost use Rattle.std.specs.Prelude.{◌≡◌, IfSome};
-ghost use Rattle.stories.specs.OpenCalls.{call_made, end_of, ends, made_by};
+ghost use Rattle.stories.specs.rule.OpenCalls.{call_made, end_of, ends, made_by};
 
 use crate::end::End;
 use crate::ending::Ending;

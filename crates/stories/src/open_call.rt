@@ -22,7 +22,7 @@ pub struct OpenCall<'a> {
 }
 
 impl<'a> Model for OpenCall<'a> {
-    ghost use Rattle.stories.specs.OpenCalls.{OpenFields};
+    ghost use Rattle.stories.specs.rule.OpenCalls.{OpenFields};
 
     ghost Value = { OpenFields };
 
@@ -30,8 +30,8 @@ impl<'a> Model for OpenCall<'a> {
 }
 
 ghost use Rattle.std.specs.Prelude.{◌≡◌, ◌++◌, map, option_to_list, IfOk, OnOk};
-ghost use Rattle.stories.specs.OpenCalls.{open_call, open_calls};
-ghost use Rattle.stories.specs.OpenIndexes.{open_with};
+ghost use Rattle.stories.specs.rule.OpenCalls.{open_call, open_calls};
+ghost use Rattle.stories.specs.code.OpenIndexes.{open_with};
 
 /// The calls of the entries of a journal, the first at position 1, to which no entry replies, in the order
 /// of their entries.

@@ -20,8 +20,8 @@ pub(crate) struct Parts<'a> {
 
 impl<'a> Model for Parts<'a> {
     ghost use Rattle.std.specs.Prelude.{◌≡◌, [], List};
-    ghost use Rattle.messages.specs.Entries.{EntryFields};
-    ghost use Rattle.stories.specs.OpenIndexes.{KnowsAnswered, KnowsParts};
+    ghost use Rattle.messages.specs.code.Entries.{EntryFields};
+    ghost use Rattle.stories.specs.code.OpenIndexes.{KnowsAnswered, KnowsParts};
 
     ghost Value = { List EntryFields };
 
@@ -33,7 +33,7 @@ impl<'a> Model for Parts<'a> {
 impl<'a> Parts<'a> {
     ghost use Rattle.std.specs.Prelude.{◌≡◌, true, false, IfOk, MatchOption};
     ghost use Rattle.std.specs.List.{list_any};
-    ghost use Rattle.stories.specs.About.{answers, part_of};
+    ghost use Rattle.stories.specs.rule.About.{answers, part_of};
 
     /// Those of these entries.
     pub(crate) fn of(alloc: Global, entries: &'a [Entry]) -> Result<Parts<'a>, AllocError>
@@ -74,9 +74,9 @@ impl<'a> Parts<'a> {
 
 ghost use Rattle.std.specs.Prelude.{◌≡◌, ◌||◌, false, if◌then◌else◌, IfOk, OnOk};
 ghost use Rattle.model.specs.declared.call.CallId.{CallId};
-ghost use Rattle.messages.specs.Messages.{same_call};
-ghost use Rattle.stories.specs.About.{answers, belongs, is_call};
-ghost use Rattle.stories.specs.OpenIndexes.{KnowsAnswered, call_come, ends_at, has_call, part_in, with_last, with_one};
+ghost use Rattle.messages.specs.rule.Messages.{same_call};
+ghost use Rattle.stories.specs.rule.About.{answers, belongs, is_call};
+ghost use Rattle.stories.specs.code.OpenIndexes.{KnowsAnswered, call_come, ends_at, has_call, part_in, with_last, with_one};
 
 // The calls to which entries reply.
 fn answered_calls(alloc: Global, entries: &[Entry]) -> Result<HashSet<CallId>, AllocError>

@@ -1,6 +1,6 @@
 //! Entries and messages with their places.
 ghost use Rattle.std.specs.Prelude.{◌≡◌, ◌+◌, ◌<◌, ◌^◌, length, IfOk};
-ghost use Rattle.stories.specs.About.{part_of, sent_by};
+ghost use Rattle.stories.specs.rule.About.{part_of, sent_by};
 
 use crate::about::{belongs, is_about};
 use messages::entry::Entry;
@@ -17,7 +17,7 @@ pub(crate) struct NumberedMessage<'a> {
 }
 
 impl<'a> Model for NumberedMessage<'a> {
-    ghost use Rattle.stories.specs.About.{NumberedFields};
+    ghost use Rattle.stories.specs.rule.About.{NumberedFields};
 
     ghost Value = { NumberedFields };
 
@@ -36,7 +36,7 @@ pub(crate) struct PlacedEntry<'a> {
 
 impl<'a> Model for PlacedEntry<'a> {
     ghost use Rattle.std.specs.Prelude.{◌+◌, ◌<◌, ◌^◌, length};
-    ghost use Rattle.stories.specs.About.{PlacedFields};
+    ghost use Rattle.stories.specs.rule.About.{PlacedFields};
 
     ghost Value = { PlacedFields };
 

@@ -16,8 +16,8 @@ pub(crate) struct SentMessages<'a> {
 
 impl<'a> Model for SentMessages<'a> {
     ghost use Rattle.std.specs.Prelude.{List};
-    ghost use Rattle.stories.specs.About.{NumberedFields};
-    ghost use Rattle.stories.specs.Index.{KnowsFirsts};
+    ghost use Rattle.stories.specs.rule.About.{NumberedFields};
+    ghost use Rattle.stories.specs.code.Index.{KnowsFirsts};
 
     ghost Value = { List NumberedFields };
 
@@ -28,7 +28,7 @@ impl<'a> Model for SentMessages<'a> {
 
 impl<'a> SentMessages<'a> {
     ghost use Rattle.std.specs.Prelude.{◌≡◌, ◌++◌, ◌∷◌, [], IfOk, OnOk};
-    ghost use Rattle.stories.specs.About.{number_of, sent_about};
+    ghost use Rattle.stories.specs.rule.About.{number_of, sent_about};
 
     /// Those that the entries send, which belong to the call.
     pub(crate) fn of(

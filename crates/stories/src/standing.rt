@@ -22,7 +22,7 @@ pub(crate) enum Standing {
 
 impl Standing {
     ghost use Rattle.std.specs.Prelude.{◌≡◌};
-    ghost use Rattle.stories.specs.Pending.{after_entry, after_event, after_message, after_word, standing_of};
+    ghost use Rattle.stories.specs.rule.Pending.{after_entry, after_event, after_message, after_word, standing_of};
 
     /// Where the call stands behind the entries, which belong to it.
     pub(crate) fn of(part: &[PlacedEntry<'_>], call: &CallId) -> Standing

@@ -1,6 +1,6 @@
 //! The text of the story of a call.
 ghost use Rattle.std.specs.Prelude.{◌≡◌, is_some, IfOk};
-ghost use Rattle.stories.specs.Stories.{is_made};
+ghost use Rattle.stories.specs.rule.Stories.{is_made};
 
 use crate::about::{answers, makes};
 use crate::call_story::CallStory;

@@ -1,8 +1,8 @@
 //! Messages that are under way.
 ghost use Rattle.std.specs.Prelude.{◌≡◌, filter, fold, not, IfOk, OnOk};
-ghost use Rattle.messages.specs.Messages.{same_message};
-ghost use Rattle.stories.specs.About.{delivers};
-ghost use Rattle.stories.specs.Pending.{is_on_way, under_way, way_with};
+ghost use Rattle.messages.specs.rule.Messages.{same_message};
+ghost use Rattle.stories.specs.rule.About.{delivers};
+ghost use Rattle.stories.specs.rule.Pending.{is_on_way, under_way, way_with};
 
 use crate::about::{brings, is_same};
 use crate::placed_entry::{NumberedMessage, PlacedEntry};

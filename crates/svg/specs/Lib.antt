@@ -1,1 +1,1 @@
-pub mod Points
+pub mod code

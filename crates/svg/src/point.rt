@@ -10,7 +10,7 @@ pub struct Point {
 
 impl Model for Point {
     ghost use Rattle.std.specs.Prelude.{◌<◌, ◌^◌};
-    ghost use Rattle.svg.specs.Points.{PointFields};
+    ghost use Rattle.svg.specs.code.Points.{PointFields};
 
     ghost Value = { PointFields };
 

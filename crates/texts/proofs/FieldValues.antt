@@ -3,13 +3,13 @@ use Rattle.std.proofs.Common.{ℕ, ◌<◌, ◌^◌, refl, arith, rules, decimal
 use Rattle.std.specs.Prelude.{⊤}
 use Rattle.std.specs.Fmt.{signed_decimal}
 use Rattle.std.proofs.lemmas.Fmt.{decimal_injective, signed_decimal_injective}
-use Rattle.model.specs.Limits.{IsNumber}
+use Rattle.model.specs.rule.Limits.{IsNumber}
 use Rattle.model.specs.declared.mode.Mode.TheVariants.{Read, Write}
 use Rattle.model.specs.declared.access.Access.TheVariants.{ReadOnly, WriteOnly, ReadWrite}
 use Rattle.model.specs.declared.owner.Kind.TheVariants.{OfProcess, OfDescription}
 use Rattle.model.specs.declared.policy.Policy.TheVariants.{Wide, Exact}
-use Rattle.texts.specs.Reads.{IsWithin}
-use Rattle.texts.specs.Words.{access_text, kind_text, mode_text, policy_text}
+use Rattle.texts.specs.rule.Reads.{IsWithin}
+use Rattle.texts.specs.rule.Words.{access_text, kind_text, mode_text, policy_text}
 use Rattle.texts.proofs.Pairs.{AreApart, heads, tails}
 
 pub apart-number : (most : ℕ) → most < 2 ^ 64 → AreApart decimal (IsNumber most)

@@ -2,8 +2,8 @@
 use Rattle.std.proofs.Common.{◌≡◌, ◌≢◌, ℕ, zero, suc, Bool, false, true, eqb, if◌then◌else◌, List, [], ◌∷◌, ◌++◌, None, inl, inr, refl, sym, ap, ◌∙◌, arith}
 use Rattle.std.specs.Prelude.{◌⊎◌, ⊤}
 use Rattle.std.specs.Cmp.Lexicographic.{pointwise}
-use Rattle.texts.specs.Layout.{space}
-use Rattle.texts.specs.Reads.{IsOneField, Lacks, Reads, has_no_space}
+use Rattle.texts.specs.rule.Layout.{space}
+use Rattle.texts.specs.rule.Reads.{IsOneField, Lacks, Reads, has_no_space}
 
 -- the bytes before the first space
 abbrev pub first_word : List ℕ → List ℕ

@@ -3,7 +3,7 @@ use Rattle.std.proofs.Common.{◌≡◌, ◌≢◌, ℕ, false, true, eqb, List,
 use Rattle.std.specs.Prelude.{◌⊎◌}
 use Rattle.std.specs.List.{starts_with}
 use Rattle.std.specs.Option.{IsSomeAnd, MatchOption, option_map}
-use Rattle.texts.specs.Reads.{Reads}
+use Rattle.texts.specs.rule.Reads.{Reads}
 use Rattle.texts.proofs.Pairs.{AreApart, cancel-front}
 
 -- the values of a kind are made of its fields, and written as the kind's front and the fields; values of other kinds have other fronts

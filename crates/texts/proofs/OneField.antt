@@ -4,7 +4,7 @@ use Rattle.std.specs.Fmt.{signed_decimal}
 use Rattle.std.specs.Str.Parse.{AllDigits}
 use Rattle.std.proofs.lemmas.Fmt.{decimal_is_IsNumeral}
 use Rattle.std.proofs.lemmas.Str.Parse.{digit_at}
-use Rattle.texts.specs.Reads.{has_no_space}
+use Rattle.texts.specs.rule.Reads.{has_no_space}
 
 no_space-digits : (ds : List ℕ) → AllDigits 10 ds → has_no_space ds ≡ true
 no_space-digits [] digits = refl

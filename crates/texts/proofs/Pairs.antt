@@ -1,8 +1,8 @@
 -- Lines of several fields.
 use Rattle.std.proofs.Common.{◌≡◌, ◌≢◌, ℕ, suc, List, [], ◌∷◌, ◌++◌, Option, Some, None, refl, sym, ap, ◌∙◌, arith}
 use Rattle.std.specs.Option.{option_zip}
-use Rattle.texts.specs.Layout.{space}
-use Rattle.texts.specs.Reads.{Reads, Lacks, IsOneField, after_text, joined_text, pair_text, Both}
+use Rattle.texts.specs.rule.Layout.{space}
+use Rattle.texts.specs.rule.Reads.{Reads, Lacks, IsOneField, after_text, joined_text, pair_text, Both}
 
 -- the first byte of a text and the bytes after it
 pub heads : (a b : ℕ) (x y : List ℕ) → a ∷ x ≡ b ∷ y → a ≡ b

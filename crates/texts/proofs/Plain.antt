@@ -6,7 +6,7 @@ use Rattle.std.specs.List.{slice_index}
 use Rattle.std.proofs.lemmas.Bool.{eqb-true}
 use Rattle.std.proofs.lemmas.Fmt.{decimal_is_IsNumeral, decimal_digit, decimal-digits_value, first_decimal}
 use Rattle.std.proofs.lemmas.Str.Parse.{digit_at, numerals_by_value, tells_digits, without_leading_plus_none}
-use Rattle.texts.specs.Reads.{IsPlain, IsPlainSigned}
+use Rattle.texts.specs.rule.Reads.{IsPlain, IsPlainSigned}
 
 -- a plain numeral is the decimal text of its number
 pub plain_numeral : (bs : List ℕ) → IsPlain bs → IsNumeral 10 (without_leading_plus bs) → digits_value 10 (without_leading_plus bs) < 2 ^ 64 → decimal (digits_value 10 (without_leading_plus bs)) ≡ bs

@@ -7,12 +7,12 @@ use Rattle.std.proofs.lemmas.Fmt.{decimal_is_IsNumeral}
 use Rattle.std.proofs.lemmas.List.{length-append}
 use Rattle.std.proofs.lemmas.Str.Parse.{digit_at}
 use Rattle.std.proofs.lemmas.Str.Pattern.{IsSplitOnceResult, split_parts, split_after}
-use Rattle.model.specs.Limits.{IsNumber}
+use Rattle.model.specs.rule.Limits.{IsNumber}
 use Rattle.model.specs.declared.mode.Mode.TheVariants.{Read, Write}
 use Rattle.model.specs.declared.owner.Kind.TheVariants.{OfProcess, OfDescription}
-use Rattle.texts.specs.Layout.{space}
-use Rattle.texts.specs.Reads.{IsWithin, Lacks}
-use Rattle.texts.specs.Words.{kind_text, mode_text}
+use Rattle.texts.specs.rule.Layout.{space}
+use Rattle.texts.specs.rule.Reads.{IsWithin, Lacks}
+use Rattle.texts.specs.rule.Words.{kind_text, mode_text}
 use Rattle.std.specs.Prelude.{⊤}
 use Rattle.texts.proofs.Pairs.{AreWords, heads, same-split, tails}
 

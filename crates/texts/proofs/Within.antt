@@ -1,7 +1,7 @@
 -- Numbers within limits that a type can hold.
 use Rattle.std.proofs.Common.{◌≡◌, ℕ, ◌<◌, ◌≤◌, ◌^◌, min, true, List, Option, Some, None, MatchOption, sym, ap, ◌∙◌, arith, decimal}
 use Rattle.std.proofs.lemmas.Fmt.{decimal_injective}
-use Rattle.texts.specs.Reads.{IsWithin, Reads, has_no_space}
+use Rattle.texts.specs.rule.Reads.{IsWithin, Reads, has_no_space}
 use Rattle.texts.proofs.OneField.{decimal_is_one_field}
 
 module _ {A : Type 0} (number : A → ℕ) (greatest least most : ℕ) (small : most < 2 ^ 64) where

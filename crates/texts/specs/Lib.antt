@@ -1,5 +1,1 @@
-pub mod FirstBadLine
-pub mod Layout
-pub mod LineFeeds
-pub mod Reads
-pub mod Words
+pub mod rule

@@ -1,6 +1,6 @@
 //! The words for policies and for levels of tokens.
 ghost use Rattle.std.specs.Prelude.{true};
-ghost use Rattle.texts.specs.Words.{level_text, policy_text};
+ghost use Rattle.texts.specs.rule.Words.{level_text, policy_text};
 
 use crate::words::{Named, value_of, word_of};
 use model::level::Level;

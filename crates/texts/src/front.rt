@@ -1,6 +1,6 @@
 //! Values that are written behind a fixed text.
 ghost use Rattle.std.specs.Prelude.{◌≡◌, ℕ, List};
-ghost use Rattle.texts.specs.Reads.{after_text};
+ghost use Rattle.texts.specs.rule.Reads.{after_text};
 
 use crate::text::{Text, after};
 use std::alloc::AllocError;

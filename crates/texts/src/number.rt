@@ -4,7 +4,7 @@
 ghost use Rattle.std.specs.Prelude.{◌≡◌, ◌<◌, ◌++◌, ◌^◌, min, decimal, string_bytes, FitsSigned, MatchBool, OnOk};
 ghost use Rattle.std.specs.Fmt.{signed_decimal};
 ghost use Rattle.std.specs.Int.{w64};
-ghost use Rattle.texts.specs.Reads.{IsPlain, IsPlainSigned, IsWithin, Reads};
+ghost use Rattle.texts.specs.rule.Reads.{IsPlain, IsPlainSigned, IsWithin, Reads};
 
 use crate::text::{Text, Word};
 use crate::unsigned::Unsigned;

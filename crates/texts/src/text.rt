@@ -1,7 +1,7 @@
 //! Types as ways to write values, and functions that split texts into fields.
 ghost use Rattle.std.specs.Prelude.{◌≡◌, ◌≢◌, ◌<◌, ◌++◌, ◌∷◌, ℕ, List, MatchOption, OnOk, string_bytes, true};
-ghost use Rattle.texts.specs.Layout.{space};
-ghost use Rattle.texts.specs.Reads.{Both, Lacks, Reads, has_no_space, pair_text};
+ghost use Rattle.texts.specs.rule.Layout.{space};
+ghost use Rattle.texts.specs.rule.Reads.{Both, Lacks, Reads, has_no_space, pair_text};
 
 use memchr::memchr;
 use std::alloc::AllocError;

@@ -1,8 +1,8 @@
 //! Words for the values of small types, and the ones of lock calls: kinds of owners, access modes
 //! and lock modes.
 ghost use Rattle.std.specs.Prelude.{◌≡◌, ℕ, List, true, ⊤};
-ghost use Rattle.texts.specs.Reads.{Reads, has_no_space};
-ghost use Rattle.texts.specs.Words.{access_text, kind_text, mode_text};
+ghost use Rattle.texts.specs.rule.Reads.{Reads, has_no_space};
+ghost use Rattle.texts.specs.rule.Words.{access_text, kind_text, mode_text};
 
 use crate::text::{Text, Word};
 use model::access::Access;

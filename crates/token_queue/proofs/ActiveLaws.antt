@@ -10,8 +10,8 @@ use Rattle.std.proofs.lemmas.Option.{none-some, same_Some, slice_get_within, get
 use Rattle.model.specs.declared.call.CallId.{CallId}
 use Rattle.token_queue.specs.declared.held.Held.{Held}
 use Rattle.token_queue.specs.declared.token_request.TokenRequest.{TokenRequest}
-use Rattle.token_queue.specs.Requests.{is_of_call}
-use Rattle.token_queue.specs.Actives.{requests_of, waiting_for}
+use Rattle.token_queue.specs.rule.Requests.{is_of_call}
+use Rattle.token_queue.specs.rule.Actives.{requests_of, waiting_for}
 
 -- the request of the call that a search of the entries finds is the one that a search of the requests finds
 pub find-held : (call : CallId) (held : List Held) → option_map (λ h. h.request) (find (λ h. is_of_call call h.request) held) ≡ find (is_of_call call) (requests_of held)

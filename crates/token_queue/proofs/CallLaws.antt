@@ -6,7 +6,7 @@ use Rattle.std.proofs.lemmas.Grind.{common_steps}
 use Rattle.std.proofs.lemmas.Bool.{both_ways}
 use Rattle.model.specs.declared.call.CallId.{CallId}
 use Rattle.model.specs.contracts.call.CallIdPartialEq.TheImpl as derived
-use Rattle.messages.specs.Messages.{same_call}
+use Rattle.messages.specs.rule.Messages.{same_call}
 
 -- the derived `==` of calls is the test of the definitions
 pub call_eq : (a b : CallId) → derived.ghosts.eq a b ≡ same_call a b

@@ -3,7 +3,7 @@ use Rattle.std.specs.Prelude.{◌≡◌, ℕ, Bool, true, false, cond, not, List
 use Rattle.std.proofs.Common.{zero, suc, ap, sym, ◌∙◌}
 use Rattle.std.proofs.lemmas.Option.{none-some}
 use Rattle.token_queue.specs.declared.token_request.TokenRequest.{TokenRequest}
-use Rattle.token_queue.specs.Requests.{is_of_call, AreOfDistinctCalls}
+use Rattle.token_queue.specs.rule.Requests.{is_of_call, AreOfDistinctCalls}
 use Rattle.token_queue.proofs.CallLaws.{same_call-symm}
 
 module _ (test : TokenRequest → Bool) where

@@ -6,10 +6,10 @@ use Rattle.std.proofs.lemmas.List.{get_or_append_left, get_or_push, length_push,
 use Rattle.std.proofs.lemmas.List.Elements.{filter-append}
 use Rattle.std.proofs.lemmas.Option.{none-some, same_Some}
 use Rattle.model.specs.declared.call.CallId.{CallId}
-use Rattle.messages.specs.Messages.{same_call}
+use Rattle.messages.specs.rule.Messages.{same_call}
 use Rattle.token_queue.specs.declared.token_request.TokenRequest.{TokenRequest}
-use Rattle.token_queue.specs.Requests.{LineParts, is_of_call, is_up_to, requests_in, AreOfDistinctCalls}
-use Rattle.token_queue.specs.Places.{SlotParts, request_at, unless, IsFront}
+use Rattle.token_queue.specs.rule.Requests.{LineParts, is_of_call, is_up_to, requests_in, AreOfDistinctCalls}
+use Rattle.token_queue.specs.code.Places.{SlotParts, request_at, unless, IsFront}
 use Rattle.token_queue.proofs.CallLaws.{same_call-true, same_call-refl, same_call-symm}
 use Rattle.token_queue.proofs.SlotLaws.{requests_in-append, requests_in-unless}
 use Rattle.token_queue.proofs.WalkLaws.{requests_in-more}

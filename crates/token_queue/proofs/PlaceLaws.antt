@@ -7,10 +7,10 @@ use Rattle.std.proofs.lemmas.Option.{none-some, same_Some}
 use Rattle.indexmap.specs.IndexMap.{IndexMap, get, index_map_len}
 use Rattle.model.specs.declared.call.CallId.{CallId}
 use Rattle.model.specs.contracts.call.CallIdPartialEq.TheImpl as derived
-use Rattle.messages.specs.Messages.{same_call}
+use Rattle.messages.specs.rule.Messages.{same_call}
 use Rattle.token_queue.specs.declared.token_request.TokenRequest.{TokenRequest}
-use Rattle.token_queue.specs.Requests.{is_of_call, requests_in}
-use Rattle.token_queue.specs.Places.{request_at, call_at, ArePlaced}
+use Rattle.token_queue.specs.rule.Requests.{is_of_call, requests_in}
+use Rattle.token_queue.specs.code.Places.{request_at, call_at, ArePlaced}
 use Rattle.token_queue.proofs.CallLaws.{eq-same_call, same_call-true, same_call-apart}
 use Rattle.token_queue.proofs.SlotLaws.{requests_in-append, HasNone, AreApart, find-placed, length-cleared}
 

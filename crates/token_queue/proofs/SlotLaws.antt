@@ -3,10 +3,10 @@ use Rattle.std.specs.Prelude.{◌≡◌, ℕ, ◌+◌, Bool, true, false, cond, 
 use Rattle.std.proofs.Common.{zero, suc, ap, sym, subst, ◌∙◌, set, arith}
 use Rattle.std.proofs.lemmas.Option.{none-some, same_Some}
 use Rattle.model.specs.declared.call.CallId.{CallId}
-use Rattle.messages.specs.Messages.{same_call}
+use Rattle.messages.specs.rule.Messages.{same_call}
 use Rattle.token_queue.specs.declared.token_request.TokenRequest.{TokenRequest}
-use Rattle.token_queue.specs.Requests.{is_of_call, requests_in, AreOfDistinctCalls}
-use Rattle.token_queue.specs.Places.{request_at, call_at, unless}
+use Rattle.token_queue.specs.rule.Requests.{is_of_call, requests_in, AreOfDistinctCalls}
+use Rattle.token_queue.specs.code.Places.{request_at, call_at, unless}
 use Rattle.token_queue.proofs.CallLaws.{same_call-true, same_call-refl}
 
 -- the requests in two lists of slots together are those of the first and then those of the second

@@ -7,8 +7,8 @@ use Rattle.std.proofs.lemmas.List.{append-nil, drop_more, take_more, get_or_read
 use Rattle.std.proofs.lemmas.Option.{none-some, same_Some}
 use Rattle.token_queue.specs.contracts.token_request.TokenRequestPartialEq.TheImpl as derived
 use Rattle.token_queue.specs.declared.token_request.TokenRequest.{TokenRequest}
-use Rattle.token_queue.specs.Requests.{requests_in}
-use Rattle.token_queue.specs.Places.{request_at}
+use Rattle.token_queue.specs.rule.Requests.{requests_in}
+use Rattle.token_queue.specs.code.Places.{request_at}
 use Rattle.token_queue.proofs.SlotLaws.{requests_in-append}
 
 -- the derived `==` of requests is equality

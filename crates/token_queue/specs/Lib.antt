@@ -1,3 +1,2 @@
-pub mod Requests
-pub mod Actives
-pub mod Places
+pub mod rule
+pub mod code

@@ -4,8 +4,8 @@ ghost use Rattle.std.specs.Prelude.{◌≡◌, ◌↔◌, ◌+◌, ◌<◌, ◌�
 ghost use Rattle.std.specs.List.{count_by, remove};
 ghost use Rattle.std.specs.Option.{option_map};
 ghost use Rattle.std.specs.Vec.{vec_capacity};
-ghost use Rattle.token_queue.specs.Requests.{is_of_call, is_up_to};
-ghost use Rattle.token_queue.specs.Actives.{requests_of, waiting_for};
+ghost use Rattle.token_queue.specs.rule.Requests.{is_of_call, is_up_to};
+ghost use Rattle.token_queue.specs.rule.Actives.{requests_of, waiting_for};
 
 use crate::held::Held;
 use crate::token_request::TokenRequest;
@@ -28,7 +28,7 @@ pub struct Active {
 impl Model for Active {
     ghost use Rattle.std.specs.Prelude.{◌+◌, ◌≤◌, length};
     ghost use Rattle.std.specs.Vec.{vec_capacity};
-    ghost use Rattle.token_queue.specs.Actives.{ActiveParts};
+    ghost use Rattle.token_queue.specs.rule.Actives.{ActiveParts};
 
     ghost Value = { ActiveParts };
 

@@ -1,7 +1,7 @@
 //! A line: requests in the order in which they are to be served. A function here that gives a `Result` answers
 //! `AllocError` where a request for memory was refused.
 ghost use Rattle.std.specs.Prelude.{◌≡◌, ◌↔◌, ◌+◌, ◌-◌, ◌<◌, ◌≤◌, ◌^◌, ◌++◌, ◌∷◌, [], not, filter, find, drop, length, slice_get, None, IfOk, IsTrue};
-ghost use Rattle.token_queue.specs.Requests.{is_of_call, is_up_to, requests_in, AreOfDistinctCalls};
+ghost use Rattle.token_queue.specs.rule.Requests.{is_of_call, is_up_to, requests_in, AreOfDistinctCalls};
 
 use crate::slots::Slots;
 use crate::token_request::TokenRequest;
@@ -22,8 +22,8 @@ pub struct Line {
 }
 
 impl Model for Line {
-    ghost use Rattle.token_queue.specs.Requests.{LineParts, requests_in};
-    ghost use Rattle.token_queue.specs.Places.{IsFront};
+    ghost use Rattle.token_queue.specs.rule.Requests.{LineParts, requests_in};
+    ghost use Rattle.token_queue.specs.code.Places.{IsFront};
 
     ghost Value = { LineParts };
 

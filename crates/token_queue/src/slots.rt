@@ -1,8 +1,8 @@
 //! The slots of a line, with an index from each call to its slot. A function here that gives a `Result` answers
 //! `AllocError` where a request for memory was refused.
 ghost use Rattle.std.specs.Prelude.{◌≡◌, ◌+◌, ◌<◌, ◌≤◌, ◌^◌, ◌++◌, ◌∷◌, [], List, map, find, length, None, Some, IfOk, IsSome};
-ghost use Rattle.token_queue.specs.Requests.{is_of_call, requests_in, AreOfDistinctCalls};
-ghost use Rattle.token_queue.specs.Places.{unless};
+ghost use Rattle.token_queue.specs.rule.Requests.{is_of_call, requests_in, AreOfDistinctCalls};
+ghost use Rattle.token_queue.specs.code.Places.{unless};
 
 use crate::token_request::TokenRequest;
 use indexmap::IndexMap;
@@ -22,7 +22,7 @@ impl Model for Slots {
     ghost use Rattle.std.specs.Prelude.{◌+◌, ◌≤◌, length};
     ghost use Rattle.std.specs.Vec.{vec_capacity};
     ghost use Rattle.indexmap.specs.IndexMap.{spare};
-    ghost use Rattle.token_queue.specs.Places.{SlotParts, ArePlaced};
+    ghost use Rattle.token_queue.specs.code.Places.{SlotParts, ArePlaced};
 
     ghost Value = { SlotParts };
 

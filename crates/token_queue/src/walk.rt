@@ -1,7 +1,7 @@
 //! Walks over the slots of a line.
 ghost use Rattle.std.specs.Prelude.{◌≡◌, ◌↔◌, ◌<◌, ◌≤◌, IsTrue, length, drop, is_some, true};
-ghost use Rattle.token_queue.specs.Requests.{requests_in};
-ghost use Rattle.token_queue.specs.Places.{request_at};
+ghost use Rattle.token_queue.specs.rule.Requests.{requests_in};
+ghost use Rattle.token_queue.specs.code.Places.{request_at};
 
 use crate::token_request::TokenRequest;
 

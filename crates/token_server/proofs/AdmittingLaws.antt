@@ -7,16 +7,16 @@ use Rattle.std.proofs.lemmas.Bool.{and_parts, and_from, not-true}
 use Rattle.std.proofs.lemmas.List.Folds.{list_any-append}
 use Rattle.std.proofs.lemmas.List.Elements.{filter-append}
 use Rattle.std.proofs.lemmas.List.Sums.{sum_by-append}
-use Rattle.intervals.specs.Bytes.{Range}
+use Rattle.intervals.specs.rule.Bytes.{Range}
 use Rattle.model.specs.declared.call.CallId.{CallId}
-use Rattle.messages.specs.Messages.{same_call}
+use Rattle.messages.specs.rule.Messages.{same_call}
 use Rattle.token_queue.specs.declared.token_request.TokenRequest.{TokenRequest}
-use Rattle.token_queue.specs.Requests.{is_of_call}
-use Rattle.token_queue.specs.Requests.{meets}
-use Rattle.token_server.specs.Serve.{meets_some, admitted}
-use Rattle.token_server.specs.Admitting.{has_call_of, all_but, IsAdmitted}
+use Rattle.token_queue.specs.rule.Requests.{is_of_call}
+use Rattle.token_queue.specs.rule.Requests.{meets}
+use Rattle.token_server.specs.rule.Serve.{meets_some, admitted}
+use Rattle.token_server.specs.code.Admitting.{has_call_of, all_but, IsAdmitted}
 use Rattle.token_server.proofs.AdmitLaws.{Lists, admitted-more}
-use Rattle.token_server.specs.Obstacles.{are_apart}
+use Rattle.token_server.specs.code.Obstacles.{are_apart}
 use Rattle.token_server.proofs.StayLaws.{Stay, stay-admits, admitted-stay}
 
 -- the number of the call's requests among these

@@ -2,23 +2,23 @@
 use Rattle.std.specs.Prelude.{◌≡◌, ℕ, ◌+◌, ◌-◌, ◌≤◌, Bool, true, false, cond, ◌==◌, nat_le, nat_lt, List, [], ◌∷◌, ◌++◌, is_some, IfSome, Option, Some, None, Result, Ok, Err}
 use Rattle.std.proofs.Common.{refl, sym, ap, subst, ◌∙◌, inl, inr, arith}
 use Rattle.std.proofs.lemmas.Bool.Decides.{eqb_tells}
-use Rattle.intervals.specs.Search.{first, some_passes}
-use Rattle.token_set.specs.Tokens.{Token}
+use Rattle.intervals.specs.rule.Search.{first, some_passes}
+use Rattle.token_set.specs.rule.Tokens.{Token}
 use Rattle.token_set.proofs.SearchLaws.{some_passes-none, none_passes-from, first-same}
 use Rattle.messages.specs.declared.refusal.StepError.{StepError}
 use Rattle.messages.specs.declared.refusal.StepError.TheVariants.{Spent}
 use Rattle.messages.specs.declared.message.Message.{Message}
-use Rattle.messages.specs.Epochs.{before_epoch}
-use Rattle.messages.specs.Messages.{greatest_number}
+use Rattle.messages.specs.rule.Epochs.{before_epoch}
+use Rattle.messages.specs.rule.Messages.{greatest_number}
 use Rattle.token_queue.specs.declared.token_request.TokenRequest.{TokenRequest}
 use Rattle.known_nodes.specs.declared.node_change.NodeChange.{NodeChange}
 use Rattle.known_nodes.specs.declared.node_change.NodeChange.TheVariants.{Forgotten, Asked, Answered, Relieved, Reported}
 use Rattle.known_nodes.specs.declared.node_change.Changed.{Changed}
-use Rattle.known_nodes.specs.Rows.{Row, is_hello, is_awaited, row_above}
-use Rattle.token_server.specs.State.{ServerState, awaits, begin, with_row}
-use Rattle.token_server.specs.Serve.{conflicting_node, commanded, granted_to, revoked_from, served, with_more, and_then, each_served}
-use Rattle.token_server.specs.Ready.{AreOfEpoch}
-use Rattle.known_nodes.specs.Changes.{row_or_empty, row_after, rows_after}
+use Rattle.known_nodes.specs.rule.Rows.{Row, is_hello, is_awaited, row_above}
+use Rattle.token_server.specs.rule.State.{ServerState, awaits, begin, with_row}
+use Rattle.token_server.specs.rule.Serve.{conflicting_node, commanded, granted_to, revoked_from, served, with_more, and_then, each_served}
+use Rattle.token_server.specs.code.Ready.{AreOfEpoch}
+use Rattle.known_nodes.specs.code.Changes.{row_or_empty, row_after, rows_after}
 use Rattle.token_server.proofs.AdmissionLaws.{above-told}
 
 empty-told : (begin incarnation : ℕ) (row : Option Row) → is_awaited row ≡ false → is_awaited (row_or_empty begin incarnation row) ≡ false

@@ -5,22 +5,22 @@ use Rattle.std.proofs.lemmas.Bool.{both_ways, lt-leb}
 use Rattle.std.proofs.lemmas.List.{map-append, length-take, length-take-le, drop_all, drop-append-le}
 use Rattle.std.proofs.lemmas.Option.{slice_get_within}
 use Rattle.std.proofs.lemmas.List.Elements.{All-nil, All-cons, All-head, All-tail, All-push}
-use Rattle.intervals.specs.Bytes.{Range}
+use Rattle.intervals.specs.rule.Bytes.{Range}
 use Rattle.token_queue.specs.declared.token_request.TokenRequest.{TokenRequest}
 use Rattle.token_queue.specs.declared.held.Held.{Held}
-use Rattle.token_queue.specs.Requests.{meets}
-use Rattle.token_queue.specs.Actives.{requests_of, waiting_for}
+use Rattle.token_queue.specs.rule.Requests.{meets}
+use Rattle.token_queue.specs.rule.Actives.{requests_of, waiting_for}
 use Rattle.known_nodes.specs.declared.row_edit.RowEdit.{RowEdit}
 use Rattle.known_nodes.specs.declared.node_change.Changed.{Changed}
-use Rattle.known_nodes.specs.Rows.{Row, row_conflicts}
-use Rattle.token_server.specs.State.{ServerState}
-use Rattle.token_server.specs.Serve.{conflicting_node}
-use Rattle.known_nodes.specs.Changes.{may_bar, rows_after}
-use Rattle.token_server.specs.Obstacles.{obstacle, are_apart, frees, may_turn}
-use Rattle.known_nodes.specs.Parts.{rows_of}
-use Rattle.token_server.specs.Parts.{ServerParts, server_state}
-use Rattle.known_nodes.specs.Edits.{rows_overlaid}
-use Rattle.token_server.specs.Edits.{reached}
+use Rattle.known_nodes.specs.rule.Rows.{Row, row_conflicts}
+use Rattle.token_server.specs.rule.State.{ServerState}
+use Rattle.token_server.specs.rule.Serve.{conflicting_node}
+use Rattle.known_nodes.specs.code.Changes.{may_bar, rows_after}
+use Rattle.token_server.specs.code.Obstacles.{obstacle, are_apart, frees, may_turn}
+use Rattle.known_nodes.specs.rule.Parts.{rows_of}
+use Rattle.token_server.specs.rule.Parts.{ServerParts, server_state}
+use Rattle.known_nodes.specs.code.Edits.{rows_overlaid}
+use Rattle.token_server.specs.code.Edits.{reached}
 use Rattle.token_server.proofs.FreeLaws.{obstacle-changed}
 use Rattle.token_server.proofs.GrantLaws.{unopposed-none}
 use Rattle.token_server.proofs.AdmittingLaws.{meets-flip}

@@ -2,21 +2,21 @@
 use Rattle.std.specs.Prelude.{◌≡◌, ℕ, ◌≤◌, Bool, true, false, cond, ◌||◌, Option, Some, None, MatchOption}
 use Rattle.std.proofs.Common.{refl, sym, ap, ◌∙◌, arith}
 use Rattle.std.proofs.lemmas.Bool.{both_ways, false_from_ne_true}
-use Rattle.intervals.specs.Bytes.{Range, is_in, NoneIn, largest_around}
+use Rattle.intervals.specs.rule.Bytes.{Range, is_in, NoneIn, largest_around}
 use Rattle.model.specs.declared.level.Level.{Level}
 use Rattle.model.specs.declared.level.Level.TheVariants.{Shared, Exclusive}
 use Rattle.model.specs.declared.mode.Mode.{Mode}
 use Rattle.model.specs.declared.mode.Mode.TheVariants.{Read, Write}
 use Rattle.messages.specs.declared.message.Message.{Message}
 use Rattle.messages.specs.declared.message.Message.TheVariants.{Grant}
-use Rattle.token_set.specs.Tokens.{Token, raised_level, level_conflicts, conflicts}
+use Rattle.token_set.specs.rule.Tokens.{Token, raised_level, level_conflicts, conflicts}
 use Rattle.token_set.proofs.TokenLaws.{conflicts-from}
 use Rattle.token_set.proofs.SearchLaws.{some_passes-first}
 use Rattle.token_set.proofs.AroundLaws.{largest_around-same, largest_around-or}
 use Rattle.token_server.specs.declared.told.Told.{Told}
-use Rattle.known_nodes.specs.Rows.{Row, row_conflicts, row_conflicts_at}
-use Rattle.known_nodes.specs.Sent.{promised, barred_by, bars}
-use Rattle.token_server.specs.Told.{row_told, cut}
+use Rattle.known_nodes.specs.rule.Rows.{Row, row_conflicts, row_conflicts_at}
+use Rattle.known_nodes.specs.code.Sent.{promised, barred_by, bars}
+use Rattle.token_server.specs.code.Told.{row_told, cut}
 use Rattle.known_nodes.proofs.MarkLaws.{row_free}
 use Rattle.token_server.proofs.CutLaws.{cut-apart}
 

@@ -5,13 +5,13 @@ use Rattle.std.proofs.Common.{refl}
 use Rattle.std.proofs.lemmas.List.Elements.{All-nil, All-cons, All-head, All-tail, All-append, All-push, All-filter, filter_passes}
 use Rattle.model.specs.declared.call.CallId.{CallId}
 use Rattle.messages.specs.declared.message.Blocking.TheVariants.{Yes}
-use Rattle.messages.specs.Messages.{same_blocking}
+use Rattle.messages.specs.rule.Messages.{same_blocking}
 use Rattle.token_queue.specs.declared.token_request.TokenRequest.{TokenRequest}
-use Rattle.token_queue.specs.Requests.{is_of_call, is_up_to}
-use Rattle.known_nodes.specs.Rows.{Row}
-use Rattle.token_server.specs.State.{ServerState, forgotten, requests, requeued}
-use Rattle.token_server.specs.Serve.{meets_some, admitted, ready}
-use Rattle.token_server.specs.Server.{with_a_row, request_of, enqueued_with, enqueued, asked, ended, put_off, postponed, freed}
+use Rattle.token_queue.specs.rule.Requests.{is_of_call, is_up_to}
+use Rattle.known_nodes.specs.rule.Rows.{Row}
+use Rattle.token_server.specs.rule.State.{ServerState, forgotten, requests, requeued}
+use Rattle.token_server.specs.rule.Serve.{meets_some, admitted, ready}
+use Rattle.token_server.specs.rule.Server.{with_a_row, request_of, enqueued_with, enqueued, asked, ended, put_off, postponed, freed}
 
 -- P holds of the active, of the queued and of the waiting requests
 pub record AreRequests (P : TokenRequest → Type 0) (s : ServerState) : Type 0 where

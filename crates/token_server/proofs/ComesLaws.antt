@@ -8,21 +8,21 @@ use Rattle.std.proofs.lemmas.List.Elements.{filter-append}
 use Rattle.model.specs.declared.call.CallId.{CallId}
 use Rattle.token_queue.specs.declared.held.Held.{Held}
 use Rattle.token_queue.specs.declared.token_request.TokenRequest.{TokenRequest}
-use Rattle.token_queue.specs.Requests.{is_of_call, meets, requests_in}
-use Rattle.token_queue.specs.Places.{request_at}
-use Rattle.token_queue.specs.Actives.{requests_of}
+use Rattle.token_queue.specs.rule.Requests.{is_of_call, meets, requests_in}
+use Rattle.token_queue.specs.code.Places.{request_at}
+use Rattle.token_queue.specs.rule.Actives.{requests_of}
 use Rattle.token_queue.proofs.CallLaws.{same_call-refl}
 use Rattle.token_queue.proofs.SlotLaws.{requests_in-append}
 use Rattle.token_queue.proofs.WalkLaws.{requests_in-around, requests_in-more}
 use Rattle.token_server.specs.declared.gone.Gone.{Gone}
 use Rattle.token_server.specs.declared.sketch.Moved.{Moved}
 use Rattle.token_server.specs.declared.sketch.Moved.TheVariants.{Nothing, New, Again, Waiting, PutOff}
-use Rattle.token_server.specs.Serve.{meets_some}
-use Rattle.token_server.specs.Admitting.{all_stay, IsAdmitted}
-use Rattle.token_server.specs.Ready.{AreDistinct}
-use Rattle.token_server.specs.Sketches.{without, still_active, queue_moved}
-use Rattle.token_server.specs.Edits.{is_up_to_any, is_of_any, keeps}
-use Rattle.token_server.specs.Comes.{served_on, left_in, NeedsAllOf, HasEnded}
+use Rattle.token_server.specs.rule.Serve.{meets_some}
+use Rattle.token_server.specs.code.Admitting.{all_stay, IsAdmitted}
+use Rattle.token_server.specs.code.Ready.{AreDistinct}
+use Rattle.token_server.specs.code.Sketches.{without, still_active, queue_moved}
+use Rattle.token_server.specs.code.Edits.{is_up_to_any, is_of_any, keeps}
+use Rattle.token_server.specs.code.Comes.{served_on, left_in, NeedsAllOf, HasEnded}
 use Rattle.token_server.proofs.StayLaws.{Stay}
 use Rattle.token_server.proofs.AdmittingLaws.{calls, calls-append, both-meet, meets-flip, or-end, admitted-stays, admitted-goes}
 use Rattle.token_server.proofs.FreedLaws.{distinct-before, stay-same, stay-at, stay-behind, stay-covered, admitted-rest, meets-within, ended-meets}

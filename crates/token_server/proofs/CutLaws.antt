@@ -7,13 +7,13 @@ use Rattle.std.proofs.lemmas.Bool.{both_ways, and_parts, and_from, not-true, leb
 use Rattle.std.proofs.lemmas.Bool.Decides.{nat_tests}
 use Rattle.std.proofs.lemmas.List.Folds.{list_any-append}
 use Rattle.std.proofs.lemmas.List.Elements.{All-nil, All-head, All-tail, All-push}
-use Rattle.intervals.specs.Bytes.{Range, is_in, NoneIn, IsLargest, largest_around}
+use Rattle.intervals.specs.rule.Bytes.{Range, is_in, NoneIn, IsLargest, largest_around}
 use Rattle.intervals.proofs.SpanSearch.{largest_is_largest}
 use Rattle.token_set.proofs.AroundLaws.{largest_around-is, largest_around-same, largest_around-or, largest_around-free}
 use Rattle.token_queue.specs.declared.token_request.TokenRequest.{TokenRequest}
-use Rattle.token_queue.specs.Requests.{meets}
-use Rattle.token_server.specs.Serve.{is_needed, narrowed}
-use Rattle.token_server.specs.Told.{cut, cut_all}
+use Rattle.token_queue.specs.rule.Requests.{meets}
+use Rattle.token_server.specs.rule.Serve.{is_needed, narrowed}
+use Rattle.token_server.specs.code.Told.{cut, cut_all}
 use Rattle.token_server.proofs.GrantLaws.{none_needed}
 
 -- the byte is one of the other span alone

@@ -2,11 +2,11 @@
 use Rattle.std.specs.Prelude.{ℕ, not, List, Option, Some, None}
 use Rattle.std.proofs.Common.{sym, ap, subst, ◌∙◌, arith}
 use Rattle.token_queue.specs.declared.held.Held.{Held}
-use Rattle.token_queue.specs.Requests.{is_up_to}
-use Rattle.token_queue.specs.Actives.{requests_of, waiting_for}
-use Rattle.token_server.specs.Ready.{AreDistinct}
-use Rattle.token_server.specs.Sketches.{without}
-use Rattle.token_server.specs.Edits.{held_without}
+use Rattle.token_queue.specs.rule.Requests.{is_up_to}
+use Rattle.token_queue.specs.rule.Actives.{requests_of, waiting_for}
+use Rattle.token_server.specs.code.Ready.{AreDistinct}
+use Rattle.token_server.specs.code.Sketches.{without}
+use Rattle.token_server.specs.code.Edits.{held_without}
 use Rattle.token_server.proofs.OrderlyLaws.{calls-fewer}
 use Rattle.token_server.proofs.TurnLaws.{waiting_for-requests, without-requests}
 

@@ -3,26 +3,26 @@ use Rattle.std.specs.Prelude.{◌≡◌, ℕ, ◌+◌, ◌-◌, ◌<◌, ◌≤�
 use Rattle.std.proofs.Common.{refl, sym, ap, ◌∙◌, inl, inr, arith}
 use Rattle.std.proofs.lemmas.Bool.{both_ways, and_from, le-leb, false_from_ne_true}
 use Rattle.std.proofs.lemmas.Bool.Decides.{eqb_tells}
-use Rattle.intervals.specs.Bytes.{Range, is_in, size}
+use Rattle.intervals.specs.rule.Bytes.{Range, is_in, size}
 use Rattle.intervals.proofs.SearchLaws.{first_is_first}
 use Rattle.model.specs.declared.mode.Mode.{Mode}
 use Rattle.model.specs.declared.mode.Mode.TheVariants.{Read, Write}
 use Rattle.model.specs.declared.level.Level.{Level}
 use Rattle.model.specs.declared.level.Level.TheVariants.{Shared, Exclusive}
-use Rattle.token_set.specs.Tokens.{Token, no_token, conflicts, level_conflicts}
-use Rattle.token_set.specs.Releases.{lowered_level, lowered}
+use Rattle.token_set.specs.rule.Tokens.{Token, no_token, conflicts, level_conflicts}
+use Rattle.token_set.specs.rule.Releases.{lowered_level, lowered}
 use Rattle.token_set.proofs.SearchLaws.{first-same, some_passes-first, some_passes-from}
 use Rattle.known_nodes.specs.declared.node_change.NodeChange.{NodeChange}
 use Rattle.known_nodes.specs.declared.node_change.NodeChange.TheVariants.{Forgotten, Asked, Answered, Relieved, Reported}
 use Rattle.known_nodes.specs.declared.node_change.Changed.{Changed}
 use Rattle.token_queue.specs.declared.held.Held.{Held}
 use Rattle.token_queue.specs.declared.token_request.TokenRequest.{TokenRequest}
-use Rattle.known_nodes.specs.Rows.{Row, row_above, row_conflicts}
-use Rattle.token_server.specs.State.{ServerState}
-use Rattle.token_queue.specs.Requests.{meets}
-use Rattle.token_server.specs.Serve.{conflicting_node}
-use Rattle.known_nodes.specs.Changes.{with_change, row_or_empty, row_after, may_bar}
-use Rattle.token_server.specs.Obstacles.{obstacle, is_dropped, frees, may_turn}
+use Rattle.known_nodes.specs.rule.Rows.{Row, row_above, row_conflicts}
+use Rattle.token_server.specs.rule.State.{ServerState}
+use Rattle.token_queue.specs.rule.Requests.{meets}
+use Rattle.token_server.specs.rule.Serve.{conflicting_node}
+use Rattle.known_nodes.specs.code.Changes.{with_change, row_or_empty, row_after, may_bar}
+use Rattle.token_server.specs.code.Obstacles.{obstacle, is_dropped, frees, may_turn}
 use Rattle.token_server.proofs.GrantLaws.{conflicts_at}
 use Rattle.token_server.proofs.ObstacleLaws.{meets-from, obstacle-kept}
 

@@ -2,14 +2,14 @@
 use Rattle.std.specs.Prelude.{◌≡◌, ◌+◌, ◌≤◌, Bool, true, false, cond, not, ◌||◌, nat_le, List, [], ◌∷◌, ◌++◌, filter, find, Some}
 use Rattle.std.proofs.Common.{refl, sym, ap, subst, ◌∙◌, arith, append-nil, append_assoc}
 use Rattle.std.proofs.lemmas.Bool.{and_parts, and_from, leb-true, le-leb}
-use Rattle.intervals.specs.Bytes.{Range}
+use Rattle.intervals.specs.rule.Bytes.{Range}
 use Rattle.model.specs.declared.call.CallId.{CallId}
 use Rattle.token_queue.specs.declared.token_request.TokenRequest.{TokenRequest}
-use Rattle.token_queue.specs.Requests.{is_of_call}
-use Rattle.token_queue.specs.Requests.{meets}
-use Rattle.token_server.specs.Serve.{meets_some}
-use Rattle.token_server.specs.Admitting.{IsAdmitted}
-use Rattle.token_server.specs.Ready.{AreDistinct}
+use Rattle.token_queue.specs.rule.Requests.{is_of_call}
+use Rattle.token_queue.specs.rule.Requests.{meets}
+use Rattle.token_server.specs.rule.Serve.{meets_some}
+use Rattle.token_server.specs.code.Admitting.{IsAdmitted}
+use Rattle.token_server.specs.code.Ready.{AreDistinct}
 use Rattle.token_server.proofs.StayLaws.{Stay}
 use Rattle.token_server.proofs.AdmittingLaws.{calls, calls-append, calls-cons, both-meet, admitted-stays}
 

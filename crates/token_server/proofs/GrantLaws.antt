@@ -3,17 +3,17 @@ use Rattle.std.specs.Prelude.{◌≡◌, ℕ, ◌+◌, ◌<◌, ◌≤◌, Bool,
 use Rattle.std.proofs.Common.{sym, ap, ◌∙◌, arith, refl}
 use Rattle.std.specs.List.{list_any}
 use Rattle.std.proofs.lemmas.Bool.{both_ways, not-true, and_parts, and_from, le-leb}
-use Rattle.intervals.specs.Search.{first, some_passes}
-use Rattle.intervals.specs.Bytes.{Range, is_in, NoneIn, IsLargest, largest_around}
+use Rattle.intervals.specs.rule.Search.{first, some_passes}
+use Rattle.intervals.specs.rule.Bytes.{Range, is_in, NoneIn, IsLargest, largest_around}
 use Rattle.intervals.proofs.SearchLaws.{first_is_first}
 use Rattle.intervals.proofs.SpanSearch.{largest_is_largest}
 use Rattle.token_set.proofs.SearchLaws.{first-is, some_passes-first}
 use Rattle.token_set.proofs.AroundLaws.{largest_around-free, largest_around-zero, largest_around-more, largest_around-skip, largest_around-same}
 use Rattle.model.specs.declared.mode.Mode.{Mode}
 use Rattle.token_queue.specs.declared.token_request.TokenRequest.{TokenRequest}
-use Rattle.known_nodes.specs.Rows.{Row, row_conflicts, row_conflicts_at}
-use Rattle.token_server.specs.State.{ServerState}
-use Rattle.token_server.specs.Serve.{is_needed, narrowed, granted_span, conflicting_node}
+use Rattle.known_nodes.specs.rule.Rows.{Row, row_conflicts, row_conflicts_at}
+use Rattle.token_server.specs.rule.State.{ServerState}
+use Rattle.token_server.specs.rule.Serve.{is_needed, narrowed, granted_span, conflicting_node}
 use Rattle.known_nodes.proofs.MarkLaws.{row_free}
 
 -- the row of another node conflicts with the bytes that the request needs

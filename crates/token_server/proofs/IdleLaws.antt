@@ -2,19 +2,19 @@
 use Rattle.std.specs.Prelude.{◌≡◌, ℕ, ◌<◌, ◌≤◌, Bool, false, List, [], length, IfSome}
 use Rattle.std.proofs.Common.{refl, sym, subst, arith}
 use Rattle.std.proofs.lemmas.List.Elements.{All-nil}
-use Rattle.intervals.specs.Search.{some_passes}
-use Rattle.model.specs.Limits.{IsNumber}
-use Rattle.messages.specs.Shapes.{ShapeFields}
-use Rattle.messages.specs.Epochs.{IsEpoch, before_epoch}
-use Rattle.token_queue.specs.Requests.{LineParts}
-use Rattle.token_queue.specs.Actives.{ActiveParts}
+use Rattle.intervals.specs.rule.Search.{some_passes}
+use Rattle.model.specs.rule.Limits.{IsNumber}
+use Rattle.messages.specs.rule.Shapes.{ShapeFields}
+use Rattle.messages.specs.rule.Epochs.{IsEpoch, before_epoch}
+use Rattle.token_queue.specs.rule.Requests.{LineParts}
+use Rattle.token_queue.specs.rule.Actives.{ActiveParts}
 use Rattle.known_nodes.specs.declared.known_node.KnownNode.{KnownNode}
-use Rattle.known_nodes.specs.Rows.{is_awaited}
-use Rattle.token_server.specs.State.{ServerState}
-use Rattle.token_server.specs.Obstacles.{obstacle, is_idle}
-use Rattle.known_nodes.specs.Parts.{rows_of}
-use Rattle.token_server.specs.Parts.{server_state}
-use Rattle.token_server.specs.Ready.{IsServer}
+use Rattle.known_nodes.specs.rule.Rows.{is_awaited}
+use Rattle.token_server.specs.rule.State.{ServerState}
+use Rattle.token_server.specs.code.Obstacles.{obstacle, is_idle}
+use Rattle.known_nodes.specs.rule.Parts.{rows_of}
+use Rattle.token_server.specs.rule.Parts.{server_state}
+use Rattle.token_server.specs.code.Ready.{IsServer}
 
 -- a server that has no request holds all that a server has to
 pub idle-server : (shape : ShapeFields) (file epoch : ℕ) (known_nodes : List KnownNode) (awaiting : Bool) (active : ActiveParts) (queue waiting : LineParts) → length known_nodes ≡ shape.nodes → IsNumber shape.files file → IsEpoch epoch → awaiting ≡ some_passes (λ n. is_awaited (rows_of known_nodes n)) 1 shape.nodes → ((n : ℕ) → IfSome (rows_of known_nodes n) (λ row. before_epoch epoch ≤ row.number)) → active ≡ record { held = []; room = 0 } → queue ≡ record { requests = []; room = 0 } → waiting ≡ record { requests = []; room = 0 } → IsServer (record { shape = shape; file = file; epoch = epoch; known_nodes = known_nodes; active = active; queue = queue; waiting = waiting }) awaiting

@@ -6,18 +6,18 @@ use Rattle.std.proofs.lemmas.Bool.{and_parts, not-true}
 use Rattle.std.proofs.lemmas.Bool.Decides.{eqb_tells}
 use Rattle.std.proofs.lemmas.List.Folds.{list_any-append}
 use Rattle.std.proofs.lemmas.List.Elements.{All-nil, All-cons, All-head, All-tail, All-append}
-use Rattle.intervals.specs.Bytes.{is_in}
+use Rattle.intervals.specs.rule.Bytes.{is_in}
 use Rattle.messages.specs.declared.refusal.StepError.{StepError}
 use Rattle.messages.specs.declared.refusal.StepError.TheVariants.{Spent}
 use Rattle.messages.specs.declared.message.Message.{Message}
-use Rattle.messages.specs.Messages.{greatest_number}
-use Rattle.token_set.specs.Tokens.{Token}
+use Rattle.messages.specs.rule.Messages.{greatest_number}
+use Rattle.token_set.specs.rule.Tokens.{Token}
 use Rattle.token_queue.specs.declared.token_request.TokenRequest.{TokenRequest}
-use Rattle.known_nodes.specs.Rows.{Row, row_conflicts}
-use Rattle.token_server.specs.State.{ServerState, with_row, begin}
-use Rattle.token_queue.specs.Requests.{meets}
-use Rattle.token_server.specs.Serve.{meets_some, conflicting_node, commanded, granted_to, revoked_from, served}
-use Rattle.token_server.specs.Obstacles.{are_apart}
+use Rattle.known_nodes.specs.rule.Rows.{Row, row_conflicts}
+use Rattle.token_server.specs.rule.State.{ServerState, with_row, begin}
+use Rattle.token_queue.specs.rule.Requests.{meets}
+use Rattle.token_server.specs.rule.Serve.{meets_some, conflicting_node, commanded, granted_to, revoked_from, served}
+use Rattle.token_server.specs.code.Obstacles.{are_apart}
 use Rattle.token_server.proofs.GrantLaws.{conflicts_at}
 use Rattle.token_server.proofs.AdmittingLaws.{both-meet, meets-flip, neither}
 use Rattle.token_server.proofs.CareLaws.{All-left, All-right}

@@ -4,22 +4,22 @@ use Rattle.std.specs.List.{list_any}
 use Rattle.std.proofs.Common.{refl, sym, ap, subst, ◌∙◌, inl, inr, arith}
 use Rattle.std.proofs.lemmas.Bool.Decides.{eqb_tells}
 use Rattle.std.proofs.lemmas.Bool.{both_ways, and_parts, and_from, le-leb, leb-true, false_from_ne_true, not_from_false}
-use Rattle.intervals.specs.Search.{first}
-use Rattle.intervals.specs.Bytes.{Range, is_in, size, largest_around}
+use Rattle.intervals.specs.rule.Search.{first}
+use Rattle.intervals.specs.rule.Bytes.{Range, is_in, size, largest_around}
 use Rattle.intervals.proofs.SearchLaws.{first_is_first}
 use Rattle.model.specs.declared.mode.Mode.{Mode}
-use Rattle.token_set.specs.Tokens.{Token, raised, conflicts, level_conflicts}
+use Rattle.token_set.specs.rule.Tokens.{Token, raised, conflicts, level_conflicts}
 use Rattle.token_set.proofs.SearchLaws.{first-is, first-same}
 use Rattle.messages.specs.declared.refusal.StepError.{StepError}
 use Rattle.messages.specs.declared.message.Message.{Message}
 use Rattle.token_queue.specs.declared.token_request.TokenRequest.{TokenRequest}
-use Rattle.known_nodes.specs.Rows.{Row, row_conflicts}
-use Rattle.token_server.specs.State.{ServerState, with_row, begin}
+use Rattle.known_nodes.specs.rule.Rows.{Row, row_conflicts}
+use Rattle.token_server.specs.rule.State.{ServerState, with_row, begin}
 use Rattle.messages.specs.declared.refusal.StepError.TheVariants.{Spent}
-use Rattle.messages.specs.Messages.{greatest_number}
-use Rattle.token_queue.specs.Requests.{meets}
-use Rattle.token_server.specs.Serve.{narrowed, is_taken, granted_span, conflicting_node, commanded, granted_to, revoked_from, served}
-use Rattle.token_server.specs.Obstacles.{obstacle, is_idle}
+use Rattle.messages.specs.rule.Messages.{greatest_number}
+use Rattle.token_queue.specs.rule.Requests.{meets}
+use Rattle.token_server.specs.rule.Serve.{narrowed, is_taken, granted_span, conflicting_node, commanded, granted_to, revoked_from, served}
+use Rattle.token_server.specs.code.Obstacles.{obstacle, is_idle}
 use Rattle.token_server.proofs.GrantLaws.{conflicts_at, narrowed-largest}
 
 -- the first number that passes is the first of fewer that pass, if it is one of them
@@ -74,7 +74,7 @@ raised-elsewhere t span s by mode apart =
     ap (λ (k : ℕ). nat_lt k (s.lo + size s)) same
   where
     at : (b : ℕ) (i : Bool) → is_in span b ≡ i → s.lo ≤ b → b < s.lo + size s → raised t span by b ≡ t b
-    at b false is above below = ap (λ (i : Bool). cond i (Rattle.token_set.specs.Tokens.raised_level (t b) by) (t b)) is
+    at b false is above below = ap (λ (i : Bool). cond i (Rattle.token_set.specs.rule.Tokens.raised_level (t b) by) (t b)) is
     at b true is above below =
         absurd (apart b is (and_from (nat_le s.lo b) (nat_le b s.hi) (le-leb s.lo b above) (le-leb b s.hi (omega arith))))
 

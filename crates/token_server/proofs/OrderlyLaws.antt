@@ -9,24 +9,24 @@ use Rattle.model.specs.declared.call.CallId.{CallId}
 use Rattle.model.specs.declared.host.Host.{Host}
 use Rattle.model.specs.declared.lock_info.LockInfo.{LockInfo}
 use Rattle.model.specs.declared.mode.Mode.{Mode}
-use Rattle.intervals.specs.Bytes.{Range}
+use Rattle.intervals.specs.rule.Bytes.{Range}
 use Rattle.messages.specs.declared.message.Message.{Message}
 use Rattle.messages.specs.declared.message.Message.TheVariants.{Request, Grant, Revoke, Taken, Released, Conflict, Deny, Freed, Hello, Report}
 use Rattle.messages.specs.declared.token_run.TokenRun.{TokenRun}
-use Rattle.messages.specs.Reports.{reported}
+use Rattle.messages.specs.rule.Reports.{reported}
 use Rattle.messages.specs.declared.message.Blocking.TheVariants.{Yes}
-use Rattle.messages.specs.Messages.{same_blocking, host_of}
-use Rattle.model.specs.Owners.{host_of_call}
-use Rattle.token_set.specs.Tokens.{Token}
-use Rattle.token_set.specs.Releases.{lowered}
+use Rattle.messages.specs.rule.Messages.{same_blocking, host_of}
+use Rattle.model.specs.rule.Owners.{host_of_call}
+use Rattle.token_set.specs.rule.Tokens.{Token}
+use Rattle.token_set.specs.rule.Releases.{lowered}
 use Rattle.token_queue.specs.declared.token_request.TokenRequest.{TokenRequest}
-use Rattle.token_queue.specs.Requests.{is_of_call, is_up_to}
+use Rattle.token_queue.specs.rule.Requests.{is_of_call, is_up_to}
 use Rattle.token_queue.proofs.CallLaws.{same_call-true}
-use Rattle.known_nodes.specs.Rows.{Row, empty_row, row_above, is_grant, revoked_mode, row_of_incarnation, asks_token}
-use Rattle.token_server.specs.State.{ServerState, begin, forgotten, requests, requeued}
-use Rattle.token_server.specs.Server.{Change, with_a_row, request_of, enqueued_with, enqueued, asked, acknowledged, ended, put_off, postponed, denial, row_of_host, taken, released, in_conflict, heard, freed, delivered}
-use Rattle.token_server.specs.Serve.{meets_some, admitted, ready}
-use Rattle.token_server.specs.Ready.{IsOrderly}
+use Rattle.known_nodes.specs.rule.Rows.{Row, empty_row, row_above, is_grant, revoked_mode, row_of_incarnation, asks_token}
+use Rattle.token_server.specs.rule.State.{ServerState, begin, forgotten, requests, requeued}
+use Rattle.token_server.specs.rule.Server.{Change, with_a_row, request_of, enqueued_with, enqueued, asked, acknowledged, ended, put_off, postponed, denial, row_of_host, taken, released, in_conflict, heard, freed, delivered}
+use Rattle.token_server.specs.rule.Serve.{meets_some, admitted, ready}
+use Rattle.token_server.specs.code.Ready.{IsOrderly}
 use Rattle.token_server.proofs.AdmitLaws.{Lists}
 use Rattle.token_server.proofs.AdmittingLaws.{calls, calls-append, calls-cons, neither}
 use Rattle.token_server.proofs.CareLaws.{AreRequests, requests-parts, ready-each, find-each, find-passes, enqueued_with-each, requeued-each, ended-each, postponed-each, forgotten-each, forgotten-young}

@@ -6,8 +6,8 @@ use Rattle.std.proofs.lemmas.List.{map-id, map_push}
 use Rattle.std.proofs.lemmas.List.Elements.{filter-append}
 use Rattle.std.proofs.lemmas.List.FromFn.{map-range_with_len_more}
 use Rattle.token_server.specs.declared.shown_row.ShownRow.{ShownRow}
-use Rattle.token_server.specs.State.{ServerState}
-use Rattle.token_server.specs.Readers.{nodes_where, IsRow}
+use Rattle.token_server.specs.rule.State.{ServerState}
+use Rattle.token_server.specs.code.Readers.{nodes_where, IsRow}
 
 counting_more : (n node : ℕ) → 1 + n ≡ node → range_with_len 1 (n + 1) ≡ range_with_len 1 n ++ node ∷ []
 counting_more n node e = sym (map-id (range_with_len 1 (n + 1))) ∙ map-range_with_len_more (λ k. k) 1 n node e ∙ ap (λ l. l ++ node ∷ []) (map-id (range_with_len 1 n))

@@ -4,17 +4,17 @@ use Rattle.std.proofs.Common.{refl, sym, ap, subst, ◌∙◌, inl, inr, arith, 
 use Rattle.std.proofs.lemmas.Bool.{both_ways, leb-true, and_from, and_parts}
 use Rattle.std.proofs.lemmas.Bool.Decides.{eqb_tells}
 use Rattle.std.proofs.lemmas.List.Elements.{All-head, All-tail, All-filter}
-use Rattle.intervals.specs.Search.{some_passes}
+use Rattle.intervals.specs.rule.Search.{some_passes}
 use Rattle.model.specs.declared.call.CallId.{CallId}
 use Rattle.messages.specs.declared.message.Message.{Message}
 use Rattle.messages.specs.declared.refusal.StepError.{StepError}
 use Rattle.messages.specs.declared.refusal.StepError.TheVariants.{NoMemory, Busy, Stranger, Spent}
 use Rattle.messages.specs.declared.outcome.Outcome.{Outcome}
-use Rattle.messages.specs.Messages.{sending}
+use Rattle.messages.specs.rule.Messages.{sending}
 use Rattle.token_queue.specs.declared.token_request.TokenRequest.{TokenRequest}
 use Rattle.token_queue.specs.declared.held.Held.{Held}
-use Rattle.token_queue.specs.Requests.{LineParts, is_of_call, is_up_to, AreOfDistinctCalls}
-use Rattle.token_queue.specs.Actives.{ActiveParts, requests_of}
+use Rattle.token_queue.specs.rule.Requests.{LineParts, is_of_call, is_up_to, AreOfDistinctCalls}
+use Rattle.token_queue.specs.rule.Actives.{ActiveParts, requests_of}
 use Rattle.token_queue.proofs.CallLaws.{same_call-refl}
 use Rattle.known_nodes.specs.declared.known_node.KnownNode.{KnownNode}
 use Rattle.token_server.specs.declared.change.Draft.{Draft}
@@ -24,19 +24,19 @@ use Rattle.token_server.specs.declared.sketch.Sketch.{Sketch}
 use Rattle.token_server.specs.declared.sketch.Moved.{Moved}
 use Rattle.token_server.specs.declared.sketch.Moved.TheVariants.{Nothing, New, Again, Waiting, PutOff}
 use Rattle.token_server.specs.declared.told.Told.{Told}
-use Rattle.known_nodes.specs.Rows.{Row, is_awaited}
-use Rattle.token_server.specs.State.{ServerState, awaits}
-use Rattle.token_server.specs.Serve.{meets_some, admitted, served, with_more, and_then, each_served, ready, serve}
-use Rattle.token_server.specs.Resends.{sending_first}
-use Rattle.token_server.specs.Told.{with_told}
-use Rattle.token_server.specs.Obstacles.{obstacle, are_apart, is_idle}
-use Rattle.token_server.specs.Admitting.{all_but, all_stay}
-use Rattle.known_nodes.specs.Parts.{rows_of, deaths_of}
-use Rattle.token_server.specs.Parts.{ServerParts, server_state}
-use Rattle.token_server.specs.Ready.{AreDistinct, IsOrderly, IsReady, IsServer}
-use Rattle.token_server.specs.Sketches.{dropped, without, still_active, queue_moved, waiting_moved, sketched}
-use Rattle.known_nodes.specs.Edits.{deaths_overlaid, given_of, given_rows}
-use Rattle.token_server.specs.Edits.{held_still, held_without, held_after, queue_after, waiting_after, IsDrafted, drafted, many_moved, HasRoom, IsNewCall, Fits, made}
+use Rattle.known_nodes.specs.rule.Rows.{Row, is_awaited}
+use Rattle.token_server.specs.rule.State.{ServerState, awaits}
+use Rattle.token_server.specs.rule.Serve.{meets_some, admitted, served, with_more, and_then, each_served, ready, serve}
+use Rattle.token_server.specs.rule.Resends.{sending_first}
+use Rattle.token_server.specs.code.Told.{with_told}
+use Rattle.token_server.specs.code.Obstacles.{obstacle, are_apart, is_idle}
+use Rattle.token_server.specs.code.Admitting.{all_but, all_stay}
+use Rattle.known_nodes.specs.rule.Parts.{rows_of, deaths_of}
+use Rattle.token_server.specs.rule.Parts.{ServerParts, server_state}
+use Rattle.token_server.specs.code.Ready.{AreDistinct, IsOrderly, IsReady, IsServer}
+use Rattle.token_server.specs.code.Sketches.{dropped, without, still_active, queue_moved, waiting_moved, sketched}
+use Rattle.known_nodes.specs.code.Edits.{deaths_overlaid, given_of, given_rows}
+use Rattle.token_server.specs.code.Edits.{held_still, held_without, held_after, queue_after, waiting_after, IsDrafted, drafted, many_moved, HasRoom, IsNewCall, Fits, made}
 use Rattle.token_server.proofs.AdmitLaws.{ready-is}
 use Rattle.token_server.proofs.AskedLaws.{none-after, served-awaits, served-counted}
 use Rattle.token_server.proofs.AdmittingLaws.{all_but-none, calls, calls-append, calls-cons, apart-fewer, admitted-keeps_apart, admitted-leaves}

@@ -3,18 +3,18 @@ use Rattle.std.specs.Prelude.{◌≡◌, ℕ, ◌+◌, ◌<◌, ◌≤◌, Bool,
 use Rattle.std.proofs.Common.{refl, sym, ap, ◌∙◌, inl, inr, arith, append_assoc}
 use Rattle.std.proofs.lemmas.Bool.{lt-leb, lt-ltb}
 use Rattle.std.proofs.lemmas.Bool.Decides.{eqb_tells}
-use Rattle.intervals.specs.Bytes.{Range}
+use Rattle.intervals.specs.rule.Bytes.{Range}
 use Rattle.messages.specs.declared.refusal.StepError.{StepError}
 use Rattle.messages.specs.declared.refusal.StepError.TheVariants.{Spent}
 use Rattle.messages.specs.declared.message.Message.{Message}
 use Rattle.messages.specs.declared.message.Message.TheVariants.{Grant}
-use Rattle.messages.specs.Messages.{greatest_number}
-use Rattle.token_set.specs.Tokens.{Token, raised}
+use Rattle.messages.specs.rule.Messages.{greatest_number}
+use Rattle.token_set.specs.rule.Tokens.{Token, raised}
 use Rattle.token_queue.specs.declared.token_request.TokenRequest.{TokenRequest}
-use Rattle.known_nodes.specs.Rows.{Row, row_conflicts}
-use Rattle.token_server.specs.State.{ServerState, begin, with_row}
-use Rattle.token_server.specs.Serve.{granted_span, conflicting_node, commanded, granted_to, revoked_from, served, with_more, and_then, each_served, ready, serve}
-use Rattle.token_server.specs.Grants.{IsUnhindered, GrantsWhatIsFree}
+use Rattle.known_nodes.specs.rule.Rows.{Row, row_conflicts}
+use Rattle.token_server.specs.rule.State.{ServerState, begin, with_row}
+use Rattle.token_server.specs.rule.Serve.{granted_span, conflicting_node, commanded, granted_to, revoked_from, served, with_more, and_then, each_served, ready, serve}
+use Rattle.token_server.specs.code.Grants.{IsUnhindered, GrantsWhatIsFree}
 use Rattle.token_server.proofs.GrantLaws.{conflicts_at, first-none, narrowed-largest, narrowed-holds}
 
 -- where no row conflicts, no node blocks the request

@@ -2,7 +2,7 @@
 use Rattle.std.specs.Prelude.{◌≡◌, Bool, true, ◌&&◌, ◌==◌}
 use Rattle.std.proofs.Common.{sym, ◌∙◌}
 use Rattle.std.proofs.lemmas.Bool.{and_parts, eqb-true}
-use Rattle.intervals.specs.Bytes.{Range}
+use Rattle.intervals.specs.rule.Bytes.{Range}
 
 -- spans with equal first and last bytes are equal
 pub one_span : (r s : Range) (same : Bool) → same ≡ (r.lo == s.lo && r.hi == s.hi) → same ≡ true → r ≡ s

@@ -6,29 +6,29 @@ use Rattle.std.proofs.Common.{refl, sym, ap, ◌∙◌, inl, inr, subst, append-
 use Rattle.std.proofs.lemmas.List.{take-append-drop}
 use Rattle.std.proofs.lemmas.Bool.Decides.{eqb_tells}
 use Rattle.std.proofs.lemmas.Option.{none-some, same_Some}
-use Rattle.messages.specs.Wants.{Wants}
+use Rattle.messages.specs.rule.Wants.{Wants}
 use Rattle.messages.specs.declared.refusal.StepError.{StepError}
 use Rattle.messages.specs.declared.refusal.StepError.TheVariants.{Spent}
 use Rattle.messages.specs.declared.message.Message.{Message}
 use Rattle.messages.specs.declared.message.Message.TheVariants.{Grant, Revoke}
-use Rattle.messages.specs.Messages.{greatest_number}
+use Rattle.messages.specs.rule.Messages.{greatest_number}
 use Rattle.model.specs.declared.host.Host.{Host}
-use Rattle.token_set.specs.Tokens.{Token}
+use Rattle.token_set.specs.rule.Tokens.{Token}
 use Rattle.token_queue.specs.declared.token_request.TokenRequest.{TokenRequest}
 use Rattle.token_server.specs.declared.told.Told.{Told}
-use Rattle.known_nodes.specs.Rows.{Commands, Row}
-use Rattle.token_server.specs.State.{ServerState, with_row, begin}
+use Rattle.known_nodes.specs.rule.Rows.{Commands, Row}
+use Rattle.token_server.specs.rule.State.{ServerState, with_row, begin}
 use Rattle.known_nodes.specs.declared.known_node.KnownNode.{KnownNode}
 use Rattle.known_nodes.specs.declared.given.Given.{Given}
-use Rattle.known_nodes.specs.Sent.{next_number, told_commands, promised}
-use Rattle.known_nodes.specs.Parts.{known_node_at}
+use Rattle.known_nodes.specs.code.Sent.{next_number, told_commands, promised}
+use Rattle.known_nodes.specs.rule.Parts.{known_node_at}
 use Rattle.known_nodes.specs.declared.row_edit.RowEdit.{RowEdit}
-use Rattle.known_nodes.specs.Edits.{given_to_known_node, given_rows, given_of, rows_overlaid}
-use Rattle.token_server.specs.Edits.{with_given}
+use Rattle.known_nodes.specs.code.Edits.{given_to_known_node, given_rows, given_of, rows_overlaid}
+use Rattle.token_server.specs.code.Edits.{with_given}
 use Rattle.token_server.proofs.ServeLaws.{each_served-append}
-use Rattle.token_server.specs.Serve.{narrowed, granted_span, commanded, granted_to, revoked_from, served, with_more, and_then, each_served}
-use Rattle.token_server.specs.Sketches.{commands_of}
-use Rattle.token_server.specs.Told.{told_to, row_told, with_told, commands_told}
+use Rattle.token_server.specs.rule.Serve.{narrowed, granted_span, commanded, granted_to, revoked_from, served, with_more, and_then, each_served}
+use Rattle.token_server.specs.code.Sketches.{commands_of}
+use Rattle.token_server.specs.code.Told.{told_to, row_told, with_told, commands_told}
 
 abbrev pub Answer : Type 0
 Answer = Result (ServerState × List Message) StepError

@@ -7,33 +7,33 @@ use Rattle.std.proofs.lemmas.Bool.Decides.{eqb_tells}
 use Rattle.std.proofs.lemmas.List.{map-append, take_more, take_all, take-append-drop}
 use Rattle.std.proofs.lemmas.List.Elements.{All-nil, All-cons, All-head, All-tail, All-push, filter-append}
 use Rattle.std.proofs.lemmas.Option.{none-some, same_Some, slice_get_within, slice_get-get_or, slice_get_cases, get_or_from_slice_get}
-use Rattle.intervals.specs.Bytes.{Range}
+use Rattle.intervals.specs.rule.Bytes.{Range}
 use Rattle.intervals.proofs.SearchLaws.{first_is_first}
 use Rattle.model.specs.declared.call.CallId.{CallId}
 use Rattle.messages.specs.declared.refusal.StepError.{StepError}
 use Rattle.messages.specs.declared.refusal.StepError.TheVariants.{Spent}
 use Rattle.messages.specs.declared.message.Message.{Message}
-use Rattle.messages.specs.Messages.{greatest_number}
-use Rattle.token_set.specs.Tokens.{Token}
+use Rattle.messages.specs.rule.Messages.{greatest_number}
+use Rattle.token_set.specs.rule.Tokens.{Token}
 use Rattle.token_queue.specs.declared.held.Held.{Held}
 use Rattle.token_queue.specs.declared.token_request.TokenRequest.{TokenRequest}
-use Rattle.token_queue.specs.Requests.{is_of_call, is_up_to}
-use Rattle.token_queue.specs.Actives.{requests_of, waiting_for}
+use Rattle.token_queue.specs.rule.Requests.{is_of_call, is_up_to}
+use Rattle.token_queue.specs.rule.Actives.{requests_of, waiting_for}
 use Rattle.token_queue.proofs.ActiveLaws.{waiting_for-at, waiting_for-length}
 use Rattle.token_server.specs.declared.lists.Lists.{Lists}
 use Rattle.token_server.specs.declared.told.Told.{Told}
 use Rattle.known_nodes.specs.declared.command.Order.{Order}
 use Rattle.known_nodes.specs.declared.command.Order.TheVariants.{Grant, Revoke}
-use Rattle.known_nodes.specs.Orders.{message_of}
-use Rattle.known_nodes.specs.Rows.{Commands, Row, row_conflicts}
-use Rattle.token_server.specs.State.{ServerState, with_row, begin}
-use Rattle.known_nodes.specs.Sent.{next_number, told_commands}
-use Rattle.token_server.specs.Sketches.{commands_of, without, still_active}
-use Rattle.token_server.specs.Serve.{narrowed, granted_span, conflicting_node, commanded, granted_to, revoked_from, served, each_served}
-use Rattle.token_server.specs.Obstacles.{obstacle, are_apart, is_idle}
-use Rattle.token_server.specs.Told.{told_to, row_told, with_told, commands_told, cut}
-use Rattle.token_server.specs.Edits.{is_up_to_any, is_of_any, keeps, held_still, held_without, held_after}
-use Rattle.token_server.specs.Turns.{kept, kept_of, IsTurn, AreServed}
+use Rattle.known_nodes.specs.code.Orders.{message_of}
+use Rattle.known_nodes.specs.rule.Rows.{Commands, Row, row_conflicts}
+use Rattle.token_server.specs.rule.State.{ServerState, with_row, begin}
+use Rattle.known_nodes.specs.code.Sent.{next_number, told_commands}
+use Rattle.token_server.specs.code.Sketches.{commands_of, without, still_active}
+use Rattle.token_server.specs.rule.Serve.{narrowed, granted_span, conflicting_node, commanded, granted_to, revoked_from, served, each_served}
+use Rattle.token_server.specs.code.Obstacles.{obstacle, are_apart, is_idle}
+use Rattle.token_server.specs.code.Told.{told_to, row_told, with_told, commands_told, cut}
+use Rattle.token_server.specs.code.Edits.{is_up_to_any, is_of_any, keeps, held_still, held_without, held_after}
+use Rattle.token_server.specs.code.Turns.{kept, kept_of, IsTurn, AreServed}
 use Rattle.token_server.proofs.GrantLaws.{conflicts_at}
 use Rattle.token_server.proofs.CutLaws.{HasByte, IsLeft, left-more}
 use Rattle.token_server.proofs.ObstacleLaws.{obstacle-same, served-silent}

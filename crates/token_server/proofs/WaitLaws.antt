@@ -7,26 +7,26 @@ use Rattle.std.proofs.lemmas.List.Folds.{list_any-append}
 use Rattle.model.specs.declared.call.CallId.{CallId}
 use Rattle.model.specs.declared.host.Host.{Host}
 use Rattle.model.specs.declared.mode.Mode.{Mode}
-use Rattle.model.specs.Owners.{host_of_call}
+use Rattle.model.specs.rule.Owners.{host_of_call}
 use Rattle.messages.specs.declared.refusal.StepError.{StepError}
 use Rattle.messages.specs.declared.refusal.StepError.TheVariants.{Stranger}
 use Rattle.messages.specs.declared.message.Message.{Message}
 use Rattle.messages.specs.declared.message.Message.TheVariants.{Request, Grant, Revoke, Taken, Released, Conflict, Deny, Freed, Hello, Report}
 use Rattle.messages.specs.declared.token_run.TokenRun.{TokenRun}
-use Rattle.messages.specs.Reports.{reported}
+use Rattle.messages.specs.rule.Reports.{reported}
 use Rattle.messages.specs.declared.outcome.Outcome.{Outcome}
-use Rattle.messages.specs.Messages.{addressee, host_of, is_within, same_call, sending}
-use Rattle.token_set.specs.Tokens.{Token}
-use Rattle.token_set.specs.Releases.{lowered}
+use Rattle.messages.specs.rule.Messages.{addressee, host_of, is_within, same_call, sending}
+use Rattle.token_set.specs.rule.Tokens.{Token}
+use Rattle.token_set.specs.rule.Releases.{lowered}
 use Rattle.token_queue.specs.declared.token_request.TokenRequest.{TokenRequest}
 use Rattle.token_server.specs.declared.event.ServerEvent.TheVariants.{Deliver, Resend, Learn}
-use Rattle.token_queue.specs.Requests.{is_of_call, is_up_to}
-use Rattle.known_nodes.specs.Rows.{Row, is_grant, revoked_mode, asks_token}
-use Rattle.token_server.specs.State.{ServerState, awaits, forgotten, requests, requeued}
-use Rattle.token_server.specs.Serve.{meets_some, admitted, conflicting_node, commanded, granted_to, revoked_from, served, with_more, and_then, each_served, ready, serve}
-use Rattle.token_server.specs.Resends.{outstanding, sending_first}
-use Rattle.token_server.specs.Server.{Change, with_a_row, request_of, enqueued_with, enqueued, asked, acknowledged, ended, put_off, postponed, denial, taken, released, in_conflict, heard, row_of_host, freed, delivered, is_server, then_serve}
-use Rattle.token_server.specs.Waiting.{KeepsWhatWaits}
+use Rattle.token_queue.specs.rule.Requests.{is_of_call, is_up_to}
+use Rattle.known_nodes.specs.rule.Rows.{Row, is_grant, revoked_mode, asks_token}
+use Rattle.token_server.specs.rule.State.{ServerState, awaits, forgotten, requests, requeued}
+use Rattle.token_server.specs.rule.Serve.{meets_some, admitted, conflicting_node, commanded, granted_to, revoked_from, served, with_more, and_then, each_served, ready, serve}
+use Rattle.token_server.specs.rule.Resends.{outstanding, sending_first}
+use Rattle.token_server.specs.rule.Server.{Change, with_a_row, request_of, enqueued_with, enqueued, asked, acknowledged, ended, put_off, postponed, denial, taken, released, in_conflict, heard, row_of_host, freed, delivered, is_server, then_serve}
+use Rattle.token_server.specs.code.Waiting.{KeepsWhatWaits}
 
 -- the list has a request of the call
 abbrev Has : CallId → List TokenRequest → Type 0

@@ -1,9 +1,9 @@
 //! The requests that an event removes from a token server.
 ghost use Rattle.std.specs.Prelude.{◌≡◌, ◌&&◌, ◌∷◌, []};
 ghost use Rattle.std.specs.List.{list_any};
-ghost use Rattle.token_queue.specs.Requests.{meets};
-ghost use Rattle.token_server.specs.Edits.{is_up_to_any, is_of_any, keeps};
-ghost use Rattle.token_server.specs.Comes.{left_in};
+ghost use Rattle.token_queue.specs.rule.Requests.{meets};
+ghost use Rattle.token_server.specs.code.Edits.{is_up_to_any, is_of_any, keeps};
+ghost use Rattle.token_server.specs.code.Comes.{left_in};
 
 use intervals::span::Span;
 use model::call::CallId;

@@ -1,11 +1,11 @@
 //! The functions that change a token server's requests in a step. None of them takes memory.
 ghost use Rattle.std.specs.Prelude.{◌≡◌, ◌≤◌, ◌++◌, ◌∷◌, [], find, length, None};
-ghost use Rattle.token_queue.specs.Requests.{is_of_call};
-ghost use Rattle.token_queue.specs.Actives.{requests_of, waiting_for};
-ghost use Rattle.token_server.specs.Admitting.{has_call_of, all_but};
-ghost use Rattle.token_server.specs.Ready.{AreDistinct};
-ghost use Rattle.token_server.specs.Sketches.{without, queue_moved, waiting_moved};
-ghost use Rattle.token_server.specs.Edits.{held_without, held_still, held_after, queue_after, waiting_after, HasRoom, HeldHasRoom, IsNewCall, many_moved, many_put_off};
+ghost use Rattle.token_queue.specs.rule.Requests.{is_of_call};
+ghost use Rattle.token_queue.specs.rule.Actives.{requests_of, waiting_for};
+ghost use Rattle.token_server.specs.code.Admitting.{has_call_of, all_but};
+ghost use Rattle.token_server.specs.code.Ready.{AreDistinct};
+ghost use Rattle.token_server.specs.code.Sketches.{without, queue_moved, waiting_moved};
+ghost use Rattle.token_server.specs.code.Edits.{held_without, held_still, held_after, queue_after, waiting_after, HasRoom, HeldHasRoom, IsNewCall, many_moved, many_put_off};
 
 use crate::gone::Gone;
 use crate::lists::{Lists, Spares};

@@ -1,24 +1,24 @@
 //! The token server of one file, and its rule: what it does at each event.
 ghost use Rattle.std.specs.Prelude.{◌≡◌, ◌≢◌, ℕ, ◌-◌, ◌<◌, ◌≤◌, ◌↔◌, true, false, not, ◌&&◌, ◌||◌, ◌==◌, IsTrue, length, IfSome, IfOk, IfErr, MatchOption, [], Option, Some, None, Ok, Err};
 ghost use Rattle.std.specs.Option.{option_map, option_to_list};
-ghost use Rattle.model.specs.Limits.{IsNumber};
-ghost use Rattle.model.specs.Owners.{host_of_call};
-ghost use Rattle.messages.specs.Messages.{sending, addressee, host_of, is_within};
-ghost use Rattle.members.specs.Parts.{members_state};
-ghost use Rattle.token_queue.specs.Actives.{requests_of};
-ghost use Rattle.token_server.specs.State.{first_server, rebuilt, awaits};
-ghost use Rattle.token_server.specs.Serve.{serve};
-ghost use Rattle.token_server.specs.Told.{commands_told};
-ghost use Rattle.token_server.specs.Resends.{outstanding, sending_first, resend_rule};
-ghost use Rattle.known_nodes.specs.Rows.{revoked_mode};
-ghost use Rattle.token_server.specs.Server.{server_rule, learn_rule, asked, row_of_host, freed, taken, released, in_conflict, heard, delivered, is_server};
-ghost use Rattle.known_nodes.specs.Parts.{rows_of};
-ghost use Rattle.token_server.specs.Parts.{server_state};
-ghost use Rattle.token_server.specs.Ready.{IsOrderly};
-ghost use Rattle.known_nodes.specs.Changes.{rows_after};
-ghost use Rattle.token_server.specs.Sketches.{is_answer, dropped, without, moved_for, sketched};
-ghost use Rattle.known_nodes.specs.Edits.{rows_overlaid};
-ghost use Rattle.token_server.specs.Edits.{reached, planned, AreListed, IsDrafted, Fits, HasRoom, HeldHasRoom, many_moved, many_put_off};
+ghost use Rattle.model.specs.rule.Limits.{IsNumber};
+ghost use Rattle.model.specs.rule.Owners.{host_of_call};
+ghost use Rattle.messages.specs.rule.Messages.{sending, addressee, host_of, is_within};
+ghost use Rattle.members.specs.rule.Parts.{members_state};
+ghost use Rattle.token_queue.specs.rule.Actives.{requests_of};
+ghost use Rattle.token_server.specs.rule.State.{first_server, rebuilt, awaits};
+ghost use Rattle.token_server.specs.rule.Serve.{serve};
+ghost use Rattle.token_server.specs.code.Told.{commands_told};
+ghost use Rattle.token_server.specs.rule.Resends.{outstanding, sending_first, resend_rule};
+ghost use Rattle.known_nodes.specs.rule.Rows.{revoked_mode};
+ghost use Rattle.token_server.specs.rule.Server.{server_rule, learn_rule, asked, row_of_host, freed, taken, released, in_conflict, heard, delivered, is_server};
+ghost use Rattle.known_nodes.specs.rule.Parts.{rows_of};
+ghost use Rattle.token_server.specs.rule.Parts.{server_state};
+ghost use Rattle.token_server.specs.code.Ready.{IsOrderly};
+ghost use Rattle.known_nodes.specs.code.Changes.{rows_after};
+ghost use Rattle.token_server.specs.code.Sketches.{is_answer, dropped, without, moved_for, sketched};
+ghost use Rattle.known_nodes.specs.code.Edits.{rows_overlaid};
+ghost use Rattle.token_server.specs.code.Edits.{reached, planned, AreListed, IsDrafted, Fits, HasRoom, HeldHasRoom, many_moved, many_put_off};
 
 use crate::change::{Change, Draft, Edit, Parts};
 use crate::event::ServerEvent;
@@ -77,8 +77,8 @@ pub struct Server {
 }
 
 impl Model for Server {
-    ghost use Rattle.token_server.specs.Parts.{ServerParts};
-    ghost use Rattle.token_server.specs.Ready.{IsServer};
+    ghost use Rattle.token_server.specs.rule.Parts.{ServerParts};
+    ghost use Rattle.token_server.specs.code.Ready.{IsServer};
 
     ghost Value = { ServerParts };
 

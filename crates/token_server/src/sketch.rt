@@ -1,7 +1,7 @@
 //! The sketch of an event: what it changes of a token server before it serves.
 ghost use Rattle.std.specs.Prelude.{◌≡◌, Some, None};
-ghost use Rattle.token_server.specs.Edits.{many_moved, many_put_off};
-ghost use Rattle.token_server.specs.Sketches.{dropped};
+ghost use Rattle.token_server.specs.code.Edits.{many_moved, many_put_off};
+ghost use Rattle.token_server.specs.code.Sketches.{dropped};
 
 use known_nodes::node_change::{Changed, NodeChange};
 use model::call::CallId;

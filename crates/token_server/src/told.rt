@@ -1,6 +1,6 @@
 //! The commands that a token server sends as it serves.
 ghost use Rattle.std.specs.Prelude.{◌≡◌, ◌≤◌};
-ghost use Rattle.token_server.specs.Told.{told_to, cut};
+ghost use Rattle.token_server.specs.code.Told.{told_to, cut};
 
 use intervals::span::Span;
 use known_nodes::command::Command;

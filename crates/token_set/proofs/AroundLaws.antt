@@ -2,8 +2,8 @@
 use Rattle.std.specs.Prelude.{◌≡◌, ℕ, ◌+◌, ◌<◌, ◌≤◌, ◌⊎◌, Bool, true, false, ◌||◌}
 use Rattle.std.proofs.Common.{refl, ap, sym, ◌∙◌, inl, inr, arith}
 use Rattle.std.proofs.lemmas.Bool.{both_ways, or_cases, or_left, or_right}
-use Rattle.intervals.specs.Search.{some_passes}
-use Rattle.intervals.specs.Bytes.{Range, NoneIn, IsLargest, largest_around}
+use Rattle.intervals.specs.rule.Search.{some_passes}
+use Rattle.intervals.specs.rule.Bytes.{Range, NoneIn, IsLargest, largest_around}
 use Rattle.intervals.proofs.SpanLaws.{largest_is_one}
 use Rattle.intervals.proofs.SpanSearch.{largest_is_largest}
 use Rattle.lock_table.proofs.LargestLaws.{IsLargest-iff, IsLargest-or, IsLargest-whole}

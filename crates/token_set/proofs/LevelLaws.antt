@@ -3,14 +3,14 @@ use Rattle.std.specs.Prelude.{◌≡◌, ◌≢◌, ℕ, ◌+◌, ◌<◌, ◌�
 use Rattle.std.proofs.Common.{arith, ap, sym, ◌∙◌, inl, inr}
 use Rattle.std.proofs.lemmas.Bool.{cases_lt, and_from, and_right, le-leb}
 use Rattle.std.proofs.lemmas.Bool.Decides.{nat_tests}
-use Rattle.intervals.specs.Bytes.{Range, is_in, NoneIn, AllAre, put}
+use Rattle.intervals.specs.rule.Bytes.{Range, is_in, NoneIn, AllAre, put}
 use Rattle.model.specs.declared.mode.Mode.{Mode}
 use Rattle.model.specs.declared.mode.Mode.TheVariants.{Read}
 use Rattle.model.specs.declared.level.Level.{Level}
 use Rattle.model.specs.declared.level.Level.TheVariants.{Shared, Exclusive}
-use Rattle.token_set.specs.Tokens.{Token, serves, covers, conflicts, level_conflicts, raised_level, raised}
-use Rattle.token_set.specs.Sets.{IsFirstExclusive, at_exclusive}
-use Rattle.token_set.specs.Releases.{lowered_level, lowered}
+use Rattle.token_set.specs.rule.Tokens.{Token, serves, covers, conflicts, level_conflicts, raised_level, raised}
+use Rattle.token_set.specs.code.Sets.{IsFirstExclusive, at_exclusive}
+use Rattle.token_set.specs.rule.Releases.{lowered_level, lowered}
 use Rattle.token_set.proofs.TokenLaws.{none-conflicts, covers-from}
 
 -- the exclusive bytes below `from` have got the level, and the bytes from there on are as in f

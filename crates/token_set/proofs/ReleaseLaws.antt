@@ -2,21 +2,21 @@
 use Rattle.std.specs.Prelude.{◌≡◌, ℕ, ◌+◌, ◌<◌, ◌≤◌, true, false, if◌then◌else◌, Option, Some, None, IsSome, MatchOption, refl}
 use Rattle.std.proofs.Common.{arith, ap, sym, ◌∙◌, subst, inl, inr}
 use Rattle.std.proofs.lemmas.Bool.{cases_Bool, and_parts, leb-true}
-use Rattle.intervals.specs.Search.{first}
-use Rattle.intervals.specs.Bytes.{Range, is_in, NoneIn}
+use Rattle.intervals.specs.rule.Search.{first}
+use Rattle.intervals.specs.rule.Bytes.{Range, is_in, NoneIn}
 use Rattle.intervals.proofs.SpanSearch.{largest_is_largest}
 use Rattle.model.specs.declared.mode.Mode.{Mode}
 use Rattle.model.specs.declared.mode.Mode.TheVariants.{Read, Write}
 use Rattle.model.specs.declared.level.Level.{Level}
 use Rattle.model.specs.declared.level.Level.TheVariants.{Shared, Exclusive}
 use Rattle.model.specs.declared.lock_info.LockInfo.{LockInfo}
-use Rattle.model.specs.Owners.{owner_at, most_owners}
-use Rattle.model.specs.Locks.{FileLocks, excludes, bars, IsRegion, IsOfNode, IsClear, IsInWay, IsLowestInWay, lowest_in_way}
+use Rattle.model.specs.rule.Owners.{owner_at, most_owners}
+use Rattle.model.specs.rule.Locks.{FileLocks, excludes, bars, IsRegion, IsOfNode, IsClear, IsInWay, IsLowestInWay, lowest_in_way}
 use Rattle.model.proofs.WayLaws.{clear_has_none, barred_region, lowest_in_way_is_lowest, is_lowest_in_way}
-use Rattle.lock_table.specs.Blockers.{HasInWay}
+use Rattle.lock_table.specs.code.Blockers.{HasInWay}
 use Rattle.lock_table.proofs.LargestLaws.{IsLargest-iff}
-use Rattle.token_set.specs.Tokens.{Token, serves}
-use Rattle.token_set.specs.Releases.{lowered_level, lowered, is_in_way, given_up_span, answer_of, gave_up, NoneInWay, IsGivenUp, IsRevocable, GaveUpIsGivenUp, GaveUpIsOne, ReleasedIsClear, IsAtMost, LoweringLowers, LoweringKeepsLocks}
+use Rattle.token_set.specs.rule.Tokens.{Token, serves}
+use Rattle.token_set.specs.rule.Releases.{lowered_level, lowered, is_in_way, given_up_span, answer_of, gave_up, NoneInWay, IsGivenUp, IsRevocable, GaveUpIsGivenUp, GaveUpIsOne, ReleasedIsClear, IsAtMost, LoweringLowers, LoweringKeepsLocks}
 use Rattle.token_set.specs.declared.gave_up.GaveUp.{GaveUp}
 use Rattle.token_set.specs.declared.gave_up.GaveUp.TheVariants.{Released, Conflict}
 use Rattle.token_set.proofs.SearchLaws.{some_passes-first, some_passes-from}

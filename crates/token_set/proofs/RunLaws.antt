@@ -4,11 +4,11 @@ use Rattle.std.proofs.Common.{sym, subst, inl, inr, arith}
 use Rattle.std.proofs.lemmas.Bool.{cases_lt}
 use Rattle.std.proofs.lemmas.List.Elements.{All-push, All-weaker, Contains-append_left, Contains-push}
 use Rattle.std.proofs.lemmas.List.Quantifiers.{all_pairs_push}
-use Rattle.intervals.specs.Bytes.{Range, IsRun}
+use Rattle.intervals.specs.rule.Bytes.{Range, IsRun}
 use Rattle.intervals.proofs.SpanLaws.{runs_are_one}
 use Rattle.model.specs.declared.level.Level.{Level}
-use Rattle.token_set.specs.Tokens.{Token}
-use Rattle.token_set.specs.Runs.{IsNextRun}
+use Rattle.token_set.specs.rule.Tokens.{Token}
+use Rattle.token_set.specs.code.Runs.{IsNextRun}
 
 -- the runs that begin below byte `from` are listed, and no run goes on across it
 pub record Listed (t : Token) (from : ℕ) (runs : List (Range × Level)) : Type 0 where

@@ -3,7 +3,7 @@ use Rattle.std.specs.Prelude.{◌≡◌, ℕ, ◌+◌, ◌<◌, ◌≤◌, Bool,
 use Rattle.std.specs.Cmp.{both_ways as same_tests}
 use Rattle.std.proofs.Common.{◌∙◌, inl, inr, arith}
 use Rattle.std.proofs.lemmas.Bool.{both_ways, cases_lt, cases_order, not-true, not-false, not_from_true, not_from_false, false_from_ne_true, ltb-true, lt-ltb, or_cases, or_left, or_right}
-use Rattle.intervals.specs.Search.{first, some_passes, all_pass, IsFirst}
+use Rattle.intervals.specs.rule.Search.{first, some_passes, all_pass, IsFirst}
 use Rattle.intervals.proofs.SearchLaws.{first_is_first}
 
 -- at most one number is the first that passes

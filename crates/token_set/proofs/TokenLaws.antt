@@ -2,13 +2,13 @@
 use Rattle.std.specs.Prelude.{◌≡◌, ℕ, ◌<◌, ◌≤◌, true, false, if◌then◌else◌, Option, Some, None, is_none, is_some, IsSome, MatchOption}
 use Rattle.std.proofs.Common.{refl, sym, ap, inl, inr, arith}
 use Rattle.std.proofs.lemmas.Bool.{both_ways, cases_lt, cases_Bool}
-use Rattle.intervals.specs.Bytes.{Range, greatest, is_in, AllAre, IsBarred, NoneIn, IsFirstIn, IsLargest, size}
+use Rattle.intervals.specs.rule.Bytes.{Range, greatest, is_in, AllAre, IsBarred, NoneIn, IsFirstIn, IsLargest, size}
 use Rattle.model.specs.declared.mode.Mode.{Mode}
 use Rattle.model.specs.declared.mode.Mode.TheVariants.{Read, Write}
 use Rattle.model.specs.declared.level.Level.{Level}
 use Rattle.model.specs.declared.level.Level.TheVariants.{Shared, Exclusive}
-use Rattle.token_set.specs.Tokens.{Token, no_token, serves, covers, raised_level, raised, level_conflicts, conflicts, holds_nothing}
-use Rattle.token_set.specs.Sets.{bar_of, HasLevels}
+use Rattle.token_set.specs.rule.Tokens.{Token, no_token, serves, covers, raised_level, raised, level_conflicts, conflicts, holds_nothing}
+use Rattle.token_set.specs.code.Sets.{bar_of, HasLevels}
 use Rattle.token_set.proofs.SearchLaws.{some_passes-from, none_passes-from, some_passes-none, all_pass-from, all_pass-each}
 use Rattle.lock_table.proofs.LargestLaws.{IsLargest-iff}
 

@@ -3,18 +3,18 @@ use Rattle.std.specs.Prelude.{◌≡◌, ℕ, ◌+◌, ◌-◌, ◌<◌, ◌≤�
 use Rattle.std.proofs.Common.{sym, ap, subst, ◌∙◌, inl, inr, arith}
 use Rattle.std.proofs.lemmas.Bool.{both_ways, cases_lt, false_from_ne_true, and_from, le-leb}
 use Rattle.std.proofs.lemmas.Bool.Decides.{nat_tests}
-use Rattle.intervals.specs.Bytes.{Range, is_in, put, size, whole, greatest}
-use Rattle.intervals.specs.Search.{first}
-use Rattle.intervals.specs.Edits.{written}
-use Rattle.intervals.specs.Runs.{IsLowestFree, IsHighestFree}
+use Rattle.intervals.specs.rule.Bytes.{Range, is_in, put, size, whole, greatest}
+use Rattle.intervals.specs.rule.Search.{first}
+use Rattle.intervals.specs.code.Edits.{written}
+use Rattle.intervals.specs.code.Runs.{IsLowestFree, IsHighestFree}
 use Rattle.intervals.specs.declared.span_edit.SpanEdit.{SpanEdit}
 use Rattle.intervals.specs.declared.tree_map.TreeMap.{TreeMap}
 use Rattle.model.specs.declared.mode.Mode.{Mode}
 use Rattle.model.specs.declared.mode.Mode.TheVariants.{Read}
 use Rattle.model.specs.declared.level.Level.{Level}
-use Rattle.token_set.specs.Tokens.{Token, conflicts, level_conflicts}
-use Rattle.token_set.specs.Sets.{token_of}
-use Rattle.token_set.specs.Views.{InWay}
+use Rattle.token_set.specs.rule.Tokens.{Token, conflicts, level_conflicts}
+use Rattle.token_set.specs.code.Sets.{token_of}
+use Rattle.token_set.specs.code.Views.{InWay}
 use Rattle.token_set.proofs.SearchLaws.{some_passes-first}
 use Rattle.token_set.proofs.TokenLaws.{conflicts-from, conflicts-none, none-conflicts}
 

@@ -1,6 +1,2 @@
-pub mod Tokens
-pub mod Sets
-pub mod Runs
-pub mod Releases
-pub mod Edits
-pub mod Views
+pub mod rule
+pub mod code

@@ -1,12 +1,12 @@
 //! Planned changes of tokens, with the memory that they take.
 ghost use Rattle.std.specs.Prelude.{◌≡◌, false};
-ghost use Rattle.intervals.specs.Bytes.{whole};
+ghost use Rattle.intervals.specs.rule.Bytes.{whole};
 ghost use Rattle.intervals.specs.declared.tree_map.TreeMap.{TreeMap};
 ghost use Rattle.model.specs.declared.level.Level.{Level};
 ghost use Rattle.model.specs.declared.mode.Mode.TheVariants.{Read};
-ghost use Rattle.token_set.specs.Tokens.{conflicts};
-ghost use Rattle.token_set.specs.Sets.{token_of};
-ghost use Rattle.token_set.specs.Edits.{edited};
+ghost use Rattle.token_set.specs.rule.Tokens.{conflicts};
+ghost use Rattle.token_set.specs.code.Sets.{token_of};
+ghost use Rattle.token_set.specs.code.Edits.{edited};
 
 use crate::set::{TokenSet, is_exclusive};
 use intervals::span::{GREATEST, Span};

@@ -3,16 +3,16 @@
 //! Each function here that can fail errs with `AllocError`, where a request for memory was refused,
 //! and changes nothing then.
 ghost use Rattle.std.specs.Prelude.{◌≡◌, ◌≤◌, ◌<◌, ℕ, true, false, Some, None, IfOk, OnOk, OnErr, IsTrue, ◌↔◌, MatchOption};
-ghost use Rattle.intervals.specs.Bytes.{greatest, IsLargest, NoneIn, put, largest_around};
-ghost use Rattle.intervals.specs.Edits.{written};
-ghost use Rattle.model.specs.Locks.{IsRegion};
-ghost use Rattle.lock_table.specs.Rows.{held};
-ghost use Rattle.token_set.specs.Tokens.{Token, no_token, serves, covers, raised, conflicts, level_conflicts, holds_nothing};
-ghost use Rattle.token_set.specs.Sets.{token_of, bar_of, HasLevels, IsFirstExclusive, at_exclusive};
-ghost use Rattle.token_set.specs.Releases.{lowered, IsGivenUp, after_giving_up};
-ghost use Rattle.token_set.specs.Edits.{edited};
-ghost use Rattle.token_set.specs.Views.{viewed};
-ghost use Rattle.token_set.specs.Runs.{NothingFrom, IsNextRun, ListsRuns};
+ghost use Rattle.intervals.specs.rule.Bytes.{greatest, IsLargest, NoneIn, put, largest_around};
+ghost use Rattle.intervals.specs.code.Edits.{written};
+ghost use Rattle.model.specs.rule.Locks.{IsRegion};
+ghost use Rattle.lock_table.specs.code.Rows.{held};
+ghost use Rattle.token_set.specs.rule.Tokens.{Token, no_token, serves, covers, raised, conflicts, level_conflicts, holds_nothing};
+ghost use Rattle.token_set.specs.code.Sets.{token_of, bar_of, HasLevels, IsFirstExclusive, at_exclusive};
+ghost use Rattle.token_set.specs.rule.Releases.{lowered, IsGivenUp, after_giving_up};
+ghost use Rattle.token_set.specs.code.Edits.{edited};
+ghost use Rattle.token_set.specs.code.Views.{viewed};
+ghost use Rattle.token_set.specs.code.Runs.{NothingFrom, IsNextRun, ListsRuns};
 
 use crate::edit::TokenEdit;
 use crate::gave_up::GaveUp;
@@ -49,7 +49,7 @@ impl Model for TokenSet {
     ghost view = { λ t. t.levels };
 
     ghost use Rattle.std.specs.Prelude.{◌≡◌, false};
-    ghost use Rattle.token_set.specs.Sets.{ExcludesNone, token_of};
+    ghost use Rattle.token_set.specs.code.Sets.{ExcludesNone, token_of};
 
     ghost invariant = { λ t. t.may_exclude ≡ false → ExcludesNone (token_of t.levels) };
 }

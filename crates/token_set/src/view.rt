@@ -1,10 +1,10 @@
 //! Tokens for reading: as they are, or as they will be after a planned write.
 ghost use Rattle.std.specs.Prelude.{◌≡◌, ◌+◌, ◌<◌, ◌≤◌, ℕ, true, false, Option};
-ghost use Rattle.intervals.specs.Bytes.{greatest, IsLargest, NoneIn, put, largest_around};
-ghost use Rattle.intervals.specs.Runs.{IsLowestFree, IsHighestFree};
-ghost use Rattle.token_set.specs.Tokens.{conflicts, level_conflicts};
-ghost use Rattle.token_set.specs.Sets.{token_of};
-ghost use Rattle.token_set.specs.Views.{viewed, InWay};
+ghost use Rattle.intervals.specs.rule.Bytes.{greatest, IsLargest, NoneIn, put, largest_around};
+ghost use Rattle.intervals.specs.code.Runs.{IsLowestFree, IsHighestFree};
+ghost use Rattle.token_set.specs.rule.Tokens.{conflicts, level_conflicts};
+ghost use Rattle.token_set.specs.code.Sets.{token_of};
+ghost use Rattle.token_set.specs.code.Views.{viewed, InWay};
 
 use crate::set::TokenSet;
 use intervals::span::Span;

@@ -1,2 +1,2 @@
-pub mod Rules
-pub mod Spots
+pub mod rule
+pub mod code

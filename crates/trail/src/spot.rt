@@ -16,7 +16,7 @@ pub struct Spot<J: Name, E> {
 
 impl<J: Name, E> Model for Spot<J, E> {
     ghost use Rattle.std.specs.Prelude.{◌≡◌, ◌<◌, length, slice_get};
-    ghost use Rattle.trail.specs.Spots.{SpotFields};
+    ghost use Rattle.trail.specs.code.Spots.{SpotFields};
 
     ghost Value = { SpotFields E };
 

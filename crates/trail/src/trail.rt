@@ -1,6 +1,6 @@
 //! A trail: a list that only grows, of which the program keeps the length.
 ghost use Rattle.std.specs.Prelude.{◌≡◌, ◌<◌, ◌≤◌, ◌^◌, ◌⊎◌, ◌++◌, ◌∷◌, [], length, Some, IfNone, IfSome};
-ghost use Rattle.trail.specs.Rules.{head_of};
+ghost use Rattle.trail.specs.rule.Rules.{head_of};
 
 use crate::name::Name;
 use crate::rule::{Add, Law, Nothing};
@@ -22,7 +22,7 @@ pub struct Trail<J: Name, E> {
 
 impl<J: Name, E> Model for Trail<J, E> {
     ghost use Rattle.std.specs.Prelude.{◌≡◌, length, List};
-    ghost use Rattle.trail.specs.Rules.{head_of};
+    ghost use Rattle.trail.specs.rule.Rules.{head_of};
 
     ghost Value = { List E };
 

@@ -17,7 +17,7 @@ pub struct Unnamed<E> {
 impl<E> Model for Unnamed<E> {
     ghost use Rattle.std.specs.Prelude.{◌≡◌, []};
     ghost use Rattle.logbook.specs.Pages.{Book};
-    ghost use Rattle.trail.specs.Rules.{head_of};
+    ghost use Rattle.trail.specs.rule.Rules.{head_of};
 
     ghost Value = { Book };
 

@@ -1,6 +1,6 @@
 -- The number of entries of a run.
 use Rattle.std.proofs.Common.{◌≡◌, ℕ, ◌+◌, refl, sym, ◌∙◌, ap, arith, nat_le, nat_lt, List, [], ◌∷◌, length, Result, Ok, Err}
-use Rattle.messages.specs.Messages.{addressee, sending}
+use Rattle.messages.specs.rule.Messages.{addressee, sending}
 use Rattle.messages.specs.declared.actor.Actor.{Actor}
 use Rattle.messages.specs.declared.actor.Actor.TheVariants.{Node as ANode, Server as AServer}
 use Rattle.messages.specs.declared.message.Message.{Message}
@@ -8,20 +8,20 @@ use Rattle.messages.specs.declared.outcome.Outcome.{Outcome}
 use Rattle.messages.specs.declared.refusal.StepError.{StepError}
 use Rattle.messages.specs.declared.refusal.Refused.{Refused}
 use Rattle.messages.specs.declared.refusal.Refused.TheVariants.{NotAlive, NotDead, TooManyRestarts}
-use Rattle.messages.specs.Refusals.{refused_by}
+use Rattle.messages.specs.rule.Refusals.{refused_by}
 use Rattle.messages.specs.declared.event.Event.{Event}
 use Rattle.messages.specs.declared.event.Event.TheVariants.{Call, Deliver, Interrupt, Retry, Resend, Declare, Restart, Learn, FailServer, StartServer}
 use Rattle.messages.specs.declared.entry.Entry.{Entry}
 use Rattle.node_core.specs.declared.event.NodeEvent.TheVariants as node
-use Rattle.node_core.specs.State.{NodeState}
-use Rattle.node_core.specs.Node.{node_rule}
+use Rattle.node_core.specs.rule.State.{NodeState}
+use Rattle.node_core.specs.rule.Node.{node_rule}
 use Rattle.token_server.specs.declared.event.ServerEvent.TheVariants as server
-use Rattle.token_server.specs.State.{ServerState}
-use Rattle.token_server.specs.Resends.{outstanding}
-use Rattle.token_server.specs.Server.{server_rule}
-use Rattle.cluster_core.specs.World.{WorldState, most_incarnations}
-use Rattle.cluster_core.specs.Next.{next, taken, delivered, after_node, after_server, recorded, named_incarnation, with_node, with_server, declared, restarted, silent, failed, started, next_server}
-use Rattle.cluster_core.specs.Runs.{Leads}
+use Rattle.token_server.specs.rule.State.{ServerState}
+use Rattle.token_server.specs.rule.Resends.{outstanding}
+use Rattle.token_server.specs.rule.Server.{server_rule}
+use Rattle.cluster_core.specs.rule.World.{WorldState, most_incarnations}
+use Rattle.cluster_core.specs.rule.Next.{next, taken, delivered, after_node, after_server, recorded, named_incarnation, with_node, with_server, declared, restarted, silent, failed, started, next_server}
+use Rattle.cluster_core.specs.rule.Runs.{Leads}
 use Rattle.cluster_core.proofs.common.Choices.{if_either}
 use Rattle.cluster_core.proofs.steps.Steps.{next_taken}
 

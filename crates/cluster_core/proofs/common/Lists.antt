@@ -5,7 +5,7 @@ use Rattle.std.proofs.lemmas.Bool.{cases_lt}
 use Rattle.std.proofs.lemmas.List.{append-nil, get_or-map, length-map, map-append, take_all}
 use Rattle.std.proofs.lemmas.List.Elements.{All-nil, All-append, All-head, All-tail, All-map, All-weaker, Contains-append_left, Contains-append_right}
 use Rattle.std.proofs.lemmas.List.Kept.{AllPairs-cons}
-use Rattle.cluster_core.specs.Listings.{Lists, Adds}
+use Rattle.cluster_core.specs.rule.Listings.{Lists, Adds}
 use Rattle.cluster_core.proofs.common.Places.{take_read}
 
 -- what follows from two facts of an element follows for each element of a list

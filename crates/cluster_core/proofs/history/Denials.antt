@@ -4,33 +4,33 @@ use Rattle.std.specs.Prelude.{max}
 use Rattle.std.specs.List.{list_any}
 use Rattle.std.proofs.lemmas.Bool.{and_parts, and_from, eqb-true, eq-eqb, cases_Bool}
 use Rattle.std.proofs.lemmas.List.Elements.{All-nil, All-same}
-use Rattle.intervals.specs.Bytes.{Range, IsRun, greatest}
+use Rattle.intervals.specs.rule.Bytes.{Range, IsRun, greatest}
 use Rattle.model.specs.declared.call.CallId.{CallId}
 use Rattle.model.specs.declared.lock_info.LockInfo.{LockInfo}
 use Rattle.model.specs.declared.mode.Mode.{Mode}
 use Rattle.model.specs.declared.op.Op.{Op}
 use Rattle.model.specs.declared.owner.Owner.{Owner}
-use Rattle.model.specs.Locks.{IsRegion, IsClear, IsLowestInWay, Blocks, lowest_in_way}
-use Rattle.model.specs.Table.{Table}
-use Rattle.model.specs.Step.{Step}
+use Rattle.model.specs.rule.Locks.{IsRegion, IsClear, IsLowestInWay, Blocks, lowest_in_way}
+use Rattle.model.specs.rule.Table.{Table}
+use Rattle.model.specs.rule.Step.{Step}
 use Rattle.model.proofs.WayLaws.{lowest_in_way_is_lowest}
-use Rattle.messages.specs.Shapes.{ShapeFields}
-use Rattle.messages.specs.Wants.{Wants}
-use Rattle.messages.specs.Epochs.{begin_of}
-use Rattle.messages.specs.Messages.{same_host, is_conflict}
+use Rattle.messages.specs.rule.Shapes.{ShapeFields}
+use Rattle.messages.specs.rule.Wants.{Wants}
+use Rattle.messages.specs.rule.Epochs.{begin_of}
+use Rattle.messages.specs.rule.Messages.{same_host, is_conflict}
 use Rattle.messages.specs.declared.message.Message.TheVariants.{Revoke, Conflict}
 use Rattle.messages.proofs.SameMessages.{host_refl}
 use Rattle.messages.specs.declared.event.Event.TheVariants.{Deliver}
 use Rattle.messages.specs.declared.entry.Entry.{Entry}
 use Rattle.node_core.specs.declared.open_call.OpenCall.{OpenCall}
-use Rattle.node_core.specs.State.{NodeState, host, process, target_of}
-use Rattle.cluster_core.specs.World.{WorldState, first_world, has_node}
-use Rattle.cluster_core.specs.Runs.{Leads}
-use Rattle.cluster_core.specs.Union.{union}
-use Rattle.cluster_core.specs.Histories.{caller, names_conflict, EntryAt, IsCalledAt, OneCall}
-use Rattle.cluster_core.specs.Evidence.{IsAbout, IsAsked, IsFirstDone, HasEvidence}
+use Rattle.node_core.specs.rule.State.{NodeState, host, process, target_of}
+use Rattle.cluster_core.specs.rule.World.{WorldState, first_world, has_node}
+use Rattle.cluster_core.specs.rule.Runs.{Leads}
+use Rattle.cluster_core.specs.rule.Union.{union}
+use Rattle.cluster_core.specs.rule.Histories.{caller, names_conflict, EntryAt, IsCalledAt, OneCall}
+use Rattle.cluster_core.specs.rule.Evidence.{IsAbout, IsAsked, IsFirstDone, HasEvidence}
 use Rattle.cluster_core.proofs.history.Entries.{entry_at-last, entry_at-push, entry_at-within}
-use Rattle.model.specs.Anchors.{IsOwn}
+use Rattle.model.specs.rule.Anchors.{IsOwn}
 use Rattle.cluster_core.proofs.steps.Tries.{about_step, blocked_step}
 use Rattle.cluster_core.proofs.history.Joined.{is_of_host, holder_of_host}
 use Rattle.cluster_core.proofs.history.Lifting.{union_locks-host, about_lifts}

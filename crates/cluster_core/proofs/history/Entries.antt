@@ -6,7 +6,7 @@ use Rattle.model.specs.declared.op.Op.{Op}
 use Rattle.model.specs.declared.reply.Reply.{Reply}
 use Rattle.messages.specs.declared.event.Event.TheVariants.{Call}
 use Rattle.messages.specs.declared.entry.Entry.{Entry}
-use Rattle.cluster_core.specs.Histories.{EntryAt, IsCalledAt, IsRepliedAt, OneCall, OneReply}
+use Rattle.cluster_core.specs.rule.Histories.{EntryAt, IsCalledAt, IsRepliedAt, OneCall, OneReply}
 use Rattle.cluster_core.proofs.common.Places.{slice_get-keeps, slice_get-last, slice_get-push}
 
 -- an answer that is none is no answer

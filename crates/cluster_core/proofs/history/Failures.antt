@@ -1,19 +1,19 @@
 -- The union after a node was declared failed is the union before it with all processes of the node exited.
 use Rattle.std.specs.Prelude.{◌==◌, ◌&&◌}
 use Rattle.std.proofs.Common.{◌≡◌, ℕ, ◌+◌, Bool, true, false, if◌then◌else◌, refl, sym, ◌∙◌, ap, subst, Option}
-use Rattle.intervals.specs.Bytes.{nothing}
+use Rattle.intervals.specs.rule.Bytes.{nothing}
 use Rattle.model.specs.declared.mode.Mode.{Mode}
-use Rattle.model.specs.Descriptors.{Processes, no_processes}
-use Rattle.model.specs.Table.{gone}
-use Rattle.node_core.specs.State.{NodeState, first_node}
-use Rattle.cluster_core.specs.World.{WorldState, has_node}
-use Rattle.cluster_core.specs.Next.{declared}
-use Rattle.messages.specs.Versions.{most_regions}
-use Rattle.cluster_core.specs.Union.{union}
+use Rattle.model.specs.rule.Descriptors.{Processes, no_processes}
+use Rattle.model.specs.rule.Table.{gone}
+use Rattle.node_core.specs.rule.State.{NodeState, first_node}
+use Rattle.cluster_core.specs.rule.World.{WorldState, has_node}
+use Rattle.cluster_core.specs.rule.Next.{declared}
+use Rattle.messages.specs.rule.Versions.{most_regions}
+use Rattle.cluster_core.specs.rule.Union.{union}
 use Rattle.cluster_core.proofs.common.Choices.{at_number}
 use Rattle.cluster_core.proofs.history.Unions.{live_at}
 use Rattle.cluster_core.proofs.history.Lifting.{union_locks-host}
-use Rattle.model.specs.Anchors.{IsAnchored, AreAnchored}
+use Rattle.model.specs.rule.Anchors.{IsAnchored, AreAnchored}
 use Rattle.model.proofs.Anchors.{without_host, gone_is}
 
 -- a part that is empty everywhere now was that of the failed incarnation alone

@@ -2,8 +2,8 @@
 use Rattle.std.proofs.Common.{◌≡◌, ℕ, zero, suc, ◌+◌, ◌<◌, ◌≤◌, if◌then◌else◌, refl, sym, ◌∙◌, ap, subst, arith, List, [], ◌∷◌, slice_get, Option, Some, Ok}
 use Rattle.std.proofs.lemmas.Option.{none-some, same_Some}
 use Rattle.model.specs.declared.call.CallId.{CallId}
-use Rattle.messages.specs.Shapes.{ShapeFields}
-use Rattle.messages.specs.Messages.{addressee}
+use Rattle.messages.specs.rule.Shapes.{ShapeFields}
+use Rattle.messages.specs.rule.Messages.{addressee}
 use Rattle.messages.specs.declared.actor.Actor.{Actor}
 use Rattle.messages.specs.declared.actor.Actor.TheVariants.{Node as ANode, Server as AServer}
 use Rattle.messages.specs.declared.message.Message.{Message}
@@ -11,14 +11,14 @@ use Rattle.messages.specs.declared.event.Event.{Event}
 use Rattle.messages.specs.declared.event.Event.TheVariants.{Call, Deliver, Interrupt, Retry, Resend, Declare, Restart, Learn, FailServer, StartServer}
 use Rattle.messages.specs.declared.entry.Entry.{Entry}
 use Rattle.node_core.specs.declared.event.NodeEvent.TheVariants as node
-use Rattle.node_core.specs.State.{NodeState, first_node, id_of}
-use Rattle.node_core.specs.Node.{node_rule}
+use Rattle.node_core.specs.rule.State.{NodeState, first_node, id_of}
+use Rattle.node_core.specs.rule.Node.{node_rule}
 use Rattle.token_server.specs.declared.event.ServerEvent.TheVariants as server
-use Rattle.token_server.specs.Server.{server_rule}
-use Rattle.cluster_core.specs.World.{WorldState, first_world}
-use Rattle.cluster_core.specs.Next.{recorded, with_node, delivered, taken, next}
-use Rattle.cluster_core.specs.Runs.{Leads}
-use Rattle.cluster_core.specs.Histories.{EntryAt, IsDeclaredAt}
+use Rattle.token_server.specs.rule.Server.{server_rule}
+use Rattle.cluster_core.specs.rule.World.{WorldState, first_world}
+use Rattle.cluster_core.specs.rule.Next.{recorded, with_node, delivered, taken, next}
+use Rattle.cluster_core.specs.rule.Runs.{Leads}
+use Rattle.cluster_core.specs.rule.Histories.{EntryAt, IsDeclaredAt}
 use Rattle.cluster_core.proofs.common.Choices.{at_number}
 use Rattle.cluster_core.proofs.history.Entries.{not_there}
 use Rattle.cluster_core.proofs.steps.NodeSteps.{call_done}

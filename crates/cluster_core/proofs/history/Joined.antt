@@ -1,8 +1,8 @@
 -- The table of a node joined with those of others: what a call of the node makes of all.
 use Rattle.std.proofs.Common.{◌≡◌, ℕ, zero, suc, ◌≤◌, Bool, true, false, if◌then◌else◌, ◌&&◌, ◌==◌, inl, inr, refl, sym, ◌∙◌, ap, subst, arith, ℤ, nat_le, Option, Some, None, Result, Ok, Err}
 use Rattle.std.proofs.lemmas.Bool.{and_parts, and_from, eq-eqb, cases_Bool, false≢true}
-use Rattle.intervals.specs.Bytes.{Range, IsRun, put, nothing}
-use Rattle.intervals.specs.Segment.{seg}
+use Rattle.intervals.specs.rule.Bytes.{Range, IsRun, put, nothing}
+use Rattle.intervals.specs.rule.Segment.{seg}
 use Rattle.model.specs.declared.mode.Mode.{Mode}
 use Rattle.model.specs.declared.lock_info.LockInfo.{LockInfo}
 use Rattle.model.specs.declared.owner.Kind.{Kind}
@@ -16,17 +16,17 @@ use Rattle.model.specs.declared.op.LockCommand.{LockCommand}
 use Rattle.model.specs.declared.op.LockCommand.TheVariants.{Set, Wait, Query}
 use Rattle.model.specs.declared.reply.Reply.{Reply}
 use Rattle.model.specs.declared.reply.Reply.TheVariants.{Done, Again, NoProcess, NoLocks, Free, Blocked, Interrupted}
-use Rattle.model.specs.Limits.{most_descriptors}
-use Rattle.model.specs.Owners.{same_owner, process_owner, description_owner}
-use Rattle.model.specs.Locks.{bars, replace, without_owner, without_owner_anywhere, regions, IsFree, Blocks}
-use Rattle.model.specs.Descriptors.{Processes, with_process, with_descriptor, is_open, after}
-use Rattle.model.specs.Table.{Table, LockTarget, around, is_running, descriptor, beside, with_processes, target, need_of, call_target, target_at, owner_of, locked, lock_within, regions_with, after_unlock, after_last_close, closed, closed_at, closed_if, closed_below, after_close, exited, after_exit}
-use Rattle.model.specs.Step.{Is, AfterTests, SetStep, WaitStep, QueryStep, LockStep, Step}
+use Rattle.model.specs.rule.Limits.{most_descriptors}
+use Rattle.model.specs.rule.Owners.{same_owner, process_owner, description_owner}
+use Rattle.model.specs.rule.Locks.{bars, replace, without_owner, without_owner_anywhere, regions, IsFree, Blocks}
+use Rattle.model.specs.rule.Descriptors.{Processes, with_process, with_descriptor, is_open, after}
+use Rattle.model.specs.rule.Table.{Table, LockTarget, around, is_running, descriptor, beside, with_processes, target, need_of, call_target, target_at, owner_of, locked, lock_within, regions_with, after_unlock, after_last_close, closed, closed_at, closed_if, closed_below, after_close, exited, after_exit}
+use Rattle.model.specs.rule.Step.{Is, AfterTests, SetStep, WaitStep, QueryStep, LockStep, Step}
 use Rattle.model.proofs.OwnerLaws.{owner_exact}
-use Rattle.cluster_core.specs.Evidence.{IsAbout}
+use Rattle.cluster_core.specs.rule.Evidence.{IsAbout}
 use Rattle.cluster_core.proofs.common.Refusals.{if_then}
 use Rattle.model.proofs.Targets.{passes_at}
-use Rattle.model.specs.Anchors.{IsOwn}
+use Rattle.model.specs.rule.Anchors.{IsOwn}
 use Rattle.model.proofs.Hanging.{itself}
 use Rattle.model.proofs.NodeTables.{owner_at-node, owner_at-incarnation}
 use Rattle.cluster_core.proofs.steps.Tries.{about_maps, IsUnhindered}

@@ -1,24 +1,24 @@
 -- A step of one node's table is a step of the union of all.
 use Rattle.std.proofs.Common.{◌≡◌, ℕ, ◌≤◌, true, false, if◌then◌else◌, ◌&&◌, ◌==◌, inl, inr, refl, sym, ◌∙◌, ap, subst, Option}
 use Rattle.std.proofs.lemmas.Bool.{and_parts, eqb-true, eq-eqb, cases_Bool, both_ways}
-use Rattle.intervals.specs.Bytes.{nothing}
+use Rattle.intervals.specs.rule.Bytes.{nothing}
 use Rattle.model.specs.declared.mode.Mode.{Mode}
 use Rattle.model.specs.declared.owner.Owner.{Owner}
 use Rattle.model.specs.declared.op.Op.{Op}
 use Rattle.model.specs.declared.reply.Reply.{Reply}
-use Rattle.model.specs.Locks.{bars}
-use Rattle.model.specs.Descriptors.{no_processes}
-use Rattle.model.specs.Table.{Table, LockTarget}
-use Rattle.model.specs.Step.{Step}
-use Rattle.messages.specs.Versions.{most_regions}
-use Rattle.messages.specs.Shapes.{ShapeFields}
-use Rattle.messages.specs.Messages.{is_within}
-use Rattle.node_core.specs.State.{NodeState, process}
-use Rattle.cluster_core.specs.World.{WorldState, has_node, is_live}
-use Rattle.cluster_core.specs.Union.{union}
+use Rattle.model.specs.rule.Locks.{bars}
+use Rattle.model.specs.rule.Descriptors.{no_processes}
+use Rattle.model.specs.rule.Table.{Table, LockTarget}
+use Rattle.model.specs.rule.Step.{Step}
+use Rattle.messages.specs.rule.Versions.{most_regions}
+use Rattle.messages.specs.rule.Shapes.{ShapeFields}
+use Rattle.messages.specs.rule.Messages.{is_within}
+use Rattle.node_core.specs.rule.State.{NodeState, process}
+use Rattle.cluster_core.specs.rule.World.{WorldState, has_node, is_live}
+use Rattle.cluster_core.specs.rule.Union.{union}
 use Rattle.cluster_core.proofs.common.Choices.{if_again}
-use Rattle.model.specs.Anchors.{IsOwn}
-use Rattle.cluster_core.specs.Evidence.{IsAbout}
+use Rattle.model.specs.rule.Anchors.{IsOwn}
+use Rattle.cluster_core.specs.rule.Evidence.{IsAbout}
 use Rattle.cluster_core.proofs.steps.Tries.{IsUnhindered}
 use Rattle.cluster_core.proofs.history.Unions.{live_at}
 use Rattle.cluster_core.proofs.history.Joined.{IsFreeBeside, is_of_host, of_host, joined, step-joined, about-joined}

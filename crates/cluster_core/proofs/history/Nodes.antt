@@ -8,20 +8,20 @@ use Rattle.model.specs.declared.mode.Mode.{Mode}
 use Rattle.model.specs.declared.op.Op.{Op}
 use Rattle.model.specs.declared.process.Process.{Process}
 use Rattle.model.specs.declared.reply.Reply.{Reply}
-use Rattle.model.specs.Limits.{IsProcess}
-use Rattle.model.specs.Table.{Table, LockTarget}
-use Rattle.model.specs.Step.{Step}
+use Rattle.model.specs.rule.Limits.{IsProcess}
+use Rattle.model.specs.rule.Table.{Table, LockTarget}
+use Rattle.model.specs.rule.Step.{Step}
 use Rattle.messages.specs.declared.message.Message.TheVariants.{Deny}
 use Rattle.messages.specs.declared.event.Event.{Event}
 use Rattle.messages.specs.declared.event.Event.TheVariants.{Deliver, Declare}
 use Rattle.messages.specs.declared.entry.Entry.{Entry}
 use Rattle.node_core.specs.declared.open_call.OpenCall.{OpenCall}
-use Rattle.node_core.specs.State.{NodeState, process, id_of, target_of}
-use Rattle.node_core.specs.Try.{refusal_of}
+use Rattle.node_core.specs.rule.State.{NodeState, process, id_of, target_of}
+use Rattle.node_core.specs.rule.Try.{refusal_of}
 use Rattle.cluster_core.proofs.history.Entries.{not_there, same_answer, IsNamed, Unanswered, unanswered-push}
 use Rattle.cluster_core.proofs.history.Fitting.{Called, called-keeps}
-use Rattle.cluster_core.specs.Evidence.{IsAbout}
-use Rattle.model.specs.Anchors.{IsOwn}
+use Rattle.cluster_core.specs.rule.Evidence.{IsAbout}
+use Rattle.model.specs.rule.Anchors.{IsOwn}
 use Rattle.model.proofs.LimitLaws.{step_limit}
 use Rattle.model.proofs.NodeTables.{GoesOn, same_goes_on, target_goes_on}
 use Rattle.cluster_core.proofs.steps.Tries.{about_maps, IsReady, IsServed, Continues, Stays, IsSilent}

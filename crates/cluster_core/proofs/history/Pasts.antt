@@ -6,20 +6,20 @@ use Rattle.std.proofs.lemmas.Bool.{and_parts, both_ways, cases_Bool, eqb-true, e
 use Rattle.std.proofs.lemmas.Bool.Decides.{nat_tests}
 use Rattle.std.proofs.lemmas.Option.{none-some, same_Some}
 use Rattle.std.proofs.lemmas.List.Elements.{All-nil}
-use Rattle.intervals.specs.Bytes.{Range}
+use Rattle.intervals.specs.rule.Bytes.{Range}
 use Rattle.model.specs.declared.call.CallId.{CallId}
 use Rattle.model.specs.declared.host.Host.{Host}
 use Rattle.model.specs.declared.lock_info.LockInfo.{LockInfo}
 use Rattle.model.specs.declared.mode.Mode.{Mode}
 use Rattle.model.specs.declared.op.Op.{Op}
-use Rattle.model.specs.Limits.{IsNumber, IsProcess, most_nodes, most_processes}
-use Rattle.model.specs.Locks.{lowest_in_way}
-use Rattle.token_set.specs.Releases.{given_up_span, answer_of}
-use Rattle.messages.specs.Versions.{most_regions}
-use Rattle.messages.specs.Shapes.{ShapeFields, IsShape}
-use Rattle.messages.specs.Wants.{Wants}
-use Rattle.messages.specs.Epochs.{begin_of}
-use Rattle.messages.specs.Messages.{addressee, is_among, is_conflict, is_within, same_host, same_message, sending}
+use Rattle.model.specs.rule.Limits.{IsNumber, IsProcess, most_nodes, most_processes}
+use Rattle.model.specs.rule.Locks.{lowest_in_way}
+use Rattle.token_set.specs.rule.Releases.{given_up_span, answer_of}
+use Rattle.messages.specs.rule.Versions.{most_regions}
+use Rattle.messages.specs.rule.Shapes.{ShapeFields, IsShape}
+use Rattle.messages.specs.rule.Wants.{Wants}
+use Rattle.messages.specs.rule.Epochs.{begin_of}
+use Rattle.messages.specs.rule.Messages.{addressee, is_among, is_conflict, is_within, same_host, same_message, sending}
 use Rattle.messages.proofs.SameMessages.{host_exact, same_message-is-equality}
 use Rattle.messages.specs.declared.refusal.StepError.{StepError}
 use Rattle.messages.specs.declared.message.Message.{Message}
@@ -30,33 +30,33 @@ use Rattle.messages.specs.declared.entry.Entry.{Entry}
 use Rattle.messages.specs.declared.outcome.Outcome.{Outcome}
 use Rattle.node_core.specs.declared.event.NodeEvent.TheVariants as node
 use Rattle.node_core.specs.declared.open_call.OpenCall.{OpenCall}
-use Rattle.node_core.specs.State.{NodeState, Effect, quiet, host, outcome, process, open_call_of}
-use Rattle.node_core.specs.Try.{tried_if}
-use Rattle.node_core.specs.Calls.{is_pid, is_in_shape, is_busy, called, after_call}
-use Rattle.node_core.specs.Commands.{renewed, in_epoch, remembered, answer_to, revoked, delivered, deliver_rule}
-use Rattle.node_core.specs.Interrupts.{interrupted, interrupt_rule}
-use Rattle.node_core.specs.Retries.{retry_rule}
-use Rattle.node_core.specs.Node.{node_rule}
+use Rattle.node_core.specs.rule.State.{NodeState, Effect, quiet, host, outcome, process, open_call_of}
+use Rattle.node_core.specs.rule.Try.{tried_if}
+use Rattle.node_core.specs.rule.Calls.{is_pid, is_in_shape, is_busy, called, after_call}
+use Rattle.node_core.specs.rule.Commands.{renewed, in_epoch, remembered, answer_to, revoked, delivered, deliver_rule}
+use Rattle.node_core.specs.rule.Interrupts.{interrupted, interrupt_rule}
+use Rattle.node_core.specs.rule.Retries.{retry_rule}
+use Rattle.node_core.specs.rule.Node.{node_rule}
 use Rattle.token_server.specs.declared.event.ServerEvent.TheVariants as server
-use Rattle.known_nodes.specs.Rows.{awaited_row, outstanding_of}
-use Rattle.token_server.specs.State.{ServerState, begin}
-use Rattle.token_server.specs.Resends.{outstanding}
-use Rattle.token_server.specs.Server.{server_rule}
-use Rattle.cluster_core.specs.World.{WorldState, first_world, most_incarnations, has_node}
-use Rattle.cluster_core.specs.Next.{has_actor, is_known, entry, recorded, with_node, after_node, after_server, declared, restarted, silent, failed, started, next_server, with_server, taken, next}
-use Rattle.cluster_core.specs.Runs.{Leads}
-use Rattle.cluster_core.specs.Safe.{IsSafe}
+use Rattle.known_nodes.specs.rule.Rows.{awaited_row, outstanding_of}
+use Rattle.token_server.specs.rule.State.{ServerState, begin}
+use Rattle.token_server.specs.rule.Resends.{outstanding}
+use Rattle.token_server.specs.rule.Server.{server_rule}
+use Rattle.cluster_core.specs.rule.World.{WorldState, first_world, most_incarnations, has_node}
+use Rattle.cluster_core.specs.rule.Next.{has_actor, is_known, entry, recorded, with_node, after_node, after_server, declared, restarted, silent, failed, started, next_server, with_server, taken, next}
+use Rattle.cluster_core.specs.rule.Runs.{Leads}
+use Rattle.cluster_core.specs.rule.Safe.{IsSafe}
 use Rattle.cluster_core.proofs.tokens.Heard.{IsHeard}
-use Rattle.cluster_core.specs.Histories.{EntryAt, IsCalledAt, names_conflict, HasHistory, EachAtItsPlace}
-use Rattle.cluster_core.specs.Evidence.{IsTold, HasEvidence, is_wait}
-use Rattle.cluster_core.specs.Placement.{slots_of, items_in, history_of}
-use Rattle.cluster_core.specs.Plain.{IsPlainHistory}
+use Rattle.cluster_core.specs.rule.Histories.{EntryAt, IsCalledAt, names_conflict, HasHistory, EachAtItsPlace}
+use Rattle.cluster_core.specs.rule.Evidence.{IsTold, HasEvidence, is_wait}
+use Rattle.cluster_core.specs.code.Placement.{slots_of, items_in, history_of}
+use Rattle.cluster_core.specs.rule.Plain.{IsPlainHistory}
 use Rattle.cluster_core.proofs.common.Choices.{at_number}
 use Rattle.cluster_core.proofs.history.Entries.{none_named, none_called, none_replied}
 use Rattle.cluster_core.proofs.steps.NodeSteps.{IsTo, call_done, call_free, deliver_done, interrupt_done, retry_done}
 use Rattle.cluster_core.proofs.steps.Steps.{next_taken, next_unfenced, node_step, server_step, declare_step, restart_step, fail_step, start_step}
 use Rattle.cluster_core.proofs.steps.ServerSteps.{IsSending, server_rule-sending}
-use Rattle.model.specs.Anchors.{IsOwn}
+use Rattle.model.specs.rule.Anchors.{IsOwn}
 use Rattle.model.proofs.NodeTables.{own_empty}
 use Rattle.cluster_core.proofs.steps.Tries.{IsSilent, not_busy}
 use Rattle.cluster_core.proofs.history.Nodes.{IsOpen, IsExplained, IsDenied, IsNoDeclaration, Moves, found_open}

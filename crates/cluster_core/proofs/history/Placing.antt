@@ -6,11 +6,11 @@ use Rattle.model.specs.declared.host.Host.{Host}
 use Rattle.model.specs.declared.lock_info.LockInfo.{LockInfo}
 use Rattle.model.specs.declared.op.Op.{Op}
 use Rattle.model.specs.declared.reply.Reply.{Reply}
-use Rattle.model.specs.Limits.{IsProcess}
-use Rattle.model.specs.Replay.{NamesNoLock}
-use Rattle.model.specs.Table.{Table}
-use Rattle.model.specs.Step.{Step}
-use Rattle.messages.specs.Shapes.{ShapeFields}
+use Rattle.model.specs.rule.Limits.{IsProcess}
+use Rattle.model.specs.rule.Replay.{NamesNoLock}
+use Rattle.model.specs.rule.Table.{Table}
+use Rattle.model.specs.rule.Step.{Step}
+use Rattle.messages.specs.rule.Shapes.{ShapeFields}
 use Rattle.messages.specs.declared.message.Message.{Message}
 use Rattle.messages.specs.declared.message.Message.TheVariants.{Conflict, Deny}
 use Rattle.messages.specs.declared.event.Event.{Event}
@@ -18,12 +18,12 @@ use Rattle.messages.specs.declared.event.Event.TheVariants.{Deliver, Declare}
 use Rattle.messages.specs.declared.entry.Entry.{Entry}
 use Rattle.cluster_core.specs.declared.item.Item.{Item}
 use Rattle.cluster_core.specs.declared.item.Item.TheVariants.{Answered, Gone}
-use Rattle.cluster_core.specs.World.{WorldState, first_world}
-use Rattle.cluster_core.specs.Runs.{Leads}
-use Rattle.cluster_core.specs.Union.{union}
-use Rattle.cluster_core.specs.Histories.{caller, names_conflict, ItemStep, EntryAt, IsRevokedAt, IsPlaceOf, IsDeclaredAt, OneCall}
-use Rattle.cluster_core.specs.Evidence.{IsWorldAfter, HasEvidence}
-use Rattle.cluster_core.specs.Placement.{Slots, find_call, item_of, filled, gone_at, placed_by, slots_after, slots_of}
+use Rattle.cluster_core.specs.rule.World.{WorldState, first_world}
+use Rattle.cluster_core.specs.rule.Runs.{Leads}
+use Rattle.cluster_core.specs.rule.Union.{union}
+use Rattle.cluster_core.specs.rule.Histories.{caller, names_conflict, ItemStep, EntryAt, IsRevokedAt, IsPlaceOf, IsDeclaredAt, OneCall}
+use Rattle.cluster_core.specs.rule.Evidence.{IsWorldAfter, HasEvidence}
+use Rattle.cluster_core.specs.code.Placement.{Slots, find_call, item_of, filled, gone_at, placed_by, slots_after, slots_of}
 use Rattle.cluster_core.proofs.common.Places.{slice_get-keeps, slice_get-last}
 use Rattle.cluster_core.proofs.history.Entries.{not_there, same_answer, Unanswered, entry_at-keeps, entry_at-last, entry_at-within, called_at-keeps, replied_at-last}
 use Rattle.cluster_core.proofs.history.Fitting.{Called, called-keeps}

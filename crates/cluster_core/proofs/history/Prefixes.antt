@@ -1,15 +1,15 @@
 -- The worlds after the entries of a run.
 use Rattle.std.proofs.Common.{◌≡◌, ℕ, ◌≤◌, sym, ◌∙◌, ap, subst, List, [], ◌∷◌, ◌++◌, length, take, Result, Ok, Err}
 use Rattle.std.proofs.lemmas.List.{take-append-le, take_all}
-use Rattle.model.specs.Table.{Table}
-use Rattle.messages.specs.Shapes.{ShapeFields}
+use Rattle.model.specs.rule.Table.{Table}
+use Rattle.messages.specs.rule.Shapes.{ShapeFields}
 use Rattle.messages.specs.declared.refusal.Refused.{Refused}
 use Rattle.messages.specs.declared.entry.Entry.{Entry}
-use Rattle.cluster_core.specs.World.{WorldState, first_world}
-use Rattle.cluster_core.specs.Next.{next}
-use Rattle.cluster_core.specs.Runs.{Leads}
-use Rattle.cluster_core.specs.Union.{union}
-use Rattle.cluster_core.specs.Evidence.{IsWorldAfter}
+use Rattle.cluster_core.specs.rule.World.{WorldState, first_world}
+use Rattle.cluster_core.specs.rule.Next.{next}
+use Rattle.cluster_core.specs.rule.Runs.{Leads}
+use Rattle.cluster_core.specs.rule.Union.{union}
+use Rattle.cluster_core.specs.rule.Evidence.{IsWorldAfter}
 
 -- the world that is made, or the one before
 after_one : WorldState → Result (WorldState × Entry) Refused → WorldState

@@ -6,15 +6,15 @@ use Rattle.model.specs.declared.process.Process.{Process}
 use Rattle.model.specs.declared.op.Op.{Op}
 use Rattle.model.specs.declared.reply.Reply.{Reply}
 use Rattle.model.specs.declared.reply.Reply.TheVariants.{Again, Blocked}
-use Rattle.model.specs.Replay.{NamesNoLock}
-use Rattle.model.specs.Table.{Table}
-use Rattle.model.specs.Step.{Step}
+use Rattle.model.specs.rule.Replay.{NamesNoLock}
+use Rattle.model.specs.rule.Table.{Table}
+use Rattle.model.specs.rule.Step.{Step}
 use Rattle.model.proofs.ReadOnly.{only_done_change}
 use Rattle.model.specs.declared.op.LockCommand.{LockCommand}
 use Rattle.model.specs.declared.op.LockCommand.TheVariants as lock_command
-use Rattle.node_core.specs.Try.{refusal_of}
+use Rattle.node_core.specs.rule.Try.{refusal_of}
 use Rattle.cluster_core.specs.declared.item.Item.{Item}
-use Rattle.cluster_core.specs.Histories.{caller, ItemStep, Legal, IsReadOnly, moved, QuietItemsMayStandEarlier}
+use Rattle.cluster_core.specs.rule.Histories.{caller, ItemStep, Legal, IsReadOnly, moved, QuietItemsMayStandEarlier}
 
 -- the reply to a call that is denied names a lock
 pub refusal_names : (i : LockCommand) (lock : LockInfo) (reply : Reply) → refusal_of i lock ≡ Some reply → NamesNoLock reply → ⊥

@@ -11,21 +11,21 @@ use Rattle.model.specs.declared.host.Host.{Host}
 use Rattle.model.specs.declared.lock_info.LockInfo.{LockInfo}
 use Rattle.model.specs.declared.op.Op.{Op}
 use Rattle.model.specs.declared.reply.Reply.{Reply}
-use Rattle.model.specs.Replay.{NamesNoLock}
-use Rattle.model.specs.Table.{Table, empty_table}
-use Rattle.messages.specs.Versions.{most_regions}
-use Rattle.messages.specs.Shapes.{ShapeFields}
+use Rattle.model.specs.rule.Replay.{NamesNoLock}
+use Rattle.model.specs.rule.Table.{Table, empty_table}
+use Rattle.messages.specs.rule.Versions.{most_regions}
+use Rattle.messages.specs.rule.Shapes.{ShapeFields}
 use Rattle.messages.specs.declared.message.Message.TheVariants.{Conflict, Deny}
 use Rattle.messages.specs.declared.event.Event.{Event}
 use Rattle.messages.specs.declared.event.Event.TheVariants.{Deliver, Declare}
 use Rattle.messages.specs.declared.entry.Entry.{Entry}
 use Rattle.cluster_core.specs.declared.item.Item.{Item}
 use Rattle.cluster_core.specs.declared.item.Item.TheVariants.{Answered, Gone}
-use Rattle.cluster_core.specs.Histories.{position_of, call_id, ItemStep, Legal, Rising, EntryAt, IsRepliedAt, IsOpenAt, IsPlaced, Fits, FitsBy, OneReply, IsRevokedAt, IsPlaceOf, IsAtItsPlace, EachAtItsPlace, names_conflict, IsDeclaredAt}
-use Rattle.cluster_core.specs.World.{WorldState, first_world}
-use Rattle.cluster_core.specs.Runs.{Leads}
-use Rattle.cluster_core.specs.Union.{union}
-use Rattle.cluster_core.specs.Placement.{Slots, slots_after, slots_from, slots_of, items_in}
+use Rattle.cluster_core.specs.rule.Histories.{position_of, call_id, ItemStep, Legal, Rising, EntryAt, IsRepliedAt, IsOpenAt, IsPlaced, Fits, FitsBy, OneReply, IsRevokedAt, IsPlaceOf, IsAtItsPlace, EachAtItsPlace, names_conflict, IsDeclaredAt}
+use Rattle.cluster_core.specs.rule.World.{WorldState, first_world}
+use Rattle.cluster_core.specs.rule.Runs.{Leads}
+use Rattle.cluster_core.specs.rule.Union.{union}
+use Rattle.cluster_core.specs.code.Placement.{Slots, slots_after, slots_from, slots_of, items_in}
 use Rattle.cluster_core.proofs.common.Places.{slice_get-keeps, slice_get-last, slice_get-push}
 use Rattle.cluster_core.proofs.history.Entries.{entry_at-keeps, entry_at-push, entry_at-within, called_at-keeps, replied_at-keeps, replied_at-push, none_replied}
 use Rattle.cluster_core.proofs.history.Unions.{union_first}

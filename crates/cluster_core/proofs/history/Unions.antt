@@ -1,17 +1,17 @@
 -- The union of the nodes' tables.
 use Rattle.std.proofs.Common.{◌≡◌, ℕ, true, if◌then◌else◌, ◌&&◌, ◌==◌, refl, sym, ◌∙◌, ap, Option, Some, None}
 use Rattle.std.proofs.lemmas.Bool.{and_from, eq-eqb}
-use Rattle.intervals.specs.Bytes.{nothing}
+use Rattle.intervals.specs.rule.Bytes.{nothing}
 use Rattle.model.specs.declared.mode.Mode.{Mode}
 use Rattle.model.specs.declared.owner.Owner.{Owner}
-use Rattle.model.specs.Locks.{FileLocks, IsOfNode}
-use Rattle.model.specs.Descriptors.{Processes, no_processes}
-use Rattle.model.specs.Table.{empty_table}
-use Rattle.messages.specs.Versions.{most_regions}
-use Rattle.messages.specs.Shapes.{ShapeFields}
-use Rattle.messages.specs.Messages.{is_within}
-use Rattle.cluster_core.specs.World.{WorldState, first_world, has_node, is_live}
-use Rattle.cluster_core.specs.Union.{union}
+use Rattle.model.specs.rule.Locks.{FileLocks, IsOfNode}
+use Rattle.model.specs.rule.Descriptors.{Processes, no_processes}
+use Rattle.model.specs.rule.Table.{empty_table}
+use Rattle.messages.specs.rule.Versions.{most_regions}
+use Rattle.messages.specs.rule.Shapes.{ShapeFields}
+use Rattle.messages.specs.rule.Messages.{is_within}
+use Rattle.cluster_core.specs.rule.World.{WorldState, first_world, has_node, is_live}
+use Rattle.cluster_core.specs.rule.Union.{union}
 use Rattle.cluster_core.proofs.common.Choices.{if_either}
 use Rattle.model.proofs.NodeTables.{owner_at-node, owner_at-incarnation}
 

@@ -2,7 +2,7 @@
 use Rattle.std.proofs.Common.{◌≡◌, ℕ, ◌≤◌, true, ◌==◌, ◌⊎◌, inl, inr, sym, ◌∙◌, ap, subst, arith, List, [], ◌∷◌, ◌++◌, length, take, All, Contains, refl, Some}
 use Rattle.std.proofs.lemmas.Bool.{and_parts, eqb-true, false≢true}
 use Rattle.std.proofs.lemmas.List.Elements.{All-contains, All-weaker}
-use Rattle.intervals.specs.Bytes.{Range, greatest}
+use Rattle.intervals.specs.rule.Bytes.{Range, greatest}
 use Rattle.model.specs.declared.call.CallId.{CallId}
 use Rattle.model.specs.declared.host.Host.{Host}
 use Rattle.model.specs.declared.lock_info.LockInfo.{LockInfo}
@@ -13,10 +13,10 @@ use Rattle.model.specs.declared.op.LockCommand.{LockCommand}
 use Rattle.model.specs.declared.op.LockCommand.TheVariants.{Set, Wait, Query}
 use Rattle.model.specs.declared.process.Process.{Process}
 use Rattle.model.specs.declared.reply.Reply.{Reply}
-use Rattle.model.specs.Table.{Table, LockTarget}
-use Rattle.model.specs.Step.{Step}
-use Rattle.messages.specs.Shapes.{ShapeFields}
-use Rattle.messages.specs.Messages.{same_blocking}
+use Rattle.model.specs.rule.Table.{Table, LockTarget}
+use Rattle.model.specs.rule.Step.{Step}
+use Rattle.messages.specs.rule.Shapes.{ShapeFields}
+use Rattle.messages.specs.rule.Messages.{same_blocking}
 use Rattle.messages.specs.declared.message.Blocking.{Blocking}
 use Rattle.messages.specs.declared.message.Blocking.TheVariants.{No, Yes}
 use Rattle.messages.proofs.SameMessages.{call_exact}
@@ -26,14 +26,14 @@ use Rattle.messages.specs.declared.event.Event.{Event}
 use Rattle.messages.specs.declared.event.Event.TheVariants.{Call}
 use Rattle.messages.specs.declared.entry.Entry.{Entry}
 use Rattle.node_core.specs.declared.open_call.OpenCall.{OpenCall}
-use Rattle.node_core.specs.State.{NodeState, id_of}
-use Rattle.node_core.specs.Try.{blocking_of, refusal_of}
+use Rattle.node_core.specs.rule.State.{NodeState, id_of}
+use Rattle.node_core.specs.rule.Try.{blocking_of, refusal_of}
 use Rattle.token_queue.specs.declared.token_request.TokenRequest.{TokenRequest}
-use Rattle.token_queue.specs.Requests.{is_of_call}
-use Rattle.cluster_core.specs.World.{WorldState, first_world}
-use Rattle.cluster_core.specs.Union.{union}
-use Rattle.cluster_core.specs.Histories.{caller, EntryAt, IsCalledAt, OneCall}
-use Rattle.cluster_core.specs.Evidence.{IsAbout, IsAsked, IsWorldAfter, IsFirstDone, HasEvidence, may_wait, is_wait}
+use Rattle.token_queue.specs.rule.Requests.{is_of_call}
+use Rattle.cluster_core.specs.rule.World.{WorldState, first_world}
+use Rattle.cluster_core.specs.rule.Union.{union}
+use Rattle.cluster_core.specs.rule.Histories.{caller, EntryAt, IsCalledAt, OneCall}
+use Rattle.cluster_core.specs.rule.Evidence.{IsAbout, IsAsked, IsWorldAfter, IsFirstDone, HasEvidence, may_wait, is_wait}
 use Rattle.model.proofs.Targets.{IsSpan, target_span}
 use Rattle.cluster_core.proofs.history.Entries.{IsNamed, named_called, entry_at-within, called_at-keeps}
 use Rattle.cluster_core.proofs.steps.Tries.{IsFor, about_finds, about_one}

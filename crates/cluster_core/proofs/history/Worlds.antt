@@ -7,35 +7,35 @@ use Rattle.std.proofs.lemmas.List.Elements.{All-nil, All-same, All-append, All-w
 use Rattle.model.specs.declared.call.CallId.{CallId}
 use Rattle.model.specs.declared.op.Op.{Op}
 use Rattle.model.specs.declared.reply.Reply.{Reply}
-use Rattle.model.specs.Limits.{IsProcess}
-use Rattle.model.specs.Table.{Table}
-use Rattle.model.specs.Step.{Step}
-use Rattle.messages.specs.Versions.{most_regions}
-use Rattle.messages.specs.Shapes.{ShapeFields}
+use Rattle.model.specs.rule.Limits.{IsProcess}
+use Rattle.model.specs.rule.Table.{Table}
+use Rattle.model.specs.rule.Step.{Step}
+use Rattle.messages.specs.rule.Versions.{most_regions}
+use Rattle.messages.specs.rule.Shapes.{ShapeFields}
 use Rattle.messages.specs.declared.message.Message.{Message}
 use Rattle.messages.specs.declared.event.Event.{Event}
 use Rattle.messages.specs.declared.event.Event.TheVariants.{Declare, Restart}
 use Rattle.messages.specs.declared.entry.Entry.{Entry}
 use Rattle.messages.specs.declared.outcome.Outcome.{Outcome}
 use Rattle.node_core.specs.declared.open_call.OpenCall.{OpenCall}
-use Rattle.node_core.specs.State.{NodeState, first_node, process, id_of, target_of}
-use Rattle.token_server.specs.State.{ServerState}
+use Rattle.node_core.specs.rule.State.{NodeState, first_node, process, id_of, target_of}
+use Rattle.token_server.specs.rule.State.{ServerState}
 use Rattle.cluster_core.specs.declared.item.Item.TheVariants.{Answered}
-use Rattle.cluster_core.specs.World.{WorldState, first_world, most_incarnations, has_node}
-use Rattle.cluster_core.specs.Next.{next, entry, recorded, with_node, with_server, declared, restarted, silent}
-use Rattle.cluster_core.specs.Runs.{Leads}
-use Rattle.cluster_core.specs.Union.{union}
-use Rattle.cluster_core.specs.Histories.{caller, EntryAt, IsRepliedAt, OneCall, OneReply}
-use Rattle.cluster_core.specs.Evidence.{IsAbout, IsAsked}
+use Rattle.cluster_core.specs.rule.World.{WorldState, first_world, most_incarnations, has_node}
+use Rattle.cluster_core.specs.rule.Next.{next, entry, recorded, with_node, with_server, declared, restarted, silent}
+use Rattle.cluster_core.specs.rule.Runs.{Leads}
+use Rattle.cluster_core.specs.rule.Union.{union}
+use Rattle.cluster_core.specs.rule.Histories.{caller, EntryAt, IsRepliedAt, OneCall, OneReply}
+use Rattle.cluster_core.specs.rule.Evidence.{IsAbout, IsAsked}
 use Rattle.cluster_core.proofs.tokens.Epochs.{EndsOf}
-use Rattle.cluster_core.specs.Placement.{slots_of}
+use Rattle.cluster_core.specs.code.Placement.{slots_of}
 use Rattle.cluster_core.proofs.common.Choices.{at_number}
 use Rattle.cluster_core.proofs.runs.JournalRuns.{leads_push}
 use Rattle.cluster_core.proofs.history.Entries.{not_there, same_answer, IsNamed, Unanswered, entry_at-push, called_at-push, named-push, named_called, one_call-push, one_reply-push}
 use Rattle.cluster_core.proofs.history.Fitting.{Called}
 use Rattle.cluster_core.proofs.steps.Tries.{IsSilent}
 use Rattle.cluster_core.proofs.history.Nodes.{IsOpen, Holds, IsExplained, IsDenied, IsNoDenial, IsNoDeclaration, Moves, moves_limit, same_id, open-push}
-use Rattle.model.specs.Anchors.{IsAnchored}
+use Rattle.model.specs.rule.Anchors.{IsAnchored}
 use Rattle.model.proofs.NodeTables.{own_empty}
 use Rattle.cluster_core.proofs.history.Failures.{union_gone}
 use Rattle.cluster_core.proofs.history.Unions.{union_same}

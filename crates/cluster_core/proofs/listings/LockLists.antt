@@ -3,19 +3,19 @@ use Rattle.std.specs.Prelude.{◌≡◌, ℕ, ◌+◌, ◌<◌, ◌≤◌, true,
 use Rattle.std.proofs.Common.{refl, sym, ap, ◌∙◌, subst, inl, inr, arith}
 use Rattle.std.proofs.lemmas.Bool.{and_left, and_right, cases_Bool, cases_order, le-leb, lt-leb, leb-true, leb-false, both_ways}
 use Rattle.std.proofs.lemmas.List.Elements.{All-weaker}
-use Rattle.intervals.specs.Bytes.{nothing}
+use Rattle.intervals.specs.rule.Bytes.{nothing}
 use Rattle.model.specs.declared.owner.Owner.{Owner}
 use Rattle.model.specs.declared.lock_info.LockInfo.{LockInfo}
-use Rattle.model.specs.Locks.{FileLocks, IsRegion, IsOfNode}
-use Rattle.lock_table.specs.Listing.{IsListing, ListsRegions}
+use Rattle.model.specs.rule.Locks.{FileLocks, IsRegion, IsOfNode}
+use Rattle.lock_table.specs.code.Listing.{IsListing, ListsRegions}
 use Rattle.lock_table.proofs.BlockerLemmas.{IsJoin}
 use Rattle.lock_table.proofs.ListingLemmas.{lists_none, lists_join}
 use Rattle.lock_table.proofs.ListingParts.{lists_listing}
-use Rattle.node_core.specs.State.{NodeState}
+use Rattle.node_core.specs.rule.State.{NodeState}
 use Rattle.cluster_core.specs.declared.held_lock.HeldLock.{HeldLock}
-use Rattle.cluster_core.specs.World.{WorldState, has_node, has_file, is_live}
-use Rattle.cluster_core.specs.Union.{union}
-use Rattle.cluster_core.specs.Listings.{Lists, Adds, IsHeld, IsHeldBefore, IsLockListing, held_lock}
+use Rattle.cluster_core.specs.rule.World.{WorldState, has_node, has_file, is_live}
+use Rattle.cluster_core.specs.rule.Union.{union}
+use Rattle.cluster_core.specs.rule.Listings.{Lists, Adds, IsHeld, IsHeldBefore, IsLockListing, held_lock}
 use Rattle.cluster_core.proofs.common.Numbered.{within_is}
 use Rattle.cluster_core.proofs.history.Unions.{live_at, none_held}
 use Rattle.cluster_core.proofs.common.Lists.{lists_map, adds_all, IsUpTo, adds_first, adds_next, adds_last}

@@ -3,14 +3,14 @@ use Rattle.std.specs.Prelude.{◌≡◌, ℕ, ◌+◌, ◌≤◌, true, ◌==◌
 use Rattle.std.proofs.Common.{refl, sym, ap, ◌∙◌, subst, inl, inr, arith}
 use Rattle.std.proofs.lemmas.Bool.{and_parts, and_from, eqb-true, le-leb}
 use Rattle.std.proofs.lemmas.List.Elements.{All-weaker}
-use Rattle.intervals.specs.Bytes.{Range, IsRun}
+use Rattle.intervals.specs.rule.Bytes.{Range, IsRun}
 use Rattle.model.specs.declared.level.Level.{Level}
-use Rattle.messages.specs.Messages.{is_within}
-use Rattle.token_set.specs.Runs.{ListsRuns}
-use Rattle.node_core.specs.State.{NodeState}
+use Rattle.messages.specs.rule.Messages.{is_within}
+use Rattle.token_set.specs.code.Runs.{ListsRuns}
+use Rattle.node_core.specs.rule.State.{NodeState}
 use Rattle.cluster_core.specs.declared.token_run.TokenRun.{TokenRun}
-use Rattle.cluster_core.specs.World.{WorldState, has_node, has_file}
-use Rattle.cluster_core.specs.Listings.{Lists, Adds, IsTokenRun, IsTokenBefore, IsTokenOf, IsTokenOfFile, IsTokenListing, token_run}
+use Rattle.cluster_core.specs.rule.World.{WorldState, has_node, has_file}
+use Rattle.cluster_core.specs.rule.Listings.{Lists, Adds, IsTokenRun, IsTokenBefore, IsTokenOf, IsTokenOfFile, IsTokenListing, token_run}
 use Rattle.cluster_core.proofs.common.Numbered.{within_is}
 use Rattle.cluster_core.proofs.history.Unions.{live_at}
 use Rattle.cluster_core.proofs.common.Lists.{lists_map, adds_all, IsUpTo, adds_first, adds_next, adds_last}

@@ -1,12 +1,12 @@
 -- The check of entries, one after the other.
 use Rattle.std.proofs.Common.{◌≡◌, ◌≢◌, ℕ, ◌+◌, ◌<◌, arith, refl, sym, ◌∙◌, ap, subst, List, [], ◌∷◌, ◌++◌, length, take, drop, get_or, Ok}
 use Rattle.std.proofs.lemmas.List.{length-take-le, take-append-drop}
-use Rattle.messages.specs.Shapes.{ShapeFields}
+use Rattle.messages.specs.rule.Shapes.{ShapeFields}
 use Rattle.messages.specs.declared.entry.Entry.{Entry}
-use Rattle.cluster_core.specs.World.{WorldState, first_world}
-use Rattle.cluster_core.specs.Next.{next}
-use Rattle.cluster_core.specs.Runs.{Leads}
-use Rattle.cluster_core.specs.Journals.{IsFirstWrong, NoRunHasAWrongEntry}
+use Rattle.cluster_core.specs.rule.World.{WorldState, first_world}
+use Rattle.cluster_core.specs.rule.Next.{next}
+use Rattle.cluster_core.specs.rule.Runs.{Leads}
+use Rattle.cluster_core.specs.rule.Journals.{IsFirstWrong, NoRunHasAWrongEntry}
 use Rattle.cluster_core.proofs.common.Places.{drop_read}
 use Rattle.cluster_core.proofs.history.Prefixes.{leads_one}
 

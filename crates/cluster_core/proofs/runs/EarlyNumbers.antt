@@ -5,9 +5,9 @@ use Rattle.std.proofs.lemmas.Bool.{and_parts, both_ways, eqb-true}
 use Rattle.std.proofs.lemmas.Option.{none-some, same_Some}
 use Rattle.std.proofs.lemmas.List.Elements.{All-nil, All-cons}
 use Rattle.model.specs.declared.call.CallId.{CallId}
-use Rattle.messages.specs.Shapes.{ShapeFields}
-use Rattle.messages.specs.Versions.{may_rebuild}
-use Rattle.messages.specs.Messages.{addressee, is_among, greatest_number}
+use Rattle.messages.specs.rule.Shapes.{ShapeFields}
+use Rattle.messages.specs.rule.Versions.{may_rebuild}
+use Rattle.messages.specs.rule.Messages.{addressee, is_among, greatest_number}
 use Rattle.messages.specs.declared.actor.Actor.{Actor}
 use Rattle.messages.specs.declared.actor.Actor.TheVariants.{Node as ANode, Server as AServer}
 use Rattle.messages.specs.declared.message.Message.{Message}
@@ -17,19 +17,19 @@ use Rattle.messages.specs.declared.event.Event.TheVariants.{Call, Deliver, Inter
 use Rattle.messages.specs.declared.entry.Entry.{Entry}
 use Rattle.messages.specs.declared.outcome.Outcome.{Outcome}
 use Rattle.node_core.specs.declared.event.NodeEvent.TheVariants as node
-use Rattle.node_core.specs.State.{FileState, NodeState, Effect, first_node, open_call, open_call_of, outcome, quiet}
-use Rattle.node_core.specs.Try.{tried_if}
-use Rattle.node_core.specs.Calls.{after_call, called}
-use Rattle.node_core.specs.Commands.{in_epoch, in_order, granted, revoked, delivered}
-use Rattle.node_core.specs.Interrupts.{interrupted}
-use Rattle.node_core.specs.Node.{node_rule}
+use Rattle.node_core.specs.rule.State.{FileState, NodeState, Effect, first_node, open_call, open_call_of, outcome, quiet}
+use Rattle.node_core.specs.rule.Try.{tried_if}
+use Rattle.node_core.specs.rule.Calls.{after_call, called}
+use Rattle.node_core.specs.rule.Commands.{in_epoch, in_order, granted, revoked, delivered}
+use Rattle.node_core.specs.rule.Interrupts.{interrupted}
+use Rattle.node_core.specs.rule.Node.{node_rule}
 use Rattle.token_queue.specs.declared.token_request.TokenRequest.{TokenRequest}
 use Rattle.token_server.specs.declared.event.ServerEvent.TheVariants as server
-use Rattle.token_server.specs.State.{ServerState}
-use Rattle.token_server.specs.Server.{server_rule}
-use Rattle.cluster_core.specs.World.{WorldState, first_world, has_file}
-use Rattle.cluster_core.specs.Next.{is_known, has_actor, recorded, with_node, with_server, declared, restarted, silent, delivered as routed, taken}
-use Rattle.cluster_core.specs.Runs.{Leads}
+use Rattle.token_server.specs.rule.State.{ServerState}
+use Rattle.token_server.specs.rule.Server.{server_rule}
+use Rattle.cluster_core.specs.rule.World.{WorldState, first_world, has_file}
+use Rattle.cluster_core.specs.rule.Next.{is_known, has_actor, recorded, with_node, with_server, declared, restarted, silent, delivered as routed, taken}
+use Rattle.cluster_core.specs.rule.Runs.{Leads}
 use Rattle.cluster_core.proofs.common.Choices.{at_number}
 use Rattle.cluster_core.proofs.steps.KnownMessages.{sent_either}
 use Rattle.cluster_core.proofs.steps.NodeSteps.{IsTo, call_done, deliver_done, interrupt_done, retry_done}

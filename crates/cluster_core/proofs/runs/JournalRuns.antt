@@ -1,15 +1,15 @@
 -- Runs that grow by one entry.
 use Rattle.std.proofs.Common.{◌≡◌, ℕ, ◌+◌, ◌<◌, ◌≤◌, arith, refl, sym, ◌∙◌, ap, subst, List, [], ◌∷◌, ◌++◌, length, take, drop, get_or, Ok, Err}
 use Rattle.std.proofs.lemmas.List.{map-append, take_all, take-append-drop}
-use Rattle.messages.specs.Shapes.{ShapeFields, IsShape}
+use Rattle.messages.specs.rule.Shapes.{ShapeFields, IsShape}
 use Rattle.messages.specs.declared.refusal.Refused.{Refused}
 use Rattle.messages.specs.declared.event.Event.{Event}
 use Rattle.messages.specs.declared.entry.Entry.{Entry}
-use Rattle.cluster_core.specs.World.{WorldState, first_world, journal_limit}
-use Rattle.cluster_core.specs.Next.{next, kept_next}
-use Rattle.cluster_core.specs.Parts.{world_state}
-use Rattle.cluster_core.specs.Runs.{Leads}
-use Rattle.cluster_core.specs.Journals.{events_of, IsFirstRefusal, JournalFields, RunFields, LeadsToItsWorld, GoesOn}
+use Rattle.cluster_core.specs.rule.World.{WorldState, first_world, journal_limit}
+use Rattle.cluster_core.specs.rule.Next.{next, kept_next}
+use Rattle.cluster_core.specs.rule.Parts.{world_state}
+use Rattle.cluster_core.specs.rule.Runs.{Leads}
+use Rattle.cluster_core.specs.rule.Journals.{events_of, IsFirstRefusal, JournalFields, RunFields, LeadsToItsWorld, GoesOn}
 use Rattle.cluster_core.proofs.common.Lengths.{grows, leads-count}
 use Rattle.cluster_core.proofs.common.Places.{take_read, drop_read}
 use Rattle.cluster_core.proofs.steps.Steps.{next_step, kept_taken}

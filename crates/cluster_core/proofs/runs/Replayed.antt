@@ -1,13 +1,13 @@
 -- A run that is repeated, entry by entry.
 use Rattle.std.proofs.Common.{◌≡◌, ℕ, ◌+◌, ◌<◌, ◌≤◌, arith, sym, ◌∙◌, ap, subst, List, length, take, drop, get_or, Result, Ok, Err}
 use Rattle.std.proofs.lemmas.List.{take_all, length-take-le}
-use Rattle.messages.specs.Shapes.{ShapeFields}
+use Rattle.messages.specs.rule.Shapes.{ShapeFields}
 use Rattle.messages.specs.declared.refusal.Refused.{Refused}
 use Rattle.messages.specs.declared.event.Event.{Event}
 use Rattle.messages.specs.declared.entry.Entry.{Entry}
-use Rattle.cluster_core.specs.World.{WorldState, first_world, journal_limit}
-use Rattle.cluster_core.specs.Next.{next, kept_next}
-use Rattle.cluster_core.specs.Runs.{Leads, IsRun}
+use Rattle.cluster_core.specs.rule.World.{WorldState, first_world, journal_limit}
+use Rattle.cluster_core.specs.rule.Next.{next, kept_next}
+use Rattle.cluster_core.specs.rule.Runs.{Leads, IsRun}
 use Rattle.cluster_core.proofs.common.Lengths.{leads-count}
 use Rattle.cluster_core.proofs.common.Places.{drop_read}
 use Rattle.cluster_core.proofs.common.Refusals.{ok_is}

@@ -1,25 +1,25 @@
 -- Every run is safe and has a history and a plain one, each denial its evidence, and no call that waits is denied.
 use Rattle.std.proofs.Common.{◌≡◌, ℕ, refl, List, take, Ok}
-use Rattle.messages.specs.Shapes.{ShapeFields, IsShape}
+use Rattle.messages.specs.rule.Shapes.{ShapeFields, IsShape}
 use Rattle.messages.specs.declared.message.Message.TheVariants.{Conflict}
 use Rattle.messages.specs.declared.event.Event.{Event}
 use Rattle.messages.specs.declared.entry.Entry.{Entry}
-use Rattle.node_core.specs.State.{host}
-use Rattle.cluster_core.specs.World.{WorldState, first_world}
-use Rattle.cluster_core.specs.Next.{next}
-use Rattle.cluster_core.specs.Runs.{Leads}
-use Rattle.cluster_core.specs.Safe.{IsSafe}
-use Rattle.cluster_core.specs.Histories.{HasHistory, EachAtItsPlace, EveryRunHasAHistory}
-use Rattle.cluster_core.specs.Evidence.{EveryDenialHasEvidence, NoWaitIsDenied}
-use Rattle.cluster_core.specs.Placement.{slots_of, items_in, history_of}
-use Rattle.cluster_core.specs.Plain.{EveryRunHasAPlainHistory}
+use Rattle.node_core.specs.rule.State.{host}
+use Rattle.cluster_core.specs.rule.World.{WorldState, first_world}
+use Rattle.cluster_core.specs.rule.Next.{next}
+use Rattle.cluster_core.specs.rule.Runs.{Leads}
+use Rattle.cluster_core.specs.rule.Safe.{IsSafe}
+use Rattle.cluster_core.specs.rule.Histories.{HasHistory, EachAtItsPlace, EveryRunHasAHistory}
+use Rattle.cluster_core.specs.rule.Evidence.{EveryDenialHasEvidence, NoWaitIsDenied}
+use Rattle.cluster_core.specs.code.Placement.{slots_of, items_in, history_of}
+use Rattle.cluster_core.specs.rule.Plain.{EveryRunHasAPlainHistory}
 use Rattle.cluster_core.proofs.tokens.Covering.{Covered, first_covered}
 use Rattle.cluster_core.proofs.tokens.Served.{all_covered, next_covered}
 use Rattle.cluster_core.proofs.tokens.Unbarred.{safe_of}
 use Rattle.cluster_core.proofs.tokens.Present.{Present}
 use Rattle.cluster_core.proofs.tokens.Apart.{next_present, present_first, present_apart, numbers_tell, answers_counted, remembered_sent}
 use Rattle.cluster_core.proofs.tokens.Epochs.{EndsOf}
-use Rattle.cluster_core.specs.Numbers.{NoNumberIsUsedTwice}
+use Rattle.cluster_core.specs.rule.Numbers.{NoNumberIsUsedTwice}
 use Rattle.cluster_core.proofs.tokens.Heard.{IsHeard}
 use Rattle.cluster_core.proofs.history.Plain.{plain_slots}
 use Rattle.cluster_core.proofs.history.Pasts.{AllOwn, kept_after, safe_after, history_after, plain_after, evidence_after, no_wait_after}

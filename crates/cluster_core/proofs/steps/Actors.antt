@@ -2,7 +2,7 @@
 use Rattle.std.proofs.Common.{◌≡◌, ℕ, Bool, true, false, not, if◌then◌else◌, refl, sym, ◌∙◌, ap, eq-eqb, Option, Some, None, Result, Ok, Err}
 use Rattle.std.proofs.lemmas.Bool.{eqb-true}
 use Rattle.std.specs.Prelude.{◌==◌}
-use Rattle.messages.specs.Messages.{addressee}
+use Rattle.messages.specs.rule.Messages.{addressee}
 use Rattle.messages.specs.declared.actor.Actor.{Actor}
 use Rattle.messages.specs.declared.actor.Actor.TheVariants.{Node as ANode, Server as AServer}
 use Rattle.messages.specs.declared.message.Message.{Message}
@@ -14,18 +14,18 @@ use Rattle.messages.specs.declared.refusal.Refused.{Refused}
 use Rattle.messages.specs.declared.refusal.Refused.TheVariants.{Stranger, Fenced}
 use Rattle.node_core.specs.declared.event.NodeEvent.{NodeEvent}
 use Rattle.node_core.specs.declared.event.NodeEvent.TheVariants as node
-use Rattle.node_core.specs.State.{NodeState}
-use Rattle.node_core.specs.Commands.{is_node}
-use Rattle.node_core.specs.Node.{node_rule}
+use Rattle.node_core.specs.rule.State.{NodeState}
+use Rattle.node_core.specs.rule.Commands.{is_node}
+use Rattle.node_core.specs.rule.Node.{node_rule}
 use Rattle.token_server.specs.declared.event.ServerEvent.{ServerEvent}
 use Rattle.token_server.specs.declared.event.ServerEvent.TheVariants as server
-use Rattle.token_server.specs.State.{ServerState}
-use Rattle.token_server.specs.Server.{server_rule, is_server}
-use Rattle.cluster_core.specs.World.{WorldState, has_node, has_file}
-use Rattle.cluster_core.specs.Next.{is_known, is_stopped, is_fenced, after_node, after_server, delivered, taken, next, next_server, kept_next}
-use Rattle.cluster_core.specs.Parts.{IsStepOf, IsServerStepOf}
+use Rattle.token_server.specs.rule.State.{ServerState}
+use Rattle.token_server.specs.rule.Server.{server_rule, is_server}
+use Rattle.cluster_core.specs.rule.World.{WorldState, has_node, has_file}
+use Rattle.cluster_core.specs.rule.Next.{is_known, is_stopped, is_fenced, after_node, after_server, delivered, taken, next, next_server, kept_next}
+use Rattle.cluster_core.specs.rule.Parts.{IsStepOf, IsServerStepOf}
 use Rattle.cluster_core.proofs.steps.Steps.{next_taken, kept_taken, restart_step, start_step}
-use Rattle.cluster_core.specs.Actors.{node_event, server_event, node_at, server_at, node_step, server_step, made_by_node, made_by_server}
+use Rattle.cluster_core.specs.rule.Actors.{node_event, server_event, node_at, server_at, node_step, server_step, made_by_node, made_by_server}
 
 -- an event that is given by a test is that one
 one_event : {A : Type 0} (b : Bool) (x y : A) → ◌≡◌ {A = Option A} (if b then Some x else None) (Some y) → (b ≡ true) × (y ≡ x)

@@ -1,8 +1,8 @@
 -- A refusal of an actor's own step is a refusal of the world.
 use Rattle.std.specs.Prelude.{◌≢◌, Bool, true, false, cond, not, ◌&&◌, nat_le}
 use Rattle.std.proofs.Common.{◌≡◌, ℕ, refl, sym, ◌∙◌, ap, Result, Ok, Err}
-use Rattle.messages.specs.Refusals.{refused_by}
-use Rattle.messages.specs.Versions.{may_rebuild}
+use Rattle.messages.specs.rule.Refusals.{refused_by}
+use Rattle.messages.specs.rule.Versions.{may_rebuild}
 use Rattle.messages.specs.declared.event.Event.{Event}
 use Rattle.messages.specs.declared.event.Event.TheVariants.{Declare, FailServer}
 use Rattle.messages.specs.declared.entry.Entry.{Entry}
@@ -10,10 +10,10 @@ use Rattle.messages.specs.declared.outcome.Outcome.{Outcome}
 use Rattle.messages.specs.declared.refusal.Refused.{Refused}
 use Rattle.messages.specs.declared.refusal.Refused.TheVariants.{JournalFull, Stranger, NotAlive, Spent}
 use Rattle.messages.specs.declared.refusal.StepError.{StepError}
-use Rattle.node_core.specs.State.{NodeState}
-use Rattle.token_server.specs.State.{ServerState}
-use Rattle.cluster_core.specs.World.{WorldState, journal_limit, has_node, has_file}
-use Rattle.cluster_core.specs.Next.{after_node, after_server, kept_next}
+use Rattle.node_core.specs.rule.State.{NodeState}
+use Rattle.token_server.specs.rule.State.{ServerState}
+use Rattle.cluster_core.specs.rule.World.{WorldState, journal_limit, has_node, has_file}
+use Rattle.cluster_core.specs.rule.Next.{after_node, after_server, kept_next}
 
 pub err_is : {A E : Type 0} (a b : E) → ◌≡◌ {A = Result A E} (Err a) (Err b) → a ≡ b
 err_is a b e = cc

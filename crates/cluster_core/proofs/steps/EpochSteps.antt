@@ -4,25 +4,25 @@ use Rattle.std.proofs.Common.{◌≡◌, ℕ, ◌+◌, ◌<◌, ◌≤◌, Bool,
 use Rattle.std.specs.Option.{is_some}
 use Rattle.std.proofs.lemmas.Bool.Decides.{nat_tests}
 use Rattle.std.proofs.lemmas.List.{length-set}
-use Rattle.messages.specs.Messages.{is_within, sending}
+use Rattle.messages.specs.rule.Messages.{is_within, sending}
 use Rattle.messages.specs.declared.message.Message.{Message}
 use Rattle.messages.specs.declared.event.Event.TheVariants.{FailServer, StartServer}
 use Rattle.messages.specs.declared.outcome.Outcome.{Outcome}
 use Rattle.messages.specs.declared.entry.Entry.{Entry}
 use Rattle.messages.specs.declared.refusal.Refused.{Refused}
 use Rattle.messages.specs.declared.refusal.Refused.TheVariants.{Stranger, NotAlive, NotDead, TooManyRestarts}
-use Rattle.members.specs.Members.{MembersState, live_incarnation, declared_failed, with_declared, with_restarted}
-use Rattle.members.specs.Members as member
-use Rattle.members.specs.Parts.{MemberParts, MembersParts, alive_in, incarnation_in, incarnation_of, members_state}
+use Rattle.members.specs.rule.Members.{MembersState, live_incarnation, declared_failed, with_declared, with_restarted}
+use Rattle.members.specs.rule.Members as member
+use Rattle.members.specs.rule.Parts.{MemberParts, MembersParts, alive_in, incarnation_in, incarnation_of, members_state}
 use Rattle.members.proofs.Rules.{declaration, restart}
-use Rattle.node_core.specs.State.{NodeState}
-use Rattle.token_server.specs.Parts.{ServerParts, server_state}
-use Rattle.token_server.specs.State.{ServerState, first_server, rebuilt}
-use Rattle.token_server.specs.Resends.{outstanding}
-use Rattle.cluster_core.specs.World.{WorldState, journal_limit, most_incarnations, has_failed}
-use Rattle.cluster_core.specs.Next.{entry, recorded, silent, failed, started, next_server, fail_rule, start_rule}
-use Rattle.cluster_core.specs.Parts.{WorldParts, IsWorld, seated, listed, alive_at, works_at, world_state}
-use Rattle.cluster_core.specs.Changes.{IsStart}
+use Rattle.node_core.specs.rule.State.{NodeState}
+use Rattle.token_server.specs.rule.Parts.{ServerParts, server_state}
+use Rattle.token_server.specs.rule.State.{ServerState, first_server, rebuilt}
+use Rattle.token_server.specs.rule.Resends.{outstanding}
+use Rattle.cluster_core.specs.rule.World.{WorldState, journal_limit, most_incarnations, has_failed}
+use Rattle.cluster_core.specs.rule.Next.{entry, recorded, silent, failed, started, next_server, fail_rule, start_rule}
+use Rattle.cluster_core.specs.rule.Parts.{WorldParts, IsWorld, seated, listed, alive_at, works_at, world_state}
+use Rattle.cluster_core.specs.code.Changes.{IsStart}
 use Rattle.cluster_core.proofs.common.Choices.{at_number}
 use Rattle.cluster_core.proofs.common.Numbered.{within_is, put_at}
 

@@ -1,6 +1,6 @@
 -- A node that is declared and restarted, and a token server that fails and is rebuilt, step by step.
 use Rattle.std.proofs.Common.{◌≡◌, true, refl, List, [], ◌∷◌, Option, Some, None, Result, Ok, Err}
-use Rattle.intervals.specs.Search.{first}
+use Rattle.intervals.specs.rule.Search.{first}
 use Rattle.model.specs.declared.policy.Policy.TheVariants.{Wide}
 use Rattle.model.specs.declared.call.CallId.{CallId}
 use Rattle.model.specs.declared.op.Op.TheVariants.{Process}
@@ -8,19 +8,19 @@ use Rattle.model.specs.declared.op.ProcessCall.TheVariants.{Spawn}
 use Rattle.model.specs.declared.reply.Reply.{Reply}
 use Rattle.model.specs.declared.reply.Reply.TheVariants.{Done}
 use Rattle.messages.specs.declared.version.Version.TheVariants.{First, Second}
-use Rattle.messages.specs.Shapes.{ShapeFields}
+use Rattle.messages.specs.rule.Shapes.{ShapeFields}
 use Rattle.messages.specs.declared.refusal.Refused.{Refused}
 use Rattle.messages.specs.declared.refusal.Refused.TheVariants.{Stranger, NotAlive, NotDead, Fenced}
 use Rattle.messages.specs.declared.event.Event.TheVariants.{Call, Deliver, Resend, Declare, Restart, Learn, FailServer, StartServer}
 use Rattle.messages.specs.declared.entry.Entry.{Entry}
 use Rattle.messages.specs.declared.message.Message.{Message}
 use Rattle.messages.specs.declared.message.Message.TheVariants.{Hello, Report}
-use Rattle.messages.specs.Reports.{runs_of}
-use Rattle.messages.specs.Messages.{sending}
-use Rattle.token_set.specs.Tokens.{no_token}
-use Rattle.token_server.specs.State.{awaits}
-use Rattle.cluster_core.specs.World.{WorldState, first_world}
-use Rattle.cluster_core.specs.Next.{declared, restarted, failed, started, next_server, recorded, silent, next}
+use Rattle.messages.specs.rule.Reports.{runs_of}
+use Rattle.messages.specs.rule.Messages.{sending}
+use Rattle.token_set.specs.rule.Tokens.{no_token}
+use Rattle.token_server.specs.rule.State.{awaits}
+use Rattle.cluster_core.specs.rule.World.{WorldState, first_world}
+use Rattle.cluster_core.specs.rule.Next.{declared, restarted, failed, started, next_server, recorded, silent, next}
 
 abbrev one : ShapeFields
 one = record { version = Second; nodes = 1; files = 1; policy = Wide }

@@ -5,9 +5,9 @@ use Rattle.std.specs.Option.{is_some}
 use Rattle.std.proofs.lemmas.Bool.Decides.{nat_tests}
 use Rattle.std.proofs.lemmas.List.{length-set}
 use Rattle.std.proofs.lemmas.Option.{none-some}
-use Rattle.intervals.specs.Bytes.{IsRun, nothing}
+use Rattle.intervals.specs.rule.Bytes.{IsRun, nothing}
 use Rattle.model.specs.declared.owner.Owner.{Owner}
-use Rattle.messages.specs.Messages.{is_within, sending}
+use Rattle.messages.specs.rule.Messages.{is_within, sending}
 use Rattle.messages.specs.declared.message.Message.{Message}
 use Rattle.messages.specs.declared.event.Event.{Event}
 use Rattle.messages.specs.declared.event.Event.TheVariants.{Declare, Restart}
@@ -15,18 +15,18 @@ use Rattle.messages.specs.declared.outcome.Outcome.{Outcome}
 use Rattle.messages.specs.declared.entry.Entry.{Entry}
 use Rattle.messages.specs.declared.refusal.Refused.{Refused}
 use Rattle.messages.specs.declared.refusal.Refused.TheVariants.{Stranger, NotAlive, NotDead, TooManyRestarts}
-use Rattle.members.specs.Members.{MembersState, live_incarnation, declared_failed, with_declared, with_restarted}
-use Rattle.members.specs.Members as member
-use Rattle.members.specs.Parts.{MemberParts, MembersParts, alive_in, incarnation_in, incarnation_of, members_state}
+use Rattle.members.specs.rule.Members.{MembersState, live_incarnation, declared_failed, with_declared, with_restarted}
+use Rattle.members.specs.rule.Members as member
+use Rattle.members.specs.rule.Parts.{MemberParts, MembersParts, alive_in, incarnation_in, incarnation_of, members_state}
 use Rattle.members.proofs.Rules.{declaration, restart}
-use Rattle.node_core.specs.Parts.{NodeParts, node_state}
-use Rattle.node_core.specs.State.{NodeState, first_node}
+use Rattle.node_core.specs.rule.Parts.{NodeParts, node_state}
+use Rattle.node_core.specs.rule.State.{NodeState, first_node}
 use Rattle.cluster_core.specs.declared.token_run.TokenRun.{TokenRun}
-use Rattle.cluster_core.specs.Listings.{IsTokenOf}
-use Rattle.cluster_core.specs.World.{WorldState, journal_limit, most_incarnations, was_declared}
-use Rattle.cluster_core.specs.Next.{entry, declared, restarted, silent, declare_rule, restart_rule}
-use Rattle.cluster_core.specs.Parts.{WorldParts, IsWorld, seated, listed, alive_at, world_state}
-use Rattle.cluster_core.specs.Changes.{IsRestart}
+use Rattle.cluster_core.specs.rule.Listings.{IsTokenOf}
+use Rattle.cluster_core.specs.rule.World.{WorldState, journal_limit, most_incarnations, was_declared}
+use Rattle.cluster_core.specs.rule.Next.{entry, declared, restarted, silent, declare_rule, restart_rule}
+use Rattle.cluster_core.specs.rule.Parts.{WorldParts, IsWorld, seated, listed, alive_at, world_state}
+use Rattle.cluster_core.specs.code.Changes.{IsRestart}
 use Rattle.cluster_core.proofs.common.Choices.{at_number}
 use Rattle.cluster_core.proofs.common.Numbered.{within_is, put_at}
 

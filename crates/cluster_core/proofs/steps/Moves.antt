@@ -3,7 +3,7 @@ use Rattle.std.proofs.Common.{◌≡◌, ℕ, ◌+◌, ◌≤◌, Bool, true, �
 use Rattle.std.proofs.lemmas.Bool.{eqb-true}
 use Rattle.std.proofs.lemmas.Option.{same_Some}
 use Rattle.std.proofs.lemmas.List.Elements.{All-same, All-push, All-contains}
-use Rattle.intervals.specs.Bytes.{Range}
+use Rattle.intervals.specs.rule.Bytes.{Range}
 use Rattle.model.specs.declared.mode.Mode.{Mode}
 use Rattle.model.specs.declared.call.CallId.{CallId}
 use Rattle.model.specs.declared.host.Host.{Host}
@@ -11,27 +11,27 @@ use Rattle.model.specs.declared.lock_info.LockInfo.{LockInfo}
 use Rattle.model.specs.declared.op.Op.{Op}
 use Rattle.model.specs.declared.reply.Reply.{Reply}
 use Rattle.model.specs.declared.reply.Reply.TheVariants.{Interrupted}
-use Rattle.model.specs.Limits.{IsProcess}
-use Rattle.token_set.specs.Tokens.{raised}
-use Rattle.messages.specs.Wants.{Wants}
+use Rattle.model.specs.rule.Limits.{IsProcess}
+use Rattle.token_set.specs.rule.Tokens.{raised}
+use Rattle.messages.specs.rule.Wants.{Wants}
 use Rattle.messages.specs.declared.message.Message.{Message}
 use Rattle.messages.specs.declared.message.Message.TheVariants.{Request, Grant, Revoke, Taken, Released, Conflict, Deny, Freed, Hello, Report}
-use Rattle.messages.specs.Reports.{runs_of}
+use Rattle.messages.specs.rule.Reports.{runs_of}
 use Rattle.messages.specs.declared.event.Event.{Event}
 use Rattle.messages.specs.declared.event.Event.TheVariants.{Call, Deliver}
 use Rattle.messages.specs.declared.entry.Entry.{Entry}
 use Rattle.node_core.specs.declared.open_call.OpenCall.{OpenCall}
-use Rattle.node_core.specs.State.{NodeState, FileState, Effect, quiet, sent, host, answered, without_call, process, id_of, open_call_of, outcome}
-use Rattle.node_core.specs.Try.{refusal_of, tried, tried_if}
-use Rattle.node_core.specs.Calls.{is_in_shape, called, after_call}
-use Rattle.node_core.specs.Commands.{in_epoch, remembered, in_order, after_command, granted, revoked, denied, delivered}
-use Rattle.node_core.specs.Interrupts.{interrupted}
-use Rattle.cluster_core.specs.Histories.{IsRepliedAt}
-use Rattle.cluster_core.specs.Next.{entry}
+use Rattle.node_core.specs.rule.State.{NodeState, FileState, Effect, quiet, sent, host, answered, without_call, process, id_of, open_call_of, outcome}
+use Rattle.node_core.specs.rule.Try.{refusal_of, tried, tried_if}
+use Rattle.node_core.specs.rule.Calls.{is_in_shape, called, after_call}
+use Rattle.node_core.specs.rule.Commands.{in_epoch, remembered, in_order, after_command, granted, revoked, denied, delivered}
+use Rattle.node_core.specs.rule.Interrupts.{interrupted}
+use Rattle.cluster_core.specs.rule.Histories.{IsRepliedAt}
+use Rattle.cluster_core.specs.rule.Next.{entry}
 use Rattle.cluster_core.proofs.history.Entries.{not_there, IsNamed, Unanswered, unanswered-push, named-push}
 use Rattle.cluster_core.proofs.history.Fitting.{Called, called-keeps, called-last}
 use Rattle.cluster_core.proofs.steps.NodeSteps.{IsTo, answered_if_either, interrupted_either, in_order_either, told_either}
-use Rattle.model.specs.Anchors.{IsOwn}
+use Rattle.model.specs.rule.Anchors.{IsOwn}
 use Rattle.cluster_core.proofs.steps.Tries.{Continues, IsAnswered, IsSilent, Stays, IsIdle, same_continues, stays_closed, tried_ends, interrupted_ends, called_ends}
 use Rattle.cluster_core.proofs.history.Nodes.{IsOpen, Holds, Moves, IsNoDenial, still_goes_on, open-continues, opened, all_wait, others_wait, found_open, stay_same, stay_closed, stay_opened}
 

@@ -1,15 +1,15 @@
 -- A node's step keeps its number, and names a call by it.
 use Rattle.std.proofs.Common.{◌≡◌, ℕ, ◌+◌, inl, inr, refl, ap, subst, Option, Some, None, Ok}
 use Rattle.model.specs.declared.call.CallId.{CallId}
-use Rattle.token_set.specs.Tokens.{raised}
+use Rattle.token_set.specs.rule.Tokens.{raised}
 use Rattle.messages.specs.declared.message.Message.{Message}
 use Rattle.messages.specs.declared.message.Message.TheVariants.{Grant, Revoke, Taken, Deny, Hello}
 use Rattle.messages.specs.declared.outcome.Outcome.{Outcome}
 use Rattle.node_core.specs.declared.event.NodeEvent.{NodeEvent}
 use Rattle.node_core.specs.declared.event.NodeEvent.TheVariants.{Call, Deliver, Interrupt, Retry}
-use Rattle.node_core.specs.State.{NodeState, Effect, open_call, open_call_of}
-use Rattle.node_core.specs.Commands.{in_epoch, in_order, after_command, granted, revoked, delivered}
-use Rattle.node_core.specs.Node.{node_rule}
+use Rattle.node_core.specs.rule.State.{NodeState, Effect, open_call, open_call_of}
+use Rattle.node_core.specs.rule.Commands.{in_epoch, in_order, after_command, granted, revoked, delivered}
+use Rattle.node_core.specs.rule.Node.{node_rule}
 use Rattle.cluster_core.proofs.steps.NodeSteps.{call_done, deliver_done, interrupt_done, retry_done, remembered_state, in_order_either, told_either}
 use Rattle.cluster_core.proofs.steps.NodeTokens.{called_asks, tried_if_asks, denied_asks, interrupted_asks}
 

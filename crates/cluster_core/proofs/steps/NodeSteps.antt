@@ -5,22 +5,22 @@ use Rattle.std.proofs.lemmas.Bool.{and_parts, eqb-true, not-false}
 use Rattle.model.specs.declared.op.Op.{Op}
 use Rattle.model.specs.declared.reply.Reply.{Reply}
 use Rattle.model.specs.declared.reply.Reply.TheVariants.{Interrupted}
-use Rattle.model.specs.Table.{Table}
+use Rattle.model.specs.rule.Table.{Table}
 use Rattle.messages.specs.declared.message.Message.{Message}
 use Rattle.messages.specs.declared.message.Message.TheVariants.{Report}
-use Rattle.messages.specs.Reports.{runs_of}
+use Rattle.messages.specs.rule.Reports.{runs_of}
 use Rattle.messages.specs.declared.outcome.Outcome.{Outcome}
 use Rattle.messages.specs.declared.refusal.StepError.TheVariants.{Busy, Stranger, Spent}
-use Rattle.messages.specs.Messages.{addressee, host_of, file_of, is_within, greatest_number}
+use Rattle.messages.specs.rule.Messages.{addressee, host_of, file_of, is_within, greatest_number}
 use Rattle.model.specs.declared.op.LockCommand.{LockCommand}
 use Rattle.model.specs.declared.op.LockCommand.TheVariants as lock_command
 use Rattle.node_core.specs.declared.open_call.OpenCall.{OpenCall}
-use Rattle.node_core.specs.State.{NodeState, Effect, host, quiet, sent, answered, outcome, open_call_of}
-use Rattle.node_core.specs.Try.{settled, may_free, with_freed, with_freed_of, answered_if, tried_if}
-use Rattle.node_core.specs.Calls.{is_pid, is_in_shape, is_busy, shut_by, after_call, call_rule}
-use Rattle.node_core.specs.Commands.{remembered, told, in_order, delivered, is_node, deliver_rule}
-use Rattle.node_core.specs.Interrupts.{interruption_of, interrupted, interrupt_rule}
-use Rattle.node_core.specs.Retries.{retry_rule}
+use Rattle.node_core.specs.rule.State.{NodeState, Effect, host, quiet, sent, answered, outcome, open_call_of}
+use Rattle.node_core.specs.rule.Try.{settled, may_free, with_freed, with_freed_of, answered_if, tried_if}
+use Rattle.node_core.specs.rule.Calls.{is_pid, is_in_shape, is_busy, shut_by, after_call, call_rule}
+use Rattle.node_core.specs.rule.Commands.{remembered, told, in_order, delivered, is_node, deliver_rule}
+use Rattle.node_core.specs.rule.Interrupts.{interruption_of, interrupted, interrupt_rule}
+use Rattle.node_core.specs.rule.Retries.{retry_rule}
 use Rattle.cluster_core.proofs.common.Choices.{if_either, at_number}
 use Rattle.cluster_core.proofs.common.Refusals.{if_ok, unless_refused, if_ours}
 

@@ -4,7 +4,7 @@ use Rattle.std.specs.List.{filter_map, cons_option, list_any}
 use Rattle.std.proofs.Common.{◌≡◌, ℕ, ◌+◌, Bool, true, false, if◌then◌else◌, ◌||◌, ◌⊎◌, inl, inr, refl, sym, ◌∙◌, ap, subst, List, [], ◌∷◌, ◌++◌, All, Option, Some, None, Result, Ok, Err}
 use Rattle.std.proofs.lemmas.Bool.{or_cases, or_left, or_right, false≢true}
 use Rattle.std.proofs.lemmas.List.Elements.{All-nil, All-cons, All-head, All-tail}
-use Rattle.intervals.specs.Bytes.{Range}
+use Rattle.intervals.specs.rule.Bytes.{Range}
 use Rattle.model.specs.declared.call.CallId.{CallId}
 use Rattle.model.specs.declared.host.Host.{Host}
 use Rattle.model.specs.declared.lock_info.LockInfo.{LockInfo}
@@ -12,26 +12,26 @@ use Rattle.model.specs.declared.mode.Mode.{Mode}
 use Rattle.model.specs.declared.op.Op.{Op}
 use Rattle.model.specs.declared.op.Op.TheVariants as op
 use Rattle.model.specs.declared.reply.Reply.{Reply}
-use Rattle.model.specs.Locks.{lowest_blocker}
-use Rattle.model.specs.Descriptors.{is_of_file, has_open}
-use Rattle.model.specs.Table.{Table, LockTarget, around, descriptor, target, call_target, lock_within, after_close, after_exit}
-use Rattle.token_set.specs.Tokens.{Token, covers, raised}
-use Rattle.token_set.specs.Releases.{gave_up, after_giving_up}
+use Rattle.model.specs.rule.Locks.{lowest_blocker}
+use Rattle.model.specs.rule.Descriptors.{is_of_file, has_open}
+use Rattle.model.specs.rule.Table.{Table, LockTarget, around, descriptor, target, call_target, lock_within, after_close, after_exit}
+use Rattle.token_set.specs.rule.Tokens.{Token, covers, raised}
+use Rattle.token_set.specs.rule.Releases.{gave_up, after_giving_up}
 use Rattle.token_set.specs.declared.gave_up.GaveUp.{GaveUp}
 use Rattle.token_set.specs.declared.gave_up.GaveUp.TheVariants as gives
-use Rattle.messages.specs.Wants.{Wants}
+use Rattle.messages.specs.rule.Wants.{Wants}
 use Rattle.messages.specs.declared.message.Message.{Message}
 use Rattle.messages.specs.declared.message.Message.TheVariants.{Request, Grant, Revoke, Taken, Freed}
-use Rattle.messages.specs.Messages.{same_message, is_among, host_of}
+use Rattle.messages.specs.rule.Messages.{same_message, is_among, host_of}
 use Rattle.messages.proofs.SameMessages.{same_message-is-equality}
 use Rattle.model.specs.declared.op.LockCommand.{LockCommand}
 use Rattle.model.specs.declared.op.LockCommand.TheVariants as lock_command
 use Rattle.node_core.specs.declared.open_call.OpenCall.{OpenCall}
-use Rattle.node_core.specs.State.{FileState, NodeState, Effect, quiet, answered, without_call_of, host, open_call, process, target_of}
-use Rattle.node_core.specs.Try.{settled as after_settling, may_free, with_freed, locked_by, answered_here, refusal_of, answered_if, tried, tried_against, tried_if, requested}
-use Rattle.node_core.specs.Calls.{lock_call, unlock_call, called, shut_by}
-use Rattle.node_core.specs.Commands.{granted, revoked, answer_to, is_conflict, after_command, in_order, denied, remembered}
-use Rattle.node_core.specs.Interrupts.{interruption_of, interrupted}
+use Rattle.node_core.specs.rule.State.{FileState, NodeState, Effect, quiet, answered, without_call_of, host, open_call, process, target_of}
+use Rattle.node_core.specs.rule.Try.{settled as after_settling, may_free, with_freed, locked_by, answered_here, refusal_of, answered_if, tried, tried_against, tried_if, requested}
+use Rattle.node_core.specs.rule.Calls.{lock_call, unlock_call, called, shut_by}
+use Rattle.node_core.specs.rule.Commands.{granted, revoked, answer_to, is_conflict, after_command, in_order, denied, remembered}
+use Rattle.node_core.specs.rule.Interrupts.{interruption_of, interrupted}
 use Rattle.cluster_core.proofs.common.Choices.{if_either, at_number}
 use Rattle.cluster_core.proofs.steps.KnownMessages.{sent_either}
 use Rattle.cluster_core.proofs.steps.NodeSteps.{in_order_either, shut_keeps}

@@ -5,34 +5,34 @@ use Rattle.std.proofs.Common.{◌≡◌, ℕ, ◌+◌, ◌-◌, ◌≤◌, Bool,
 use Rattle.std.proofs.lemmas.Bool.{and_parts, both_ways, leb-true, ltb-true, eq-eqb, not-true}
 use Rattle.std.proofs.lemmas.Option.{none-some, same_Some}
 use Rattle.std.proofs.lemmas.List.Elements.{All-nil, All-cons, All-head, All-tail, All-append, All-weaker}
-use Rattle.intervals.specs.Bytes.{Range, largest_around}
-use Rattle.intervals.specs.Search.{first}
+use Rattle.intervals.specs.rule.Bytes.{Range, largest_around}
+use Rattle.intervals.specs.rule.Search.{first}
 use Rattle.intervals.proofs.SearchLaws.{first_is_first}
 use Rattle.model.specs.declared.call.CallId.{CallId}
 use Rattle.model.specs.declared.host.Host.{Host}
 use Rattle.model.specs.declared.lock_info.LockInfo.{LockInfo}
 use Rattle.model.specs.declared.mode.Mode.{Mode}
-use Rattle.model.specs.Owners.{host_of_call}
-use Rattle.token_set.specs.Tokens.{Token, raised}
-use Rattle.token_set.specs.Releases.{lowered}
-use Rattle.messages.specs.Wants.{Wants}
+use Rattle.model.specs.rule.Owners.{host_of_call}
+use Rattle.token_set.specs.rule.Tokens.{Token, raised}
+use Rattle.token_set.specs.rule.Releases.{lowered}
+use Rattle.messages.specs.rule.Wants.{Wants}
 use Rattle.messages.specs.declared.message.Blocking.TheVariants.{No}
 use Rattle.messages.specs.declared.message.Message.{Message}
 use Rattle.messages.specs.declared.message.Message.TheVariants.{Request, Grant, Revoke, Taken, Released, Conflict, Deny, Freed, Hello, Report}
 use Rattle.messages.specs.declared.token_run.TokenRun.{TokenRun}
-use Rattle.messages.specs.Reports.{reported}
+use Rattle.messages.specs.rule.Reports.{reported}
 use Rattle.messages.specs.declared.outcome.Outcome.{Outcome}
 use Rattle.messages.specs.declared.refusal.StepError.{StepError}
 use Rattle.messages.specs.declared.refusal.StepError.TheVariants.{Stranger, Spent}
-use Rattle.messages.specs.Messages.{addressee, host_of, is_within, greatest_number, same_blocking, sending}
+use Rattle.messages.specs.rule.Messages.{addressee, host_of, is_within, greatest_number, same_blocking, sending}
 use Rattle.token_queue.specs.declared.token_request.TokenRequest.{TokenRequest}
 use Rattle.token_server.specs.declared.event.ServerEvent.TheVariants.{Deliver, Resend, Learn}
-use Rattle.token_queue.specs.Requests.{is_of_call}
-use Rattle.known_nodes.specs.Rows.{Row, empty_row, row_above, row_conflicts, outstanding_of, is_grant, revoked_mode, asks_token}
-use Rattle.token_server.specs.State.{ServerState, begin, awaits, with_row, forgotten, requests, requeued}
-use Rattle.token_server.specs.Serve.{is_needed, narrowed, is_taken, conflicting_node, granted_span, commanded, granted_to, revoked_from, served, with_more, and_then, each_served, ready, serve}
-use Rattle.token_server.specs.Resends.{outstanding, sending_first}
-use Rattle.token_server.specs.Server.{Change, with_a_row, request_of, enqueued, asked, acknowledged, ended, put_off, postponed, denial, taken, released, in_conflict, heard, row_of_host, freed, delivered, is_server, change, then_serve, server_rule}
+use Rattle.token_queue.specs.rule.Requests.{is_of_call}
+use Rattle.known_nodes.specs.rule.Rows.{Row, empty_row, row_above, row_conflicts, outstanding_of, is_grant, revoked_mode, asks_token}
+use Rattle.token_server.specs.rule.State.{ServerState, begin, awaits, with_row, forgotten, requests, requeued}
+use Rattle.token_server.specs.rule.Serve.{is_needed, narrowed, is_taken, conflicting_node, granted_span, commanded, granted_to, revoked_from, served, with_more, and_then, each_served, ready, serve}
+use Rattle.token_server.specs.rule.Resends.{outstanding, sending_first}
+use Rattle.token_server.specs.rule.Server.{Change, with_a_row, request_of, enqueued, asked, acknowledged, ended, put_off, postponed, denial, taken, released, in_conflict, heard, row_of_host, freed, delivered, is_server, change, then_serve, server_rule}
 use Rattle.token_server.proofs.CareLaws.{find-each, find-passes, requests-parts, active-each, ready-each, requeued-each, freed-each, ended-each, postponed-each, forgotten-each, enqueued-each}
 use Rattle.cluster_core.proofs.common.Choices.{if_either}
 use Rattle.cluster_core.proofs.common.Refusals.{ok_is, if_ours}

@@ -3,7 +3,7 @@ use Rattle.std.specs.Prelude.{max, ◌==◌, nat_lt, if◌then◌else◌}
 use Rattle.std.proofs.Common.{◌≡◌, ℕ, ◌+◌, ◌≤◌, arith, Bool, true, false, refl, sym, ap, ◌∙◌, List, subst, [], ◌∷◌, ◌++◌, All, Contains, Option, Some, None, Result, Ok, Err}
 use Rattle.std.proofs.lemmas.Option.{none-some}
 use Rattle.std.proofs.lemmas.List.Elements.{All-nil, All-cons, All-push, Contains-push}
-use Rattle.intervals.specs.Bytes.{Range, whole, greatest}
+use Rattle.intervals.specs.rule.Bytes.{Range, whole, greatest}
 use Rattle.model.specs.declared.call.CallId.{CallId}
 use Rattle.model.specs.declared.host.Host.{Host}
 use Rattle.model.specs.declared.lock_info.LockInfo.{LockInfo}
@@ -11,27 +11,27 @@ use Rattle.model.specs.declared.mode.Mode.{Mode}
 use Rattle.model.specs.declared.op.Op.{Op}
 use Rattle.model.specs.declared.op.Op.TheVariants as op
 use Rattle.model.specs.declared.reply.Reply.{Reply}
-use Rattle.model.specs.Locks.{lowest_blocker, lowest_in_way}
-use Rattle.model.specs.Descriptors.{is_of_file, has_open}
-use Rattle.model.specs.Table.{Table, LockTarget, around, descriptor, target, call_target, lock_within, after_close, after_exit}
+use Rattle.model.specs.rule.Locks.{lowest_blocker, lowest_in_way}
+use Rattle.model.specs.rule.Descriptors.{is_of_file, has_open}
+use Rattle.model.specs.rule.Table.{Table, LockTarget, around, descriptor, target, call_target, lock_within, after_close, after_exit}
 use Rattle.model.specs.declared.policy.Policy.{Policy}
 use Rattle.model.specs.declared.policy.Policy.TheVariants.{Wide, Exact}
-use Rattle.token_set.specs.Tokens.{Token, holds_nothing, covers, desired, raised}
-use Rattle.token_set.specs.Releases.{given_up_span, answer_of}
-use Rattle.messages.specs.Wants.{Wants}
+use Rattle.token_set.specs.rule.Tokens.{Token, holds_nothing, covers, desired, raised}
+use Rattle.token_set.specs.rule.Releases.{given_up_span, answer_of}
+use Rattle.messages.specs.rule.Wants.{Wants}
 use Rattle.messages.specs.declared.message.Message.{Message}
 use Rattle.messages.specs.declared.message.Message.TheVariants.{Request, Grant, Revoke, Taken, Released, Conflict, Deny, Freed, Hello, Report}
 use Rattle.messages.specs.declared.token_run.TokenRun.{TokenRun}
-use Rattle.messages.specs.Epochs.{begin_of}
-use Rattle.messages.specs.Reports.{runs_of}
+use Rattle.messages.specs.rule.Epochs.{begin_of}
+use Rattle.messages.specs.rule.Reports.{runs_of}
 use Rattle.model.specs.declared.op.LockCommand.{LockCommand}
 use Rattle.model.specs.declared.op.LockCommand.TheVariants as lock_command
 use Rattle.node_core.specs.declared.open_call.OpenCall.{OpenCall}
-use Rattle.node_core.specs.State.{FileState, NodeState, Effect, quiet, with_file, without_call_of, host, process, id_of, target_of, open_call}
-use Rattle.node_core.specs.Try.{settled, blocking_of, requested, refusal_of, answered_if, may_free, with_freed, locked_by, answered_here, tried, tried_against, tried_if}
-use Rattle.node_core.specs.Calls.{lock_call, unlock_call, called, shut_by}
-use Rattle.node_core.specs.Commands.{renewed, in_epoch, remembered, in_order, after_command, granted, answer_to, revoked, denied, delivered}
-use Rattle.node_core.specs.Interrupts.{interruption_of, interrupted}
+use Rattle.node_core.specs.rule.State.{FileState, NodeState, Effect, quiet, with_file, without_call_of, host, process, id_of, target_of, open_call}
+use Rattle.node_core.specs.rule.Try.{settled, blocking_of, requested, refusal_of, answered_if, may_free, with_freed, locked_by, answered_here, tried, tried_against, tried_if}
+use Rattle.node_core.specs.rule.Calls.{lock_call, unlock_call, called, shut_by}
+use Rattle.node_core.specs.rule.Commands.{renewed, in_epoch, remembered, in_order, after_command, granted, answer_to, revoked, denied, delivered}
+use Rattle.node_core.specs.rule.Interrupts.{interruption_of, interrupted}
 use Rattle.cluster_core.proofs.common.Choices.{if_either}
 use Rattle.cluster_core.proofs.steps.NodeSteps.{in_order_either, told_either, shut_keeps}
 use Rattle.cluster_core.proofs.history.Nodes.{found_open}

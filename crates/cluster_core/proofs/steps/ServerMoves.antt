@@ -2,11 +2,11 @@
 use Rattle.std.specs.Prelude.{◌||◌, List, [], Option, Some, None}
 use Rattle.std.specs.List.{list_any}
 use Rattle.token_queue.specs.declared.token_request.TokenRequest.{TokenRequest}
-use Rattle.token_queue.specs.Requests.{is_of_call}
-use Rattle.known_nodes.specs.Rows.{Row}
-use Rattle.token_server.specs.State.{ServerState}
-use Rattle.token_server.specs.Serve.{ready}
-use Rattle.token_server.specs.Server.{request_of, enqueued_with, enqueued, freed}
+use Rattle.token_queue.specs.rule.Requests.{is_of_call}
+use Rattle.known_nodes.specs.rule.Rows.{Row}
+use Rattle.token_server.specs.rule.State.{ServerState}
+use Rattle.token_server.specs.rule.Serve.{ready}
+use Rattle.token_server.specs.rule.Server.{request_of, enqueued_with, enqueued, freed}
 use Rattle.cluster_core.proofs.common.Choices.{if_either}
 
 -- P holds of the server whatever requests it has

@@ -5,37 +5,37 @@ use Rattle.std.proofs.Common.{◌≡◌, ℕ, ◌+◌, ◌-◌, ◌<◌, ◌≤�
 use Rattle.std.proofs.lemmas.Bool.{both_ways, cases_Bool, cases_lt, and_parts, and_from, eqb-true, eq-eqb, ne_eqb, leb-true, leb-false, ltb-true, le-leb, lt-leb, not-true, not_from_false, false_from_ne_true}
 use Rattle.std.proofs.lemmas.Option.{same_Some, none-some}
 use Rattle.std.proofs.lemmas.List.Elements.{All-weaker}
-use Rattle.intervals.specs.Search.{first}
-use Rattle.intervals.specs.Bytes.{Range, is_in, NoneIn}
+use Rattle.intervals.specs.rule.Search.{first}
+use Rattle.intervals.specs.rule.Bytes.{Range, is_in, NoneIn}
 use Rattle.intervals.proofs.SearchLaws.{first_is_first}
 use Rattle.model.specs.declared.mode.Mode.{Mode}
 use Rattle.model.specs.declared.call.CallId.{CallId}
 use Rattle.model.specs.declared.host.Host.{Host}
 use Rattle.model.specs.declared.lock_info.LockInfo.{LockInfo}
-use Rattle.model.specs.Owners.{host_of_call}
-use Rattle.token_set.specs.Tokens.{Token}
-use Rattle.token_set.specs.Releases.{lowered}
+use Rattle.model.specs.rule.Owners.{host_of_call}
+use Rattle.token_set.specs.rule.Tokens.{Token}
+use Rattle.token_set.specs.rule.Releases.{lowered}
 use Rattle.token_set.proofs.SearchLaws.{some_passes-first, some_passes-none}
 use Rattle.messages.specs.declared.message.Message.{Message}
 use Rattle.messages.specs.declared.message.Message.TheVariants.{Request, Grant, Revoke, Taken, Released, Conflict, Deny, Freed, Hello, Report}
 use Rattle.messages.specs.declared.token_run.TokenRun.{TokenRun}
-use Rattle.messages.specs.Reports.{reported}
+use Rattle.messages.specs.rule.Reports.{reported}
 use Rattle.messages.specs.declared.refusal.StepError.{StepError}
 use Rattle.messages.specs.declared.message.Blocking.TheVariants.{No}
 use Rattle.messages.specs.declared.actor.Actor.TheVariants.{Server as AServer}
 use Rattle.messages.specs.declared.refusal.StepError.TheVariants.{Spent}
 use Rattle.messages.specs.declared.outcome.Outcome.{Outcome}
-use Rattle.messages.specs.Messages.{addressee, host_of, same_blocking, greatest_number, is_within, sending}
-use Rattle.messages.specs.Shapes.{ShapeFields}
-use Rattle.node_core.specs.State.{NodeState}
+use Rattle.messages.specs.rule.Messages.{addressee, host_of, same_blocking, greatest_number, is_within, sending}
+use Rattle.messages.specs.rule.Shapes.{ShapeFields}
+use Rattle.node_core.specs.rule.State.{NodeState}
 use Rattle.token_queue.specs.declared.token_request.TokenRequest.{TokenRequest}
 use Rattle.token_server.specs.declared.event.ServerEvent.TheVariants.{Deliver}
-use Rattle.token_queue.specs.Requests.{is_of_call, is_up_to}
-use Rattle.known_nodes.specs.Rows.{Row, empty_row, is_hello, is_awaited, row_above, row_conflicts, row_conflicts_at, is_grant, revoked_mode, row_of_incarnation, asks_token}
-use Rattle.token_server.specs.State.{ServerState, begin, awaits, with_row, forgotten, requests, requeued}
-use Rattle.token_server.specs.Serve.{is_taken, narrowed, granted_span, conflicting_node, commanded, granted_to, revoked_from, served, each_served, ready, serve}
-use Rattle.token_server.specs.Resends.{sending_first}
-use Rattle.token_server.specs.Server.{Change, with_a_row, request_of, enqueued, asked, acknowledged, ended, put_off, postponed, denial, row_of_host, taken, released, in_conflict, heard, freed, delivered, change, then_serve, server_rule}
+use Rattle.token_queue.specs.rule.Requests.{is_of_call, is_up_to}
+use Rattle.known_nodes.specs.rule.Rows.{Row, empty_row, is_hello, is_awaited, row_above, row_conflicts, row_conflicts_at, is_grant, revoked_mode, row_of_incarnation, asks_token}
+use Rattle.token_server.specs.rule.State.{ServerState, begin, awaits, with_row, forgotten, requests, requeued}
+use Rattle.token_server.specs.rule.Serve.{is_taken, narrowed, granted_span, conflicting_node, commanded, granted_to, revoked_from, served, each_served, ready, serve}
+use Rattle.token_server.specs.rule.Resends.{sending_first}
+use Rattle.token_server.specs.rule.Server.{Change, with_a_row, request_of, enqueued, asked, acknowledged, ended, put_off, postponed, denial, row_of_host, taken, released, in_conflict, heard, freed, delivered, change, then_serve, server_rule}
 use Rattle.token_server.proofs.CareLaws.{find-each, find-passes, active-each, ready-each, requeued-each, freed-each, ended-each, postponed-each, forgotten-each, forgotten-young, enqueued-each}
 use Rattle.known_nodes.proofs.MarkLaws.{row_free}
 use Rattle.token_server.proofs.GrantLaws.{conflicts_at, conflicts_at_byte}

@@ -1,16 +1,16 @@
 -- A server's step names no call and answers none.
 use Rattle.std.specs.Prelude.{IfSome, is_some, nat_le, nat_lt, option_map}
 use Rattle.std.proofs.Common.{◌≡◌, ℕ, ◌+◌, ◌-◌, ◌&&◌, not, refl, subst, List, [], ◌∷◌, ◌++◌, Option, Some, None, Result, Ok, Err}
-use Rattle.intervals.specs.Bytes.{Range}
+use Rattle.intervals.specs.rule.Bytes.{Range}
 use Rattle.model.specs.declared.call.CallId.{CallId}
 use Rattle.model.specs.declared.host.Host.{Host}
 use Rattle.model.specs.declared.lock_info.LockInfo.{LockInfo}
 use Rattle.model.specs.declared.mode.Mode.{Mode}
-use Rattle.model.specs.Owners.{host_of_call}
-use Rattle.token_set.specs.Tokens.{Token}
+use Rattle.model.specs.rule.Owners.{host_of_call}
+use Rattle.token_set.specs.rule.Tokens.{Token}
 use Rattle.messages.specs.declared.refusal.StepError.{StepError}
 use Rattle.messages.specs.declared.refusal.StepError.TheVariants.{Stranger, Spent}
-use Rattle.messages.specs.Messages.{addressee, host_of, greatest_number, is_within}
+use Rattle.messages.specs.rule.Messages.{addressee, host_of, greatest_number, is_within}
 use Rattle.messages.specs.declared.token_run.TokenRun.{TokenRun}
 use Rattle.messages.specs.declared.message.Message.{Message}
 use Rattle.messages.specs.declared.message.Message.TheVariants.{Request, Taken, Released, Conflict, Freed, Report}
@@ -18,11 +18,11 @@ use Rattle.messages.specs.declared.outcome.Outcome.{Outcome}
 use Rattle.token_queue.specs.declared.token_request.TokenRequest.{TokenRequest}
 use Rattle.token_server.specs.declared.event.ServerEvent.{ServerEvent}
 use Rattle.token_server.specs.declared.event.ServerEvent.TheVariants.{Deliver, Resend, Learn}
-use Rattle.known_nodes.specs.Rows.{Row, is_grant, revoked_mode, asks_token}
-use Rattle.token_server.specs.State.{ServerState, begin, awaits, with_row, forgotten, requeued}
-use Rattle.token_server.specs.Serve.{conflicting_node, commanded, granted_to, revoked_from, served, with_more, and_then, each_served, ready, serve}
-use Rattle.token_server.specs.Resends.{outstanding, sending_first}
-use Rattle.token_server.specs.Server.{Change, with_a_row, asked, taken, released, in_conflict, heard, row_of_host, freed, delivered, is_server, change, then_serve, server_rule}
+use Rattle.known_nodes.specs.rule.Rows.{Row, is_grant, revoked_mode, asks_token}
+use Rattle.token_server.specs.rule.State.{ServerState, begin, awaits, with_row, forgotten, requeued}
+use Rattle.token_server.specs.rule.Serve.{conflicting_node, commanded, granted_to, revoked_from, served, with_more, and_then, each_served, ready, serve}
+use Rattle.token_server.specs.rule.Resends.{outstanding, sending_first}
+use Rattle.token_server.specs.rule.Server.{Change, with_a_row, asked, taken, released, in_conflict, heard, row_of_host, freed, delivered, is_server, change, then_serve, server_rule}
 use Rattle.cluster_core.proofs.common.Choices.{if_either}
 use Rattle.cluster_core.proofs.common.Refusals.{ok_is, unless_refused}
 use Rattle.cluster_core.proofs.steps.ServerMoves.{enqueued-stays}

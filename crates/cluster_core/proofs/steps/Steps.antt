@@ -2,7 +2,7 @@
 use Rattle.std.proofs.Common.{◌≡◌, ℕ, ◌+◌, ◌<◌, ◌≤◌, if◌then◌else◌, arith, true, false, not, nat_le, nat_lt, refl, subst, Result, Ok, Err}
 use Rattle.std.proofs.lemmas.Bool.{not-false, leb-true, ltb-true}
 use Rattle.std.proofs.lemmas.Bool.Decides.{nat_tests}
-use Rattle.messages.specs.Messages.{addressee, sending}
+use Rattle.messages.specs.rule.Messages.{addressee, sending}
 use Rattle.messages.specs.declared.actor.Actor.{Actor}
 use Rattle.messages.specs.declared.actor.Actor.TheVariants.{Node as ANode, Server as AServer}
 use Rattle.messages.specs.declared.message.Message.{Message}
@@ -15,15 +15,15 @@ use Rattle.messages.specs.declared.refusal.Refused.TheVariants.{Stranger, Journa
 use Rattle.messages.specs.declared.refusal.StepError.{StepError}
 use Rattle.node_core.specs.declared.event.NodeEvent.{NodeEvent}
 use Rattle.node_core.specs.declared.event.NodeEvent.TheVariants as node
-use Rattle.node_core.specs.State.{NodeState}
-use Rattle.node_core.specs.Node.{node_rule}
+use Rattle.node_core.specs.rule.State.{NodeState}
+use Rattle.node_core.specs.rule.Node.{node_rule}
 use Rattle.token_server.specs.declared.event.ServerEvent.{ServerEvent}
 use Rattle.token_server.specs.declared.event.ServerEvent.TheVariants as server
-use Rattle.token_server.specs.State.{ServerState}
-use Rattle.token_server.specs.Resends.{outstanding}
-use Rattle.token_server.specs.Server.{server_rule}
-use Rattle.cluster_core.specs.World.{WorldState, journal_limit, most_incarnations}
-use Rattle.cluster_core.specs.Next.{is_known, is_fenced, recorded, named_incarnation, with_node, with_server, after_node, after_server, declared, restarted, silent, failed, started, next_server, delivered, taken, next, kept_next}
+use Rattle.token_server.specs.rule.State.{ServerState}
+use Rattle.token_server.specs.rule.Resends.{outstanding}
+use Rattle.token_server.specs.rule.Server.{server_rule}
+use Rattle.cluster_core.specs.rule.World.{WorldState, journal_limit, most_incarnations}
+use Rattle.cluster_core.specs.rule.Next.{is_known, is_fenced, recorded, named_incarnation, with_node, with_server, after_node, after_server, declared, restarted, silent, failed, started, next_server, delivered, taken, next, kept_next}
 use Rattle.cluster_core.proofs.common.Refusals.{ok_is, if_ok, unless_refused}
 
 -- a step that is not refused is of actors, processes and messages that the world knows

@@ -14,26 +14,26 @@ use Rattle.model.specs.declared.op.LockCommand.{LockCommand}
 use Rattle.model.specs.declared.op.LockCommand.TheVariants as lock_command
 use Rattle.model.specs.declared.reply.Reply.{Reply}
 use Rattle.model.specs.declared.reply.Reply.TheVariants.{Done, Again, NoLocks, Free, Blocked, Interrupted}
-use Rattle.model.specs.Limits.{IsNumber, most_processes}
-use Rattle.model.specs.Locks.{IsOfNode, IsFree, IsLowestBlocker, Blocks, lowest_blocker}
-use Rattle.model.specs.Anchors.{Hangs, IsOwn}
+use Rattle.model.specs.rule.Limits.{IsNumber, most_processes}
+use Rattle.model.specs.rule.Locks.{IsOfNode, IsFree, IsLowestBlocker, Blocks, lowest_blocker}
+use Rattle.model.specs.rule.Anchors.{Hangs, IsOwn}
 use Rattle.model.proofs.BlockerLaws.{lowest_is_lowest}
 use Rattle.model.proofs.Targets.{IsTarget}
 use Rattle.model.proofs.Hanging.{target_hangs}
 use Rattle.model.proofs.NodeTables.{GoesOn, same_goes_on, Follows, call_follows, unlock_follows, lock_processes, lock_own, target_own}
 use Rattle.model.proofs.Closings.{close_follows, exit_follows}
-use Rattle.model.specs.Descriptors.{Processes, is_of_file, has_open, after}
-use Rattle.model.specs.Table.{Table, LockTarget, around, descriptor, beside, target, need_of, call_target, lock_within, locked, regions_with, after_unlock, after_close, after_exit}
-use Rattle.model.specs.Step.{Step, SetStep, WaitStep, QueryStep, LockStep, Is, AfterTests, Unblocked}
-use Rattle.token_set.specs.Tokens.{Token, covers}
+use Rattle.model.specs.rule.Descriptors.{Processes, is_of_file, has_open, after}
+use Rattle.model.specs.rule.Table.{Table, LockTarget, around, descriptor, beside, target, need_of, call_target, lock_within, locked, regions_with, after_unlock, after_close, after_exit}
+use Rattle.model.specs.rule.Step.{Step, SetStep, WaitStep, QueryStep, LockStep, Is, AfterTests, Unblocked}
+use Rattle.token_set.specs.rule.Tokens.{Token, covers}
 use Rattle.messages.specs.declared.message.Message.TheVariants.{Freed}
 use Rattle.node_core.specs.declared.open_call.OpenCall.{OpenCall}
-use Rattle.node_core.specs.State.{NodeState, Effect, answered, without_call, without_call_of, with_file, host, process, id_of, target_of}
-use Rattle.node_core.specs.Try.{settled, requested, refusal_of, answered_if, may_free, with_freed, locked_by, answered_here, tried, tried_against}
-use Rattle.node_core.specs.Calls.{is_in_shape, is_busy, called, lock_call, unlock_call, shut_by}
+use Rattle.node_core.specs.rule.State.{NodeState, Effect, answered, without_call, without_call_of, with_file, host, process, id_of, target_of}
+use Rattle.node_core.specs.rule.Try.{settled, requested, refusal_of, answered_if, may_free, with_freed, locked_by, answered_here, tried, tried_against}
+use Rattle.node_core.specs.rule.Calls.{is_in_shape, is_busy, called, lock_call, unlock_call, shut_by}
 use Rattle.node_core.proofs.NodeLaws.{possible_call}
 use Rattle.node_core.proofs.AnchorLaws.{idle-others}
-use Rattle.cluster_core.specs.Evidence.{IsAbout}
+use Rattle.cluster_core.specs.rule.Evidence.{IsAbout}
 use Rattle.cluster_core.proofs.common.Choices.{at_number}
 use Rattle.cluster_core.proofs.common.Refusals.{ok_is}
 use Rattle.cluster_core.proofs.common.Lists.{All-both}

@@ -8,8 +8,8 @@ use Rattle.std.specs.declared.result.Result.{Result}
 use Rattle.std.specs.declared.result.Result.TheVariants.{Ok, Err}
 use Rattle.std.proofs.lemmas.List.{get_or_default, length-set}
 use Rattle.model.specs.declared.call.CallId.{CallId}
-use Rattle.messages.specs.Messages.{is_within}
-use Rattle.messages.specs.Entries.{NamesItsCall, NamesItsIncarnation}
+use Rattle.messages.specs.rule.Messages.{is_within}
+use Rattle.messages.specs.code.Entries.{NamesItsCall, NamesItsIncarnation}
 use Rattle.messages.specs.declared.message.Message.{Message}
 use Rattle.messages.specs.declared.event.Event.{Event}
 use Rattle.messages.specs.declared.event.Event.TheVariants.{Call, Deliver, Interrupt, Retry, Resend, Declare, Restart, Learn, FailServer, StartServer}
@@ -17,23 +17,23 @@ use Rattle.messages.specs.declared.outcome.Outcome.{Outcome}
 use Rattle.messages.specs.declared.entry.Entry.{Entry}
 use Rattle.messages.specs.declared.refusal.StepError.{StepError}
 use Rattle.node_core.specs.declared.event.NodeEvent.{NodeEvent}
-use Rattle.node_core.specs.Parts.{NodeParts, node_state}
+use Rattle.node_core.specs.rule.Parts.{NodeParts, node_state}
 use Rattle.node_core.specs.declared.change.Change.{Change as NodeChange}
-use Rattle.node_core.specs.Plans.{Fits, planned}
-use Rattle.node_core.specs.State.{NodeState, first_node}
-use Rattle.node_core.specs.Node.{node_rule}
-use Rattle.token_server.specs.Parts.{ServerParts, server_state}
+use Rattle.node_core.specs.code.Plans.{Fits, planned}
+use Rattle.node_core.specs.rule.State.{NodeState, first_node}
+use Rattle.node_core.specs.rule.Node.{node_rule}
+use Rattle.token_server.specs.rule.Parts.{ServerParts, server_state}
 use Rattle.token_server.specs.declared.event.ServerEvent.{ServerEvent}
 use Rattle.token_server.specs.declared.change.Change.{Change as ServerChange}
-use Rattle.token_server.specs.Edits.{Fits as ServerFits, planned as after_edit}
-use Rattle.token_server.specs.State.{ServerState, first_server}
-use Rattle.token_server.specs.Server.{server_rule}
-use Rattle.cluster_core.specs.World.{first_world, journal_limit}
-use Rattle.cluster_core.specs.Next.{with_node, with_server, recorded, entry, named_incarnation, after_node, after_server}
-use Rattle.cluster_core.specs.Parts.{WorldParts, IsWorld, IsRest, IsStepOf, IsServerStepOf, IsTakenByNode, numbered, seated, listed, alive_at, works_at, world_state}
+use Rattle.token_server.specs.code.Edits.{Fits as ServerFits, planned as after_edit}
+use Rattle.token_server.specs.rule.State.{ServerState, first_server}
+use Rattle.token_server.specs.rule.Server.{server_rule}
+use Rattle.cluster_core.specs.rule.World.{first_world, journal_limit}
+use Rattle.cluster_core.specs.rule.Next.{with_node, with_server, recorded, entry, named_incarnation, after_node, after_server}
+use Rattle.cluster_core.specs.rule.Parts.{WorldParts, IsWorld, IsRest, IsStepOf, IsServerStepOf, IsTakenByNode, numbered, seated, listed, alive_at, works_at, world_state}
 use Rattle.cluster_core.proofs.common.Choices.{at_number}
-use Rattle.members.specs.Members.{MembersState, first_members}
-use Rattle.members.specs.Parts.{incarnation_in, incarnation_of, members_state}
+use Rattle.members.specs.rule.Members.{MembersState, first_members}
+use Rattle.members.specs.rule.Parts.{incarnation_in, incarnation_of, members_state}
 use Rattle.cluster_core.proofs.common.Numbered.{within_is, put_at, read_number}
 use Rattle.cluster_core.proofs.steps.NodeNumbers.{NamesBy, node_rule-steps}
 use Rattle.cluster_core.proofs.steps.ServerSteps.{server_rule-sending, server_rule-epoch}

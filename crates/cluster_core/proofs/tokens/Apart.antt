@@ -7,15 +7,15 @@ use Rattle.std.proofs.lemmas.Option.{none-some}
 use Rattle.model.specs.declared.call.CallId.{CallId}
 use Rattle.model.specs.declared.host.Host.{Host}
 use Rattle.model.specs.declared.op.Op.{Op}
-use Rattle.token_set.specs.Tokens.{Token, no_token}
-use Rattle.messages.specs.Shapes.{ShapeFields}
-use Rattle.messages.specs.Epochs.{begin_of}
-use Rattle.messages.specs.Messages.{addressee, host_of, file_of, is_among, is_within, sending}
+use Rattle.token_set.specs.rule.Tokens.{Token, no_token}
+use Rattle.messages.specs.rule.Shapes.{ShapeFields}
+use Rattle.messages.specs.rule.Epochs.{begin_of}
+use Rattle.messages.specs.rule.Messages.{addressee, host_of, file_of, is_among, is_within, sending}
 use Rattle.messages.specs.declared.actor.Actor.{Actor}
 use Rattle.messages.specs.declared.actor.Actor.TheVariants.{Node as ANode, Server as AServer}
 use Rattle.messages.specs.declared.message.Message.{Message}
 use Rattle.messages.specs.declared.message.Message.TheVariants.{Grant, Revoke, Deny, Hello, Report}
-use Rattle.messages.specs.Reports.{runs_of}
+use Rattle.messages.specs.rule.Reports.{runs_of}
 use Rattle.messages.proofs.Reports.{Ends, tells_token}
 use Rattle.messages.specs.declared.event.Event.{Event}
 use Rattle.messages.specs.declared.event.Event.TheVariants.{Call, Deliver, Interrupt, Retry, Resend, Declare, Restart, Learn, FailServer, StartServer}
@@ -24,25 +24,25 @@ use Rattle.messages.specs.declared.outcome.Outcome.{Outcome}
 use Rattle.messages.specs.declared.refusal.StepError.{StepError}
 use Rattle.messages.specs.declared.refusal.StepError.TheVariants.{Stranger}
 use Rattle.node_core.specs.declared.event.NodeEvent.TheVariants as node
-use Rattle.node_core.specs.State.{FileState, NodeState, Effect, host, open_call, open_call_of, outcome, quiet, sent as sent_as}
+use Rattle.node_core.specs.rule.State.{FileState, NodeState, Effect, host, open_call, open_call_of, outcome, quiet, sent as sent_as}
 use Rattle.node_core.specs.declared.open_call.OpenCall.{OpenCall}
-use Rattle.node_core.specs.Try.{tried_if}
-use Rattle.node_core.specs.Calls.{after_call, called}
-use Rattle.node_core.specs.Commands.{renewed, in_epoch, done_in, told, delivered, deliver_rule}
-use Rattle.node_core.specs.Interrupts.{interrupted}
-use Rattle.node_core.specs.Node.{node_rule}
+use Rattle.node_core.specs.rule.Try.{tried_if}
+use Rattle.node_core.specs.rule.Calls.{after_call, called}
+use Rattle.node_core.specs.rule.Commands.{renewed, in_epoch, done_in, told, delivered, deliver_rule}
+use Rattle.node_core.specs.rule.Interrupts.{interrupted}
+use Rattle.node_core.specs.rule.Node.{node_rule}
 use Rattle.token_server.specs.declared.event.ServerEvent.TheVariants as server
 use Rattle.token_queue.specs.declared.token_request.TokenRequest.{TokenRequest}
-use Rattle.token_server.specs.State.{ServerState, begin, forgotten, requeued}
+use Rattle.token_server.specs.rule.State.{ServerState, begin, forgotten, requeued}
 use Rattle.token_server.proofs.CareLaws.{active-each}
-use Rattle.token_server.specs.Serve.{served, with_more, and_then, each_served, serve}
-use Rattle.known_nodes.specs.Rows.{outstanding_of}
-use Rattle.token_server.specs.Resends.{outstanding, sending_first}
-use Rattle.token_server.specs.Server.{server_rule}
-use Rattle.cluster_core.specs.World.{WorldState, first_world, is_alive, has_node, has_file, was_declared}
-use Rattle.cluster_core.specs.Next.{is_known, is_fenced, is_stopped, has_actor, recorded, with_node, with_server, declared, restarted, failed, delivered as routed, taken, next}
-use Rattle.cluster_core.specs.Safe.{Excludes, AreApart}
-use Rattle.cluster_core.specs.Numbers.{is_command, number_of, NumbersTellCommands}
+use Rattle.token_server.specs.rule.Serve.{served, with_more, and_then, each_served, serve}
+use Rattle.known_nodes.specs.rule.Rows.{outstanding_of}
+use Rattle.token_server.specs.rule.Resends.{outstanding, sending_first}
+use Rattle.token_server.specs.rule.Server.{server_rule}
+use Rattle.cluster_core.specs.rule.World.{WorldState, first_world, is_alive, has_node, has_file, was_declared}
+use Rattle.cluster_core.specs.rule.Next.{is_known, is_fenced, is_stopped, has_actor, recorded, with_node, with_server, declared, restarted, failed, delivered as routed, taken, next}
+use Rattle.cluster_core.specs.rule.Safe.{Excludes, AreApart}
+use Rattle.cluster_core.specs.rule.Numbers.{is_command, number_of, NumbersTellCommands}
 use Rattle.cluster_core.proofs.common.Choices.{at_number}
 use Rattle.cluster_core.proofs.common.Refusals.{ok_is, unless_refused}
 use Rattle.cluster_core.proofs.steps.KnownMessages.{sent_before, sent_now, sent_either}

@@ -3,17 +3,17 @@ use Rattle.std.specs.Prelude.{not, MatchOption}
 use Rattle.std.proofs.Common.{◌≡◌, ℕ, pred, ◌+◌, ◌-◌, ◌<◌, ◌≤◌, Bool, true, false, inl, inr, refl, sym, ◌∙◌, ap, subst, arith, Option, Some, None}
 use Rattle.std.proofs.lemmas.Bool.{both_ways, cases_Bool, cases_lt, not-true}
 use Rattle.std.proofs.lemmas.Option.{none-some}
-use Rattle.intervals.specs.Search.{first, first_answer, all_pass}
-use Rattle.intervals.specs.Bytes.{Range, greatest, NoneIn, largest_around}
+use Rattle.intervals.specs.rule.Search.{first, first_answer, all_pass}
+use Rattle.intervals.specs.rule.Bytes.{Range, greatest, NoneIn, largest_around}
 use Rattle.intervals.proofs.SearchLaws.{first_is_first}
 use Rattle.model.specs.declared.mode.Mode.{Mode}
 use Rattle.model.specs.declared.lock_info.LockInfo.{LockInfo}
 use Rattle.model.specs.declared.owner.Owner.{Owner}
-use Rattle.model.specs.Owners.{owner_at, most_owners}
-use Rattle.model.specs.Locks.{FileLocks, bars, region_at, IsRegion, IsOfNode, IsClear, IsLowestInWay, lowest_in_way}
+use Rattle.model.specs.rule.Owners.{owner_at, most_owners}
+use Rattle.model.specs.rule.Locks.{FileLocks, bars, region_at, IsRegion, IsOfNode, IsClear, IsLowestInWay, lowest_in_way}
 use Rattle.model.proofs.AnswerLaws.{Answers, first_answer_is}
 use Rattle.model.proofs.WayLaws.{lowest_in_way_is_lowest}
-use Rattle.token_set.specs.Releases.{is_in_way, given_up_span, answer_of, gave_up}
+use Rattle.token_set.specs.rule.Releases.{is_in_way, given_up_span, answer_of, gave_up}
 use Rattle.token_set.specs.declared.gave_up.GaveUp.TheVariants.{Released}
 use Rattle.token_set.proofs.SearchLaws.{some_passes-first, some_passes-from, all_pass-each}
 

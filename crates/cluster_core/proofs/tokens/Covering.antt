@@ -2,7 +2,7 @@
 use Rattle.std.proofs.Common.{◌≡◌, ℕ, ◌+◌, ◌≤◌, Bool, true, false, if◌then◌else◌, ◌&&◌, ◌||◌, ◌==◌, nat_le, nat_lt, inl, inr, refl, sym, subst, ◌++◌, [], ◌∷◌, Option, Some, None, Result, Ok, Err}
 use Rattle.std.proofs.lemmas.Bool.{and_parts, eqb-true, leb-true}
 use Rattle.std.proofs.lemmas.Option.{none-some, same_Some}
-use Rattle.intervals.specs.Bytes.{Range, put, is_in}
+use Rattle.intervals.specs.rule.Bytes.{Range, put, is_in}
 use Rattle.model.specs.declared.mode.Mode.{Mode}
 use Rattle.model.specs.declared.mode.Mode.TheVariants.{Read, Write}
 use Rattle.model.specs.declared.level.Level.{Level}
@@ -15,35 +15,35 @@ use Rattle.model.specs.declared.op.Op.{Op}
 use Rattle.model.specs.declared.op.Op.TheVariants as op
 use Rattle.model.specs.declared.reply.Reply.{Reply}
 use Rattle.model.specs.declared.reply.Reply.TheVariants.{Done, NoLocks}
-use Rattle.model.specs.Owners.{same_owner}
-use Rattle.model.specs.Locks.{FileLocks, Locks, IsOfNode, bars, with_lock, lowest_blocker}
-use Rattle.model.specs.Descriptors.{Processes, is_of_file, has_open, after}
-use Rattle.model.specs.Table.{Table, LockTarget, around, descriptor, beside, target, call_target, lock_within, locked, regions_with, after_close, after_exit}
+use Rattle.model.specs.rule.Owners.{same_owner}
+use Rattle.model.specs.rule.Locks.{FileLocks, Locks, IsOfNode, bars, with_lock, lowest_blocker}
+use Rattle.model.specs.rule.Descriptors.{Processes, is_of_file, has_open, after}
+use Rattle.model.specs.rule.Table.{Table, LockTarget, around, descriptor, beside, target, call_target, lock_within, locked, regions_with, after_close, after_exit}
 use Rattle.model.proofs.Closings.{AreFewer, fewer_after_close, fewer_after_exit}
-use Rattle.token_set.specs.Tokens.{Token, serves, covers, raised, raised_level}
-use Rattle.token_set.specs.Releases.{gave_up, after_giving_up}
+use Rattle.token_set.specs.rule.Tokens.{Token, serves, covers, raised, raised_level}
+use Rattle.token_set.specs.rule.Releases.{gave_up, after_giving_up}
 use Rattle.token_set.specs.declared.gave_up.GaveUp.{GaveUp}
 use Rattle.token_set.specs.declared.gave_up.GaveUp.TheVariants.{Released, Conflict}
 use Rattle.token_set.proofs.TokenLaws.{covers-each}
 use Rattle.token_set.proofs.ReleaseLaws.{lowering_keeps_locks}
-use Rattle.messages.specs.Shapes.{ShapeFields}
-use Rattle.messages.specs.Wants.{Wants}
+use Rattle.messages.specs.rule.Shapes.{ShapeFields}
+use Rattle.messages.specs.rule.Wants.{Wants}
 use Rattle.messages.specs.declared.message.Message.{Message}
 use Rattle.messages.specs.declared.message.Message.TheVariants.{Grant, Revoke, Taken, Deny, Hello}
-use Rattle.messages.specs.Epochs.{begin_of}
+use Rattle.messages.specs.rule.Epochs.{begin_of}
 use Rattle.messages.specs.declared.outcome.Outcome.{Outcome}
 use Rattle.node_core.specs.declared.event.NodeEvent.{NodeEvent}
 use Rattle.node_core.specs.declared.event.NodeEvent.TheVariants.{Call, Deliver, Interrupt, Retry}
 use Rattle.model.specs.declared.op.LockCommand.{LockCommand}
 use Rattle.model.specs.declared.op.LockCommand.TheVariants as lock_command
 use Rattle.node_core.specs.declared.open_call.OpenCall.{OpenCall}
-use Rattle.node_core.specs.State.{NodeState, FileState, Effect, first_node, process, host, open_call, open_call_of, without_call_of, target_of}
-use Rattle.node_core.specs.Try.{requested, refusal_of, answered_if, locked_by, answered_here, tried, tried_against, tried_if}
-use Rattle.node_core.specs.Calls.{called, after_call, lock_call, unlock_call, shut_by}
-use Rattle.node_core.specs.Commands.{renewed, in_epoch, in_order, after_command, granted, revoked, answer_to, is_conflict, denied, delivered}
-use Rattle.node_core.specs.Interrupts.{interruption_of, interrupted}
-use Rattle.node_core.specs.Node.{node_rule}
-use Rattle.cluster_core.specs.Safe.{Excludes}
+use Rattle.node_core.specs.rule.State.{NodeState, FileState, Effect, first_node, process, host, open_call, open_call_of, without_call_of, target_of}
+use Rattle.node_core.specs.rule.Try.{requested, refusal_of, answered_if, locked_by, answered_here, tried, tried_against, tried_if}
+use Rattle.node_core.specs.rule.Calls.{called, after_call, lock_call, unlock_call, shut_by}
+use Rattle.node_core.specs.rule.Commands.{renewed, in_epoch, in_order, after_command, granted, revoked, answer_to, is_conflict, denied, delivered}
+use Rattle.node_core.specs.rule.Interrupts.{interruption_of, interrupted}
+use Rattle.node_core.specs.rule.Node.{node_rule}
+use Rattle.cluster_core.specs.rule.Safe.{Excludes}
 use Rattle.cluster_core.proofs.common.Choices.{if_either, at_number}
 use Rattle.cluster_core.proofs.steps.NodeSteps.{call_done, deliver_done, interrupt_done, retry_done, remembered_state, in_order_either, told_either}
 use Rattle.cluster_core.proofs.steps.Tries.{locked_by_settles, shut_settles}

@@ -1,16 +1,16 @@
 -- No token of a node has a byte after the last of a file, whatever the node is granted and gives up.
 use Rattle.std.proofs.Common.{◌≡◌, ℕ, ◌≤◌, Bool, true, false, ◌==◌, if◌then◌else◌, nat_le, inl, inr, refl, sym, ap, subst, arith, Option, None}
 use Rattle.std.proofs.lemmas.Bool.{and_parts, eqb-true, leb-true}
-use Rattle.intervals.specs.Bytes.{Range, greatest, is_in}
+use Rattle.intervals.specs.rule.Bytes.{Range, greatest, is_in}
 use Rattle.model.specs.declared.mode.Mode.{Mode}
 use Rattle.model.specs.declared.mode.Mode.TheVariants.{Read, Write}
 use Rattle.model.specs.declared.level.Level.{Level}
-use Rattle.token_set.specs.Tokens.{Token, raised, raised_level}
-use Rattle.token_set.specs.Releases.{lowered, lowered_level}
+use Rattle.token_set.specs.rule.Tokens.{Token, raised, raised_level}
+use Rattle.token_set.specs.rule.Releases.{lowered, lowered_level}
 use Rattle.messages.specs.declared.message.Message.{Message}
 use Rattle.messages.specs.declared.message.Message.TheVariants.{Grant, Revoke, Released, Deny, Hello}
-use Rattle.node_core.specs.State.{FileState, NodeState, Effect, open_call}
-use Rattle.node_core.specs.Commands.{in_epoch, in_order, granted, revoked, delivered}
+use Rattle.node_core.specs.rule.State.{FileState, NodeState, Effect, open_call}
+use Rattle.node_core.specs.rule.Commands.{in_epoch, in_order, granted, revoked, delivered}
 use Rattle.cluster_core.proofs.common.Choices.{if_either, at_number}
 use Rattle.cluster_core.proofs.steps.NodeSteps.{IsTo, told_either}
 use Rattle.cluster_core.proofs.steps.NodeTokens.{Does, Receives, AsksFrom, denied_asks, grant_receives, revoke_receives}

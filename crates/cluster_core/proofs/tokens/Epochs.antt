@@ -2,11 +2,11 @@
 use Rattle.std.specs.Prelude.{nat_lt}
 use Rattle.std.proofs.Common.{◌≡◌, ℕ, zero, ◌+◌, ◌-◌, ◌*◌, ◌/◌, ◌<◌, ◌≤◌, if◌then◌else◌, arith, None}
 use Rattle.std.proofs.Math.Nat.{div-lt_iff_lt-mul}
-use Rattle.messages.specs.Epochs.{before_epoch, begin_of}
+use Rattle.messages.specs.rule.Epochs.{before_epoch, begin_of}
 use Rattle.messages.proofs.Reports.{Ends}
 use Rattle.cluster_core.proofs.common.Choices.{if_either, at_number}
-use Rattle.node_core.specs.State.{FileState, NodeState}
-use Rattle.node_core.specs.Commands.{renewed, in_epoch as entered}
+use Rattle.node_core.specs.rule.State.{FileState, NodeState}
+use Rattle.node_core.specs.rule.Commands.{renewed, in_epoch as entered}
 use Rattle.cluster_core.proofs.tokens.Talks.{in_epoch}
 
 -- the epoch of a number begins no later than the one that the number is below the end of

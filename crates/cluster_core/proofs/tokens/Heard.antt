@@ -4,10 +4,10 @@ use Rattle.model.specs.declared.call.CallId.{CallId}
 use Rattle.model.specs.declared.lock_info.LockInfo.{LockInfo}
 use Rattle.messages.specs.declared.message.Message.{Message}
 use Rattle.messages.specs.declared.message.Message.TheVariants.{Conflict}
-use Rattle.messages.specs.Messages.{is_among}
-use Rattle.node_core.specs.State.{host}
-use Rattle.cluster_core.specs.World.{WorldState, has_node}
-use Rattle.cluster_core.specs.Safe.{IsSafe}
+use Rattle.messages.specs.rule.Messages.{is_among}
+use Rattle.node_core.specs.rule.State.{host}
+use Rattle.cluster_core.specs.rule.World.{WorldState, has_node}
+use Rattle.cluster_core.specs.rule.Safe.{IsSafe}
 
 -- what holds of the tokens and the answers of a world: it is safe, the answers that nodes remember were sent, and no node sent a conflict with a number above that of its last command
 pub record IsHeard (w : WorldState) : Type 0 where

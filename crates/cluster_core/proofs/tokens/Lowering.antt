@@ -1,15 +1,15 @@
 -- Tokens that let a node lock no more than others do.
 use Rattle.std.proofs.Common.{◌≡◌, ℕ, true, refl, subst, Option, Some, None}
-use Rattle.intervals.specs.Bytes.{Range}
+use Rattle.intervals.specs.rule.Bytes.{Range}
 use Rattle.model.specs.declared.mode.Mode.{Mode}
 use Rattle.model.specs.declared.mode.Mode.TheVariants.{Read, Write}
 use Rattle.model.specs.declared.level.Level.{Level}
 use Rattle.model.specs.declared.level.Level.TheVariants.{Shared, Exclusive}
-use Rattle.token_set.specs.Tokens.{Token, raised, raised_level, level_conflicts}
-use Rattle.token_set.specs.Releases.{IsAtMost}
+use Rattle.token_set.specs.rule.Tokens.{Token, raised, raised_level, level_conflicts}
+use Rattle.token_set.specs.rule.Releases.{IsAtMost}
 use Rattle.token_set.proofs.TokenLaws.{raised-at, exclusive-conflicts}
 use Rattle.token_set.proofs.ReleaseLaws.{at_most-none, at_most-exclusive}
-use Rattle.cluster_core.specs.Safe.{Excludes}
+use Rattle.cluster_core.specs.rule.Safe.{Excludes}
 
 -- at no byte does the one token let its node lock more than the other
 abbrev pub IsWithin : Token → Token → Type 0

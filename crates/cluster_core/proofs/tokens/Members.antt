@@ -3,15 +3,15 @@ use Rattle.std.proofs.Common.{◌≡◌, ℕ, ◌+◌, ◌≤◌, true, false, �
 use Rattle.std.proofs.lemmas.Bool.{and_parts, and_from}
 use Rattle.std.proofs.lemmas.Option.{none-some}
 use Rattle.model.specs.declared.level.Level.TheVariants.{Exclusive}
-use Rattle.token_set.specs.Tokens.{Token, no_token}
-use Rattle.messages.specs.Messages.{host_of}
+use Rattle.token_set.specs.rule.Tokens.{Token, no_token}
+use Rattle.messages.specs.rule.Messages.{host_of}
 use Rattle.messages.specs.declared.message.Message.{Message}
 use Rattle.messages.specs.declared.event.Event.{Event}
-use Rattle.node_core.specs.State.{FileState, NodeState, first_file, first_node}
-use Rattle.known_nodes.specs.Rows.{Row}
-use Rattle.token_server.specs.State.{begin}
-use Rattle.cluster_core.specs.World.{WorldState, has_node}
-use Rattle.cluster_core.specs.Next.{declared, restarted, silent}
+use Rattle.node_core.specs.rule.State.{FileState, NodeState, first_file, first_node}
+use Rattle.known_nodes.specs.rule.Rows.{Row}
+use Rattle.token_server.specs.rule.State.{begin}
+use Rattle.cluster_core.specs.rule.World.{WorldState, has_node}
+use Rattle.cluster_core.specs.rule.Next.{declared, restarted, silent}
 use Rattle.cluster_core.proofs.common.Choices.{at_number}
 use Rattle.cluster_core.proofs.tokens.Talks.{Sent, command_host, answer_host, owing_nothing, Talk, MayHold}
 use Rattle.cluster_core.proofs.steps.ServerRows.{Serves}

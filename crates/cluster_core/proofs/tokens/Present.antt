@@ -2,21 +2,21 @@
 use Rattle.std.proofs.Common.{◌≡◌, ℕ, ◌+◌, ◌≤◌, true, false, if◌then◌else◌, ◌⊎◌, inl, inr, refl, sym, ◌∙◌, ap, subst, List, Option, Some, None}
 use Rattle.std.proofs.lemmas.Bool.{both_ways, cases_eq, false_from_ne_true}
 use Rattle.std.proofs.lemmas.List.Elements.{All-weaker}
-use Rattle.intervals.specs.Bytes.{Range, is_in}
+use Rattle.intervals.specs.rule.Bytes.{Range, is_in}
 use Rattle.model.specs.declared.level.Level.TheVariants.{Exclusive}
 use Rattle.model.specs.declared.mode.Mode.{Mode}
-use Rattle.token_set.specs.Tokens.{Token, raised, level_conflicts}
+use Rattle.token_set.specs.rule.Tokens.{Token, raised, level_conflicts}
 use Rattle.token_set.proofs.TokenLaws.{raised-at, raised_level-excludes, exclusive-conflicts}
-use Rattle.messages.specs.Shapes.{ShapeFields}
+use Rattle.messages.specs.rule.Shapes.{ShapeFields}
 use Rattle.model.specs.declared.host.Host.{Host}
-use Rattle.messages.specs.Messages.{host_of, is_among, is_within}
+use Rattle.messages.specs.rule.Messages.{host_of, is_among, is_within}
 use Rattle.messages.specs.declared.message.Message.{Message}
 use Rattle.messages.specs.declared.message.Message.TheVariants.{Grant}
-use Rattle.node_core.specs.State.{FileState, NodeState}
-use Rattle.known_nodes.specs.Rows.{Row, row_conflicts_at}
-use Rattle.token_server.specs.State.{ServerState, begin, with_row, requests}
-use Rattle.cluster_core.specs.World.{WorldState, is_alive}
-use Rattle.cluster_core.specs.Safe.{Excludes}
+use Rattle.node_core.specs.rule.State.{FileState, NodeState}
+use Rattle.known_nodes.specs.rule.Rows.{Row, row_conflicts_at}
+use Rattle.token_server.specs.rule.State.{ServerState, begin, with_row, requests}
+use Rattle.cluster_core.specs.rule.World.{WorldState, is_alive}
+use Rattle.cluster_core.specs.rule.Safe.{Excludes}
 use Rattle.cluster_core.proofs.common.Choices.{at_number}
 use Rattle.cluster_core.proofs.tokens.Talks.{Sent, IsCommandTo, same_command, promised, owing_nothing, Talk, MayHold, held}
 use Rattle.cluster_core.proofs.tokens.TalkMoves.{NoNews, talk-no_news, may_hold-no_news}

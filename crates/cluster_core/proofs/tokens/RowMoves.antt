@@ -4,14 +4,14 @@ use Rattle.std.proofs.Common.{◌≡◌, ℕ, ◌+◌, ◌<◌, ◌≤◌, true,
 use Rattle.std.proofs.lemmas.Bool.{cases_eq, both_ways, leb-true, leb-false}
 use Rattle.std.proofs.lemmas.Option.{same_Some, none-some}
 use Rattle.model.specs.declared.host.Host.{Host}
-use Rattle.token_set.specs.Tokens.{Token}
+use Rattle.token_set.specs.rule.Tokens.{Token}
 use Rattle.messages.specs.declared.token_run.TokenRun.{TokenRun}
 use Rattle.messages.specs.declared.message.Message.{Message}
 use Rattle.messages.specs.declared.message.Message.TheVariants.{Report}
-use Rattle.messages.specs.Messages.{host_of}
-use Rattle.messages.specs.Reports.{reported}
-use Rattle.node_core.specs.State.{FileState}
-use Rattle.known_nodes.specs.Rows.{Row, empty_row, row_above, is_hello}
+use Rattle.messages.specs.rule.Messages.{host_of}
+use Rattle.messages.specs.rule.Reports.{reported}
+use Rattle.node_core.specs.rule.State.{FileState}
+use Rattle.known_nodes.specs.rule.Rows.{Row, empty_row, row_above, is_hello}
 use Rattle.cluster_core.proofs.tokens.Talks.{Sent, IsHostOf, IsCommandTo, IsAnswerOf, same_command, promised, settled, in_epoch, IsCountedIn, IsIdle, States, IsKnown, InStep, IsLast, Talk, MayHold}
 use Rattle.cluster_core.proofs.tokens.TalkMoves.{named_kept, is_answer}
 

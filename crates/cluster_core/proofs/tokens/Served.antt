@@ -2,10 +2,10 @@
 use Rattle.std.proofs.Common.{◌≡◌, ℕ, ◌+◌, Ok, if◌then◌else◌}
 use Rattle.messages.specs.declared.event.Event.{Event}
 use Rattle.messages.specs.declared.entry.Entry.{Entry}
-use Rattle.node_core.specs.State.{first_node}
-use Rattle.cluster_core.specs.World.{WorldState}
-use Rattle.cluster_core.specs.Next.{next}
-use Rattle.cluster_core.specs.Safe.{AreCovered}
+use Rattle.node_core.specs.rule.State.{first_node}
+use Rattle.cluster_core.specs.rule.World.{WorldState}
+use Rattle.cluster_core.specs.rule.Next.{next}
+use Rattle.cluster_core.specs.rule.Safe.{AreCovered}
 use Rattle.cluster_core.proofs.common.Choices.{at_number}
 use Rattle.cluster_core.proofs.steps.Steps.{next_step}
 use Rattle.cluster_core.proofs.tokens.Covering.{Covered, OwnLocks, first_covered, node_rule_covered}

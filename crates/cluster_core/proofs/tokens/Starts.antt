@@ -6,16 +6,16 @@ use Rattle.std.proofs.lemmas.List.FromFn.{length-range_with_len, get_or-range_wi
 use Rattle.std.proofs.lemmas.Bool.{and_parts, or_right, leb-true}
 use Rattle.std.proofs.lemmas.Option.{none-some, same_Some}
 use Rattle.std.proofs.lemmas.List.Elements.{All-nil}
-use Rattle.token_set.specs.Tokens.{Token}
-use Rattle.messages.specs.Messages.{host_of, same_message, is_among, is_within, sending}
+use Rattle.token_set.specs.rule.Tokens.{Token}
+use Rattle.messages.specs.rule.Messages.{host_of, same_message, is_among, is_within, sending}
 use Rattle.messages.specs.declared.message.Message.{Message}
 use Rattle.messages.specs.declared.message.Message.TheVariants.{Hello}
 use Rattle.messages.specs.declared.event.Event.{Event}
-use Rattle.known_nodes.specs.Rows.{awaited_row, outstanding_of}
-use Rattle.token_server.specs.State.{ServerState, begin}
-use Rattle.token_server.specs.Resends.{outstanding}
-use Rattle.cluster_core.specs.World.{WorldState, has_node, is_alive}
-use Rattle.cluster_core.specs.Next.{recorded, failed, started, next_server}
+use Rattle.known_nodes.specs.rule.Rows.{awaited_row, outstanding_of}
+use Rattle.token_server.specs.rule.State.{ServerState, begin}
+use Rattle.token_server.specs.rule.Resends.{outstanding}
+use Rattle.cluster_core.specs.rule.World.{WorldState, has_node, is_alive}
+use Rattle.cluster_core.specs.rule.Next.{recorded, failed, started, next_server}
 use Rattle.cluster_core.proofs.common.Choices.{at_number}
 use Rattle.cluster_core.proofs.steps.KnownMessages.{sent_before, sent_now, sent_either}
 use Rattle.cluster_core.proofs.steps.NodeTokens.{Only, only_mapped, first_among}

@@ -4,17 +4,17 @@ use Rattle.std.proofs.Common.{◌≡◌, ℕ, ◌+◌, ◌<◌, ◌≤◌, Bool,
 use Rattle.std.proofs.lemmas.Bool.{ltb-true}
 use Rattle.std.proofs.lemmas.Option.{same_Some, none-some}
 use Rattle.model.specs.declared.host.Host.{Host}
-use Rattle.token_set.specs.Tokens.{Token}
+use Rattle.token_set.specs.rule.Tokens.{Token}
 use Rattle.messages.specs.declared.token_run.TokenRun.{TokenRun}
 use Rattle.messages.specs.declared.message.Message.{Message}
 use Rattle.messages.specs.declared.message.Message.TheVariants.{Grant, Report}
-use Rattle.messages.specs.Epochs.{begin_of}
-use Rattle.messages.specs.Messages.{host_of}
-use Rattle.messages.specs.Reports.{reported}
-use Rattle.node_core.specs.State.{FileState}
-use Rattle.node_core.specs.Commands.{renewed}
-use Rattle.known_nodes.specs.Rows.{Row, is_hello}
-use Rattle.cluster_core.specs.Numbers.{is_command}
+use Rattle.messages.specs.rule.Epochs.{begin_of}
+use Rattle.messages.specs.rule.Messages.{host_of}
+use Rattle.messages.specs.rule.Reports.{reported}
+use Rattle.node_core.specs.rule.State.{FileState}
+use Rattle.node_core.specs.rule.Commands.{renewed}
+use Rattle.known_nodes.specs.rule.Rows.{Row, is_hello}
+use Rattle.cluster_core.specs.rule.Numbers.{is_command}
 use Rattle.cluster_core.proofs.tokens.Lowering.{IsWithin}
 use Rattle.cluster_core.proofs.tokens.Talks.{Sent, IsHostOf, IsCommandTo, IsAnswerOf, same_answer_of, promised, settled, settled_within, in_epoch, States, IsKnown, InStep, IsLast, Talk, IsAhead, MayHold, on_the_way}
 

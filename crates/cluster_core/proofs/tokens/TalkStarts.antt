@@ -3,13 +3,13 @@ use Rattle.std.specs.Prelude.{max, ◌-◌}
 use Rattle.std.proofs.Common.{◌≡◌, ℕ, ◌+◌, ◌<◌, ◌≤◌, Bool, true, false, if◌then◌else◌, ◌⊎◌, inl, inr, refl, sym, ◌∙◌, ap, subst, arith, Option, Some, None}
 use Rattle.std.proofs.lemmas.Bool.{cases_eq, cases_lt, both_ways}
 use Rattle.std.proofs.lemmas.Option.{same_Some, none-some}
-use Rattle.token_set.specs.Tokens.{Token, no_token}
+use Rattle.token_set.specs.rule.Tokens.{Token, no_token}
 use Rattle.messages.specs.declared.message.Message.{Message}
 use Rattle.messages.specs.declared.message.Message.TheVariants.{Hello}
-use Rattle.messages.specs.Messages.{host_of}
-use Rattle.node_core.specs.State.{FileState}
-use Rattle.known_nodes.specs.Rows.{Row, awaited_row}
-use Rattle.cluster_core.specs.Numbers.{is_command}
+use Rattle.messages.specs.rule.Messages.{host_of}
+use Rattle.node_core.specs.rule.State.{FileState}
+use Rattle.known_nodes.specs.rule.Rows.{Row, awaited_row}
+use Rattle.cluster_core.specs.rule.Numbers.{is_command}
 use Rattle.cluster_core.proofs.tokens.Talks.{Sent, IsHostOf, IsCommandTo, IsAnswerOf, same_command, command_host, promised, in_epoch, IsCountedIn, InStep, Talk, MayHold, on_the_way}
 
 -- the server is rebuilt in the next epoch: it sent the live incarnation a Hello, or knows it to be dead

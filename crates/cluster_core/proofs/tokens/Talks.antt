@@ -5,16 +5,16 @@ use Rattle.std.proofs.lemmas.Bool.{both_ways}
 use Rattle.std.proofs.lemmas.Option.{same_Some}
 use Rattle.model.specs.declared.mode.Mode.{Mode}
 use Rattle.model.specs.declared.host.Host.{Host}
-use Rattle.token_set.specs.Tokens.{Token, no_token, raised, level_conflicts}
-use Rattle.token_set.specs.Releases.{lowered}
+use Rattle.token_set.specs.rule.Tokens.{Token, no_token, raised, level_conflicts}
+use Rattle.token_set.specs.rule.Releases.{lowered}
 use Rattle.token_set.proofs.ReleaseLaws.{lowering_lowers}
-use Rattle.messages.specs.Messages.{host_of}
+use Rattle.messages.specs.rule.Messages.{host_of}
 use Rattle.messages.specs.declared.message.Message.{Message}
 use Rattle.messages.specs.declared.message.Message.TheVariants.{Grant, Revoke, Taken, Released, Conflict, Hello, Report}
-use Rattle.messages.specs.Reports.{reported}
-use Rattle.node_core.specs.State.{FileState}
-use Rattle.known_nodes.specs.Rows.{Row, is_hello, is_awaited, row_conflicts_at}
-use Rattle.cluster_core.specs.Numbers.{is_command}
+use Rattle.messages.specs.rule.Reports.{reported}
+use Rattle.node_core.specs.rule.State.{FileState}
+use Rattle.known_nodes.specs.rule.Rows.{Row, is_hello, is_awaited, row_conflicts_at}
+use Rattle.cluster_core.specs.rule.Numbers.{is_command}
 use Rattle.cluster_core.proofs.tokens.Lowering.{IsWithin, within_itself, within_same, within_raised, within_conflicts}
 
 -- the set of messages that were sent

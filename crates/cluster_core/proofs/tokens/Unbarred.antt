@@ -2,9 +2,9 @@
 use Rattle.std.proofs.Common.{◌≡◌, ℕ, true, sym, ◌∙◌, subst, Some}
 use Rattle.model.specs.declared.op.Op.{Op}
 use Rattle.model.specs.declared.reply.Reply.{Reply}
-use Rattle.node_core.specs.State.{NodeState, process}
-use Rattle.cluster_core.specs.World.{WorldState, has_node}
-use Rattle.cluster_core.specs.Safe.{Excludes, AreApart, AreCovered, IsSafe}
+use Rattle.node_core.specs.rule.State.{NodeState, process}
+use Rattle.cluster_core.specs.rule.World.{WorldState, has_node}
+use Rattle.cluster_core.specs.rule.Safe.{Excludes, AreApart, AreCovered, IsSafe}
 use Rattle.cluster_core.proofs.tokens.Covering.{IsCovered, unbarred_byte, unbarred_apart}
 use Rattle.cluster_core.proofs.steps.Tries.{IsServed}
 use Rattle.cluster_core.proofs.history.Lifting.{IsFreeElsewhere}

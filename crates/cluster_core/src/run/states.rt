@@ -1,16 +1,16 @@
 //! The length of a run, and its restarts of nodes and starts of servers, which hand out the new state.
 ghost use Rattle.std.specs.Prelude.{◌≡◌, ◌≢◌, ◌≤◌, Ok, Err, IfOk, IfErr, OnOk, OnErr, length};
 ghost use Rattle.messages.specs.declared.event.Event.TheVariants.{Restart, StartServer};
-ghost use Rattle.messages.specs.Messages.{sending};
+ghost use Rattle.messages.specs.rule.Messages.{sending};
 ghost use Rattle.messages.specs.declared.refusal.Refused.{Refused};
 ghost use Rattle.messages.specs.declared.refusal.Refused.TheVariants.{NoMemory};
-ghost use Rattle.node_core.specs.Parts.{node_state};
-ghost use Rattle.token_server.specs.Parts.{server_state};
-ghost use Rattle.token_server.specs.Resends.{outstanding};
-ghost use Rattle.cluster_core.specs.World.{journal_limit};
-ghost use Rattle.cluster_core.specs.Next.{kept_next, next_server};
-ghost use Rattle.cluster_core.specs.Parts.{world_state};
-ghost use Rattle.cluster_core.specs.Journals.{GoesOn};
+ghost use Rattle.node_core.specs.rule.Parts.{node_state};
+ghost use Rattle.token_server.specs.rule.Parts.{server_state};
+ghost use Rattle.token_server.specs.rule.Resends.{outstanding};
+ghost use Rattle.cluster_core.specs.rule.World.{journal_limit};
+ghost use Rattle.cluster_core.specs.rule.Next.{kept_next, next_server};
+ghost use Rattle.cluster_core.specs.rule.Parts.{world_state};
+ghost use Rattle.cluster_core.specs.rule.Journals.{GoesOn};
 
 use super::Run;
 use messages::event::Event;

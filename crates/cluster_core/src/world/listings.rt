@@ -1,12 +1,12 @@
 //! The tokens and the locks of a cluster as lists. A function here that gives a `Result` answers `AllocError` where a
 //! request for memory was refused.
 ghost use Rattle.std.specs.Prelude.{◌≡◌, ◌++◌, true, IfOk, OnOk, map};
-ghost use Rattle.messages.specs.Messages.{is_within};
-ghost use Rattle.lock_table.specs.Listing.{IsListing};
-ghost use Rattle.node_core.specs.Parts.{node_state};
-ghost use Rattle.cluster_core.specs.Parts.{world_state};
-ghost use Rattle.cluster_core.specs.Union.{union};
-ghost use Rattle.cluster_core.specs.Listings.{Adds, IsTokenListing, IsTokenOf, IsTokenOfFile, IsTokenBefore, IsLockListing, token_run, held_lock};
+ghost use Rattle.messages.specs.rule.Messages.{is_within};
+ghost use Rattle.lock_table.specs.code.Listing.{IsListing};
+ghost use Rattle.node_core.specs.rule.Parts.{node_state};
+ghost use Rattle.cluster_core.specs.rule.Parts.{world_state};
+ghost use Rattle.cluster_core.specs.rule.Union.{union};
+ghost use Rattle.cluster_core.specs.rule.Listings.{Adds, IsTokenListing, IsTokenOf, IsTokenOfFile, IsTokenBefore, IsLockListing, token_run, held_lock};
 
 use super::World;
 use crate::held_lock::HeldLock;

@@ -3,11 +3,11 @@ ghost use Rattle.std.specs.Prelude.{◌≡◌, ◌≢◌, ◌<◌, true, Ok, Err
 ghost use Rattle.messages.specs.declared.refusal.Refused.{Refused};
 ghost use Rattle.messages.specs.declared.refusal.Refused.TheVariants.{NoMemory};
 ghost use Rattle.messages.specs.declared.event.Event.TheVariants as event;
-ghost use Rattle.messages.specs.Messages.{is_within};
-ghost use Rattle.cluster_core.specs.World.{journal_limit};
-ghost use Rattle.cluster_core.specs.Next.{fail_rule, start_rule};
-ghost use Rattle.cluster_core.specs.Parts.{world_state};
-ghost use Rattle.cluster_core.specs.Changes.{IsStart, Makes};
+ghost use Rattle.messages.specs.rule.Messages.{is_within};
+ghost use Rattle.cluster_core.specs.rule.World.{journal_limit};
+ghost use Rattle.cluster_core.specs.rule.Next.{fail_rule, start_rule};
+ghost use Rattle.cluster_core.specs.rule.Parts.{world_state};
+ghost use Rattle.cluster_core.specs.code.Changes.{IsStart, Makes};
 
 use super::World;
 use super::change::Change;

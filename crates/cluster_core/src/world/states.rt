@@ -4,14 +4,14 @@ ghost use Rattle.messages.specs.declared.event.Event.TheVariants.{Restart, Start
 ghost use Rattle.messages.specs.declared.entry.Entry.{Entry};
 ghost use Rattle.messages.specs.declared.refusal.Refused.{Refused};
 ghost use Rattle.messages.specs.declared.refusal.Refused.TheVariants.{NoMemory};
-ghost use Rattle.messages.specs.Messages.{is_within};
-ghost use Rattle.node_core.specs.Parts.{node_state};
-ghost use Rattle.token_server.specs.Parts.{server_state};
-ghost use Rattle.token_server.specs.Resends.{outstanding};
-ghost use Rattle.cluster_core.specs.World.{WorldState, has_node, has_file, was_declared, has_failed};
-ghost use Rattle.cluster_core.specs.Next.{is_known, next_server, restart_rule, kept_next};
-ghost use Rattle.cluster_core.specs.Parts.{world_state};
-ghost use Rattle.cluster_core.specs.Actors.{HasNode, HasServer};
+ghost use Rattle.messages.specs.rule.Messages.{is_within};
+ghost use Rattle.node_core.specs.rule.Parts.{node_state};
+ghost use Rattle.token_server.specs.rule.Parts.{server_state};
+ghost use Rattle.token_server.specs.rule.Resends.{outstanding};
+ghost use Rattle.cluster_core.specs.rule.World.{WorldState, has_node, has_file, was_declared, has_failed};
+ghost use Rattle.cluster_core.specs.rule.Next.{is_known, next_server, restart_rule, kept_next};
+ghost use Rattle.cluster_core.specs.rule.Parts.{world_state};
+ghost use Rattle.cluster_core.specs.rule.Actors.{HasNode, HasServer};
 
 use super::{JOURNAL_LIMIT, World, is_number};
 use messages::entry::Entry;

@@ -1,9 +1,9 @@
 //! Closes of descriptors, exits of processes, and failures of hosts, on the whole table.
 ghost use Rattle.std.specs.Prelude.{◌≡◌, true};
-ghost use Rattle.model.specs.Limits.{IsNumber, most_processes};
-ghost use Rattle.model.specs.Table.{is_running, descriptor, closed_if, exited, exited_if, gone};
-ghost use Rattle.fcntl_table.specs.Hosts.{process_at};
-ghost use Rattle.fcntl_table.specs.Tables.{table_of};
+ghost use Rattle.model.specs.rule.Limits.{IsNumber, most_processes};
+ghost use Rattle.model.specs.rule.Table.{is_running, descriptor, closed_if, exited, exited_if, gone};
+ghost use Rattle.fcntl_table.specs.rule.Hosts.{process_at};
+ghost use Rattle.fcntl_table.specs.rule.Tables.{table_of};
 
 use super::{FcntlTable, host_of};
 use model::host::Host;
@@ -23,7 +23,7 @@ impl FcntlTable {
     }
 
     // Removes the entry of the host, if no process of it runs.
-    #[tactic(auto, unfolding(crate::specs::Tables::table_of))]
+    #[tactic(auto, unfolding(crate::specs::rule::Tables::table_of))]
     fn forget_idle(&mut self, host: Host)
         ensures { table_of self.new ≡ table_of self.old }
     {
@@ -40,7 +40,7 @@ impl FcntlTable {
     }
 
     // Lets the process exit, if it runs.
-    #[tactic(auto, unfolding(crate::specs::Tables::table_of))]
+    #[tactic(auto, unfolding(crate::specs::rule::Tables::table_of))]
     fn exit_if(&mut self, host: Host, pid: u16)
         requires { IsNumber most_processes pid }
         ensures { table_of self.new ≡ exited_if (table_of self.old) (process_at host pid) }
@@ -67,7 +67,7 @@ impl FcntlTable {
     }
 
     // Lets the process of the host exit.
-    #[tactic(auto, unfolding(crate::specs::Tables::table_of))]
+    #[tactic(auto, unfolding(crate::specs::rule::Tables::table_of))]
     fn exit_on(&mut self, host: Host, pid: u16)
         requires number { IsNumber most_processes pid }
         requires runs { is_running (table_of self.old) (process_at host pid) ≡ true }
@@ -77,7 +77,7 @@ impl FcntlTable {
     }
 
     // Closes the descriptor of the host's process, if it is open.
-    #[tactic(auto, unfolding(crate::specs::Tables::table_of))]
+    #[tactic(auto, unfolding(crate::specs::rule::Tables::table_of))]
     fn close_if(&mut self, host: Host, pid: u16, fd: u8)
         requires number { IsNumber most_processes pid }
         requires runs { is_running (table_of self.old) (process_at host pid) ≡ true }

@@ -1,14 +1,14 @@
 //! How a node takes a call of one of its processes, and how it retries one.
 ghost use Rattle.std.specs.Prelude.{◌≡◌, ◌≢◌, ◌+◌, ◌≤◌, ◌<◌, ◌↔◌, true, [], Ok, Err, IfOk, IfErr, IsTrue};
-ghost use Rattle.model.specs.Limits.{IsNumber, most_processes};
-ghost use Rattle.model.specs.Table.{target};
-ghost use Rattle.messages.specs.Messages.{greatest_number};
-ghost use Rattle.node_core.specs.State.{host, process, open_call_of};
-ghost use Rattle.node_core.specs.Try.{settled};
-ghost use Rattle.node_core.specs.Calls.{is_in_shape, is_exit, is_busy, lock_call, unlock_call, called, call_rule};
-ghost use Rattle.node_core.specs.Retries.{retry_rule};
-ghost use Rattle.node_core.specs.Parts.{node_state, asked, IsOwn, IsSpan};
-ghost use Rattle.node_core.specs.Plans.{numbered, table_after, planned, effect_of, TableFits, PartsFit};
+ghost use Rattle.model.specs.rule.Limits.{IsNumber, most_processes};
+ghost use Rattle.model.specs.rule.Table.{target};
+ghost use Rattle.messages.specs.rule.Messages.{greatest_number};
+ghost use Rattle.node_core.specs.rule.State.{host, process, open_call_of};
+ghost use Rattle.node_core.specs.rule.Try.{settled};
+ghost use Rattle.node_core.specs.rule.Calls.{is_in_shape, is_exit, is_busy, lock_call, unlock_call, called, call_rule};
+ghost use Rattle.node_core.specs.rule.Retries.{retry_rule};
+ghost use Rattle.node_core.specs.rule.Parts.{node_state, asked, IsOwn, IsSpan};
+ghost use Rattle.node_core.specs.code.Plans.{numbered, table_after, planned, effect_of, TableFits, PartsFit};
 
 use super::Node;
 use crate::change::Change;
@@ -38,7 +38,7 @@ fn is_exit(op: &Op) -> bool
 
 impl Node {
     // Whether the file or the process that the operation names is in range.
-    #[tactic(auto, unfolding(crate::specs::Parts::node_state))]
+    #[tactic(auto, unfolding(crate::specs::rule::Parts::node_state))]
     fn is_in_shape(&self, op: &Op) -> bool
         ensures { result ≡ is_in_shape (node_state self.now).shape op.now }
     {
@@ -52,7 +52,7 @@ impl Node {
     }
 
     // Whether the process waits for a reply, and so may not make the call.
-    #[tactic(auto, unfolding(crate::specs::Parts::node_state))]
+    #[tactic(auto, unfolding(crate::specs::rule::Parts::node_state))]
     fn is_busy(&self, pid: u16, op: &Op) -> bool
         ensures { result ≡ is_busy (node_state self.now) pid op.now }
     {
@@ -60,7 +60,7 @@ impl Node {
     }
 
     // Whether no call number is left.
-    #[tactic(auto, unfolding(crate::specs::Parts::node_state))]
+    #[tactic(auto, unfolding(crate::specs::rule::Parts::node_state))]
     fn is_spent(&self) -> bool
         ensures { IsTrue result ↔ (greatest_number ≤ (node_state self.now).calls) }
     {
@@ -68,7 +68,7 @@ impl Node {
     }
 
     // The number of the next call.
-    #[tactic(auto, unfolding(crate::specs::Parts::node_state))]
+    #[tactic(auto, unfolding(crate::specs::rule::Parts::node_state))]
     pub(super) fn next_number(&self) -> u32
         requires { (node_state self.now).calls < greatest_number }
         ensures { result ≡ (node_state self.now).calls + 1 }

@@ -1,15 +1,15 @@
 //! How a node takes a message of a token server.
 ghost use Rattle.std.specs.Prelude.{◌≡◌, ◌≢◌, ◌==◌, ◌+◌, true, false, Some, Ok, Err, IfOk, IfErr, IfSome};
-ghost use Rattle.model.specs.Limits.{IsNumber};
-ghost use Rattle.token_set.specs.Releases.{gave_up};
-ghost use Rattle.messages.specs.Messages.{is_within, host_of, file_of};
+ghost use Rattle.model.specs.rule.Limits.{IsNumber};
+ghost use Rattle.token_set.specs.rule.Releases.{gave_up};
+ghost use Rattle.messages.specs.rule.Messages.{is_within, host_of, file_of};
 ghost use Rattle.messages.specs.declared.message.Message.TheVariants.{Report};
-ghost use Rattle.messages.specs.Reports.{runs_of};
-ghost use Rattle.node_core.specs.Answers.{answer_of};
-ghost use Rattle.node_core.specs.Commands.{in_epoch, remembered, in_order, granted, revoked, told, denied, delivered, deliver_rule};
-ghost use Rattle.node_core.specs.State.{host};
-ghost use Rattle.node_core.specs.Parts.{node_state, after_grant, after_revoke, out_of_order, is_for, IsCallOf};
-ghost use Rattle.node_core.specs.Plans.{drafted, planned, effect_of, CommandFits, DraftFits, PartsFit};
+ghost use Rattle.messages.specs.rule.Reports.{runs_of};
+ghost use Rattle.node_core.specs.rule.Answers.{answer_of};
+ghost use Rattle.node_core.specs.rule.Commands.{in_epoch, remembered, in_order, granted, revoked, told, denied, delivered, deliver_rule};
+ghost use Rattle.node_core.specs.rule.State.{host};
+ghost use Rattle.node_core.specs.rule.Parts.{node_state, after_grant, after_revoke, out_of_order, is_for, IsCallOf};
+ghost use Rattle.node_core.specs.code.Plans.{drafted, planned, effect_of, CommandFits, DraftFits, PartsFit};
 
 use super::Node;
 use crate::change::Change;
@@ -210,7 +210,7 @@ impl Node {
     }
 
     // Whether the message is for this node, and about a file of the shape.
-    #[tactic(auto, unfolding(crate::specs::Parts::node_state))]
+    #[tactic(auto, unfolding(crate::specs::rule::Parts::node_state))]
     fn is_for_me(&self, message: &Message) -> bool
         ensures { result ≡ is_for (node_state self.now) message.now }
     {
@@ -221,7 +221,7 @@ impl Node {
     }
 
     // Whether the message is for this incarnation of the node.
-    #[tactic(auto, unfolding(crate::specs::Parts::node_state))]
+    #[tactic(auto, unfolding(crate::specs::rule::Parts::node_state))]
     fn is_for_now(&self, message: &Message) -> bool
         ensures { result ≡ ((host_of message.now).incarnation == (node_state self.now).incarnation) }
     {

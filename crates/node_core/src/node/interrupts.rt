@@ -1,8 +1,8 @@
 //! How a node interrupts the wait of a process.
 ghost use Rattle.std.specs.Prelude.{◌≡◌, Ok, Err, IfOk, IfErr, IfSome};
-ghost use Rattle.node_core.specs.Interrupts.{interrupted, interrupt_rule};
-ghost use Rattle.node_core.specs.Parts.{node_state, IsCallOf};
-ghost use Rattle.node_core.specs.Plans.{planned, effect_of, PartsFit};
+ghost use Rattle.node_core.specs.rule.Interrupts.{interrupted, interrupt_rule};
+ghost use Rattle.node_core.specs.rule.Parts.{node_state, IsCallOf};
+ghost use Rattle.node_core.specs.code.Plans.{planned, effect_of, PartsFit};
 
 use super::Node;
 use crate::change::Change;

@@ -2,11 +2,11 @@
 //!
 //! Each function here that can fail errs with `AllocError`, where a request for memory was refused.
 ghost use Rattle.std.specs.Prelude.{◌≡◌, ◌≤◌, All, IfOk};
-ghost use Rattle.model.specs.Anchors.{IsAnchored};
-ghost use Rattle.model.specs.Locks.{IsOfNode};
-ghost use Rattle.lock_table.specs.Listing.{IsListing};
-ghost use Rattle.token_set.specs.Runs.{ListsRuns};
-ghost use Rattle.node_core.specs.Parts.{node_state, IsCallOf};
+ghost use Rattle.model.specs.rule.Anchors.{IsAnchored};
+ghost use Rattle.model.specs.rule.Locks.{IsOfNode};
+ghost use Rattle.lock_table.specs.code.Listing.{IsListing};
+ghost use Rattle.token_set.specs.code.Runs.{ListsRuns};
+ghost use Rattle.node_core.specs.rule.Parts.{node_state, IsCallOf};
 
 use super::Node;
 use crate::numbers::is_within;
@@ -18,7 +18,7 @@ use std::alloc::{AllocError, Global};
 
 impl Node {
     /// The node's incarnation, from 1.
-    #[tactic(auto, unfolding(crate::specs::Parts::node_state))]
+    #[tactic(auto, unfolding(crate::specs::rule::Parts::node_state))]
     pub fn incarnation(&self) -> u16
         ensures value { result ≡ (node_state self.now).incarnation }
         ensures counted { 1 ≤ result }
@@ -30,7 +30,7 @@ impl Node {
     /// number, its process, what it wants, and the lock that it is about. The name of such a call
     /// is its number with the node and incarnation of `host`. A call that was answered in its own
     /// step was never one of them. Takes no memory.
-    #[tactic(auto, unfolding(crate::specs::Parts::node_state))]
+    #[tactic(auto, unfolding(crate::specs::rule::Parts::node_state))]
     pub fn open_calls(&self) -> &[OpenCall]
         ensures calls { result.now ≡ (node_state self.now).pending }
         ensures own { All (IsCallOf (node_state self.now)) result.now }

@@ -1,14 +1,14 @@
 //! How a node takes a call that closes descriptors.
 ghost use Rattle.std.specs.Prelude.{◌≡◌, ◌<◌, ◌+◌, if◌then◌else◌, [], All, IfOk};
-ghost use Rattle.descriptors.specs.Rows.{processes};
-ghost use Rattle.model.specs.Limits.{IsNumber, most_processes};
-ghost use Rattle.model.specs.Descriptors.{has_open};
-ghost use Rattle.messages.specs.Messages.{greatest_number};
-ghost use Rattle.node_core.specs.State.{host, without_call_of};
-ghost use Rattle.node_core.specs.Try.{settled, with_freed, with_freed_of};
-ghost use Rattle.node_core.specs.Calls.{called};
-ghost use Rattle.node_core.specs.Parts.{node_state};
-ghost use Rattle.node_core.specs.Plans.{numbered, table_after, effect_of, TableFits, PartsFit};
+ghost use Rattle.descriptors.specs.code.Rows.{processes};
+ghost use Rattle.model.specs.rule.Limits.{IsNumber, most_processes};
+ghost use Rattle.model.specs.rule.Descriptors.{has_open};
+ghost use Rattle.messages.specs.rule.Messages.{greatest_number};
+ghost use Rattle.node_core.specs.rule.State.{host, without_call_of};
+ghost use Rattle.node_core.specs.rule.Try.{settled, with_freed, with_freed_of};
+ghost use Rattle.node_core.specs.rule.Calls.{called};
+ghost use Rattle.node_core.specs.rule.Parts.{node_state};
+ghost use Rattle.node_core.specs.code.Plans.{numbered, table_after, effect_of, TableFits, PartsFit};
 
 use super::Node;
 use crate::edit::{Draft, Edit, TableEdit};

@@ -1,17 +1,17 @@
 //! How a node tries an open lock call.
 ghost use Rattle.std.specs.Prelude.{◌≡◌, ◌≤◌, ◌<◌, ◌+◌, false, Ok, [], All, IfOk, IfSome};
-ghost use Rattle.model.specs.Limits.{IsNumber};
-ghost use Rattle.model.specs.Locks.{lowest_blocker};
+ghost use Rattle.model.specs.rule.Limits.{IsNumber};
+ghost use Rattle.model.specs.rule.Locks.{lowest_blocker};
 ghost use Rattle.model.specs.declared.reply.Reply.{Reply};
-ghost use Rattle.model.specs.Table.{regions_with, lock_within};
-ghost use Rattle.token_set.specs.Sets.{token_of};
-ghost use Rattle.token_set.specs.Tokens.{covers, desired};
+ghost use Rattle.model.specs.rule.Table.{regions_with, lock_within};
+ghost use Rattle.token_set.specs.code.Sets.{token_of};
+ghost use Rattle.token_set.specs.rule.Tokens.{covers, desired};
 ghost use Rattle.messages.specs.declared.message.Message.TheVariants.{Freed};
-ghost use Rattle.node_core.specs.State.{host};
-ghost use Rattle.node_core.specs.Try.{settled, requested, answered_if, with_freed, locked_by, answered_here, tried, tried_if};
+ghost use Rattle.node_core.specs.rule.State.{host};
+ghost use Rattle.node_core.specs.rule.Try.{settled, requested, answered_if, with_freed, locked_by, answered_here, tried, tried_if};
 ghost use Rattle.node_core.specs.declared.edit.TableEdit.TheVariants.{Nothing};
-ghost use Rattle.node_core.specs.Parts.{node_state, IsOwn, IsSpan, IsCallOf};
-ghost use Rattle.node_core.specs.Plans.{drafted, trying, opened_if, pending_after, table_after, effect_of, DraftFits, TableFits, CallsFit, PartsFit};
+ghost use Rattle.node_core.specs.rule.Parts.{node_state, IsOwn, IsSpan, IsCallOf};
+ghost use Rattle.node_core.specs.code.Plans.{drafted, trying, opened_if, pending_after, table_after, effect_of, DraftFits, TableFits, CallsFit, PartsFit};
 
 use super::Node;
 use crate::edit::{Draft, Edit, TableEdit};
@@ -191,7 +191,7 @@ impl Node {
 
     // The change that locks or frees the bytes, unless their owner would have too many regions, and
     // the reply. The reply `NoLocks` takes no memory.
-    #[tactic(auto, unfolding(crate::specs::Parts::node_state))]
+    #[tactic(auto, unfolding(crate::specs::rule::Parts::node_state))]
     fn plan_lock(
         &self,
         target: LockTarget,

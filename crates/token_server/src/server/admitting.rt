@@ -1,12 +1,12 @@
 //! The admission of requests from the queue of a token server.
 ghost use Rattle.std.specs.Prelude.{◌≡◌, ◌+◌, ◌<◌, ◌≤◌, ◌++◌, ◌∷◌, [], true, false, ◌&&◌, ◌||◌, take, length, Some, IfOk};
-ghost use Rattle.token_queue.specs.Requests.{meets, requests_in};
-ghost use Rattle.token_queue.specs.Actives.{requests_of};
-ghost use Rattle.token_server.specs.Serve.{meets_some};
-ghost use Rattle.token_server.specs.Admitting.{all_stay, IsAdmitted};
-ghost use Rattle.token_server.specs.Ready.{AreDistinct};
-ghost use Rattle.token_server.specs.Sketches.{without, still_active, queue_moved};
-ghost use Rattle.token_server.specs.Comes.{served_on, left_in, NeedsAllOf, HasEnded};
+ghost use Rattle.token_queue.specs.rule.Requests.{meets, requests_in};
+ghost use Rattle.token_queue.specs.rule.Actives.{requests_of};
+ghost use Rattle.token_server.specs.rule.Serve.{meets_some};
+ghost use Rattle.token_server.specs.code.Admitting.{all_stay, IsAdmitted};
+ghost use Rattle.token_server.specs.code.Ready.{AreDistinct};
+ghost use Rattle.token_server.specs.code.Sketches.{without, still_active, queue_moved};
+ghost use Rattle.token_server.specs.code.Comes.{served_on, left_in, NeedsAllOf, HasEnded};
 
 use super::Server;
 use crate::gone::Gone;

@@ -1,18 +1,18 @@
 //! The nodes whose rows the active requests of a token server wait for.
 ghost use Rattle.std.specs.Prelude.{◌≡◌, ◌≤◌, ◌↔◌, true, false, not, ◌&&◌, ◌||◌, ◌==◌, All, length, drop, IsSome, IfOk, IfSome, Option, Some};
-ghost use Rattle.intervals.specs.Bytes.{Range};
-ghost use Rattle.model.specs.Limits.{IsNumber, most_nodes};
-ghost use Rattle.token_queue.specs.Requests.{meets};
-ghost use Rattle.token_queue.specs.Actives.{requests_of, waiting_for};
-ghost use Rattle.known_nodes.specs.Rows.{Row, row_conflicts};
-ghost use Rattle.token_server.specs.Serve.{conflicting_node};
-ghost use Rattle.known_nodes.specs.Parts.{rows_of};
-ghost use Rattle.token_server.specs.Parts.{server_state};
-ghost use Rattle.known_nodes.specs.Changes.{may_bar, rows_after};
-ghost use Rattle.token_server.specs.Obstacles.{obstacle, is_dropped, frees, may_turn};
-ghost use Rattle.known_nodes.specs.Marks.{NoneExclusive};
-ghost use Rattle.known_nodes.specs.Edits.{rows_overlaid};
-ghost use Rattle.token_server.specs.Edits.{reached};
+ghost use Rattle.intervals.specs.rule.Bytes.{Range};
+ghost use Rattle.model.specs.rule.Limits.{IsNumber, most_nodes};
+ghost use Rattle.token_queue.specs.rule.Requests.{meets};
+ghost use Rattle.token_queue.specs.rule.Actives.{requests_of, waiting_for};
+ghost use Rattle.known_nodes.specs.rule.Rows.{Row, row_conflicts};
+ghost use Rattle.token_server.specs.rule.Serve.{conflicting_node};
+ghost use Rattle.known_nodes.specs.rule.Parts.{rows_of};
+ghost use Rattle.token_server.specs.rule.Parts.{server_state};
+ghost use Rattle.known_nodes.specs.code.Changes.{may_bar, rows_after};
+ghost use Rattle.token_server.specs.code.Obstacles.{obstacle, is_dropped, frees, may_turn};
+ghost use Rattle.known_nodes.specs.code.Marks.{NoneExclusive};
+ghost use Rattle.known_nodes.specs.code.Edits.{rows_overlaid};
+ghost use Rattle.token_server.specs.code.Edits.{reached};
 
 use super::Server;
 use super::admitting::needs_all_of;

@@ -1,13 +1,13 @@
 //! The readers of a token server: what it holds, as lists. A function here that gives a `Result` answers `AllocError`
 //! where a request for memory was refused.
 ghost use Rattle.std.specs.Prelude.{◌≡◌, false, All, IfOk, MatchOption, map, is_some, None};
-ghost use Rattle.token_queue.specs.Requests.{requests_in};
-ghost use Rattle.token_queue.specs.Actives.{requests_of};
-ghost use Rattle.known_nodes.specs.Rows.{is_awaited};
-ghost use Rattle.token_server.specs.Obstacles.{obstacle, is_idle};
-ghost use Rattle.known_nodes.specs.Parts.{row_state};
-ghost use Rattle.token_server.specs.Parts.{server_state};
-ghost use Rattle.token_server.specs.Readers.{nodes_where, Shows, IsRow};
+ghost use Rattle.token_queue.specs.rule.Requests.{requests_in};
+ghost use Rattle.token_queue.specs.rule.Actives.{requests_of};
+ghost use Rattle.known_nodes.specs.rule.Rows.{is_awaited};
+ghost use Rattle.token_server.specs.code.Obstacles.{obstacle, is_idle};
+ghost use Rattle.known_nodes.specs.rule.Parts.{row_state};
+ghost use Rattle.token_server.specs.rule.Parts.{server_state};
+ghost use Rattle.token_server.specs.code.Readers.{nodes_where, Shows, IsRow};
 
 use super::Server;
 use crate::shown_row::ShownRow;

@@ -1,22 +1,22 @@
 //! How a token server serves its active requests: which commands it sends.
 ghost use Rattle.std.specs.Prelude.{◌≡◌, ◌==◌, ◌≢◌, ℕ, ◌+◌, ◌<◌, ◌≤◌, ◌++◌, true, false, length, IfSome, All, IfOk, IfErr, OnOk, OnSome, MatchOption, slice_index_or, Some, None, Ok, Err};
 ghost use Rattle.std.specs.Option.{option_map, option_to_list};
-ghost use Rattle.model.specs.Limits.{IsNumber};
-ghost use Rattle.intervals.specs.Bytes.{largest_around};
-ghost use Rattle.messages.specs.Epochs.{before_epoch};
-ghost use Rattle.token_queue.specs.Actives.{requests_of};
-ghost use Rattle.known_nodes.specs.Rows.{row_conflicts, row_conflicts_at};
-ghost use Rattle.token_server.specs.Serve.{narrowed, granted_span, conflicting_node, served, each_served, serve};
-ghost use Rattle.known_nodes.specs.Sent.{bars};
-ghost use Rattle.token_server.specs.Told.{row_told, with_told, commands_told, cut, cut_all};
-ghost use Rattle.token_server.specs.Obstacles.{obstacle, are_apart, is_idle};
-ghost use Rattle.known_nodes.specs.Parts.{known_node_at};
-ghost use Rattle.token_server.specs.Parts.{server_state};
-ghost use Rattle.token_server.specs.Ready.{AreOfEpoch};
-ghost use Rattle.token_server.specs.Sketches.{commands_of, without, still_active, sketched};
-ghost use Rattle.known_nodes.specs.Edits.{rows_overlaid, seen, given_to_known_node, given_of};
-ghost use Rattle.token_server.specs.Edits.{keeps, held_after, drafted, with_given, IsDrafted, IsServed};
-ghost use Rattle.token_server.specs.Turns.{kept_of, IsTurn, AreServed};
+ghost use Rattle.model.specs.rule.Limits.{IsNumber};
+ghost use Rattle.intervals.specs.rule.Bytes.{largest_around};
+ghost use Rattle.messages.specs.rule.Epochs.{before_epoch};
+ghost use Rattle.token_queue.specs.rule.Actives.{requests_of};
+ghost use Rattle.known_nodes.specs.rule.Rows.{row_conflicts, row_conflicts_at};
+ghost use Rattle.token_server.specs.rule.Serve.{narrowed, granted_span, conflicting_node, served, each_served, serve};
+ghost use Rattle.known_nodes.specs.code.Sent.{bars};
+ghost use Rattle.token_server.specs.code.Told.{row_told, with_told, commands_told, cut, cut_all};
+ghost use Rattle.token_server.specs.code.Obstacles.{obstacle, are_apart, is_idle};
+ghost use Rattle.known_nodes.specs.rule.Parts.{known_node_at};
+ghost use Rattle.token_server.specs.rule.Parts.{server_state};
+ghost use Rattle.token_server.specs.code.Ready.{AreOfEpoch};
+ghost use Rattle.token_server.specs.code.Sketches.{commands_of, without, still_active, sketched};
+ghost use Rattle.known_nodes.specs.code.Edits.{rows_overlaid, seen, given_to_known_node, given_of};
+ghost use Rattle.token_server.specs.code.Edits.{keeps, held_after, drafted, with_given, IsDrafted, IsServed};
+ghost use Rattle.token_server.specs.code.Turns.{kept_of, IsTurn, AreServed};
 
 use super::{Server, commands_told};
 use crate::change::Draft;

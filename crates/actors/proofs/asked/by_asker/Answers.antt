@@ -1,6 +1,6 @@
 use Rattle.std.proofs.Common.{rules, ◌∙◌, sym}
 use Rattle.std.proofs.lemmas.List.Sorted.{answers_always}
-use Rattle.actors.specs.Lines.{asker}
+use Rattle.actors.specs.rule.Lines.{asker}
 use Rattle.actors.specs.declared.asked.Asked.{Asked}
 use Rattle.actors.proofs.Askers.{filter_same, ties}
 use Rattle.actors.proofs.asked.by_asker.Goals as goal

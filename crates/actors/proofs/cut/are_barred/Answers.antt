@@ -1,6 +1,6 @@
 use Rattle.std.proofs.Common.{arith, refl}
 use Rattle.std.proofs.lemmas.Option.{slice_get_read, slice_get_within}
-use Rattle.actors.specs.Lines.{parts}
+use Rattle.actors.specs.rule.Lines.{parts}
 use Rattle.actors.proofs.InCuts.{passed}
 use Rattle.actors.proofs.cut.are_barred.Goals as goal
 

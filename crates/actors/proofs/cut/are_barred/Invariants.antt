@@ -1,4 +1,4 @@
-use Rattle.actors.specs.Lines.{parts}
+use Rattle.actors.specs.rule.Lines.{parts}
 use Rattle.actors.proofs.InCuts.{Passed}
 use Rattle.actors.proofs.cut.are_barred.Given as goal
 

@@ -1,4 +1,4 @@
-use Rattle.actors.specs.Lines.{parts}
+use Rattle.actors.specs.rule.Lines.{parts}
 use Rattle.actors.proofs.Denied.{all_past}
 use Rattle.actors.proofs.denials.may_all_come.Goals as goal
 

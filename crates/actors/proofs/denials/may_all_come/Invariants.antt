@@ -1,7 +1,7 @@
 use Rattle.std.proofs.Common.{drop}
-use Rattle.actors.specs.Lines.{parts}
-use Rattle.actors.specs.Awaited.{AreMet, members_of}
-use Rattle.actors.specs.Denials.{MayAllCome, first_of}
+use Rattle.actors.specs.rule.Lines.{parts}
+use Rattle.actors.specs.code.Awaited.{AreMet, members_of}
+use Rattle.actors.specs.rule.Denials.{MayAllCome, first_of}
 use Rattle.actors.proofs.denials.may_all_come.Given as goal
 
 abbrev pub invariant-loop-line : goal.invariant-loop-line

@@ -1,6 +1,6 @@
 use Rattle.std.proofs.Common.{arith, refl}
 use Rattle.std.proofs.lemmas.Option.{slice_get_read, slice_get_within}
-use Rattle.actors.specs.Lines.{parts}
+use Rattle.actors.specs.rule.Lines.{parts}
 use Rattle.actors.proofs.InPhases.{none_passed, passed}
 use Rattle.actors.proofs.phase_order.are_phases.Goals as goal
 

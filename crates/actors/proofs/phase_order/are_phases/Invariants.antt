@@ -1,4 +1,4 @@
-use Rattle.actors.specs.Lines.{parts}
+use Rattle.actors.specs.rule.Lines.{parts}
 use Rattle.actors.proofs.InPhases.{Passed}
 use Rattle.actors.proofs.phase_order.are_phases.Given as goal
 

@@ -1,7 +1,7 @@
 use Rattle.std.proofs.Common.{subst}
-use Rattle.messages.specs.Shapes.{ShapeFields}
-use Rattle.actors.specs.Denials.{MayAllCome, first_of}
-use Rattle.actors.specs.Lines.{parts}
+use Rattle.messages.specs.rule.Shapes.{ShapeFields}
+use Rattle.actors.specs.rule.Denials.{MayAllCome, first_of}
+use Rattle.actors.specs.rule.Lines.{parts}
 use Rattle.actors.proofs.Denied.{if_ok}
 use Rattle.actors.proofs.thread_run.are_of_script.Goals as goal
 

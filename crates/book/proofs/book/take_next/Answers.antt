@@ -1,6 +1,6 @@
 use Rattle.std.proofs.Common.{◌<◌, arith}
-use Rattle.cluster_core.specs.World.{journal_limit}
-use Rattle.cluster_core.specs.Parts.{world_state}
+use Rattle.cluster_core.specs.rule.World.{journal_limit}
+use Rattle.cluster_core.specs.rule.Parts.{world_state}
 use Rattle.book.proofs.Committed.{unrefused}
 use Rattle.book.proofs.book.take_next.Goals as goal
 

@@ -1,6 +1,6 @@
 use Rattle.std.proofs.Common.{◌≡◌, ℕ, ◌<◌, slice_get, Some}
 use Rattle.client_history.specs.declared.open_call.OpenCall.{OpenCall}
-use Rattle.client_history.specs.Steps.{HasAll, HasNext}
+use Rattle.client_history.specs.code.Steps.{HasAll, HasNext}
 use Rattle.client_history.proofs.ending.branch.Given as goal
 
 abbrev pub invariant-loop-call : goal.invariant-loop-call

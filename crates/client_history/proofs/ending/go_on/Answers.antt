@@ -1,5 +1,5 @@
 use Rattle.std.proofs.Common.{inl, inr, ⊎_elim, sym, ◌∙◌, arith}
-use Rattle.client_history.specs.Explained.{Stands}
+use Rattle.client_history.specs.rule.Explained.{Stands}
 use Rattle.client_history.proofs.Goings.{covered_more, covered_equal, covered_last, none_covered, taken_more}
 use Rattle.client_history.proofs.Taken.{found, lost}
 use Rattle.client_history.proofs.ending.go_on.Goals as goal

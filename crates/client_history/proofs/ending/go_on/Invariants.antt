@@ -1,7 +1,7 @@
 use Rattle.std.proofs.Common.{◌≡◌, ℕ, ◌<◌, ◌≤◌, ◌⊎◌, List, length, vec_len}
 use Rattle.client_history.specs.declared.client_call.ClientCall.{ClientCall}
-use Rattle.client_history.specs.Search.{IsCovered}
-use Rattle.client_history.specs.Steps.{IsEnding, AreTaken}
+use Rattle.client_history.specs.code.Search.{IsCovered}
+use Rattle.client_history.specs.code.Steps.{IsEnding, AreTaken}
 use Rattle.client_history.proofs.ending.go_on.Given as goal
 
 abbrev pub decreases-loop-front : goal.decreases-loop-front

@@ -1,10 +1,10 @@
 use Rattle.std.proofs.Common.{length, refl, sym, ◌∙◌}
 use Rattle.std.proofs.lemmas.Bool.{false≢true}
 use Rattle.std.proofs.lemmas.Option.{slice_get_read}
-use Rattle.lock_table.specs.Rows.{held}
+use Rattle.lock_table.specs.code.Rows.{held}
 use Rattle.client_history.specs.declared.open_call.OpenCall.{OpenCall}
-use Rattle.client_history.specs.ClosedSets.{IsNeeded}
-use Rattle.client_history.specs.OpenCalls.{IsLeft, IsIn, IsLeftOf}
+use Rattle.client_history.specs.code.ClosedSets.{IsNeeded}
+use Rattle.client_history.specs.code.OpenCalls.{IsLeft, IsIn, IsLeftOf}
 use Rattle.client_history.proofs.SetLaws.{below_more, below_all, grown_more, in_grown, served_by}
 use Rattle.client_history.proofs.first_calls.add_needed.Goals as goal
 use Rattle.client_history.proofs.first_calls.add_needed.Goals.{then-needs+then-is_left+in_ok-add, else-needs, else-needs-via-then-needs+else-is_left, else-needs-via-else-needs}

@@ -1,6 +1,6 @@
 use Rattle.client_history.specs.declared.open_call.OpenCall.{OpenCall}
-use Rattle.client_history.specs.ClosedSets.{IsGrown, IsNeeded}
-use Rattle.client_history.specs.OpenCalls.{IsLeft, IsIn, IsLeftOf}
+use Rattle.client_history.specs.code.ClosedSets.{IsGrown, IsNeeded}
+use Rattle.client_history.specs.code.OpenCalls.{IsLeft, IsIn, IsLeftOf}
 use Rattle.client_history.proofs.SetLaws.{Below}
 use Rattle.client_history.proofs.first_calls.add_needed.Given as goal
 

@@ -1,9 +1,9 @@
 use Rattle.std.proofs.Common.{◌≡◌, ◌-◌, [], length}
-use Rattle.lock_table.specs.Rows.{held}
+use Rattle.lock_table.specs.code.Rows.{held}
 use Rattle.client_history.specs.declared.client_call.ClientCall.{ClientCall}
 use Rattle.client_history.specs.declared.open_call.OpenCall.{OpenCall}
-use Rattle.client_history.specs.ClosedSets.{IsGrown}
-use Rattle.client_history.specs.OpenCalls.{IsIn, IsLeftOf, AreAsked}
+use Rattle.client_history.specs.code.ClosedSets.{IsGrown}
+use Rattle.client_history.specs.code.OpenCalls.{IsIn, IsLeftOf, AreAsked}
 use Rattle.client_history.proofs.SetLaws.{Below, IsServedAt}
 use Rattle.client_history.proofs.first_calls.closed_set.Given as goal
 

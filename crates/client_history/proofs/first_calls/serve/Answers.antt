@@ -1,10 +1,10 @@
 use Rattle.std.proofs.Common.{◌≡◌, length, refl, sym, ◌∙◌, arith}
 use Rattle.std.proofs.lemmas.Bool.{false≢true}
 use Rattle.std.proofs.lemmas.Option.{slice_get_read}
-use Rattle.lock_table.specs.Rows.{held}
+use Rattle.lock_table.specs.code.Rows.{held}
 use Rattle.client_history.specs.declared.open_call.OpenCall.{OpenCall}
-use Rattle.client_history.specs.FirstCalls.{IsServed}
-use Rattle.client_history.specs.OpenCalls.{IsLeft, IsIn, IsLeftOf}
+use Rattle.client_history.specs.code.FirstCalls.{IsServed}
+use Rattle.client_history.specs.code.OpenCalls.{IsLeft, IsIn, IsLeftOf}
 use Rattle.client_history.proofs.SetLaws.{below_more, below_all, grown_more, in_grown, served_more}
 use Rattle.client_history.proofs.first_calls.serve.Goals as goal
 use Rattle.client_history.proofs.first_calls.serve.Goals.{then-call-index+then-is_left+in_ok-add_needed, else-call-index, else-call-index-via-then-call-index+else-is_left, else-call-index-via-else-call-index}

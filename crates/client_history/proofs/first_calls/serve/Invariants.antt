@@ -1,9 +1,9 @@
 use Rattle.std.proofs.Common.{◌≡◌}
-use Rattle.lock_table.specs.Rows.{held}
+use Rattle.lock_table.specs.code.Rows.{held}
 use Rattle.client_history.specs.declared.open_call.OpenCall.{OpenCall}
-use Rattle.client_history.specs.ClosedSets.{IsGrown}
-use Rattle.client_history.specs.FirstCalls.{IsServed}
-use Rattle.client_history.specs.OpenCalls.{IsLeft, IsIn, IsLeftOf, AreAsked}
+use Rattle.client_history.specs.code.ClosedSets.{IsGrown}
+use Rattle.client_history.specs.code.FirstCalls.{IsServed}
+use Rattle.client_history.specs.code.OpenCalls.{IsLeft, IsIn, IsLeftOf, AreAsked}
 use Rattle.client_history.proofs.SetLaws.{Below}
 use Rattle.client_history.proofs.first_calls.serve.Given as goal
 

@@ -1,9 +1,9 @@
 use Rattle.std.proofs.Common.{◌≤◌, refl}
 use Rattle.std.proofs.lemmas.Bool.{false≢true}
 use Rattle.std.proofs.lemmas.Option.{MatchOption-at_none}
-use Rattle.model.specs.Locks.{IsFree, IsLowestBlocker}
-use Rattle.lock_table.specs.Rows.{held}
-use Rattle.client_history.specs.Explained.{the_file}
+use Rattle.model.specs.rule.Locks.{IsFree, IsLowestBlocker}
+use Rattle.lock_table.specs.code.Rows.{held}
+use Rattle.client_history.specs.rule.Explained.{the_file}
 use Rattle.client_history.proofs.Blocked.{free_not_blocked, lowest_blocks}
 use Rattle.client_history.proofs.follow.is_blocked.Goals as goal
 

@@ -1,6 +1,6 @@
 use Rattle.std.proofs.Common.{ℕ, ◌+◌, refl, subst, sym, ◌∙◌}
 use Rattle.std.proofs.lemmas.Bool.{false≢true}
-use Rattle.client_history.specs.Explained.{EndsBefore}
+use Rattle.client_history.specs.rule.Explained.{EndsBefore}
 use Rattle.client_history.proofs.Orders.{is_at}
 use Rattle.client_history.proofs.TimeLaws.{TimesTo, times_late, times_same, times_more, times_all}
 use Rattle.client_history.proofs.in_time.are_in_time.Goals as goal

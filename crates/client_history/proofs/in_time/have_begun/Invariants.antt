@@ -1,6 +1,6 @@
 use Rattle.std.proofs.Common.{◌<◌, ◌≤◌, ℕ}
 use Rattle.client_history.specs.declared.client_call.ClientCall.{ClientCall}
-use Rattle.client_history.specs.Explained.{IsAt}
+use Rattle.client_history.specs.rule.Explained.{IsAt}
 use Rattle.client_history.proofs.in_time.have_begun.Given as goal
 
 abbrev pub invariant-loop-i : goal.invariant-loop-i

@@ -1,7 +1,7 @@
 use Rattle.std.proofs.Common.{◌≡◌, take}
-use Rattle.model.specs.Locks.{no_locks}
-use Rattle.lock_table.specs.Rows.{held}
-use Rattle.client_history.specs.Explained.{Leads}
+use Rattle.model.specs.rule.Locks.{no_locks}
+use Rattle.lock_table.specs.code.Rows.{held}
+use Rattle.client_history.specs.rule.Explained.{Leads}
 use Rattle.client_history.proofs.legal.is_legal.Given as goal
 
 abbrev pub invariant-loop-i : goal.invariant-loop-i

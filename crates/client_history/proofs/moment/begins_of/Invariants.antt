@@ -1,5 +1,5 @@
-use Rattle.client_history.specs.Moments.{IsBeginOf}
-use Rattle.client_history.specs.Prefixes.{AreOrdered}
+use Rattle.client_history.specs.code.Moments.{IsBeginOf}
+use Rattle.client_history.specs.code.Prefixes.{AreOrdered}
 use Rattle.client_history.proofs.MomentLaws.{MomentsTo}
 use Rattle.client_history.proofs.moment.begins_of.Given as goal
 

@@ -1,9 +1,9 @@
 use Rattle.std.proofs.Common.{List, sym, subst}
 use Rattle.model.specs.declared.lock_info.LockInfo.{LockInfo}
-use Rattle.model.specs.Locks.{IsRegion}
-use Rattle.lock_table.specs.Rows.{held}
-use Rattle.lock_table.specs.Listing.{IsListing}
-use Rattle.client_history.specs.Explained.{the_file}
+use Rattle.model.specs.rule.Locks.{IsRegion}
+use Rattle.lock_table.specs.code.Rows.{held}
+use Rattle.lock_table.specs.code.Listing.{IsListing}
+use Rattle.client_history.specs.rule.Explained.{the_file}
 use Rattle.client_history.proofs.needs.least_kept.Goals as goal
 use Rattle.client_history.proofs.needs.least_kept.Goals.{then-count-least, else-count-least}
 

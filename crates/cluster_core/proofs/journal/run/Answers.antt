@@ -1,17 +1,17 @@
 use Rattle.std.proofs.Common.{◌≡◌, ◌∙◌, sym, ap, subst, List}
 use Rattle.std.proofs.lemmas.Result.{err_from_is_err_and}
-use Rattle.messages.specs.Shapes.{ShapeFields}
+use Rattle.messages.specs.rule.Shapes.{ShapeFields}
 use Rattle.messages.specs.declared.entry.Entry.{Entry}
-use Rattle.cluster_core.specs.Evidence.{DenialsHaveEvidence}
-use Rattle.cluster_core.specs.Histories.{HasOneHistory}
-use Rattle.cluster_core.specs.Journals.{JournalFields, events_of}
-use Rattle.cluster_core.specs.Numbers.{LeadsToNumbers}
-use Rattle.cluster_core.specs.Next.{kept_next}
-use Rattle.cluster_core.specs.Parts.{world_state}
-use Rattle.cluster_core.specs.Plain.{HasPlainHistory}
-use Rattle.cluster_core.specs.Runs.{IsRun}
-use Rattle.cluster_core.specs.Safe.{LeadsToSafe}
-use Rattle.cluster_core.specs.World.{first_world}
+use Rattle.cluster_core.specs.rule.Evidence.{DenialsHaveEvidence}
+use Rattle.cluster_core.specs.rule.Histories.{HasOneHistory}
+use Rattle.cluster_core.specs.rule.Journals.{JournalFields, events_of}
+use Rattle.cluster_core.specs.rule.Numbers.{LeadsToNumbers}
+use Rattle.cluster_core.specs.rule.Next.{kept_next}
+use Rattle.cluster_core.specs.rule.Parts.{world_state}
+use Rattle.cluster_core.specs.rule.Plain.{HasPlainHistory}
+use Rattle.cluster_core.specs.rule.Runs.{IsRun}
+use Rattle.cluster_core.specs.rule.Safe.{LeadsToSafe}
+use Rattle.cluster_core.specs.rule.World.{first_world}
 use Rattle.cluster_core.proofs.runs.JournalRuns.{Ran, ran_empty, ran_more, ran_all, first_refusal, leads_shape}
 use Rattle.cluster_core.proofs.journal.run.Goals as goal
 

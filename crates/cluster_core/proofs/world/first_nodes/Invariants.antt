@@ -1,5 +1,5 @@
-use Rattle.node_core.specs.Parts.{node_state}
-use Rattle.node_core.specs.State.{first_node}
+use Rattle.node_core.specs.rule.Parts.{node_state}
+use Rattle.node_core.specs.rule.State.{first_node}
 use Rattle.cluster_core.proofs.common.Numbered.{Begun}
 use Rattle.cluster_core.proofs.world.first_nodes.Given as goal
 

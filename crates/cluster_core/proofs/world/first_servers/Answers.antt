@@ -1,5 +1,5 @@
-use Rattle.token_server.specs.Parts.{server_state}
-use Rattle.token_server.specs.State.{first_server}
+use Rattle.token_server.specs.rule.Parts.{server_state}
+use Rattle.token_server.specs.rule.State.{first_server}
 use Rattle.cluster_core.proofs.common.Numbered.{begun_empty, begun_more}
 use Rattle.cluster_core.proofs.world.first_servers.Goals as goal
 

@@ -1,7 +1,7 @@
 use Rattle.std.proofs.Common.{◌≡◌, ap, ◌∙◌}
 use Rattle.std.proofs.lemmas.Result.{IfOk-weaker}
 use Rattle.clap.specs.Words.{App, app_of, with_subcommand}
-use Rattle.command_line.specs.Table.{app_given}
+use Rattle.command_line.specs.code.Table.{app_given}
 use Rattle.command_line.proofs.Tables.{is_plain, no_globals}
 use Rattle.command_line.proofs.commands.with_command.Goals as goal
 

@@ -1,6 +1,6 @@
 use Rattle.std.proofs.Common.{◌≡◌, drop, fold}
 use Rattle.clap.specs.Words.{app_of}
-use Rattle.command_line.specs.Table.{with_given}
+use Rattle.command_line.specs.code.Table.{with_given}
 use Rattle.command_line.proofs.commands.with_commands.Given as goal
 
 abbrev pub invariant-loop-command : goal.invariant-loop-command

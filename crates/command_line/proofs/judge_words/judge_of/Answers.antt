@@ -1,6 +1,6 @@
 use Rattle.std.proofs.Common.{rules, codes, map, option_map, None, Some, [], ◌∷◌, ◌≡◌}
 use Rattle.clap.specs.Words.{found_of, rows_of}
-use Rattle.command_line.specs.JudgeTasks.{JudgeTask}
+use Rattle.command_line.specs.rule.JudgeTasks.{JudgeTask}
 use Rattle.command_line.proofs.Unmet.{no_go_on_flag, no_json_flag, no_judge, no_order_flag, no_picture_flag, no_stats_flag, no_steps}
 use Rattle.command_line.proofs.Tables.{same_value}
 use Rattle.command_line.proofs.judge_words.judge_of.Goals as goal

@@ -1,8 +1,8 @@
 use Rattle.std.proofs.Common.{ap, codes, map, subst, sym, ◌∙◌, List, Option, []}
 use Rattle.std.specs.Prelude.{unwrap_or, IfOk}
 use Rattle.clap.specs.Words.{Text, found_of}
-use Rattle.command_line.specs.JudgeTasks.{rule_text}
-use Rattle.command_line.specs.Kinds.{AreRulesOf}
+use Rattle.command_line.specs.rule.JudgeTasks.{rule_text}
+use Rattle.command_line.specs.rule.Kinds.{AreRulesOf}
 use Rattle.command_line.proofs.Tables.{no_texts, texts_are}
 use Rattle.command_line.proofs.rule.rules_in.Goals as goal
 

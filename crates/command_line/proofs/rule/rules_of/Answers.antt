@@ -1,5 +1,5 @@
 use Rattle.std.proofs.Common.{subst}
-use Rattle.command_line.specs.Kinds.{IsRuleOf}
+use Rattle.command_line.specs.rule.Kinds.{IsRuleOf}
 use Rattle.command_line.proofs.Rules.{all_read, none_of, one_more}
 use Rattle.command_line.proofs.rule.rules_of.Goals as goal
 

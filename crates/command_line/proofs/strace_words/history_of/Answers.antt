@@ -1,8 +1,8 @@
 use Rattle.std.proofs.Common.{rules, codes, map, ap, sym, subst, ◌≡◌, ◌∙◌, Bor, List, Some, [], ◌∷◌}
 use Rattle.std.specs.Prelude.{option_map}
 use Rattle.clap.specs.Words.{Text, found_of, rows_of}
-use Rattle.command_line.specs.Kinds.{IsNumberOf}
-use Rattle.command_line.specs.Tasks.{most_nodes, MayRecord}
+use Rattle.command_line.specs.rule.Kinds.{IsNumberOf}
+use Rattle.command_line.specs.rule.Tasks.{most_nodes, MayRecord}
 use Rattle.command_line.proofs.Tables.{same_value}
 use Rattle.command_line.proofs.Unmet.{no_record}
 use Rattle.command_line.proofs.strace_words.history_of.Goals as goal

@@ -1,6 +1,6 @@
 use Rattle.std.proofs.Common.{codes, subst}
 use Rattle.clap.specs.Words.{found_of, one_of, rows_of}
-use Rattle.command_line.specs.Kinds.{IsFlagOf}
+use Rattle.command_line.specs.rule.Kinds.{IsFlagOf}
 use Rattle.command_line.proofs.Tables.{no_texts, texts_are}
 use Rattle.command_line.proofs.Unmet.{no_history_flag, no_recordings}
 use Rattle.command_line.proofs.strace_words.strace_in.Goals as goal

@@ -1,7 +1,7 @@
 use Rattle.std.proofs.Common.{ap, ◌∙◌}
 use Rattle.std.proofs.lemmas.Result.{IfOk-weaker}
 use Rattle.clap.specs.Words.{app_of, with_rule}
-use Rattle.command_line.specs.Table.{rule_given}
+use Rattle.command_line.specs.code.Table.{rule_given}
 use Rattle.command_line.proofs.Tables.{is_simple, no_global}
 use Rattle.command_line.proofs.subcommand.with_argument.Goals as goal
 

@@ -1,6 +1,6 @@
 use Rattle.std.proofs.Common.{◌∙◌, ap, sym, arith, refl}
 use Rattle.std.proofs.lemmas.Bool.{both_ways, false≢true}
-use Rattle.model.specs.Descriptors.{Processes}
+use Rattle.model.specs.rule.Descriptors.{Processes}
 use Rattle.descriptors.proofs.RowLaws.{none_run}
 use Rattle.descriptors.proofs.rows.is_idle.Goals as goal
 

@@ -1,5 +1,5 @@
 use Rattle.std.proofs.Common.{subst}
-use Rattle.journal_text.specs.Readings.{IsBadLine}
+use Rattle.journal_text.specs.rule.Readings.{IsBadLine}
 use Rattle.journal_text.proofs.OneReading.{one_reading}
 use Rattle.diagnosis.proofs.journal_report.journal_report.Goals as goal
 

@@ -1,7 +1,7 @@
 use Rattle.std.proofs.Common.{◌≡◌, drop, map}
 use Rattle.indexmap.specs.IndexSet.{insert_all}
 use Rattle.diagrams.specs.contracts.track.TrackPartialEq.TheImpl as derived
-use Rattle.diagrams.specs.Tracks.{track_of_bar}
+use Rattle.diagrams.specs.rule.Tracks.{track_of_bar}
 use Rattle.diagrams.proofs.tracks.add_of_calls.Given as goal
 
 abbrev pub invariant-loop-bar : goal.invariant-loop-bar

@@ -1,8 +1,8 @@
 use Rattle.std.proofs.Common.{◌≡◌, drop, map}
 use Rattle.indexmap.specs.IndexSet.{insert_all}
-use Rattle.pictures.specs.Stretches.{PlacedFields}
+use Rattle.pictures.specs.rule.Stretches.{PlacedFields}
 use Rattle.diagrams.specs.contracts.track.TrackPartialEq.TheImpl as derived
-use Rattle.diagrams.specs.Tracks.{track_of}
+use Rattle.diagrams.specs.rule.Tracks.{track_of}
 use Rattle.diagrams.proofs.tracks.add_of_entries.Given as goal
 
 abbrev pub invariant-loop-placed : goal.invariant-loop-placed

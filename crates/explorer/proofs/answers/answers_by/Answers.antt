@@ -2,13 +2,13 @@ use Rattle.std.proofs.Common.{◌≡◌, ◌∙◌, ◌+◌, ◌++◌, [], List,
 use Rattle.std.proofs.lemmas.Grind.{common_steps}
 use Rattle.std.proofs.lemmas.List.{append-nil}
 use Rattle.model.specs.declared.op.Op.{Op}
-use Rattle.messages.specs.Entries.{EntryFields}
+use Rattle.messages.specs.code.Entries.{EntryFields}
 use Rattle.lockscript.specs.declared.script_line.Command.{Command}
-use Rattle.lockscript.specs.Scripts.{LineFields}
-use Rattle.explorer.specs.Answers.{answer_behind, answers_behind, count_taken}
-use Rattle.explorer.specs.ByProcess.{list_in}
-use Rattle.explorer.specs.Indexes.{answer_by, next_try}
-use Rattle.explorer.specs.Schedules.{calls_of, op_of}
+use Rattle.lockscript.specs.rule.Scripts.{LineFields}
+use Rattle.explorer.specs.rule.Answers.{answer_behind, answers_behind, count_taken}
+use Rattle.explorer.specs.code.ByProcess.{list_in}
+use Rattle.explorer.specs.code.Indexes.{answer_by, next_try}
+use Rattle.explorer.specs.rule.Schedules.{calls_of, op_of}
 use Rattle.explorer.proofs.Walks.{answer-here, answers-next, calls-push, commands-more, commands_of, drop_here, taken-next}
 use Rattle.explorer.proofs.answers.answers_by.Goals as goal
 

@@ -1,9 +1,9 @@
 use Rattle.std.proofs.Common.{◌≡◌, ◌++◌, ℕ, List, [], drop, length, take}
 use Rattle.lockscript.specs.declared.refused_line.RefusedLine.{RefusedLine}
-use Rattle.lockscript.specs.Scripts.{LineFields}
-use Rattle.explorer.specs.Answers.{answers_behind, count_taken}
-use Rattle.explorer.specs.ByProcess.{list_in}
-use Rattle.explorer.specs.Indexes.{KnowsCalls, KnowsTries}
+use Rattle.lockscript.specs.rule.Scripts.{LineFields}
+use Rattle.explorer.specs.rule.Answers.{answers_behind, count_taken}
+use Rattle.explorer.specs.code.ByProcess.{list_in}
+use Rattle.explorer.specs.code.Indexes.{KnowsCalls, KnowsTries}
 use Rattle.explorer.proofs.Walks.{commands_of}
 use Rattle.explorer.proofs.answers.answers_by.Given as goal
 

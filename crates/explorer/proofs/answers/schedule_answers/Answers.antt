@@ -1,4 +1,4 @@
-use Rattle.explorer.specs.Schedules.{numbered}
+use Rattle.explorer.specs.rule.Schedules.{numbered}
 use Rattle.explorer.proofs.answers.schedule_answers.Goals as goal
 
 pub returns : goal.returns

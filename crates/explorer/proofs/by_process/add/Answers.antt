@@ -1,7 +1,7 @@
 use Rattle.std.proofs.Common.{◌≡◌, ◌∙◌, ◌==◌, ◌&&◌, ◌∷◌, ◌++◌, [], Some, None, cond, sym, ap}
 use Rattle.std.specs.Prelude.{is_some}
 use Rattle.std.specs.Option.{option_copied_mut}
-use Rattle.explorer.specs.ByProcess.{get_list}
+use Rattle.explorer.specs.code.ByProcess.{get_list}
 use Rattle.explorer.proofs.Puts.{items, put-last}
 use Rattle.explorer.proofs.by_process.add.Goals as goal
 

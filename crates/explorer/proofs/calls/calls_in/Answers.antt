@@ -3,10 +3,10 @@ use Rattle.std.proofs.lemmas.Grind.{common_steps}
 use Rattle.std.proofs.lemmas.List.Elements.{All-more}
 use Rattle.model.specs.declared.op.Op.{Op}
 use Rattle.lockscript.specs.declared.script_line.Command.{Command}
-use Rattle.lockscript.specs.Scripts.{IsCommand, LineFields}
-use Rattle.explorer.specs.ByProcess.{list_in}
-use Rattle.explorer.specs.Ends.{AreServed}
-use Rattle.explorer.specs.Schedules.{calls_in, op_of}
+use Rattle.lockscript.specs.rule.Scripts.{IsCommand, LineFields}
+use Rattle.explorer.specs.code.ByProcess.{list_in}
+use Rattle.explorer.specs.rule.Ends.{AreServed}
+use Rattle.explorer.specs.rule.Schedules.{calls_in, op_of}
 use Rattle.explorer.proofs.Walks.{drop_here}
 use Rattle.explorer.proofs.calls.calls_in.Goals as goal
 

@@ -1,7 +1,7 @@
 use Rattle.std.proofs.Common.{◌≡◌, ◌++◌, ℕ, drop, take}
-use Rattle.explorer.specs.ByProcess.{list_in}
-use Rattle.explorer.specs.Ends.{AreServed}
-use Rattle.explorer.specs.Schedules.{calls_in}
+use Rattle.explorer.specs.code.ByProcess.{list_in}
+use Rattle.explorer.specs.rule.Ends.{AreServed}
+use Rattle.explorer.specs.rule.Schedules.{calls_in}
 use Rattle.explorer.proofs.calls.calls_in.Given as goal
 
 abbrev pub invariant-loop-line : goal.invariant-loop-line

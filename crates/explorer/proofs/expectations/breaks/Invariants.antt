@@ -1,5 +1,5 @@
 use Rattle.std.proofs.Common.{◌≡◌, drop}
-use Rattle.explorer.specs.Expectations.{breaks, breaks_from}
+use Rattle.explorer.specs.rule.Expectations.{breaks, breaks_from}
 use Rattle.explorer.proofs.expectations.breaks.Given as goal
 
 abbrev pub invariant-loop-line : goal.invariant-loop-line

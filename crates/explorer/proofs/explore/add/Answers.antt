@@ -1,6 +1,6 @@
 use Rattle.std.proofs.Common.{◌<◌, ℕ, List, [], ◌∷◌, length, false, ap, arith, refl, sym, ◌∙◌}
 use Rattle.std.specs.Prelude.{slice_index_or}
-use Rattle.explorer.specs.Outcomes.{OutcomeParts}
+use Rattle.explorer.specs.rule.Outcomes.{OutcomeParts}
 use Rattle.explorer.proofs.MetOutcomes.{outcomes-push, outcomes-set}
 use Rattle.explorer.proofs.Seeds.{come-push, come-set, counted-push, counted-set}
 use Rattle.explorer.proofs.explore.add.Goals as goal

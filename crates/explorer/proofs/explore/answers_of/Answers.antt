@@ -1,10 +1,10 @@
 use Rattle.std.proofs.Common.{◌≡◌}
 use Rattle.std.specs.Global.{Vec}
 use Rattle.std.proofs.lemmas.Result.{IfOk-weaker}
-use Rattle.player.specs.Parts.{state_of}
+use Rattle.player.specs.code.Parts.{state_of}
 use Rattle.explorer.specs.declared.answer.Answer.{Answer}
-use Rattle.explorer.specs.Answers.{answers_in}
-use Rattle.explorer.specs.Outcomes.{ComesIn}
+use Rattle.explorer.specs.rule.Answers.{answers_in}
+use Rattle.explorer.specs.rule.Outcomes.{ComesIn}
 use Rattle.explorer.proofs.explore.answers_of.Goals as goal
 
 pub returns-clause-answered : goal.returns-clause-answered

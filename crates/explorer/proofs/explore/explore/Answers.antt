@@ -1,6 +1,6 @@
 use Rattle.std.proofs.Common.{◌∙◌, length}
 use Rattle.std.proofs.lemmas.List.Sorted.{All-permutation, sum_by-IsPermutation}
-use Rattle.explorer.specs.Outcomes.{IsOutcomeOf}
+use Rattle.explorer.specs.rule.Outcomes.{IsOutcomeOf}
 use Rattle.explorer.proofs.MetOutcomes.{outcomes-ordered}
 use Rattle.explorer.proofs.explore.explore.Goals as goal
 

@@ -1,6 +1,6 @@
 use Rattle.std.proofs.Common.{rules}
 use Rattle.std.proofs.lemmas.List.Sorted.{answers_always}
-use Rattle.explorer.specs.Outcomes.{rank}
+use Rattle.explorer.specs.rule.Outcomes.{rank}
 use Rattle.explorer.proofs.explore.ordered.Goals as goal
 
 pub returns-clause-same : goal.returns-clause-same

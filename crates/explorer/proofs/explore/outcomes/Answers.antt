@@ -1,7 +1,7 @@
 use Rattle.std.proofs.Common.{ℕ, ◌+◌, [], ◌∷◌, ◌++◌, refl, sym, ap, arith}
 use Rattle.std.proofs.lemmas.List.{length-append}
 use Rattle.std.proofs.lemmas.List.Elements.{All-nil, All-push}
-use Rattle.explorer.specs.Outcomes.{ComesIn, IsOutcomeOf, seed_of}
+use Rattle.explorer.specs.rule.Outcomes.{ComesIn, IsOutcomeOf, seed_of}
 use Rattle.explorer.proofs.MetOutcomes.{outcomes-none}
 use Rattle.explorer.proofs.explore.outcomes.Goals as goal
 

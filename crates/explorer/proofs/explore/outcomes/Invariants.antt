@@ -1,6 +1,6 @@
 use Rattle.std.proofs.Common.{◌≡◌}
 use Rattle.std.specs.Prelude.{All}
-use Rattle.explorer.specs.Outcomes.{AreMet, IsOutcomeOf, seeds_of}
+use Rattle.explorer.specs.rule.Outcomes.{AreMet, IsOutcomeOf, seeds_of}
 use Rattle.explorer.proofs.explore.outcomes.Given as goal
 
 abbrev pub invariant-loop-step : goal.invariant-loop-step

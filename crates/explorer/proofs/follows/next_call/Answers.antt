@@ -1,8 +1,8 @@
 use Rattle.std.proofs.Common.{◌≡◌, ◌∙◌, List, length, Some, refl, sym, ap, arith}
 use Rattle.std.specs.Prelude.{slice_get}
 use Rattle.model.specs.declared.op.Op.{Op}
-use Rattle.explorer.specs.ByProcess.{list_in}
-use Rattle.explorer.specs.Schedules.{calls_in, calls_of}
+use Rattle.explorer.specs.code.ByProcess.{list_in}
+use Rattle.explorer.specs.rule.Schedules.{calls_in, calls_of}
 use Rattle.explorer.proofs.Left.{left-served}
 use Rattle.explorer.proofs.follows.next_call.Goals as goal
 

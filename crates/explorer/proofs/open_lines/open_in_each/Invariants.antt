@@ -1,5 +1,5 @@
 use Rattle.std.proofs.Common.{◌≡◌, ◌++◌, drop}
-use Rattle.explorer.specs.Outcomes.{open_from}
+use Rattle.explorer.specs.rule.Outcomes.{open_from}
 use Rattle.explorer.proofs.open_lines.open_in_each.Given as goal
 
 abbrev pub invariant-loop-line : goal.invariant-loop-line

@@ -1,7 +1,7 @@
 use denote.Shadow.{shadow}
 use denote.Text.{Utf8}
 use Rattle.std.proofs.Common.{◌≡◌, Some}
-use Rattle.explorer.specs.Expectations.{behind}
+use Rattle.explorer.specs.rule.Expectations.{behind}
 use Rattle.explorer.proofs.reader.behind.Given as goal
 
 abbrev pub invariant-loop-left : goal.invariant-loop-left

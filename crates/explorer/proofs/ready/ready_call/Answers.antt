@@ -1,11 +1,11 @@
 use Rattle.std.proofs.Common.{◌∙◌, List, ap}
-use Rattle.cluster_core.specs.Parts.{world_state}
-use Rattle.cluster_core.specs.Journals.{RunFields}
+use Rattle.cluster_core.specs.rule.Parts.{world_state}
+use Rattle.cluster_core.specs.rule.Journals.{RunFields}
 use Rattle.lockscript.specs.declared.refused_line.RefusedLine.{RefusedLine}
-use Rattle.explorer.specs.Answers.{tries}
-use Rattle.explorer.specs.Schedules.{numbered}
-use Rattle.player.specs.Parts.{progress}
-use Rattle.player.specs.Played.{played_of}
+use Rattle.explorer.specs.rule.Answers.{tries}
+use Rattle.explorer.specs.rule.Schedules.{numbered}
+use Rattle.player.specs.code.Parts.{progress}
+use Rattle.player.specs.rule.Played.{played_of}
 use Rattle.explorer.proofs.Left.{none-goes-on}
 use Rattle.explorer.proofs.ready.ready_call.Goals as goal
 

@@ -1,11 +1,11 @@
 use Rattle.std.proofs.Common.{◌≡◌, ℕ, List, [], subst, sym, take, arith}
 use Rattle.std.specs.Prelude.{◌⊎◌}
 use Rattle.std.proofs.lemmas.Grind.{common_steps}
-use Rattle.cluster_core.specs.Parts.{world_state}
+use Rattle.cluster_core.specs.rule.Parts.{world_state}
 use Rattle.model.specs.declared.op.Op.{Op}
-use Rattle.lockscript.specs.Scripts.{LineFields}
-use Rattle.explorer.specs.Indexes.{CannotGoOn, HoldsOfCaller}
-use Rattle.explorer.specs.Schedules.{calls_in}
+use Rattle.lockscript.specs.rule.Scripts.{LineFields}
+use Rattle.explorer.specs.code.Indexes.{CannotGoOn, HoldsOfCaller}
+use Rattle.explorer.specs.rule.Schedules.{calls_in}
 use Rattle.explorer.proofs.Left.{calls-more, held-next}
 use Rattle.explorer.proofs.ready.ready_in.Goals as goal
 

@@ -1,9 +1,9 @@
 use Rattle.std.proofs.Common.{◌≡◌, ℕ, List, [], take}
 use Rattle.std.specs.Prelude.{◌⊎◌}
-use Rattle.cluster_core.specs.Parts.{world_state}
+use Rattle.cluster_core.specs.rule.Parts.{world_state}
 use Rattle.lockscript.specs.declared.script_line.Command.{Command}
-use Rattle.explorer.specs.Indexes.{CannotGoOn, KnowsCalls, KnowsLines}
-use Rattle.explorer.specs.Schedules.{calls_in}
+use Rattle.explorer.specs.code.Indexes.{CannotGoOn, KnowsCalls, KnowsLines}
+use Rattle.explorer.specs.rule.Schedules.{calls_in}
 use Rattle.explorer.proofs.ready.ready_in.Given as goal
 
 abbrev pub invariant-loop-line : goal.invariant-loop-line

@@ -1,7 +1,7 @@
 use Rattle.std.proofs.Common.{◌∙◌, ◌++◌, List, refl, ap, sym, arith, inl, inr}
 use Rattle.std.proofs.lemmas.Result.{err_from_is_err_and}
 use Rattle.model.specs.declared.op.Op.{Op}
-use Rattle.explorer.specs.Schedules.{calls_of, op_of}
+use Rattle.explorer.specs.rule.Schedules.{calls_of, op_of}
 use Rattle.explorer.proofs.Orders.{carried-on, few-more, schedule-none, schedule-on}
 use Rattle.explorer.proofs.Walks.{calls-push}
 use Rattle.explorer.proofs.schedule.choose.Goals as goal

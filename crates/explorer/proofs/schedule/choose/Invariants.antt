@@ -1,8 +1,8 @@
 use Rattle.std.proofs.Common.{◌≡◌, ◌+◌, ◌≤◌, Some, length}
-use Rattle.player.specs.Parts.{progress}
-use Rattle.player.specs.Progress.{RunsTo}
-use Rattle.explorer.specs.Indexes.{KnowsCalls}
-use Rattle.explorer.specs.Schedules.{most_lines, numbered, IsScheduleOf}
+use Rattle.player.specs.code.Parts.{progress}
+use Rattle.player.specs.rule.Progress.{RunsTo}
+use Rattle.explorer.specs.code.Indexes.{KnowsCalls}
+use Rattle.explorer.specs.rule.Schedules.{most_lines, numbered, IsScheduleOf}
 use Rattle.explorer.proofs.schedule.choose.Given as goal
 
 abbrev pub invariant-loop-number : goal.invariant-loop-number

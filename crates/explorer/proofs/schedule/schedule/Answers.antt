@@ -1,14 +1,14 @@
 use Rattle.std.proofs.Common.{List, refl, sym, subst}
 use Rattle.std.proofs.lemmas.Result.{err_from_is_err_and}
-use Rattle.cluster_core.specs.Runs.{Leads}
-use Rattle.cluster_core.specs.World.{first_world}
-use Rattle.player.specs.Parts.{progress}
+use Rattle.cluster_core.specs.rule.Runs.{Leads}
+use Rattle.cluster_core.specs.rule.World.{first_world}
+use Rattle.player.specs.code.Parts.{progress}
 use Rattle.lockscript.specs.declared.script_line.Command.{Command}
-use Rattle.lockscript.specs.Scripts.{LineFields}
-use Rattle.player.specs.Played.{PlayedState, played_of}
-use Rattle.player.specs.Progress.{Progress}
+use Rattle.lockscript.specs.rule.Scripts.{LineFields}
+use Rattle.player.specs.rule.Played.{PlayedState, played_of}
+use Rattle.player.specs.rule.Progress.{Progress}
 use Rattle.player.proofs.Progresses.{lines_lead}
-use Rattle.explorer.specs.Ends.{IsEnded}
+use Rattle.explorer.specs.rule.Ends.{IsEnded}
 use Rattle.explorer.proofs.schedule.schedule.Goals as goal
 
 pub finished-requires : goal.finished-requires

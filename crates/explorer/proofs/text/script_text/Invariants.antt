@@ -1,6 +1,6 @@
 use Rattle.std.proofs.Common.{◌≡◌, ◌++◌, string_bytes, drop}
 use Rattle.std.specs.Prelude.{flat_map}
-use Rattle.explorer.specs.Texts.{command_line, script_text}
+use Rattle.explorer.specs.rule.Texts.{command_line, script_text}
 use Rattle.explorer.proofs.text.script_text.Given as goal
 
 abbrev pub invariant-loop-command : goal.invariant-loop-command

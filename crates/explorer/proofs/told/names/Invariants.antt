@@ -1,6 +1,6 @@
 use Rattle.std.proofs.Common.{◌≡◌, ◌++◌, ℕ, drop}
-use Rattle.explorer.specs.Answers.{names}
-use Rattle.explorer.specs.ByProcess.{list_in}
+use Rattle.explorer.specs.rule.Answers.{names}
+use Rattle.explorer.specs.code.ByProcess.{list_in}
 use Rattle.explorer.proofs.told.names.Given as goal
 
 abbrev pub invariant-loop-entry : goal.invariant-loop-entry

@@ -1,6 +1,6 @@
 use Rattle.std.proofs.Common.{◌≡◌, ◌∙◌, ◌+◌, ◌-◌, ◌<◌, ℕ, List, ◌∷◌, length, drop, ap, sym, arith}
-use Rattle.messages.specs.Entries.{EntryFields}
-use Rattle.explorer.specs.Answers.{reply_answer}
+use Rattle.messages.specs.code.Entries.{EntryFields}
+use Rattle.explorer.specs.rule.Answers.{reply_answer}
 use Rattle.explorer.proofs.Walks.{drop_here}
 use Rattle.explorer.proofs.told.replies.Goals as goal
 

@@ -1,5 +1,5 @@
 use Rattle.std.proofs.Common.{drop}
-use Rattle.explorer.specs.Indexes.{KnowsReplies}
+use Rattle.explorer.specs.code.Indexes.{KnowsReplies}
 use Rattle.explorer.proofs.told.replies.Given as goal
 
 abbrev pub invariant-loop-index : goal.invariant-loop-index

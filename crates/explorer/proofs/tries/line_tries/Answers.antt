@@ -1,9 +1,9 @@
 use Rattle.std.proofs.Common.{◌∙◌, ◌+◌, ◌++◌, ◌∷◌, [], List, drop, ap, sym}
 use Rattle.std.specs.Prelude.{if◌then◌else◌}
 use Rattle.lockscript.specs.declared.script_line.Command.{Command}
-use Rattle.lockscript.specs.Scripts.{LineFields}
-use Rattle.explorer.specs.Answers.{calls_by, refusal_of, tries}
-use Rattle.explorer.specs.ByProcess.{list_in}
+use Rattle.lockscript.specs.rule.Scripts.{LineFields}
+use Rattle.explorer.specs.rule.Answers.{calls_by, refusal_of, tries}
+use Rattle.explorer.specs.code.ByProcess.{list_in}
 use Rattle.explorer.proofs.Walks.{drop_here, tries-on}
 use Rattle.explorer.proofs.tries.line_tries.Goals as goal
 

@@ -1,6 +1,6 @@
 use Rattle.std.proofs.Common.{◌≡◌, ◌++◌, ℕ, drop}
-use Rattle.explorer.specs.Answers.{tries}
-use Rattle.explorer.specs.ByProcess.{list_in}
+use Rattle.explorer.specs.rule.Answers.{tries}
+use Rattle.explorer.specs.code.ByProcess.{list_in}
 use Rattle.explorer.proofs.tries.line_tries.Given as goal
 
 abbrev pub invariant-loop-line : goal.invariant-loop-line

@@ -1,6 +1,6 @@
 use Rattle.std.proofs.Common.{◌≡◌, ◌∙◌, ◌+◌, ◌-◌, ◌<◌, ◌∷◌, ℕ, List, length, drop, get_or, ap, sym, arith}
 use Rattle.lockscript.specs.declared.refused_line.RefusedLine.{RefusedLine}
-use Rattle.explorer.specs.Answers.{refusal_of}
+use Rattle.explorer.specs.rule.Answers.{refusal_of}
 use Rattle.explorer.proofs.Walks.{drop_at}
 use Rattle.explorer.proofs.tries.refusals.Goals as goal
 

@@ -1,5 +1,5 @@
 use Rattle.std.proofs.Common.{drop}
-use Rattle.explorer.specs.Indexes.{KnowsRefusals}
+use Rattle.explorer.specs.code.Indexes.{KnowsRefusals}
 use Rattle.explorer.proofs.tries.refusals.Given as goal
 
 abbrev pub invariant-loop-index : goal.invariant-loop-index

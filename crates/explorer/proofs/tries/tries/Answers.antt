@@ -4,9 +4,9 @@ use Rattle.model.specs.declared.op.Op.TheVariants.{Process}
 use Rattle.model.specs.declared.op.ProcessCall.TheVariants.{Spawn}
 use Rattle.lockscript.specs.declared.script_line.Command.{Command}
 use Rattle.lockscript.specs.declared.script_line.Command.TheVariants.{Call}
-use Rattle.explorer.specs.Answers.{tries}
-use Rattle.explorer.specs.ByProcess.{list_in}
-use Rattle.explorer.specs.Schedules.{line_of}
+use Rattle.explorer.specs.rule.Answers.{tries}
+use Rattle.explorer.specs.code.ByProcess.{list_in}
+use Rattle.explorer.specs.rule.Schedules.{line_of}
 use Rattle.explorer.proofs.Walks.{drop_at, tries-on}
 use Rattle.explorer.proofs.tries.tries.Goals as goal
 

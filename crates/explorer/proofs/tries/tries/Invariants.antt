@@ -1,8 +1,8 @@
 use Rattle.std.proofs.Common.{◌≡◌, ◌+◌, ◌++◌, ℕ, drop, map}
 use Rattle.std.specs.List.{enumerate_from}
-use Rattle.explorer.specs.Answers.{tries}
-use Rattle.explorer.specs.ByProcess.{list_in}
-use Rattle.explorer.specs.Schedules.{line_of, numbered}
+use Rattle.explorer.specs.rule.Answers.{tries}
+use Rattle.explorer.specs.code.ByProcess.{list_in}
+use Rattle.explorer.specs.rule.Schedules.{line_of, numbered}
 use Rattle.explorer.proofs.tries.tries.Given as goal
 
 abbrev pub invariant-loop-command : goal.invariant-loop-command

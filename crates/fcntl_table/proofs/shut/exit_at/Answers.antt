@@ -1,5 +1,5 @@
 use Rattle.std.proofs.Common.{ℕ, sym, ◌∙◌, arith}
-use Rattle.model.specs.Descriptors.{Processes, no_processes}
+use Rattle.model.specs.rule.Descriptors.{Processes, no_processes}
 use Rattle.model.proofs.FailLaws.{closed_below-none, closed_below-more, exited-by}
 use Rattle.fcntl_table.proofs.ExitLaws.{closed_below-runs, ended-table, runs-at}
 use Rattle.fcntl_table.proofs.shut.exit_at.Goals as goal

@@ -1,7 +1,7 @@
 use Rattle.std.proofs.Common.{◌≡◌, ℕ}
-use Rattle.model.specs.Descriptors.{Processes}
-use Rattle.model.specs.Table.{closed_below}
-use Rattle.fcntl_table.specs.Hosts.{process_at, shown}
+use Rattle.model.specs.rule.Descriptors.{Processes}
+use Rattle.model.specs.rule.Table.{closed_below}
+use Rattle.fcntl_table.specs.rule.Hosts.{process_at, shown}
 use Rattle.fcntl_table.proofs.shut.exit_at.Given as goal
 
 abbrev pub invariant-loop-fd : goal.invariant-loop-fd

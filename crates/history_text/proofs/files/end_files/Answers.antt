@@ -1,7 +1,7 @@
 use Rattle.std.proofs.Common.{◌≡◌, ◌<◌, List, length, take, refl, subst, arith}
 use Rattle.std.proofs.lemmas.List.{take_all}
 use Rattle.history_text.specs.declared.file_calls.FileCalls.{FileCalls}
-use Rattle.history_text.specs.Drops.{AreEndedOf}
+use Rattle.history_text.specs.code.Drops.{AreEndedOf}
 use Rattle.history_text.proofs.EndLaws.{count_more, ended_more, ended_none, rest_more, same_file}
 use Rattle.history_text.proofs.files.end_files.Goals as goal
 

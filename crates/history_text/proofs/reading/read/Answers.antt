@@ -1,7 +1,7 @@
 use Rattle.std.proofs.Common.{[], refl}
 use Rattle.std.proofs.lemmas.List.Elements.{All-nil}
-use Rattle.texts.specs.LineFeeds.{line_feed}
-use Rattle.texts.specs.Reads.{Lacks}
+use Rattle.texts.specs.rule.LineFeeds.{line_feed}
+use Rattle.texts.specs.rule.Reads.{Lacks}
 use Rattle.history_text.specs.declared.history.History.{History}
 use Rattle.history_text.specs.declared.reader.Reader.{Reader}
 use Rattle.history_text.proofs.HistoryLaws.{is_history}

@@ -1,4 +1,4 @@
-use Rattle.intervals.specs.Bytes.{IsBarred}
+use Rattle.intervals.specs.rule.Bytes.{IsBarred}
 use Rattle.intervals.proofs.SpanLaws.{largest_is_one}
 use Rattle.intervals.proofs.laws.largest_is_one.Goals as goal
 

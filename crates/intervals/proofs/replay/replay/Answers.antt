@@ -1,6 +1,6 @@
 use Rattle.std.proofs.Common.{ap, sym, ◌∙◌, arith}
 use Rattle.std.proofs.lemmas.List.{drop_all}
-use Rattle.intervals.specs.Replays.{replayed_on}
+use Rattle.intervals.specs.code.Replays.{replayed_on}
 use Rattle.intervals.proofs.replay.replay.Goals as goal
 
 pub loop-command-init : goal.loop-command-init

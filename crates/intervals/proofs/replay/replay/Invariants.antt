@@ -1,5 +1,5 @@
 use Rattle.std.proofs.Common.{◌≡◌, drop}
-use Rattle.intervals.specs.Replays.{replayed, replayed_on}
+use Rattle.intervals.specs.code.Replays.{replayed, replayed_on}
 use Rattle.intervals.proofs.replay.replay.Given as goal
 
 -- the remaining commands make of the map what all commands make of an empty one

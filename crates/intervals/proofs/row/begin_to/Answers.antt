@@ -1,6 +1,6 @@
 use Rattle.std.proofs.Common.{◌-◌, [], leb, leb-true, leb-false, rules, arith}
 use Rattle.std.proofs.lemmas.List.Sorted.{IsPartitionPoint-from_clause, IsPartitionedBy-leb}
-use Rattle.intervals.specs.Runs.{begins_at}
+use Rattle.intervals.specs.code.Runs.{begins_at}
 use Rattle.intervals.proofs.Rows.{parts_rise, begins_drop, above_drop}
 use Rattle.intervals.proofs.row.begin_to.Goals as goal
 

@@ -1,7 +1,7 @@
 use Rattle.std.proofs.Common.{◌≡◌, ℕ, max, ◌+◌, List, ◌∷◌, Some, ap, subst, ◌∙◌, arith}
 use Rattle.intervals.specs.declared.run.Run.{Run}
-use Rattle.intervals.specs.Bytes.{greatest, put}
-use Rattle.intervals.specs.Runs.{value_at, AreRuns, EndsBelow, EndsFrom}
+use Rattle.intervals.specs.rule.Bytes.{greatest, put}
+use Rattle.intervals.specs.code.Runs.{value_at, AreRuns, EndsBelow, EndsFrom}
 use Rattle.intervals.proofs.Runs.{ends_below_le}
 use Rattle.intervals.proofs.Written.{ends_below-both}
 use Rattle.intervals.proofs.Pieces.{none_left, moved-runs, moved-inside, moved-under}

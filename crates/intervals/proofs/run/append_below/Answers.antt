@@ -1,8 +1,8 @@
 use Rattle.std.proofs.Common.{◌≡◌, ℕ, ◌-◌, ◌+◌, ◌++◌, List, ◌∷◌, Some, length, ap, subst, ◌∙◌, arith}
 use Rattle.std.proofs.lemmas.List.{length-append}
 use Rattle.intervals.specs.declared.run.Run.{Run}
-use Rattle.intervals.specs.Bytes.{put}
-use Rattle.intervals.specs.Runs.{value_at, AreRuns, EndsFrom}
+use Rattle.intervals.specs.rule.Bytes.{put}
+use Rattle.intervals.specs.code.Runs.{value_at, AreRuns, EndsFrom}
 use Rattle.intervals.proofs.Split.{ends-before}
 use Rattle.intervals.proofs.Pieces.{cut_below, none_cut}
 use Rattle.intervals.proofs.run.append_below.Goals as goal

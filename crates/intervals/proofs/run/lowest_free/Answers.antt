@@ -1,6 +1,6 @@
 use Rattle.std.proofs.Common.{◌++◌, [], ◌∷◌, arith}
 use Rattle.std.proofs.lemmas.Bool.{both_ways}
-use Rattle.intervals.specs.Runs.{EndsBelow}
+use Rattle.intervals.specs.code.Runs.{EndsBelow}
 use Rattle.intervals.proofs.Around.{LeftBelow, lowest_start, lowest_end, lowest_stop, lowest_after, lowest_skip, ends-last}
 use Rattle.intervals.proofs.run.lowest_free.Goals as goal
 

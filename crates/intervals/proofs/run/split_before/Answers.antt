@@ -1,6 +1,6 @@
 use Rattle.std.proofs.Common.{◌++◌, ltb, ltb-true, ltb-false, rules, arith}
 use Rattle.std.proofs.lemmas.List.Sorted.{IsPartitionPoint-from_clause, IsPartitionedBy-ltb}
-use Rattle.intervals.specs.Runs.{AreRuns}
+use Rattle.intervals.specs.code.Runs.{AreRuns}
 use Rattle.intervals.proofs.Split.{ends_rise, ended_take, reached_drop, runs-front, runs-back}
 use Rattle.intervals.proofs.run.split_before.Goals as goal
 

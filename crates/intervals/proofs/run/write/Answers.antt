@@ -1,8 +1,8 @@
 use Rattle.std.proofs.Common.{◌≡◌, ◌+◌, ◌++◌, ℕ, take, length, sym, ap, ◌∙◌, arith}
 use Rattle.std.proofs.Math.Seq.{take-append_seam}
 use Rattle.std.proofs.lemmas.List.{length-append}
-use Rattle.intervals.specs.Bytes.{greatest, put}
-use Rattle.intervals.specs.Runs.{value_at, AreRuns, EndsBelow}
+use Rattle.intervals.specs.rule.Bytes.{greatest, put}
+use Rattle.intervals.specs.code.Runs.{value_at, AreRuns, EndsBelow}
 use Rattle.intervals.proofs.Written.{ends_below-both, ends_below-front, ends_below-rest, runs-written, at-written}
 use Rattle.intervals.proofs.StartsWith.{put-pieces}
 use Rattle.intervals.proofs.run.write.Goals as goal

@@ -1,5 +1,5 @@
 use Rattle.std.proofs.Common.{All, take}
-use Rattle.journal_text.specs.Fits.{FitsMessage}
+use Rattle.journal_text.specs.code.Fits.{FitsMessage}
 use Rattle.journal_text.proofs.fits.messages_fit.Given as goal
 
 abbrev pub invariant-loop-message : goal.invariant-loop-message

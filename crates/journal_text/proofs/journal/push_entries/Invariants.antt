@@ -1,5 +1,5 @@
 use Rattle.std.proofs.Common.{◌≡◌, ◌+◌, ◌++◌, string_bytes, drop}
-use Rattle.journal_text.specs.Journals.{entries_text}
+use Rattle.journal_text.specs.rule.Journals.{entries_text}
 use Rattle.journal_text.proofs.journal.push_entries.Given as goal
 
 abbrev pub invariant-loop-entry : goal.invariant-loop-entry

@@ -1,5 +1,5 @@
 use Rattle.std.proofs.Common.{◌≡◌, ◌++◌, flat_map, string_bytes, take}
-use Rattle.journal_text.specs.Journals.{send_line}
+use Rattle.journal_text.specs.rule.Journals.{send_line}
 use Rattle.journal_text.proofs.journal.push_sends.Given as goal
 
 abbrev pub invariant-loop-message : goal.invariant-loop-message

@@ -1,7 +1,7 @@
 use Rattle.std.proofs.Common.{All, List, subst}
-use Rattle.messages.specs.Entries.{EntryFields}
-use Rattle.messages.specs.Shapes.{IsShape}
-use Rattle.journal_text.specs.Fits.{FitsEntry}
+use Rattle.messages.specs.code.Entries.{EntryFields}
+use Rattle.messages.specs.rule.Shapes.{IsShape}
+use Rattle.journal_text.specs.code.Fits.{FitsEntry}
 use Rattle.journal_text.proofs.Limits.{read-run}
 use Rattle.journal_text.proofs.laws.each_journal_is_read.Goals as goal
 

@@ -1,7 +1,7 @@
 use Rattle.std.proofs.Common.{refl, subst, ◌∙◌}
 use Rattle.std.proofs.lemmas.Result.{err_from_is_err_and}
 use Rattle.messages.specs.declared.version.Version.{Version}
-use Rattle.journal_text.specs.Places.{IsStuck, StandsNext}
+use Rattle.journal_text.specs.code.Places.{IsStuck, StandsNext}
 use Rattle.journal_text.proofs.Standing.{standing-first, standing-passed, standing-stuck}
 use Rattle.journal_text.proofs.Steps.{built_of}
 use Rattle.journal_text.proofs.Steps.Reading.{nothing}

@@ -1,5 +1,5 @@
 use Rattle.std.proofs.Common.{length}
-use Rattle.journal_text.specs.Built.{BuilderFields}
+use Rattle.journal_text.specs.code.Built.{BuilderFields}
 use Rattle.journal_text.proofs.Standing.{Standing}
 use Rattle.journal_text.proofs.parse.measure.Given as goal
 

@@ -2,8 +2,8 @@ use Rattle.std.proofs.Common.{refl, sym, ap, subst, ◌∙◌}
 use Rattle.std.proofs.lemmas.Result.{err_from_is_err_and}
 use Rattle.messages.specs.declared.version.Version.{Version}
 use Rattle.journal_text.specs.declared.place.Place.{Place}
-use Rattle.journal_text.specs.Built.{BuilderFields, built}
-use Rattle.journal_text.specs.Places.{IsStuck, StandsNext}
+use Rattle.journal_text.specs.code.Built.{BuilderFields, built}
+use Rattle.journal_text.specs.code.Places.{IsStuck, StandsNext}
 use Rattle.journal_text.proofs.Standing.{standing-first, standing-line, standing-stuck, standing-whole}
 use Rattle.journal_text.proofs.Steps.{built_of, last-only}
 use Rattle.journal_text.proofs.Steps.Reading.{nothing}

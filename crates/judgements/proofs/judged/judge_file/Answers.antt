@@ -1,8 +1,8 @@
 use Rattle.std.proofs.Common.{List, subst}
 use Rattle.client_history.specs.declared.client_call.ClientCall.{ClientCall}
 use Rattle.client_history.specs.declared.verdict.Verdict.TheVariants.{Unexplained}
-use Rattle.client_history.specs.Explained.{always}
-use Rattle.client_history.specs.Verdicts.{IsVerdict}
+use Rattle.client_history.specs.rule.Explained.{always}
+use Rattle.client_history.specs.rule.Verdicts.{IsVerdict}
 use Rattle.judgements.proofs.judged.judge_file.Goals as goal
 
 pub contradicted-requires : goal.contradicted-requires

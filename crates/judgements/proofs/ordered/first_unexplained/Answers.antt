@@ -2,7 +2,7 @@ use Rattle.std.proofs.Common.{rules, arith, true, subst, ◌≡◌}
 use Rattle.std.specs.Prelude.{All}
 use Rattle.std.proofs.lemmas.List.{take_all}
 use Rattle.std.proofs.lemmas.List.Elements.{All-more}
-use Rattle.judgements.specs.Judgements.{IsExplained}
+use Rattle.judgements.specs.rule.Judgements.{IsExplained}
 use Rattle.judgements.proofs.ordered.first_unexplained.Goals as goal
 
 pub loop-file-preserved : goal.loop-file-preserved

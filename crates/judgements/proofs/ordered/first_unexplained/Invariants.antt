@@ -1,7 +1,7 @@
 -- The orders of the files before this one explain them.
 use Rattle.std.proofs.Common.{take}
 use Rattle.std.specs.Prelude.{All}
-use Rattle.judgements.specs.Judgements.{HasOneClock, IsExplained}
+use Rattle.judgements.specs.rule.Judgements.{HasOneClock, IsExplained}
 use Rattle.judgements.proofs.ordered.first_unexplained.Given as goal
 
 abbrev pub invariant-loop-file : goal.invariant-loop-file

@@ -1,7 +1,7 @@
 use Rattle.std.specs.Prelude.{◌+◌, length}
 use Rattle.std.proofs.Common.{ap, sym, subst, ◌∙◌}
 use Rattle.std.proofs.lemmas.List.{length_push}
-use Rattle.known_nodes.specs.Rebuilds.{AreRebuilt}
+use Rattle.known_nodes.specs.code.Rebuilds.{AreRebuilt}
 use Rattle.known_nodes.proofs.RebuildLaws.{rebuilt-push}
 use Rattle.known_nodes.proofs.known_nodes.rebuilt.Goals as goal
 

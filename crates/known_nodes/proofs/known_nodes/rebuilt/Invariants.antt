@@ -1,5 +1,5 @@
 use Rattle.std.specs.Prelude.{◌≡◌, length}
-use Rattle.known_nodes.specs.Rebuilds.{AreRebuilt}
+use Rattle.known_nodes.specs.code.Rebuilds.{AreRebuilt}
 use Rattle.known_nodes.proofs.known_nodes.rebuilt.Given as goal
 
 abbrev pub invariant-loop-place : goal.invariant-loop-place

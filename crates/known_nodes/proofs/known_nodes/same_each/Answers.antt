@@ -4,7 +4,7 @@ use Rattle.std.proofs.Common.{sym, ap, subst, ◌∙◌, inl, inr, arith}
 use Rattle.std.proofs.lemmas.Bool.{cases_lt}
 use Rattle.std.proofs.lemmas.Option.{slice_get-get_or}
 use Rattle.known_nodes.specs.declared.known_node.KnownNode.{KnownNode}
-use Rattle.known_nodes.specs.Parts.{SameKnown}
+use Rattle.known_nodes.specs.rule.Parts.{SameKnown}
 use Rattle.known_nodes.proofs.known_nodes.same_each.Goals as goal
 
 pub returns-then-not-same : goal.returns-then-not-same

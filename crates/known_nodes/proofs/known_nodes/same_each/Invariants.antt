@@ -1,5 +1,5 @@
 use Rattle.std.specs.Prelude.{ℕ, ◌<◌, slice_get}
-use Rattle.known_nodes.specs.Parts.{SameKnown}
+use Rattle.known_nodes.specs.rule.Parts.{SameKnown}
 use Rattle.known_nodes.proofs.known_nodes.same_each.Given as goal
 
 abbrev pub invariant-loop-i : goal.invariant-loop-i

@@ -1,12 +1,12 @@
 use Rattle.std.specs.Prelude.{◌≡◌, ℕ, suc, ◌-◌, ◌<◌, ◌≤◌, true, List, ◌∷◌, All, length}
 use Rattle.std.proofs.Common.{sym, ap, subst, ◌∙◌, drop, arith, drop-cons}
 use Rattle.std.proofs.lemmas.List.Elements.{All-cons}
-use Rattle.intervals.specs.Bytes.{Range}
-use Rattle.token_set.specs.Tokens.{raised}
-use Rattle.token_set.specs.Sets.{token_of}
+use Rattle.intervals.specs.rule.Bytes.{Range}
+use Rattle.token_set.specs.rule.Tokens.{raised}
+use Rattle.token_set.specs.code.Sets.{token_of}
 use Rattle.messages.specs.declared.token_run.TokenRun.{TokenRun}
-use Rattle.messages.specs.TokenRuns.{are_longest}
-use Rattle.messages.specs.Reports.{reported}
+use Rattle.messages.specs.rule.TokenRuns.{are_longest}
+use Rattle.messages.specs.rule.Reports.{reported}
 use Rattle.known_nodes.proofs.ReportLaws.{HasByte, reported-more, longest-drop}
 use Rattle.known_nodes.proofs.reports.token_told.Goals as goal
 

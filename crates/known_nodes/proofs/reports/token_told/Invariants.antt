@@ -1,7 +1,7 @@
 use Rattle.std.specs.Prelude.{◌≡◌, All}
 use Rattle.std.proofs.Common.{drop}
-use Rattle.token_set.specs.Sets.{token_of}
-use Rattle.messages.specs.Reports.{reported}
+use Rattle.token_set.specs.code.Sets.{token_of}
+use Rattle.messages.specs.rule.Reports.{reported}
 use Rattle.known_nodes.proofs.ReportLaws.{HasByte}
 use Rattle.known_nodes.proofs.reports.token_told.Given as goal
 

@@ -1,7 +1,7 @@
 use Rattle.std.proofs.Common.{◌≡◌, rules}
 use Rattle.std.proofs.lemmas.Fn.{always_returns_same}
 use Rattle.lock_table.specs.declared.owner_locks.OwnerLocks.{OwnerLocks}
-use Rattle.lock_table.specs.Rows.{row_cmp}
+use Rattle.lock_table.specs.code.Rows.{row_cmp}
 use Rattle.lock_table.proofs.RowLemmas.{searched}
 use Rattle.lock_table.proofs.lock_table.position.Goals as goal
 

@@ -1,5 +1,5 @@
 use Rattle.std.specs.Prelude.{codes}
-use Rattle.lockscript.specs.Scripts.{IsScriptShape, counts_text}
+use Rattle.lockscript.specs.rule.Scripts.{IsScriptShape, counts_text}
 use Rattle.texts.proofs.Pairs.{reads-after_none}
 use Rattle.lockscript.proofs.cluster_line.shape_of.Goals as goal
 

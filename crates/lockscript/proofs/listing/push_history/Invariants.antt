@@ -1,5 +1,5 @@
 use Rattle.std.proofs.Common.{◌≡◌, codes, ◌++◌, flat_map, string_bytes, take}
-use Rattle.lockscript.specs.Listing.{history_line}
+use Rattle.lockscript.specs.rule.Listing.{history_line}
 use Rattle.lockscript.proofs.listing.push_history.Given as goal
 
 abbrev pub invariant-loop-item : goal.invariant-loop-item

@@ -1,5 +1,5 @@
 use Rattle.std.proofs.Common.{◌≡◌, codes, ◌++◌, flat_map, string_bytes, take}
-use Rattle.lockscript.specs.Listing.{lock_line}
+use Rattle.lockscript.specs.rule.Listing.{lock_line}
 use Rattle.lockscript.proofs.listing.push_locks.Given as goal
 
 abbrev pub invariant-loop-held : goal.invariant-loop-held

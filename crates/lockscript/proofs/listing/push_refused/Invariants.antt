@@ -1,5 +1,5 @@
 use Rattle.std.proofs.Common.{◌≡◌, codes, ◌++◌, flat_map, string_bytes, take}
-use Rattle.lockscript.specs.Listing.{refused_line}
+use Rattle.lockscript.specs.rule.Listing.{refused_line}
 use Rattle.lockscript.proofs.listing.push_refused.Given as goal
 
 abbrev pub invariant-loop-line : goal.invariant-loop-line

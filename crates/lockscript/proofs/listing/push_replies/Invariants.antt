@@ -1,5 +1,5 @@
 use Rattle.std.proofs.Common.{◌≡◌, codes, ◌+◌, ◌++◌, string_bytes, drop}
-use Rattle.lockscript.specs.Listing.{reply_lines}
+use Rattle.lockscript.specs.rule.Listing.{reply_lines}
 use Rattle.lockscript.proofs.listing.push_replies.Given as goal
 
 abbrev pub invariant-loop-entry : goal.invariant-loop-entry

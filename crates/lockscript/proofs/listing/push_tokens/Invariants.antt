@@ -1,5 +1,5 @@
 use Rattle.std.proofs.Common.{◌≡◌, codes, ◌++◌, flat_map, string_bytes, take}
-use Rattle.lockscript.specs.Listing.{token_line}
+use Rattle.lockscript.specs.rule.Listing.{token_line}
 use Rattle.lockscript.proofs.listing.push_tokens.Given as goal
 
 abbrev pub invariant-loop-token : goal.invariant-loop-token

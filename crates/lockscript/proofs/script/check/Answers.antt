@@ -2,7 +2,7 @@ use Rattle.std.proofs.Common.{[], ◌∷◌, ◌++◌}
 use Rattle.std.proofs.lemmas.Result.{err_from_is_err_and}
 use Rattle.lockscript.proofs.BadLines.{bad-line, bad-unfinished}
 use Rattle.lockscript.proofs.Begun.{begun-line, script-begun}
-use Rattle.lockscript.specs.Scripts.{script_of}
+use Rattle.lockscript.specs.rule.Scripts.{script_of}
 use Rattle.lockscript.proofs.script.check.Goals as goal
 
 pub returns-in_err-line-clause-bad : goal.returns-in_err-line-clause-bad

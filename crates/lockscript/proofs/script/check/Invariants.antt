@@ -1,5 +1,5 @@
 use Rattle.std.proofs.Common.{length}
-use Rattle.lockscript.specs.Scripts.{Begun, ScriptFields}
+use Rattle.lockscript.specs.rule.Scripts.{Begun, ScriptFields}
 use Rattle.lockscript.proofs.script.check.Given as goal
 
 abbrev pub invariant-loop-line : goal.invariant-loop-line

@@ -1,7 +1,7 @@
 use Rattle.std.proofs.Common.{◌≡◌, ◌∙◌, sym, ap, true, false, [], ◌∷◌, ◌++◌}
 use Rattle.std.proofs.lemmas.Result.{err_from_is_err_and}
-use Rattle.lockscript.specs.Scripts.{script_of}
-use Rattle.lockscript.specs.ThreadLines.{is_for_threads}
+use Rattle.lockscript.specs.rule.Scripts.{script_of}
+use Rattle.lockscript.specs.rule.ThreadLines.{is_for_threads}
 use Rattle.lockscript.proofs.Begun.{script-begun}
 use Rattle.lockscript.proofs.ThreadScripts.{bad-at-first, bad-behind, bad-end, bad-not_taken, more-for-threads}
 use Rattle.lockscript.proofs.script.check_for_threads.Goals as goal

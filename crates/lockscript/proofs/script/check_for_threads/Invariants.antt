@@ -1,5 +1,5 @@
 use Rattle.std.proofs.Common.{length}
-use Rattle.lockscript.specs.Scripts.{ScriptFields}
+use Rattle.lockscript.specs.rule.Scripts.{ScriptFields}
 use Rattle.lockscript.proofs.ThreadScripts.{BegunForThreads}
 use Rattle.lockscript.proofs.script.check_for_threads.Given as goal
 

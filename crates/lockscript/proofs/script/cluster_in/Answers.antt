@@ -1,6 +1,6 @@
 use Rattle.std.proofs.Common.{[], refl}
 use Rattle.std.proofs.lemmas.Result.{err_from_is_err_and}
-use Rattle.lockscript.specs.Scripts.IsBad.{has_no_cluster, has_no_end}
+use Rattle.lockscript.specs.rule.Scripts.IsBad.{has_no_cluster, has_no_end}
 use Rattle.lockscript.proofs.BadLines.{bad-first, bad-none}
 use Rattle.lockscript.proofs.script.cluster_in.Goals as goal
 

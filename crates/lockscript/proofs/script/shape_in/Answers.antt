@@ -1,5 +1,5 @@
 use Rattle.std.proofs.Common.{ℕ, [], sym, subst}
-use Rattle.lockscript.specs.Scripts.{Begun, script_of}
+use Rattle.lockscript.specs.rule.Scripts.{Begun, script_of}
 use Rattle.lockscript.proofs.ShapedTexts.{begun-cluster}
 use Rattle.lockscript.proofs.script.shape_in.Goals as goal
 

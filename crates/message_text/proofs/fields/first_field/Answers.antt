@@ -1,7 +1,7 @@
 use Rattle.std.proofs.Common.{sym, ◌∙◌}
 use Rattle.texts.proofs.Pairs.{same-split}
 use Rattle.texts.proofs.SingleWords.{one-word}
-use Rattle.texts.specs.Layout.{space}
+use Rattle.texts.specs.rule.Layout.{space}
 use Rattle.message_text.proofs.fields.first_field.Goals as goal
 
 pub returns-in_err-value : goal.returns-in_err-value

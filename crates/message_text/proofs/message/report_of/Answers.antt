@@ -1,11 +1,11 @@
 use Rattle.std.proofs.Common.{◌≡◌, ◌≢◌, ℕ, List, ◌∷◌, ◌++◌, rules}
 use Rattle.model.specs.declared.host.Host.{Host}
-use Rattle.messages.specs.Epochs.{IsRebuilt}
-use Rattle.texts.specs.Layout.{space}
-use Rattle.message_text.specs.Names.{holder_text}
-use Rattle.message_text.specs.Reports.{IsRunsText}
-use Rattle.message_text.specs.Served.{IsHolder}
-use Rattle.message_text.specs.Texts.{epoch_text}
+use Rattle.messages.specs.rule.Epochs.{IsRebuilt}
+use Rattle.texts.specs.rule.Layout.{space}
+use Rattle.message_text.specs.rule.Names.{holder_text}
+use Rattle.message_text.specs.code.Reports.{IsRunsText}
+use Rattle.message_text.specs.rule.Served.{IsHolder}
+use Rattle.message_text.specs.rule.Texts.{epoch_text}
 use Rattle.message_text.proofs.ReportFields.{no_epoch, no_holder, no_runs}
 use Rattle.message_text.proofs.message.report_of.Goals as goal
 

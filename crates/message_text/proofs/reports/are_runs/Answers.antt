@@ -1,7 +1,7 @@
 use Rattle.std.proofs.Common.{◌≡◌, ◌+◌, ◌-◌, ℕ, suc, arith, None, subst}
 use Rattle.std.proofs.lemmas.Bool.{false≢true}
 use Rattle.std.specs.Prelude.{◌↔◌}
-use Rattle.message_text.specs.Reports.{IsRunsText}
+use Rattle.message_text.specs.code.Reports.{IsRunsText}
 use Rattle.message_text.proofs.ReportWords.{AreRunWords, are_runs, no_count, no_run, one_run}
 use Rattle.message_text.proofs.reports.are_runs.Goals as goal
 

@@ -1,5 +1,5 @@
 use Rattle.std.proofs.Common.{◌↔◌, ◌-◌}
-use Rattle.message_text.specs.Reports.{IsRunsText}
+use Rattle.message_text.specs.code.Reports.{IsRunsText}
 use Rattle.message_text.proofs.ReportWords.{AreRunWords}
 use Rattle.message_text.proofs.reports.are_runs.Given as goal
 

@@ -1,6 +1,6 @@
 use Rattle.std.proofs.Common.{◌≡◌, false, ap, rules, sym, ◌∙◌}
 use Rattle.std.proofs.lemmas.Bool.{false≢true}
-use Rattle.message_text.specs.Reports.{may_stand}
+use Rattle.message_text.specs.code.Reports.{may_stand}
 use Rattle.message_text.proofs.ReportWords.{same_first}
 use Rattle.message_text.proofs.reports.next_standing.Goals as goal
 

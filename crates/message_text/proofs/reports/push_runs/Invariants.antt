@@ -1,7 +1,7 @@
 use Rattle.std.proofs.Common.{◌≡◌, ◌++◌, ◌∷◌, string_bytes, decimal, take, length}
 use Rattle.std.specs.List.{flat_map}
-use Rattle.texts.specs.Layout.{space}
-use Rattle.message_text.specs.Texts.{run_text}
+use Rattle.texts.specs.rule.Layout.{space}
+use Rattle.message_text.specs.rule.Texts.{run_text}
 use Rattle.message_text.proofs.reports.push_runs.Given as goal
 
 abbrev pub invariant-loop-run : goal.invariant-loop-run

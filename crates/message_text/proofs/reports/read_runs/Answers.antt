@@ -1,6 +1,6 @@
 use Rattle.std.proofs.Common.{◌≡◌, true, ap, ◌∙◌}
 use Rattle.std.proofs.lemmas.Bool.{false≢true}
-use Rattle.messages.specs.TokenRuns.{are_longest}
+use Rattle.messages.specs.rule.TokenRuns.{are_longest}
 use Rattle.message_text.proofs.ReportWords.{all_read, none_read, one_read}
 use Rattle.message_text.proofs.reports.read_runs.Goals as goal
 

@@ -1,5 +1,5 @@
 use Rattle.std.proofs.Common.{length}
-use Rattle.message_text.specs.Reports.{runs_in}
+use Rattle.message_text.specs.code.Reports.{runs_in}
 use Rattle.message_text.proofs.ReportWords.{AreLeft}
 use Rattle.message_text.proofs.reports.read_runs.Given as goal
 

@@ -1,5 +1,5 @@
 use Rattle.std.proofs.Common.{◌≡◌, ◌∷◌, drop}
-use Rattle.messages.specs.TokenRuns.{are_longest}
+use Rattle.messages.specs.rule.TokenRuns.{are_longest}
 use Rattle.messages.proofs.token_run.are_longest.Given as goal
 
 abbrev pub invariant-loop-run : goal.invariant-loop-run

@@ -1,8 +1,8 @@
 use Rattle.std.specs.Prelude.{◌-◌}
 use Rattle.std.specs.List.{slice_get}
 use Rattle.std.proofs.Common.{ap, sym, ◌∙◌}
-use Rattle.node_core.specs.Files.{file_state}
-use Rattle.node_core.specs.Plans.{files_after, row_after}
+use Rattle.node_core.specs.rule.Files.{file_state}
+use Rattle.node_core.specs.code.Plans.{files_after, row_after}
 use Rattle.node_core.proofs.FileLaws.{file_state-set, row-there}
 use Rattle.node_core.proofs.files.apply_command.Goals as goal
 

@@ -1,7 +1,7 @@
 use Rattle.std.specs.Prelude.{false}
 use Rattle.std.proofs.Common.{ap, ◌∙◌}
-use Rattle.node_core.specs.State.{FileState}
-use Rattle.node_core.specs.Files.{state_of}
+use Rattle.node_core.specs.rule.State.{FileState}
+use Rattle.node_core.specs.rule.Files.{state_of}
 use Rattle.node_core.proofs.FileLaws.{file_state-change}
 use Rattle.node_core.proofs.files.clear_one.Goals as goal
 

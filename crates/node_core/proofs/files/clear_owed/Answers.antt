@@ -1,8 +1,8 @@
 use Rattle.std.specs.Prelude.{slice_index_or}
 use Rattle.std.proofs.Common.{arith, ap, sym, take, ◌<◌, length, ◌∙◌}
 use Rattle.std.proofs.lemmas.List.{take_more}
-use Rattle.node_core.specs.Files.{file_state}
-use Rattle.node_core.specs.Plans.{told, files_told}
+use Rattle.node_core.specs.rule.Files.{file_state}
+use Rattle.node_core.specs.code.Plans.{told, files_told}
 use Rattle.node_core.proofs.PlanLaws.{told-push}
 use Rattle.node_core.proofs.files.clear_owed.Goals as goal
 

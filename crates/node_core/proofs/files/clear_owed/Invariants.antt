@@ -1,6 +1,6 @@
 use Rattle.std.proofs.Common.{◌≡◌, length, take}
-use Rattle.node_core.specs.Files.{file_state}
-use Rattle.node_core.specs.Plans.{files_told}
+use Rattle.node_core.specs.rule.Files.{file_state}
+use Rattle.node_core.specs.code.Plans.{files_told}
 use Rattle.node_core.proofs.files.clear_owed.Given as goal
 
 abbrev pub invariant-loop-file : goal.invariant-loop-file

@@ -1,6 +1,6 @@
 use Rattle.std.proofs.Common.{◌+◌, length, ap, ◌∙◌}
 use Rattle.std.proofs.lemmas.List.{length_push}
-use Rattle.node_core.specs.Files.{file_state}
+use Rattle.node_core.specs.rule.Files.{file_state}
 use Rattle.node_core.proofs.FileLaws.{file_state-none, file_state-push}
 use Rattle.node_core.proofs.files.new_files.Goals as goal
 

@@ -1,6 +1,6 @@
 use Rattle.std.proofs.Common.{◌≡◌, length}
-use Rattle.node_core.specs.State.{first_file}
-use Rattle.node_core.specs.Files.{file_state}
+use Rattle.node_core.specs.rule.State.{first_file}
+use Rattle.node_core.specs.rule.Files.{file_state}
 use Rattle.node_core.proofs.files.new_files.Given as goal
 
 abbrev pub invariant-loop-made : goal.invariant-loop-made

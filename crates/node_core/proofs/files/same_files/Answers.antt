@@ -1,6 +1,6 @@
 use Rattle.std.proofs.Common.{◌≡◌, arith, sym, ◌∙◌, refl}
 use Rattle.std.proofs.lemmas.Bool.{iff_false, false≢true}
-use Rattle.node_core.specs.Files.{state_of}
+use Rattle.node_core.specs.rule.Files.{state_of}
 use Rattle.node_core.proofs.FileLaws.{file_state-same, same-file_state, row_state, same-below}
 use Rattle.node_core.proofs.files.same_files.Goals as goal
 

@@ -1,5 +1,5 @@
 use Rattle.std.proofs.Common.{◌≡◌, take}
-use Rattle.pictures.specs.Indexes.{KnowsAnswers}
+use Rattle.pictures.specs.code.Indexes.{KnowsAnswers}
 use Rattle.pictures.proofs.answers.answers_of.Given as goal
 
 abbrev pub invariant-loop-entry : goal.invariant-loop-entry

@@ -4,8 +4,8 @@ use Rattle.std.specs.HashMap.{get}
 use Rattle.model.specs.declared.call.CallId.{CallId}
 use Rattle.model.specs.declared.reply.Reply.{Reply}
 use Rattle.model.specs.contracts.call.CallIdPartialEq.TheImpl as derived
-use Rattle.messages.specs.Messages.{same_call}
-use Rattle.pictures.specs.Places.{answer_at}
+use Rattle.messages.specs.rule.Messages.{same_call}
+use Rattle.pictures.specs.rule.Places.{answer_at}
 use Rattle.pictures.proofs.Lasts.{answer_next, put}
 use Rattle.pictures.proofs.answers.note_answer.Goals as goal
 

@@ -1,9 +1,9 @@
 use Rattle.std.proofs.Common.{◌≡◌, ◌+◌, ℕ, drop, find}
 use Rattle.std.specs.Prelude.{option_map}
 use Rattle.std.specs.List.{enumerate_from}
-use Rattle.messages.specs.Entries.{EntryFields}
-use Rattle.stories.specs.About.{belongs}
-use Rattle.pictures.specs.Around.{first_of}
+use Rattle.messages.specs.code.Entries.{EntryFields}
+use Rattle.stories.specs.rule.About.{belongs}
+use Rattle.pictures.specs.rule.Around.{first_of}
 use Rattle.pictures.proofs.around.first_of.Given as goal
 
 abbrev pub invariant-loop-entry : goal.invariant-loop-entry

@@ -2,10 +2,10 @@ use Rattle.std.proofs.Common.{◌≡◌, ◌≤◌, ◌+◌, ◌∙◌, ap, sym,
 use Rattle.std.specs.Prelude.{IfSome}
 use Rattle.std.specs.Option.{option_or}
 use Rattle.std.proofs.lemmas.List.{length-take-le}
-use Rattle.messages.specs.Entries.{EntryFields}
-use Rattle.stories.specs.About.{belongs}
-use Rattle.pictures.specs.Around.{last_of}
-use Rattle.pictures.specs.Places.{position_if}
+use Rattle.messages.specs.code.Entries.{EntryFields}
+use Rattle.stories.specs.rule.About.{belongs}
+use Rattle.pictures.specs.rule.Around.{last_of}
+use Rattle.pictures.specs.rule.Places.{position_if}
 use Rattle.pictures.proofs.Lasts.{last_some_more, or_within, take_here}
 use Rattle.pictures.proofs.around.last_of.Goals as goal
 

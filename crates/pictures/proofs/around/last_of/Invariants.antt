@@ -1,6 +1,6 @@
 use Rattle.std.proofs.Common.{◌≡◌, ◌≤◌, take}
 use Rattle.std.specs.Prelude.{IfSome}
-use Rattle.pictures.specs.Around.{last_of}
+use Rattle.pictures.specs.rule.Around.{last_of}
 use Rattle.pictures.proofs.around.last_of.Given as goal
 
 abbrev pub invariant-loop-entry : goal.invariant-loop-entry

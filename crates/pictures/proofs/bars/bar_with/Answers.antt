@@ -1,11 +1,11 @@
 use Rattle.std.proofs.Common.{◌≡◌, ◌∙◌, ap, ℕ, Option, Some}
 use Rattle.std.specs.Prelude.{option_map}
-use Rattle.messages.specs.Entries.{EntryFields}
+use Rattle.messages.specs.code.Entries.{EntryFields}
 use Rattle.stories.specs.declared.made_call.MadeCall.{MadeCall}
 use Rattle.pictures.specs.declared.answer.Answer.{Answer}
-use Rattle.pictures.specs.Bars.{bar_of}
-use Rattle.pictures.specs.Indexes.{bar_with}
-use Rattle.pictures.specs.Places.{answer_to}
+use Rattle.pictures.specs.rule.Bars.{bar_of}
+use Rattle.pictures.specs.code.Indexes.{bar_with}
+use Rattle.pictures.specs.rule.Places.{answer_to}
 use Rattle.pictures.proofs.bars.bar_with.Goals as goal
 
 pub returns : goal.returns

@@ -3,14 +3,14 @@ use Rattle.std.specs.Global.{Vec}
 use Rattle.std.specs.Prelude.{option_and_then, option_to_list, IfSome}
 use Rattle.std.specs.List.{cons_option, enumerate_from}
 use Rattle.std.proofs.lemmas.List.{append-nil}
-use Rattle.messages.specs.Entries.{EntryFields}
+use Rattle.messages.specs.code.Entries.{EntryFields}
 use Rattle.stories.specs.declared.made_call.MadeCall.{MadeCall}
 use Rattle.stories.proofs.OpenEnds.{ends_next}
 use Rattle.stories.proofs.Passes.{drop_here}
 use Rattle.pictures.specs.declared.bar.Bar.{Bar}
 use Rattle.pictures.specs.declared.window.Window.{Window}
-use Rattle.pictures.specs.Bars.{bar_among, bar_at}
-use Rattle.pictures.specs.Indexes.{bar_with}
+use Rattle.pictures.specs.rule.Bars.{bar_among, bar_at}
+use Rattle.pictures.specs.code.Indexes.{bar_with}
 use Rattle.pictures.proofs.LastBars.{bars_next}
 use Rattle.pictures.proofs.bars.bars.Goals as goal
 use Rattle.pictures.proofs.bars.bars.Goals.{in-Some+in_ok-push, in_default}

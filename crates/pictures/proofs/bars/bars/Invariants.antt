@@ -1,8 +1,8 @@
 use Rattle.std.proofs.Common.{◌≡◌, ◌+◌, ℕ, drop, filter_map, reverse}
 use Rattle.std.specs.List.{enumerate_from}
-use Rattle.messages.specs.Entries.{EntryFields}
+use Rattle.messages.specs.code.Entries.{EntryFields}
 use Rattle.stories.proofs.OpenEnds.{KnowsEnds}
-use Rattle.pictures.specs.Bars.{bar_at}
+use Rattle.pictures.specs.rule.Bars.{bar_at}
 use Rattle.pictures.proofs.bars.bars.Given as goal
 
 abbrev pub invariant-loop-index : goal.invariant-loop-index

@@ -3,10 +3,10 @@ use Rattle.std.specs.Option.{option_or}
 use Rattle.messages.specs.declared.event.Event.{Event}
 use Rattle.messages.specs.declared.event.Event.TheVariants.{Deliver}
 use Rattle.messages.specs.declared.message.Message.{Message}
-use Rattle.messages.specs.Messages.{same_message}
-use Rattle.stories.specs.About.{delivers}
-use Rattle.pictures.specs.Indexes.{place_in}
-use Rattle.pictures.specs.Places.{position_if}
+use Rattle.messages.specs.rule.Messages.{same_message}
+use Rattle.stories.specs.rule.About.{delivers}
+use Rattle.pictures.specs.code.Indexes.{place_in}
+use Rattle.pictures.specs.rule.Places.{position_if}
 use Rattle.pictures.proofs.Lasts.{come_next, delivers-nothing, eq-same, put}
 use Rattle.pictures.proofs.deliveries.note_delivery.Goals as goal
 

@@ -1,5 +1,5 @@
-use Rattle.messages.specs.Entries.{EntryFields}
-use Rattle.messages.specs.Messages.{is_among}
+use Rattle.messages.specs.code.Entries.{EntryFields}
+use Rattle.messages.specs.rule.Messages.{is_among}
 use Rattle.pictures.proofs.LastToPass.{last_to_pass}
 use Rattle.pictures.proofs.laws.each_arrow_is_from_the_last_send.Goals as goal
 

@@ -1,5 +1,5 @@
 use Rattle.std.proofs.Common.{arith}
-use Rattle.pictures.specs.Drawings.{x_of}
+use Rattle.pictures.specs.rule.Drawings.{x_of}
 use Rattle.pictures.proofs.laws.time_goes_right.Goals as goal
 
 pub returns-clause-later : goal.returns-clause-later

@@ -1,5 +1,5 @@
 use Rattle.std.proofs.Common.{◌≡◌, ◌++◌, flat_map, take}
-use Rattle.pictures.specs.Pieces.{lock_pieces, token_pieces}
+use Rattle.pictures.specs.rule.Pieces.{lock_pieces, token_pieces}
 use Rattle.pictures.proofs.pieces.pieces.Given as goal
 
 abbrev pub invariant-loop-held : goal.invariant-loop-held

@@ -1,9 +1,9 @@
 use Rattle.std.proofs.Common.{◌≡◌, ◌∙◌, ◌+◌, ◌-◌, ◌++◌, ap, arith, length, take, List, ℕ}
 use Rattle.std.specs.Prelude.{option_to_list}
 use Rattle.std.proofs.lemmas.List.{length-take-le}
-use Rattle.messages.specs.Entries.{EntryFields}
-use Rattle.pictures.specs.Places.{fate_of, last_sent}
-use Rattle.pictures.specs.Stretches.{PlacedFields, placed_at}
+use Rattle.messages.specs.code.Entries.{EntryFields}
+use Rattle.pictures.specs.rule.Places.{fate_of, last_sent}
+use Rattle.pictures.specs.rule.Stretches.{PlacedFields, placed_at}
 use Rattle.pictures.proofs.Lasts.{made_next, take_here}
 use Rattle.pictures.proofs.placed_entry.stretch.Goals as goal
 

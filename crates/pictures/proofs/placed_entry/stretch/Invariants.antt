@@ -1,9 +1,9 @@
 use Rattle.std.proofs.Common.{◌≡◌, ◌+◌, ◌-◌, ◌++◌, ℕ, drop, filter_map, take}
 use Rattle.std.specs.List.{enumerate_from}
-use Rattle.messages.specs.Entries.{EntryFields}
-use Rattle.pictures.specs.Indexes.{KnowsSent}
-use Rattle.pictures.specs.Places.{fate_of}
-use Rattle.pictures.specs.Stretches.{placed_at, stretch}
+use Rattle.messages.specs.code.Entries.{EntryFields}
+use Rattle.pictures.specs.code.Indexes.{KnowsSent}
+use Rattle.pictures.specs.rule.Places.{fate_of}
+use Rattle.pictures.specs.rule.Stretches.{placed_at, stretch}
 use Rattle.pictures.proofs.placed_entry.stretch.Given as goal
 
 abbrev pub invariant-loop-entry : goal.invariant-loop-entry

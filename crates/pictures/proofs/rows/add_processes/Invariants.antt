@@ -1,5 +1,5 @@
 use Rattle.std.proofs.Common.{◌≡◌, ◌++◌, filter, take}
-use Rattle.pictures.specs.Rows.{is_of}
+use Rattle.pictures.specs.rule.Rows.{is_of}
 use Rattle.pictures.proofs.rows.add_processes.Given as goal
 
 abbrev pub invariant-loop-row : goal.invariant-loop-row

@@ -1,6 +1,6 @@
 use Rattle.std.proofs.Common.{◌≡◌}
 use Rattle.messages.specs.declared.actor.Actor.TheVariants.{Node}
-use Rattle.pictures.specs.Rows.{busy}
+use Rattle.pictures.specs.rule.Rows.{busy}
 use Rattle.pictures.proofs.rows.busy_nodes.Given as goal
 
 abbrev pub invariant-loop-index : goal.invariant-loop-index

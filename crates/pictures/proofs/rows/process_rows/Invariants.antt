@@ -1,5 +1,5 @@
 use Rattle.std.proofs.Common.{◌≡◌, drop, fold, map}
-use Rattle.pictures.specs.Rows.{process_rows, row_of, with_row}
+use Rattle.pictures.specs.rule.Rows.{process_rows, row_of, with_row}
 use Rattle.pictures.proofs.rows.process_rows.Given as goal
 
 abbrev pub invariant-loop-bar : goal.invariant-loop-bar

@@ -1,6 +1,6 @@
 use Rattle.std.proofs.Common.{◌≡◌, ◌++◌, flat_map, map, take}
 use Rattle.pictures.specs.declared.row.Row.TheVariants.{Lane}
-use Rattle.pictures.specs.Rows.{above_its_own, below_its_own}
+use Rattle.pictures.specs.rule.Rows.{above_its_own, below_its_own}
 use Rattle.pictures.proofs.rows.rows_of.Given as goal
 
 abbrev pub invariant-loop-node : goal.invariant-loop-node

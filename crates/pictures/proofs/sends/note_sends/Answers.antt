@@ -1,11 +1,11 @@
 use Rattle.std.proofs.Common.{◌≡◌, ◌∙◌, ◌+◌, ◌||◌, ap, sym, Bool, Option, Some, cond, drop, List, ℕ, []}
 use Rattle.std.specs.Option.{option_or}
 use Rattle.messages.specs.declared.message.Message.{Message}
-use Rattle.messages.specs.Messages.{is_among, same_message}
+use Rattle.messages.specs.rule.Messages.{is_among, same_message}
 use Rattle.std.proofs.lemmas.List.{drop_all}
 use Rattle.stories.proofs.Passes.{drop_here}
-use Rattle.pictures.specs.Indexes.{place_in}
-use Rattle.pictures.specs.Places.{position_if}
+use Rattle.pictures.specs.code.Indexes.{place_in}
+use Rattle.pictures.specs.rule.Places.{position_if}
 use Rattle.pictures.proofs.Lasts.{eq-same, put_next, sent_next}
 use Rattle.pictures.proofs.sends.note_sends.Goals as goal
 

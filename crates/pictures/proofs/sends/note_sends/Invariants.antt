@@ -2,9 +2,9 @@ use Rattle.std.proofs.Common.{◌≡◌, drop}
 use Rattle.std.specs.Borrow.{Bor}
 use Rattle.std.specs.Option.{option_or}
 use Rattle.messages.specs.declared.message.Message.{Message}
-use Rattle.messages.specs.Messages.{is_among}
-use Rattle.pictures.specs.Indexes.{place_in}
-use Rattle.pictures.specs.Places.{position_if}
+use Rattle.messages.specs.rule.Messages.{is_among}
+use Rattle.pictures.specs.code.Indexes.{place_in}
+use Rattle.pictures.specs.rule.Places.{position_if}
 use Rattle.pictures.proofs.sends.note_sends.Given as goal
 
 abbrev pub invariant-loop-message : goal.invariant-loop-message

@@ -1,7 +1,7 @@
 use Rattle.std.proofs.Common.{◌∙◌, ap, sym}
 use Rattle.messages.specs.declared.message.Message.{Message}
 use Rattle.messages.specs.declared.event.Event.TheVariants.{Deliver}
-use Rattle.pictures.specs.Stretches.{origin_of}
+use Rattle.pictures.specs.rule.Stretches.{origin_of}
 use Rattle.pictures.proofs.sends.origin_of.Goals as goal
 
 pub returns-in-Deliver : goal.returns-in-Deliver

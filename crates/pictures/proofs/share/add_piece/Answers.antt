@@ -1,7 +1,7 @@
 use Rattle.std.proofs.Common.{◌≡◌, ◌∙◌, ap, arith, [], ◌∷◌, ◌++◌, Some, None}
 use Rattle.std.specs.List.{position_from}
 use Rattle.pictures.specs.declared.stay.Stay.{Stay}
-use Rattle.pictures.specs.Shares.{goes_on}
+use Rattle.pictures.specs.rule.Shares.{goes_on}
 use Rattle.pictures.proofs.Grows.{begins, grows}
 use Rattle.pictures.proofs.share.add_piece.Goals as goal
 

@@ -1,6 +1,6 @@
 use Rattle.std.proofs.Common.{◌≡◌, drop, filter, fold}
-use Rattle.pictures.specs.Pieces.{is_of_node}
-use Rattle.pictures.specs.Shares.{stays, with_piece}
+use Rattle.pictures.specs.rule.Pieces.{is_of_node}
+use Rattle.pictures.specs.rule.Shares.{stays, with_piece}
 use Rattle.pictures.proofs.share.stays.Given as goal
 
 abbrev pub invariant-loop-piece : goal.invariant-loop-piece

@@ -3,10 +3,10 @@ use Rattle.std.proofs.lemmas.Bool.Decides.{nat_tests}
 use Rattle.std.proofs.lemmas.List.{append-nil, map-append}
 use Rattle.std.proofs.lemmas.List.Elements.{All-nil, All-push}
 use Rattle.messages.specs.declared.entry.Entry.{Entry}
-use Rattle.cluster_core.specs.Parts.{world_state}
-use Rattle.cluster_core.specs.World.{first_world}
+use Rattle.cluster_core.specs.rule.Parts.{world_state}
+use Rattle.cluster_core.specs.rule.World.{first_world}
 use Rattle.cluster_core.proofs.runs.Replayed.{replayed_count, replayed_more, replayed_next, replayed_none}
-use Rattle.pictures.specs.Holdings.{AreHeldBehind, HoldingsFields}
+use Rattle.pictures.specs.rule.Holdings.{AreHeldBehind, HoldingsFields}
 use Rattle.pictures.proofs.HeldStretches.{held_now, left-take, left_within, left_next, read-take, within}
 use Rattle.pictures.proofs.stretch.holdings.Goals as goal
 use Rattle.pictures.proofs.stretch.holdings.Goals.{then-from-position+in_ok-of+in_ok-push, else-from-position}

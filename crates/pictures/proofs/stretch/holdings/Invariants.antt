@@ -1,9 +1,9 @@
 use Rattle.std.proofs.Common.{◌≡◌, ℕ, ◌+◌, ◌++◌, ◌&&◌, nat_le, All, drop, filter, map, take}
 use Rattle.std.specs.List.{enumerate_from}
 use Rattle.messages.specs.declared.entry.Entry.{Entry}
-use Rattle.cluster_core.specs.Parts.{world_state}
+use Rattle.cluster_core.specs.rule.Parts.{world_state}
 use Rattle.cluster_core.proofs.runs.Replayed.{Replayed}
-use Rattle.pictures.specs.Holdings.{AreHeldBehind, HoldingsFields, positions_within}
+use Rattle.pictures.specs.rule.Holdings.{AreHeldBehind, HoldingsFields, positions_within}
 use Rattle.pictures.proofs.stretch.holdings.Given as goal
 
 abbrev pub invariant-loop-entry : goal.invariant-loop-entry

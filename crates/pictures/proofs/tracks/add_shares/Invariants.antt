@@ -1,6 +1,6 @@
 use Rattle.std.proofs.Common.{◌≡◌, ◌++◌, ℕ, drop, map}
 use Rattle.std.specs.List.{enumerate_from}
-use Rattle.pictures.specs.Shares.{share}
+use Rattle.pictures.specs.rule.Shares.{share}
 use Rattle.pictures.specs.declared.track.Track.TheVariants.{Share}
 use Rattle.pictures.proofs.tracks.add_shares.Given as goal
 

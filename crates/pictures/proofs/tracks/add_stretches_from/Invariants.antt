@@ -1,5 +1,5 @@
 use Rattle.std.proofs.Common.{◌≡◌, ◌++◌, drop, flat_map}
-use Rattle.pictures.specs.Tracks.{stretches_from, tracks_of_stretch}
+use Rattle.pictures.specs.rule.Tracks.{stretches_from, tracks_of_stretch}
 use Rattle.pictures.proofs.tracks.add_stretches_from.Given as goal
 
 abbrev pub invariant-loop-next : goal.invariant-loop-next

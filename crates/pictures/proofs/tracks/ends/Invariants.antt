@@ -2,7 +2,7 @@ use Rattle.std.proofs.Common.{◌≡◌, ◌+◌, [], ◌∷◌, drop, flat_map,
 use Rattle.std.specs.BTreeSet.{insert_key}
 use Rattle.std.specs.Ordering.{nat_cmp}
 use Rattle.pictures.specs.declared.piece.Piece.{Piece}
-use Rattle.pictures.specs.Tracks.{ends}
+use Rattle.pictures.specs.rule.Tracks.{ends}
 use Rattle.pictures.proofs.tracks.ends.Given as goal
 
 abbrev pub invariant-loop-piece : goal.invariant-loop-piece

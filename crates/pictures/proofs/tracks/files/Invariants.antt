@@ -2,7 +2,7 @@ use Rattle.std.proofs.Common.{◌≡◌, drop, fold, map}
 use Rattle.std.specs.BTreeSet.{insert_key}
 use Rattle.std.specs.Ordering.{nat_cmp}
 use Rattle.pictures.specs.declared.piece.Piece.{Piece}
-use Rattle.pictures.specs.Tracks.{files}
+use Rattle.pictures.specs.rule.Tracks.{files}
 use Rattle.pictures.proofs.tracks.files.Given as goal
 
 abbrev pub invariant-loop-piece : goal.invariant-loop-piece

@@ -2,8 +2,8 @@ use Rattle.std.proofs.Common.{◌≡◌, drop, fold, map}
 use Rattle.std.specs.BTreeSet.{insert_key}
 use Rattle.std.specs.Ordering.{nat_cmp}
 use Rattle.pictures.specs.declared.piece.Piece.{Piece}
-use Rattle.pictures.specs.Pieces.{node_of}
-use Rattle.pictures.specs.Tracks.{nodes}
+use Rattle.pictures.specs.rule.Pieces.{node_of}
+use Rattle.pictures.specs.rule.Tracks.{nodes}
 use Rattle.pictures.proofs.tracks.nodes.Given as goal
 
 abbrev pub invariant-loop-piece : goal.invariant-loop-piece

@@ -1,5 +1,5 @@
 use Rattle.std.proofs.Common.{◌≡◌, flat_map, take}
-use Rattle.pictures.specs.Tracks.{tracks_of_file}
+use Rattle.pictures.specs.rule.Tracks.{tracks_of_file}
 use Rattle.pictures.proofs.tracks.tracks.Given as goal
 
 abbrev pub invariant-loop-file : goal.invariant-loop-file

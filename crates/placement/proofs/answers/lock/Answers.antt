@@ -1,6 +1,6 @@
 use Rattle.std.proofs.Common.{sym}
 use Rattle.model.specs.declared.reply.Reply.TheVariants.{Interrupted}
-use Rattle.fcntl_table.specs.Tables.{table_of}
+use Rattle.fcntl_table.specs.rule.Tables.{table_of}
 use Rattle.placement.proofs.Waits.{blocked-goes_on}
 use Rattle.placement.proofs.answers.lock.Goals as goal
 

@@ -1,5 +1,5 @@
 use Rattle.std.proofs.lemmas.Bool.{both_ways}
-use Rattle.fcntl_table.specs.Tables.{table_of}
+use Rattle.fcntl_table.specs.rule.Tables.{table_of}
 use Rattle.placement.proofs.Waits.{one_answer}
 use Rattle.placement.proofs.answers.take_answer.Goals as goal
 

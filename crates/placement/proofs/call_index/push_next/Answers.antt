@@ -3,8 +3,8 @@ use Rattle.std.specs.Prelude.{is_some, if◌then◌else◌}
 use Rattle.std.specs.HashMap.{get}
 use Rattle.model.specs.declared.host.Host.{Host}
 use Rattle.model.specs.contracts.host.HostPartialEq.TheImpl as derived
-use Rattle.model.specs.Owners.{same_host}
-use Rattle.placement.specs.CallIndexes.{Rows, row_of}
+use Rattle.model.specs.rule.Owners.{same_host}
+use Rattle.placement.specs.code.CallIndexes.{Rows, row_of}
 use Rattle.placement.proofs.CallIndexes.{items, get-same_host, row-more, row-same}
 use Rattle.placement.proofs.call_index.push_next.Goals as goal
 

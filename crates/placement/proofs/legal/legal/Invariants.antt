@@ -1,5 +1,5 @@
 use Rattle.std.proofs.Common.{drop}
-use Rattle.fcntl_table.specs.Tables.{table_of}
+use Rattle.fcntl_table.specs.rule.Tables.{table_of}
 use Rattle.placement.proofs.Replays.{Follows}
 use Rattle.placement.proofs.legal.legal.Given as goal
 

@@ -1,6 +1,6 @@
 use Rattle.std.proofs.Common.{◌+◌, sym, ap, ◌∙◌, ◌++◌, ◌∷◌, [], refl, subst, arith, slice_get}
 use Rattle.placement.specs.declared.slot.Slot.TheVariants.{Empty}
-use Rattle.placement.specs.Rests.{AreAhead}
+use Rattle.placement.specs.code.Rests.{AreAhead}
 use Rattle.placement.proofs.Rests.{ahead_push, ahead_set}
 use Rattle.placement.proofs.Placing.{answers_some, answers_nowhere}
 use Rattle.placement.proofs.placed.answer.Goals as goal

@@ -1,6 +1,6 @@
 use Rattle.std.proofs.Common.{◌≡◌, take}
 use Rattle.std.specs.List.{filter_map}
-use Rattle.placement.specs.Standing.{stands}
+use Rattle.placement.specs.code.Standing.{stands}
 use Rattle.placement.proofs.placed.items_in.Given as goal
 
 abbrev pub invariant-loop-slot : goal.invariant-loop-slot

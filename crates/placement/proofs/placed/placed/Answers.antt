@@ -1,8 +1,8 @@
 use Rattle.std.proofs.Common.{◌≤◌, List, length, sym, ◌∙◌, ap, subst}
-use Rattle.messages.specs.Shapes.{IsShape}
+use Rattle.messages.specs.rule.Shapes.{IsShape}
 use Rattle.messages.specs.declared.entry.Entry.{Entry}
-use Rattle.cluster_core.specs.World.{journal_limit}
-use Rattle.placement.specs.Histories.{HistoryParts}
+use Rattle.cluster_core.specs.rule.World.{journal_limit}
+use Rattle.placement.specs.rule.Histories.{HistoryParts}
 use Rattle.placement.proofs.Placements.{is_placed}
 use Rattle.placement.proofs.placed.placed.Goals as goal
 

@@ -1,5 +1,5 @@
 use Rattle.std.proofs.Common.{arith, subst, sym}
-use Rattle.placement.specs.Rests.{AreAhead}
+use Rattle.placement.specs.code.Rests.{AreAhead}
 use Rattle.placement.proofs.Placing.{as_many, all_before, placing_empty, placing_more, placing_whole}
 use Rattle.placement.proofs.placed.slots_of.Goals as goal
 

@@ -1,6 +1,6 @@
 use Rattle.std.proofs.Common.{take}
 use Rattle.placement.proofs.Placing.{Placing}
-use Rattle.placement.specs.Rests.{AreAhead}
+use Rattle.placement.specs.code.Rests.{AreAhead}
 use Rattle.placement.proofs.placed.slots_of.Given as goal
 
 abbrev pub invariant-loop-index : goal.invariant-loop-index

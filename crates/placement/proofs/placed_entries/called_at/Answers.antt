@@ -1,5 +1,5 @@
 use Rattle.std.proofs.Common.{ℕ, ◌-◌, sym, ap, ◌∙◌, arith, None, option_copied, reverse, slice_get}
-use Rattle.placement.specs.Standing.{made_by}
+use Rattle.placement.specs.code.Standing.{made_by}
 use Rattle.placement.proofs.Rests.{called_gone, called_left}
 use Rattle.placement.proofs.placed_entries.called_at.Goals as goal
 

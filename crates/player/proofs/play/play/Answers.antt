@@ -1,7 +1,7 @@
 use Rattle.std.proofs.Common.{refl, sym, subst}
-use Rattle.cluster_core.specs.Runs.{Leads}
-use Rattle.cluster_core.specs.World.{first_world}
-use Rattle.player.specs.Progress.{Progress}
+use Rattle.cluster_core.specs.rule.Runs.{Leads}
+use Rattle.cluster_core.specs.rule.World.{first_world}
+use Rattle.player.specs.rule.Progress.{Progress}
 use Rattle.player.proofs.play.play.Goals as goal
 
 pub play_lines-requires : goal.play_lines-requires

@@ -1,9 +1,9 @@
 use Rattle.std.proofs.Common.{Some, None, List, length, reverse, arith, subst, ◌≡◌}
 use Rattle.std.proofs.lemmas.Result.{err_from_is_err_and}
-use Rattle.cluster_core.specs.World.{first_world}
-use Rattle.lockscript.specs.Scripts.{LineFields}
-use Rattle.player.specs.Parts.{progress}
-use Rattle.player.specs.Progress.{RunsTo}
+use Rattle.cluster_core.specs.rule.World.{first_world}
+use Rattle.lockscript.specs.rule.Scripts.{LineFields}
+use Rattle.player.specs.code.Parts.{progress}
+use Rattle.player.specs.rule.Progress.{RunsTo}
 use Rattle.player.proofs.Progresses.{lines_lead, runs_first, runs_out, fills}
 use Rattle.player.proofs.play.play_lines.Goals as goal
 

@@ -1,6 +1,6 @@
 use Rattle.std.proofs.Common.{length, reverse}
-use Rattle.player.specs.Parts.{progress}
-use Rattle.player.specs.Progress.{End, RunsTo}
+use Rattle.player.specs.code.Parts.{progress}
+use Rattle.player.specs.rule.Progress.{End, RunsTo}
 use Rattle.player.proofs.play.play_lines.Given as goal
 
 abbrev pub invariant-loop-line : goal.invariant-loop-line

@@ -1,5 +1,5 @@
 use Rattle.std.proofs.Common.{◌≡◌, filter, map, take}
-use Rattle.recordings.specs.Known.{is_within}
+use Rattle.recordings.specs.rule.Known.{is_within}
 use Rattle.recordings.specs.declared.held.Held.{Held}
 use Rattle.recordings.proofs.lists.fds_within.Given as goal
 

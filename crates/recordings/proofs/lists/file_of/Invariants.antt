@@ -1,5 +1,5 @@
 use Rattle.std.proofs.Common.{◌≡◌, drop, find}
-use Rattle.recordings.specs.Known.{file_of, is_file}
+use Rattle.recordings.specs.rule.Known.{file_of, is_file}
 use Rattle.recordings.proofs.lists.file_of.Given as goal
 
 abbrev pub invariant-loop-file : goal.invariant-loop-file

@@ -2,8 +2,8 @@ use Rattle.std.proofs.Common.{arith, sym, ap, ◌∙◌, Some}
 use Rattle.std.specs.Prelude.{not}
 use Rattle.std.specs.List.{list_any}
 use Rattle.model.proofs.SearchLaws.{first-found, first-none}
-use Rattle.recordings.specs.Known.{place_up_to, runs_at}
-use Rattle.recordings.specs.Places.{PlaceFields}
+use Rattle.recordings.specs.rule.Known.{place_up_to, runs_at}
+use Rattle.recordings.specs.rule.Places.{PlaceFields}
 use Rattle.recordings.proofs.Searches.{up_to}
 use Rattle.recordings.proofs.lists.free_place.Goals as goal
 

@@ -1,7 +1,7 @@
 use Rattle.std.specs.Prelude.{not}
 use Rattle.std.specs.List.{list_any}
 use Rattle.model.proofs.SearchLaws.{Failed}
-use Rattle.recordings.specs.Known.{place_of, runs_at}
+use Rattle.recordings.specs.rule.Known.{place_of, runs_at}
 use Rattle.recordings.proofs.lists.free_place.Given as goal
 
 abbrev pub invariant-loop-number : goal.invariant-loop-number

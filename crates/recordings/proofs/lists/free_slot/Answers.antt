@@ -1,7 +1,7 @@
 use Rattle.std.proofs.Common.{arith, sym, ap, ◌∙◌}
 use Rattle.std.specs.Prelude.{not}
 use Rattle.model.proofs.SearchLaws.{first-found, first-none}
-use Rattle.recordings.specs.Known.{slot_below}
+use Rattle.recordings.specs.rule.Known.{slot_below}
 use Rattle.recordings.proofs.Searches.{below}
 use Rattle.recordings.proofs.lists.free_slot.Goals as goal
 

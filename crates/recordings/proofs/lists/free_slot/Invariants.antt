@@ -1,7 +1,7 @@
 use Rattle.std.specs.Prelude.{not}
 use Rattle.std.specs.List.{list_any}
 use Rattle.model.proofs.SearchLaws.{Failed}
-use Rattle.recordings.specs.Known.{has_slot}
+use Rattle.recordings.specs.rule.Known.{has_slot}
 use Rattle.recordings.proofs.lists.free_slot.Given as goal
 
 abbrev pub invariant-loop-slot : goal.invariant-loop-slot

@@ -1,5 +1,5 @@
 use Rattle.std.proofs.Common.{◌≡◌, drop, find}
-use Rattle.recordings.specs.Known.{held_by, is_held}
+use Rattle.recordings.specs.rule.Known.{held_by, is_held}
 use Rattle.recordings.proofs.lists.held_by.Given as goal
 
 abbrev pub invariant-loop-one : goal.invariant-loop-one

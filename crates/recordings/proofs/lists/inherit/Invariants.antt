@@ -1,6 +1,6 @@
 use Rattle.std.proofs.Common.{◌≡◌, filter, map, take}
-use Rattle.recordings.specs.Known.{is_of}
-use Rattle.recordings.specs.Steps.{in_child}
+use Rattle.recordings.specs.rule.Known.{is_of}
+use Rattle.recordings.specs.rule.Steps.{in_child}
 use Rattle.recordings.proofs.lists.inherit.Given as goal
 
 abbrev pub invariant-loop-one : goal.invariant-loop-one

@@ -1,5 +1,5 @@
 use Rattle.std.proofs.Common.{◌≡◌, drop, find}
-use Rattle.recordings.specs.Places.{has_placed, placing_of}
+use Rattle.recordings.specs.rule.Places.{has_placed, placing_of}
 use Rattle.recordings.proofs.lists.placing_of.Given as goal
 
 abbrev pub invariant-loop-placing : goal.invariant-loop-placing

@@ -1,7 +1,7 @@
 use Rattle.std.specs.Prelude.{not}
 use Rattle.std.proofs.Common.{rules}
 use Rattle.std.proofs.lemmas.Fn.{filter_same}
-use Rattle.recordings.specs.Known.{runs_at}
+use Rattle.recordings.specs.rule.Known.{runs_at}
 use Rattle.recordings.specs.declared.running.Running.{Running}
 use Rattle.recordings.proofs.lists.remove_process.Goals as goal
 

@@ -1,7 +1,7 @@
 use Rattle.std.specs.Prelude.{not}
 use Rattle.std.proofs.Common.{rules}
 use Rattle.std.proofs.lemmas.Fn.{filter_same}
-use Rattle.recordings.specs.Known.{is_thread}
+use Rattle.recordings.specs.rule.Known.{is_thread}
 use Rattle.recordings.specs.declared.thread.Thread.{Thread}
 use Rattle.recordings.proofs.lists.remove_thread.Goals as goal
 

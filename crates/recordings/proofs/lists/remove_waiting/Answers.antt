@@ -1,7 +1,7 @@
 use Rattle.std.specs.Prelude.{not}
 use Rattle.std.proofs.Common.{rules}
 use Rattle.std.proofs.lemmas.Fn.{filter_same}
-use Rattle.recordings.specs.Places.{PlaceFields, is_at}
+use Rattle.recordings.specs.rule.Places.{PlaceFields, is_at}
 use Rattle.recordings.proofs.lists.remove_waiting.Goals as goal
 
 pub returns : goal.returns

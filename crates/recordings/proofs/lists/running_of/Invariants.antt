@@ -1,5 +1,5 @@
 use Rattle.std.proofs.Common.{◌≡◌, drop, find}
-use Rattle.recordings.specs.Known.{has_pid, running_of}
+use Rattle.recordings.specs.rule.Known.{has_pid, running_of}
 use Rattle.recordings.proofs.lists.running_of.Given as goal
 
 abbrev pub invariant-loop-one : goal.invariant-loop-one

@@ -1,5 +1,5 @@
 use Rattle.std.proofs.Common.{◌≡◌, drop, find}
-use Rattle.recordings.specs.Known.{is_thread}
+use Rattle.recordings.specs.rule.Known.{is_thread}
 use Rattle.recordings.proofs.lists.thread_of.Given as goal
 
 abbrev pub invariant-loop-thread : goal.invariant-loop-thread

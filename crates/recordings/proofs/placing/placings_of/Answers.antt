@@ -1,6 +1,6 @@
 use Rattle.std.proofs.Common.{rules, subst, sym}
 use Rattle.recordings.proofs.Placings.{at-first, last-writes, no-last, no-word, shorter-behind, up-to-next, ReadsUpTo}
-use Rattle.recordings.specs.Places.{PlacingFields}
+use Rattle.recordings.specs.rule.Places.{PlacingFields}
 use Rattle.recordings.proofs.placing.placings_of.Goals as goal
 
 pub loop-word-init : goal.loop-word-init

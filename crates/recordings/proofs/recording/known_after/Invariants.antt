@@ -1,5 +1,5 @@
 use Rattle.std.proofs.Common.{◌≡◌, drop, fold}
-use Rattle.recordings.specs.Steps.{known, step}
+use Rattle.recordings.specs.rule.Steps.{known, step}
 use Rattle.recordings.proofs.recording.known_after.Given as goal
 
 abbrev pub invariant-loop-event : goal.invariant-loop-event

@@ -1,5 +1,5 @@
 use Rattle.std.proofs.Common.{◌≡◌, ◌++◌, string_bytes}
-use Rattle.recordings.specs.Texts.{empties_text}
+use Rattle.recordings.specs.rule.Texts.{empties_text}
 use Rattle.recordings.proofs.writing.push_empties.Given as goal
 
 abbrev pub invariant-loop-told : goal.invariant-loop-told

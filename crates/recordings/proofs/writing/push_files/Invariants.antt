@@ -1,5 +1,5 @@
 use Rattle.std.proofs.Common.{◌≡◌, ◌++◌, flat_map, string_bytes, take}
-use Rattle.recordings.specs.Texts.{file_text, with_feed}
+use Rattle.recordings.specs.rule.Texts.{file_text, with_feed}
 use Rattle.recordings.specs.declared.numbered_file.NumberedFile.{NumberedFile}
 use Rattle.recordings.proofs.writing.push_files.Given as goal
 

@@ -1,5 +1,5 @@
 use Rattle.std.proofs.Common.{◌≡◌, ◌++◌, flat_map, string_bytes, take}
-use Rattle.recordings.specs.Texts.{line_text, with_feed}
+use Rattle.recordings.specs.rule.Texts.{line_text, with_feed}
 use Rattle.recordings.specs.declared.line.Line.{Line}
 use Rattle.recordings.proofs.writing.push_lines.Given as goal
 

@@ -1,5 +1,5 @@
 use Rattle.std.proofs.Common.{◌≡◌, ◌++◌, flat_map, string_bytes, take}
-use Rattle.recordings.specs.Texts.{note_text}
+use Rattle.recordings.specs.rule.Texts.{note_text}
 use Rattle.recordings.proofs.writing.push_told.Given as goal
 
 abbrev pub invariant-loop-note : goal.invariant-loop-note

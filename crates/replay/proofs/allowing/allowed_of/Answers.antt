@@ -1,6 +1,6 @@
 use Rattle.std.proofs.Common.{ap, fold}
 use Rattle.history_text.specs.declared.rule.Allowed.{Allowed}
-use Rattle.replay.specs.Judging.{with_asked}
+use Rattle.replay.specs.rule.Judging.{with_asked}
 use Rattle.replay.proofs.AllowedRules.{none_allowed}
 use Rattle.replay.proofs.allowing.allowed_of.Goals as goal
 

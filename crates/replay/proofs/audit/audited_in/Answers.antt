@@ -1,9 +1,9 @@
 use Rattle.std.proofs.Common.{◌≤◌, [], length, subst, arith}
-use Rattle.messages.specs.Shapes.{ShapeFields}
-use Rattle.cluster_core.specs.Parts.{world_state}
-use Rattle.cluster_core.specs.World.{journal_limit}
+use Rattle.messages.specs.rule.Shapes.{ShapeFields}
+use Rattle.cluster_core.specs.rule.Parts.{world_state}
+use Rattle.cluster_core.specs.rule.World.{journal_limit}
 use Rattle.journal_text.proofs.FirstLines.{one_shape}
-use Rattle.replay.specs.Audits.{Knows}
+use Rattle.replay.specs.rule.Audits.{Knows}
 use Rattle.replay.proofs.Audits.{verdict}
 use Rattle.replay.proofs.audit.audited_in.Goals as goal
 

@@ -1,9 +1,9 @@
 use Rattle.std.proofs.Common.{◌≡◌, inr, subst, sym}
 use Rattle.std.proofs.lemmas.Result.{IfErr-weaker, IfOk-weaker}
-use Rattle.cluster_core.specs.Journals.{JournalFields}
+use Rattle.cluster_core.specs.rule.Journals.{JournalFields}
 use Rattle.replay.specs.declared.fault.Fault.TheVariants.{NoMemory}
-use Rattle.replay.specs.Audits.{HasJournal, IsAudited}
-use Rattle.replay.specs.Faults.{IsJournalFault}
+use Rattle.replay.specs.rule.Audits.{HasJournal, IsAudited}
+use Rattle.replay.specs.rule.Faults.{IsJournalFault}
 use Rattle.replay.proofs.audit.checked.Goals as goal
 
 pub returns-clause-audited : goal.returns-clause-audited

@@ -1,9 +1,9 @@
 use Rattle.std.proofs.Common.{◌≡◌, inr, subst, sym}
 use Rattle.std.proofs.lemmas.Result.{IfErr-weaker, IfOk-weaker}
-use Rattle.cluster_core.specs.Journals.{JournalFields}
+use Rattle.cluster_core.specs.rule.Journals.{JournalFields}
 use Rattle.replay.specs.declared.fault.Fault.TheVariants.{NoMemory}
-use Rattle.replay.specs.Audits.{HasNewJournal, IsAudited}
-use Rattle.replay.specs.Faults.{IsOldFault}
+use Rattle.replay.specs.rule.Audits.{HasNewJournal, IsAudited}
+use Rattle.replay.specs.rule.Faults.{IsOldFault}
 use Rattle.replay.proofs.audit.checked_new.Goals as goal
 
 pub returns-clause-audited : goal.returns-clause-audited

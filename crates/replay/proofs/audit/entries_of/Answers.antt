@@ -1,6 +1,6 @@
 use Rattle.std.proofs.lemmas.Result.{IfErr-weaker, IfOk-weaker}
-use Rattle.replay.specs.Audits.{HasJournal, WritesFew}
-use Rattle.replay.specs.Faults.{IsJournalFault, IsTextFault}
+use Rattle.replay.specs.rule.Audits.{HasJournal, WritesFew}
+use Rattle.replay.specs.rule.Faults.{IsJournalFault, IsTextFault}
 use Rattle.replay.proofs.Stores.{text-held}
 use Rattle.replay.proofs.Journals.{has-journal, text-fault}
 use Rattle.replay.proofs.audit.entries_of.Goals as goal

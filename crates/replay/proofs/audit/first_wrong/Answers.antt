@@ -1,7 +1,7 @@
 use Rattle.std.proofs.lemmas.Result.{IfErr-weaker, IfOk-weaker}
-use Rattle.cluster_core.specs.Journals.{JournalFields}
-use Rattle.replay.specs.Audits.{HasJournal, IsVerdict, WritesFew}
-use Rattle.replay.specs.Faults.{IsJournalFault, IsTextFault}
+use Rattle.cluster_core.specs.rule.Journals.{JournalFields}
+use Rattle.replay.specs.rule.Audits.{HasJournal, IsVerdict, WritesFew}
+use Rattle.replay.specs.rule.Faults.{IsJournalFault, IsTextFault}
 use Rattle.replay.proofs.Stores.{text-held}
 use Rattle.replay.proofs.Journals.{has-journal, text-fault}
 use Rattle.replay.proofs.audit.first_wrong.Goals as goal

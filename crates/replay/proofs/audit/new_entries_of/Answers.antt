@@ -1,9 +1,9 @@
 use Rattle.std.proofs.Common.{◌∙◌, sym}
 use Rattle.std.proofs.lemmas.Bool.{false≢true}
 use Rattle.std.proofs.lemmas.Result.{IfErr-weaker, IfOk-weaker}
-use Rattle.journal_text.specs.Readings.{IsOld}
-use Rattle.replay.specs.Audits.{HasNewJournal, WritesFew}
-use Rattle.replay.specs.Faults.{IsOldFault, IsTextFault}
+use Rattle.journal_text.specs.rule.Readings.{IsOld}
+use Rattle.replay.specs.rule.Audits.{HasNewJournal, WritesFew}
+use Rattle.replay.specs.rule.Faults.{IsOldFault, IsTextFault}
 use Rattle.replay.proofs.Stores.{text-held}
 use Rattle.replay.proofs.LaterRuns.{is_new, old-fault}
 use Rattle.replay.proofs.Journals.{has-journal}

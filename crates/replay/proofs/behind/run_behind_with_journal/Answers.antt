@@ -1,6 +1,6 @@
 use Rattle.std.proofs.Common.{[], Some, refl, inl, inr}
 use Rattle.std.proofs.lemmas.Result.{IfOk-at_ok, err_from_is_err_and}
-use Rattle.command_line.specs.Tasks.{run}
+use Rattle.command_line.specs.rule.Tasks.{run}
 use Rattle.replay.proofs.Drafts.{journal_fault}
 use Rattle.replay.proofs.LaterRuns.{goes-on, uncompared-behind}
 use Rattle.replay.proofs.Stores.{others-after, same-after}

@@ -1,8 +1,8 @@
 use Rattle.std.proofs.Common.{map}
 use Rattle.std.specs.Prelude.{◌⊎◌, Any, Contains, IsSomeAnd}
 use Rattle.std.specs.Option.{option_map}
-use Rattle.command_line.specs.Tasks.{check}
-use Rattle.replay.specs.Checks.{IsAtFault}
+use Rattle.command_line.specs.rule.Tasks.{check}
+use Rattle.replay.specs.rule.Checks.{IsAtFault}
 use Rattle.replay.proofs.Tools.{tool-result}
 use Rattle.replay.proofs.check.check.Goals as goal
 

@@ -1,6 +1,6 @@
 use Rattle.std.proofs.Common.{◌≡◌, refl}
 use Rattle.std.proofs.lemmas.Result.{err_from_is_err_and}
-use Rattle.replay.specs.Checks.{IsAtFault}
+use Rattle.replay.specs.rule.Checks.{IsAtFault}
 use Rattle.replay.proofs.Tools.{textless}
 use Rattle.replay.proofs.check_text.checked_at.Goals as goal
 

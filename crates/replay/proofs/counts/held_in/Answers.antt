@@ -1,6 +1,6 @@
 use Rattle.std.proofs.Common.{arith, sym, subst, ℕ, ◌+◌, take}
-use Rattle.book.specs.Receipts.{Holds}
-use Rattle.replay.specs.Counts.{IsCount}
+use Rattle.book.specs.code.Receipts.{Holds}
+use Rattle.replay.specs.rule.Counts.{IsCount}
 use Rattle.replay.proofs.Counting.{one_more_taken, no_more_taken}
 use Rattle.replay.proofs.counts.held_in.Goals.{then-holds, else-holds}
 use Rattle.replay.proofs.counts.held_in.Goals as goal

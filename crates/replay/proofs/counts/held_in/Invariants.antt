@@ -1,7 +1,7 @@
 -- The receipts before this one are counted.
 use Rattle.std.proofs.Common.{◌≤◌, take}
-use Rattle.book.specs.Receipts.{Holds}
-use Rattle.replay.specs.Counts.{IsCount}
+use Rattle.book.specs.code.Receipts.{Holds}
+use Rattle.replay.specs.rule.Counts.{IsCount}
 use Rattle.replay.proofs.counts.held_in.Given as goal
 
 abbrev pub invariant-loop-receipt : goal.invariant-loop-receipt

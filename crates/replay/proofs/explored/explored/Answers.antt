@@ -1,9 +1,9 @@
 use Rattle.std.proofs.Common.{◌≢◌}
 use Rattle.std.proofs.lemmas.Result.{IfErr-weaker}
-use Rattle.command_line.specs.Tasks.{explore}
+use Rattle.command_line.specs.rule.Tasks.{explore}
 use Rattle.replay.specs.declared.fault.Fault.TheVariants.{CannotWriteOutput}
-use Rattle.replay.specs.Commands.{IsFault}
-use Rattle.replay.specs.Explorations.{IsExploreTextFault}
+use Rattle.replay.specs.rule.Commands.{IsFault}
+use Rattle.replay.specs.rule.Explorations.{IsExploreTextFault}
 use Rattle.replay.proofs.Stores.{text-held}
 use Rattle.replay.proofs.Explorations.{explore-fault}
 use Rattle.replay.proofs.explored.explored.Goals as goal

@@ -1,7 +1,7 @@
 use Rattle.std.proofs.Common.{◌∙◌, List, ap}
 use Rattle.std.proofs.lemmas.Result.{err_from_is_err_and}
-use Rattle.messages.specs.Shapes.{ShapeFields}
-use Rattle.explorer.specs.Texts.{script_text}
+use Rattle.messages.specs.rule.Shapes.{ShapeFields}
+use Rattle.explorer.specs.rule.Texts.{script_text}
 use Rattle.replay.proofs.Explorations.{schedule-fault}
 use Rattle.replay.proofs.explored.scheduled_in.Goals as goal
 

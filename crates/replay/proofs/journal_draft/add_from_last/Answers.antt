@@ -1,6 +1,6 @@
 use Rattle.std.proofs.Common.{◌∙◌, ap, arith, length, length-append, sym, List, [], ◌∷◌, ◌+◌, ◌++◌}
 use Rattle.messages.specs.declared.entry.Entry.{Entry}
-use Rattle.journal_text.specs.Journals.{entry_text}
+use Rattle.journal_text.specs.rule.Journals.{entry_text}
 use Rattle.replay.proofs.Drafts.{entries_less, lacks_less}
 use Rattle.replay.proofs.journal_draft.add_from_last.Goals as goal
 

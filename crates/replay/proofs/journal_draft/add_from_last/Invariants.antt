@@ -1,5 +1,5 @@
 use Rattle.std.proofs.Common.{◌≡◌, ◌+◌, length, reverse}
-use Rattle.journal_text.specs.Journals.{entries_text}
+use Rattle.journal_text.specs.rule.Journals.{entries_text}
 use Rattle.replay.proofs.Drafts.{Lacks}
 use Rattle.replay.proofs.journal_draft.add_from_last.Given as goal
 

@@ -2,7 +2,7 @@ use Rattle.std.proofs.Common.{◌∙◌, ap, length, reverse, List}
 use Rattle.std.proofs.lemmas.List.{reverse-reverse}
 use Rattle.std.proofs.lemmas.Result.{on_ok_weaker}
 use Rattle.messages.specs.declared.entry.Entry.{Entry}
-use Rattle.messages.specs.Shapes.{ShapeFields}
+use Rattle.messages.specs.rule.Shapes.{ShapeFields}
 use Rattle.replay.proofs.Drafts.{journal_added}
 use Rattle.replay.proofs.journal_draft.add_journal.Goals as goal
 

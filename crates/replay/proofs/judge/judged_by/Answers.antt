@@ -1,7 +1,7 @@
 use Rattle.std.proofs.Common.{inr, map, refl, Some}
 use Rattle.std.specs.Prelude.{⊤}
 use Rattle.std.proofs.lemmas.Result.{IfErr-weaker, IfOk-weaker, err_from_is_err_and}
-use Rattle.replay.specs.Judging.{IsJudgedWith}
+use Rattle.replay.specs.rule.Judging.{IsJudgedWith}
 use Rattle.replay.proofs.Judging.{had-judged}
 use Rattle.replay.proofs.Tools.{textless, tool-weaker}
 use Rattle.replay.proofs.judge.judged_by.Goals as goal

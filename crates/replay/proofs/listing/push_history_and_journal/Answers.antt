@@ -1,8 +1,8 @@
 use Rattle.std.proofs.Common.{◌∙◌, ap, length, List}
 use Rattle.std.proofs.lemmas.Result.{on_ok_weaker}
-use Rattle.cluster_core.specs.Journals.{JournalFields}
+use Rattle.cluster_core.specs.rule.Journals.{JournalFields}
 use Rattle.messages.specs.declared.entry.Entry.{Entry}
-use Rattle.messages.specs.Shapes.{ShapeFields}
+use Rattle.messages.specs.rule.Shapes.{ShapeFields}
 use Rattle.replay.proofs.Drafts.{journal_added}
 use Rattle.replay.proofs.listing.push_history_and_journal.Goals as goal
 

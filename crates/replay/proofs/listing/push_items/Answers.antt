@@ -1,7 +1,7 @@
 use Rattle.std.proofs.Common.{subst, Option}
 use Rattle.messages.specs.declared.entry.Entry.{Entry}
 use Rattle.cluster_core.specs.declared.item.Item.{Item}
-use Rattle.placement.specs.Rests.{Takes}
+use Rattle.placement.specs.code.Rests.{Takes}
 use Rattle.replay.proofs.Sections.{item_told}
 use Rattle.replay.proofs.listing.push_items.Goals as goal
 

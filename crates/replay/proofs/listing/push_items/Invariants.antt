@@ -1,6 +1,6 @@
 use Rattle.std.proofs.Common.{◌≡◌, ◌++◌, flat_map, length, string_bytes}
-use Rattle.cluster_core.specs.Placement.{items_in}
-use Rattle.lockscript.specs.Listing.{history_line}
+use Rattle.cluster_core.specs.code.Placement.{items_in}
+use Rattle.lockscript.specs.rule.Listing.{history_line}
 use Rattle.replay.proofs.listing.push_items.Given as goal
 
 abbrev pub invariant-loop-entries : goal.invariant-loop-entries

@@ -1,8 +1,8 @@
 use Rattle.std.proofs.Common.{ap, subst, arith, length, ◌+◌, List, Option}
 use Rattle.messages.specs.declared.entry.Entry.{Entry}
 use Rattle.cluster_core.specs.declared.item.Item.{Item}
-use Rattle.journal_text.specs.Journals.{entries_text, entry_text}
-use Rattle.placement.specs.Rests.{Takes}
+use Rattle.journal_text.specs.rule.Journals.{entries_text, entry_text}
+use Rattle.placement.specs.code.Rests.{Takes}
 use Rattle.replay.proofs.Drafts.{lacks_less}
 use Rattle.replay.proofs.Sections.{item_told}
 use Rattle.replay.proofs.listing.push_items_and_entries.Goals as goal

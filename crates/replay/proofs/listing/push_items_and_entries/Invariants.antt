@@ -1,7 +1,7 @@
 use Rattle.std.proofs.Common.{◌≡◌, ◌+◌, ◌++◌, flat_map, length, string_bytes}
-use Rattle.cluster_core.specs.Placement.{items_in}
-use Rattle.journal_text.specs.Journals.{entries_text}
-use Rattle.lockscript.specs.Listing.{history_line}
+use Rattle.cluster_core.specs.code.Placement.{items_in}
+use Rattle.journal_text.specs.rule.Journals.{entries_text}
+use Rattle.lockscript.specs.rule.Listing.{history_line}
 use Rattle.replay.proofs.Drafts.{Lacks}
 use Rattle.replay.proofs.listing.push_items_and_entries.Given as goal
 

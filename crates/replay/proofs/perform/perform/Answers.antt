@@ -1,4 +1,4 @@
-use Rattle.command_line.specs.Tasks.{task_of}
+use Rattle.command_line.specs.rule.Tasks.{task_of}
 use Rattle.replay.proofs.LeftFiles.{done-files, fault-files}
 use Rattle.replay.proofs.perform.perform.Goals as goal
 

@@ -2,11 +2,11 @@ use Rattle.std.proofs.Common.{ℕ, List, ap, inr, length, subst}
 use Rattle.std.specs.Prelude.{◌&&◌, string_bytes}
 use Rattle.std.proofs.lemmas.Result.{err_from_is_err_and}
 use Rattle.std.proofs.lemmas.Str.{IsUtf8-string_bytes}
-use Rattle.explorer.specs.Comparisons.{breaks_behind}
-use Rattle.lockscript.specs.ShapedScripts.{IsForShape}
-use Rattle.messages.specs.Entries.{EntryFields}
-use Rattle.messages.specs.Shapes.{ShapeFields}
-use Rattle.player.specs.Parts.{state_of}
+use Rattle.explorer.specs.rule.Comparisons.{breaks_behind}
+use Rattle.lockscript.specs.rule.ShapedScripts.{IsForShape}
+use Rattle.messages.specs.code.Entries.{EntryFields}
+use Rattle.messages.specs.rule.Shapes.{ShapeFields}
+use Rattle.player.specs.code.Parts.{state_of}
 use Rattle.replay.proofs.ran.run_behind_of.Goals as goal
 
 pub returns-clause-run : goal.returns-clause-run

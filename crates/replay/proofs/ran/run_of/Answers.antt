@@ -1,9 +1,9 @@
 use Rattle.std.proofs.Common.{ℕ, List, refl, subst}
 use Rattle.std.specs.Prelude.{◌&&◌, string_bytes}
 use Rattle.std.proofs.lemmas.Str.{IsUtf8-string_bytes}
-use Rattle.explorer.specs.Comparisons.{breaks_behind}
-use Rattle.lockscript.specs.Scripts.{IsScript}
-use Rattle.player.specs.Parts.{state_of}
+use Rattle.explorer.specs.rule.Comparisons.{breaks_behind}
+use Rattle.lockscript.specs.rule.Scripts.{IsScript}
+use Rattle.player.specs.code.Parts.{state_of}
 use Rattle.replay.proofs.ran.run_of.Goals as goal
 
 pub returns-clause-run : goal.returns-clause-run

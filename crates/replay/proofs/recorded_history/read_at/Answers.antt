@@ -2,7 +2,7 @@ use Rattle.std.specs.Prelude.{⊤, string_bytes}
 use Rattle.std.proofs.Common.{rules}
 use Rattle.std.proofs.lemmas.Str.{IsUtf8-string_bytes}
 use Rattle.std.proofs.lemmas.Result.{err_from_is_err_and}
-use Rattle.replay.specs.RecordedHistories.{IsPathIn}
+use Rattle.replay.specs.rule.RecordedHistories.{IsPathIn}
 use Rattle.replay.proofs.Tools.{reported, textless}
 use Rattle.replay.proofs.recorded_history.read_at.Goals as goal
 

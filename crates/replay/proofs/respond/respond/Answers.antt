@@ -1,15 +1,15 @@
 use Rattle.std.proofs.Common.{◌≡◌, ◌<◌, ℕ, false, List, map, arith, inl, inr, refl, subst, sym, ◌∙◌}
 use Rattle.std.specs.Io.KnownBytes.{Appends}
-use Rattle.command_line.specs.Tasks.{Task, journal_path, task_of}
+use Rattle.command_line.specs.rule.Tasks.{Task, journal_path, task_of}
 use Rattle.command_line.specs.declared.refusal.Refusal.{Refusal}
 use Rattle.command_line.proofs.CommandLine.{asks_one, asks_refused}
 use Rattle.replay.specs.declared.fault.Fault.{Fault}
 use Rattle.replay.specs.declared.fault.Fault.TheVariants.{CannotWriteOutput, NoMemory}
-use Rattle.replay.specs.Commands.{Does, IsFaultOrShort, Leaves, Shows, TellsFault, says_why}
-use Rattle.replay.specs.Faults.{fault_line}
-use Rattle.replay.specs.Outputs.{AppendsPart, WritesOrFails}
-use Rattle.replay.specs.Showing.{TellsBeside}
-use Rattle.replay.specs.Refusals.{IsHelp, refusal_status, refusal_text}
+use Rattle.replay.specs.rule.Commands.{Does, IsFaultOrShort, Leaves, Shows, TellsFault, says_why}
+use Rattle.replay.specs.rule.Faults.{fault_line}
+use Rattle.replay.specs.rule.Outputs.{AppendsPart, WritesOrFails}
+use Rattle.replay.specs.rule.Showing.{TellsBeside}
+use Rattle.replay.specs.code.Refusals.{IsHelp, refusal_status, refusal_text}
 use Rattle.replay.proofs.Refused.{refused-short, refused-unshown, short-leaves}
 use Rattle.replay.proofs.Stores.{same, same-unless}
 use Rattle.replay.proofs.respond.respond.Goals as goal

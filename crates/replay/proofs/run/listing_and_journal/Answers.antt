@@ -1,8 +1,8 @@
 use Rattle.std.proofs.Common.{◌∙◌, subst, string_bytes}
-use Rattle.cluster_core.specs.Journals.{JournalFields}
-use Rattle.journal_text.specs.Journals.{journal_text}
-use Rattle.journal_text.specs.Readings.{WritesJournal}
-use Rattle.player.specs.Parts.{state_of}
+use Rattle.cluster_core.specs.rule.Journals.{JournalFields}
+use Rattle.journal_text.specs.rule.Journals.{journal_text}
+use Rattle.journal_text.specs.rule.Readings.{WritesJournal}
+use Rattle.player.specs.code.Parts.{state_of}
 use Rattle.replay.proofs.Sections.{run_shown}
 use Rattle.replay.proofs.run.listing_and_journal.Goals as goal
 

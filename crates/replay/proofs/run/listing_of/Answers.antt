@@ -1,5 +1,5 @@
 use Rattle.std.proofs.Common.{◌∙◌, string_bytes}
-use Rattle.player.specs.Parts.{state_of}
+use Rattle.player.specs.code.Parts.{state_of}
 use Rattle.replay.proofs.Sections.{run_shown}
 use Rattle.replay.proofs.run.listing_of.Goals as goal
 

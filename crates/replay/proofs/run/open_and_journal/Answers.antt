@@ -1,7 +1,7 @@
 use Rattle.std.proofs.Common.{subst}
-use Rattle.cluster_core.specs.Journals.{JournalFields}
-use Rattle.journal_text.specs.Journals.{journal_text}
-use Rattle.journal_text.specs.Readings.{WritesJournal}
+use Rattle.cluster_core.specs.rule.Journals.{JournalFields}
+use Rattle.journal_text.specs.rule.Journals.{journal_text}
+use Rattle.journal_text.specs.rule.Readings.{WritesJournal}
 use Rattle.replay.proofs.run.open_and_journal.Goals as goal
 
 pub returns-clause-read : goal.returns-clause-read

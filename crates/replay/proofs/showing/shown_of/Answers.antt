@@ -2,12 +2,12 @@ use Rattle.std.proofs.Common.{Bor, map, subst, sym}
 use Rattle.std.specs.Prelude.{◌≡◌, ◌⊎◌, ⊤, Any, Contains, IfErr, IsSomeAnd, List, Option, ℕ}
 use Rattle.std.specs.Option.{option_map}
 use Rattle.std.proofs.lemmas.Result.{IfOk-weaker}
-use Rattle.command_line.specs.JudgeTasks.{judge_task_of}
-use Rattle.command_line.specs.Tasks.{check, from_strace, recorded_history, judge}
-use Rattle.replay.specs.Checks.{IsAtFault}
-use Rattle.replay.specs.Judging.{IsJudgedWith}
-use Rattle.replay.specs.RecordedHistories.{IsRecordingOf}
-use Rattle.replay.specs.ToolFaults.{IsToolFault}
+use Rattle.command_line.specs.rule.JudgeTasks.{judge_task_of}
+use Rattle.command_line.specs.rule.Tasks.{check, from_strace, recorded_history, judge}
+use Rattle.replay.specs.rule.Checks.{IsAtFault}
+use Rattle.replay.specs.rule.Judging.{IsJudgedWith}
+use Rattle.replay.specs.rule.RecordedHistories.{IsRecordingOf}
+use Rattle.replay.specs.rule.ToolFaults.{IsToolFault}
 use Rattle.replay.proofs.Tools.{tool-result}
 use Rattle.replay.proofs.showing.shown_of.Goals as goal
 

@@ -1,5 +1,5 @@
 use Rattle.std.proofs.Common.{◌≡◌, flat_map, string_bytes, take}
-use Rattle.replay.specs.Threads.{open_line}
+use Rattle.replay.specs.rule.Threads.{open_line}
 use Rattle.replay.proofs.threaded.open_lines.Given as goal
 
 abbrev pub invariant-loop-call : goal.invariant-loop-call

@@ -1,6 +1,6 @@
 use Rattle.std.proofs.Common.{[], ℕ, List, Some, refl, inr, subst}
 use Rattle.std.proofs.lemmas.Result.{IfOk-at_ok, err_from_is_err_and}
-use Rattle.command_line.specs.Tasks.{threads}
+use Rattle.command_line.specs.rule.Tasks.{threads}
 use Rattle.replay.proofs.Drafts.{journal_fault}
 use Rattle.replay.proofs.Stores.{others-after, same-after}
 use Rattle.replay.proofs.threads.run_threads_with_journal.Goals as goal

@@ -1,6 +1,6 @@
 use Rattle.std.proofs.Common.{◌≡◌, ◌++◌, take}
 use Rattle.std.specs.Prelude.{map}
-use Rattle.run_clients.specs.Seen.{call_of}
+use Rattle.run_clients.specs.rule.Seen.{call_of}
 use Rattle.run_clients.proofs.clients.push_calls.Given as goal
 
 -- the calls of the first deeds were added

@@ -1,9 +1,9 @@
 use Rattle.std.proofs.Common.{sym, ◌∙◌, ap, List, ◌++◌}
 use Rattle.std.proofs.lemmas.Result.{on_ok_weaker}
 use Rattle.model.specs.declared.reply.Reply.TheVariants.{Done}
-use Rattle.fcntl_table.specs.Tables.{table_of}
+use Rattle.fcntl_table.specs.rule.Tables.{table_of}
 use Rattle.run_clients.specs.declared.deed.Deed.{Deed}
-use Rattle.run_clients.specs.Deeds.{listed, lock_deed}
+use Rattle.run_clients.specs.rule.Deeds.{listed, lock_deed}
 use Rattle.run_clients.proofs.Noting.{opened}
 use Rattle.run_clients.proofs.open_calls.push_open_call.Goals as goal
 

@@ -1,6 +1,6 @@
 use Rattle.std.proofs.Common.{refl}
 use Rattle.std.proofs.lemmas.Option.{slice_get_read}
-use Rattle.fcntl_table.specs.Tables.{table_of}
+use Rattle.fcntl_table.specs.rule.Tables.{table_of}
 use Rattle.run_clients.proofs.Going.{opened_more, opened_none}
 use Rattle.run_clients.proofs.open_calls.push_open_calls.Goals as goal
 

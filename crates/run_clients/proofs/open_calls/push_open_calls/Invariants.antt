@@ -1,5 +1,5 @@
-use Rattle.fcntl_table.specs.Tables.{table_of}
-use Rattle.run_clients.specs.Seen.{HasOpened}
+use Rattle.fcntl_table.specs.rule.Tables.{table_of}
+use Rattle.run_clients.specs.rule.Seen.{HasOpened}
 use Rattle.run_clients.proofs.open_calls.push_open_calls.Given as goal
 
 abbrev pub invariant-loop-index : goal.invariant-loop-index

@@ -1,9 +1,9 @@
 use Rattle.std.proofs.Common.{◌≡◌, ◌≤◌, false}
-use Rattle.intervals.specs.Search.{some_passes}
-use Rattle.model.specs.Limits.{most_descriptors}
-use Rattle.model.specs.Descriptors.{is_of}
-use Rattle.model.specs.Table.{around}
-use Rattle.fcntl_table.specs.Tables.{table_of}
+use Rattle.intervals.specs.rule.Search.{some_passes}
+use Rattle.model.specs.rule.Limits.{most_descriptors}
+use Rattle.model.specs.rule.Descriptors.{is_of}
+use Rattle.model.specs.rule.Table.{around}
+use Rattle.fcntl_table.specs.rule.Tables.{table_of}
 use Rattle.run_clients.proofs.references.has_description.Given as goal
 
 -- none of the descriptors below this one is of the description

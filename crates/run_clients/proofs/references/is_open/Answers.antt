@@ -1,9 +1,9 @@
 use Rattle.std.proofs.Common.{◌≡◌, ℕ, ◌+◌, ◌-◌, true, false, sym, ◌∙◌, subst, arith}
-use Rattle.intervals.specs.Search.{some_passes}
+use Rattle.intervals.specs.rule.Search.{some_passes}
 use Rattle.model.specs.declared.process.Process.{Process}
-use Rattle.model.specs.Table.{around}
-use Rattle.fcntl_table.specs.Tables.{table_of}
-use Rattle.run_clients.specs.References.{has_description}
+use Rattle.model.specs.rule.Table.{around}
+use Rattle.fcntl_table.specs.rule.Tables.{table_of}
+use Rattle.run_clients.specs.code.References.{has_description}
 use Rattle.run_clients.proofs.Lookups.{none_yet, none_more, open_found}
 use Rattle.run_clients.proofs.references.is_open.Goals as goal
 

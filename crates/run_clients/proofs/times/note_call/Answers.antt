@@ -1,6 +1,6 @@
 use Rattle.std.proofs.Common.{sym, ◌∙◌}
 use Rattle.std.proofs.lemmas.Result.{on_ok_weaker}
-use Rattle.run_clients.specs.Times.{IsMade}
+use Rattle.run_clients.specs.code.Times.{IsMade}
 use Rattle.run_clients.proofs.Noting.{made_here, made_never, made_once, noted, unnoted}
 use Rattle.run_clients.proofs.times.note_call.Goals as goal
 

@@ -1,6 +1,6 @@
 use Rattle.std.proofs.Common.{sym, ◌∙◌}
 use Rattle.std.proofs.lemmas.Result.{on_ok_weaker}
-use Rattle.run_clients.specs.Times.{IsAnswered}
+use Rattle.run_clients.specs.code.Times.{IsAnswered}
 use Rattle.run_clients.proofs.Noting.{answered_here, answered_never, answered_once, noted, unnoted}
 use Rattle.run_clients.proofs.times.note_reply.Goals as goal
 

@@ -1,5 +1,5 @@
 use Rattle.std.proofs.Common.{◌≡◌, drop}
-use Rattle.stories.specs.Stories.{place_in}
+use Rattle.stories.specs.rule.Stories.{place_in}
 use Rattle.stories.proofs.call_story.place_in.Given as goal
 
 abbrev pub invariant-loop-item : goal.invariant-loop-item

@@ -1,10 +1,10 @@
 use Rattle.std.proofs.Common.{◌≡◌, ◌∙◌, ◌+◌, ◌-◌, ◌<◌, ℕ, List, ◌∷◌, ◌++◌, length, drop, filter, map, ap, sym, subst, arith, Option}
 use Rattle.std.specs.Prelude.{filter_map, option_to_list, IfSome}
 use Rattle.std.specs.List.{cons_option, enumerate_from}
-use Rattle.messages.specs.Entries.{EntryFields}
+use Rattle.messages.specs.code.Entries.{EntryFields}
 use Rattle.stories.specs.declared.made_call.MadeCall.{MadeCall}
-use Rattle.stories.specs.OpenCalls.{is_open, made_by, open_call}
-use Rattle.stories.specs.OpenIndexes.{open_with}
+use Rattle.stories.specs.rule.OpenCalls.{is_open, made_by, open_call}
+use Rattle.stories.specs.code.OpenIndexes.{open_with}
 use Rattle.stories.proofs.OpenEnds.{ends_next, opened_next}
 use Rattle.stories.proofs.Passes.{drop_here}
 use Rattle.stories.proofs.open_call.unanswered.Goals as goal

@@ -1,8 +1,8 @@
 use Rattle.std.proofs.Common.{◌≡◌, ◌+◌, ℕ, drop, filter, map, reverse}
 use Rattle.std.specs.Prelude.{filter_map}
 use Rattle.std.specs.List.{enumerate_from}
-use Rattle.messages.specs.Entries.{EntryFields}
-use Rattle.stories.specs.OpenCalls.{is_open, made_by, open_call}
+use Rattle.messages.specs.code.Entries.{EntryFields}
+use Rattle.stories.specs.rule.OpenCalls.{is_open, made_by, open_call}
 use Rattle.stories.proofs.OpenEnds.{KnowsEnds}
 use Rattle.stories.proofs.open_call.unanswered.Given as goal
 

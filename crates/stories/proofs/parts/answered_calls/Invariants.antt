@@ -1,5 +1,5 @@
 use Rattle.std.proofs.Common.{take}
-use Rattle.stories.specs.OpenIndexes.{KnowsAnswered}
+use Rattle.stories.specs.code.OpenIndexes.{KnowsAnswered}
 use Rattle.stories.proofs.parts.answered_calls.Given as goal
 
 abbrev pub invariant-loop-entry : goal.invariant-loop-entry

@@ -5,9 +5,9 @@ use Rattle.std.proofs.lemmas.List.{take_all}
 use Rattle.std.proofs.lemmas.List.Folds.{list_any_more}
 use Rattle.model.specs.declared.call.CallId.{CallId}
 use Rattle.messages.specs.declared.message.Message.{Message}
-use Rattle.messages.specs.Entries.{EntryFields}
-use Rattle.stories.specs.About.{answers, delivers, is_about, is_call, makes}
-use Rattle.stories.specs.OpenIndexes.{call_come, part_in, with_last, with_one}
+use Rattle.messages.specs.code.Entries.{EntryFields}
+use Rattle.stories.specs.rule.About.{answers, delivers, is_about, is_call, makes}
+use Rattle.stories.specs.code.OpenIndexes.{call_come, part_in, with_last, with_one}
 use Rattle.stories.proofs.CallParts.{belongs-unanswered, delivers-come, one_more, or_assoc, or_false}
 use Rattle.stories.proofs.parts.note_entry.Goals as goal
 

@@ -1,8 +1,8 @@
 use Rattle.std.proofs.Common.{◌≡◌, false, take, ◌||◌}
 use Rattle.std.specs.List.{list_any}
 use Rattle.model.specs.declared.call.CallId.{CallId}
-use Rattle.stories.specs.About.{delivers, is_about, makes}
-use Rattle.stories.specs.OpenIndexes.{ends_at, has_call, part_in, with_one}
+use Rattle.stories.specs.rule.About.{delivers, is_about, makes}
+use Rattle.stories.specs.code.OpenIndexes.{ends_at, has_call, part_in, with_one}
 use Rattle.stories.proofs.parts.note_entry.Given as goal
 
 abbrev pub invariant-loop-message : goal.invariant-loop-message

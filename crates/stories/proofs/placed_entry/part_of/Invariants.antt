@@ -1,5 +1,5 @@
 use Rattle.std.proofs.Common.{◌≡◌, ◌+◌, ◌*◌, ◌≤◌, ◌++◌, drop, filter}
-use Rattle.stories.specs.About.{belongs, part_of, placed, PlacedFields}
+use Rattle.stories.specs.rule.About.{belongs, part_of, placed, PlacedFields}
 use Rattle.stories.proofs.placed_entry.part_of.Given as goal
 
 abbrev pub invariant-loop-entry : goal.invariant-loop-entry

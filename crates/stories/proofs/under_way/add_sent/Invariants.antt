@@ -1,5 +1,5 @@
 use Rattle.std.proofs.Common.{◌≡◌, fold}
-use Rattle.stories.specs.Pending.{way_with}
+use Rattle.stories.specs.rule.Pending.{way_with}
 use Rattle.stories.proofs.under_way.add_sent.Given as goal
 
 abbrev pub invariant-loop-numbered : goal.invariant-loop-numbered

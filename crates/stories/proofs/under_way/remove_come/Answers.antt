@@ -1,8 +1,8 @@
 use Rattle.std.specs.Prelude.{not}
 use Rattle.std.proofs.Common.{rules}
 use Rattle.std.proofs.lemmas.Fn.{filter_same}
-use Rattle.messages.specs.Messages.{same_message}
-use Rattle.stories.specs.About.{delivers, NumberedFields}
+use Rattle.messages.specs.rule.Messages.{same_message}
+use Rattle.stories.specs.rule.About.{delivers, NumberedFields}
 use Rattle.stories.proofs.under_way.remove_come.Goals as goal
 
 pub returns : goal.returns

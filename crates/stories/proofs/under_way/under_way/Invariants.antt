@@ -1,5 +1,5 @@
 use Rattle.std.proofs.Common.{◌≡◌, drop, fold}
-use Rattle.stories.specs.Pending.{under_way, way_after}
+use Rattle.stories.specs.rule.Pending.{under_way, way_after}
 use Rattle.stories.proofs.under_way.under_way.Given as goal
 
 abbrev pub invariant-loop-placed : goal.invariant-loop-placed

@@ -1,5 +1,5 @@
 use Rattle.std.proofs.Common.{◌∙◌, sym, ap, subst, arith, decimal}
-use Rattle.texts.specs.Reads.{IsPlain}
+use Rattle.texts.specs.rule.Reads.{IsPlain}
 use Rattle.std.proofs.lemmas.Fmt.{parse-decimal}
 use Rattle.texts.proofs.Outcomes.{err-not_ok}
 use Rattle.texts.proofs.Plain.{plain_numeral, decimal_is_plain}

@@ -4,7 +4,7 @@ use Rattle.std.specs.Fmt.{signed_decimal}
 use Rattle.std.proofs.lemmas.Fmt.{parse-signed_decimal}
 use Rattle.texts.proofs.Outcomes.{err-not_ok}
 use Rattle.texts.proofs.Plain.{plain_signed_numeral, signed_is_plain}
-use Rattle.texts.specs.Reads.{IsPlainSigned}
+use Rattle.texts.specs.rule.Reads.{IsPlainSigned}
 use Rattle.texts.proofs.number.offset_of.Goals as goal
 
 pub returns-in-Err : goal.returns-in-Err

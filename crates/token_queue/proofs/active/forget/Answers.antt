@@ -1,7 +1,7 @@
 use Rattle.std.specs.Prelude.{not}
 use Rattle.std.proofs.Common.{rules}
 use Rattle.std.proofs.lemmas.Fn.{filter_same}
-use Rattle.token_queue.specs.Requests.{is_up_to}
+use Rattle.token_queue.specs.rule.Requests.{is_up_to}
 use Rattle.token_queue.proofs.active.forget.Goals as goal
 
 pub returns-clause-items : goal.returns-clause-items

@@ -3,7 +3,7 @@ use Rattle.std.proofs.Common.{sym, ap, subst, ◌∙◌}
 use Rattle.std.proofs.lemmas.List.{take_all}
 use Rattle.std.proofs.lemmas.Option.{slice_get-get_or}
 use Rattle.token_queue.specs.declared.held.Held.{Held}
-use Rattle.token_queue.specs.Requests.{is_of_call}
+use Rattle.token_queue.specs.rule.Requests.{is_of_call}
 use Rattle.token_queue.proofs.ActiveLaws.{filter-all, filter-one, kept-next}
 use Rattle.token_queue.proofs.active.place_of.Goals as goal
 

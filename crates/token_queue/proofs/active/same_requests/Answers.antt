@@ -4,7 +4,7 @@ use Rattle.std.proofs.Common.{sym, ap, subst, ◌∙◌, arith}
 use Rattle.std.proofs.lemmas.Option.{slice_get-get_or}
 use Rattle.token_queue.specs.declared.held.Held.{Held}
 use Rattle.token_queue.specs.declared.token_request.TokenRequest.{TokenRequest}
-use Rattle.token_queue.specs.Actives.{requests_of}
+use Rattle.token_queue.specs.rule.Actives.{requests_of}
 use Rattle.token_queue.proofs.ActiveLaws.{same-more, request-at, request-same}
 use Rattle.token_queue.proofs.active.same_requests.Goals as goal
 

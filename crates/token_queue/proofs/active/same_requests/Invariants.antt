@@ -1,5 +1,5 @@
 use Rattle.std.proofs.Common.{◌≡◌, take}
-use Rattle.token_queue.specs.Actives.{requests_of}
+use Rattle.token_queue.specs.rule.Actives.{requests_of}
 use Rattle.token_queue.proofs.active.same_requests.Given as goal
 
 abbrev pub invariant-loop-place : goal.invariant-loop-place

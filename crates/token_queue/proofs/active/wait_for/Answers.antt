@@ -4,7 +4,7 @@ use Rattle.std.proofs.lemmas.List.{take_all, length-take}
 use Rattle.std.proofs.lemmas.Bool.{cases_lt}
 use Rattle.std.proofs.lemmas.Option.{slice_get_read}
 use Rattle.token_queue.specs.declared.held.Held.{Held}
-use Rattle.token_queue.specs.Actives.{waiting_for}
+use Rattle.token_queue.specs.rule.Actives.{waiting_for}
 use Rattle.token_queue.proofs.ActiveLaws.{waiting_for-more, waiting_for-at, waiting_for-past, waiting_for-length}
 use Rattle.token_queue.proofs.active.wait_for.Goals as goal
 

@@ -1,7 +1,7 @@
 use Rattle.std.specs.Prelude.{◌≡◌, length}
 use Rattle.std.specs.Vec.{vec_capacity}
 use Rattle.std.proofs.Common.{take}
-use Rattle.token_queue.specs.Actives.{waiting_for}
+use Rattle.token_queue.specs.rule.Actives.{waiting_for}
 use Rattle.token_queue.proofs.active.wait_for.Given as goal
 
 abbrev pub invariant-loop-place : goal.invariant-loop-place

@@ -1,5 +1,5 @@
 use Rattle.std.proofs.Common.{length, ◌-◌, ◌≡◌, ◌≤◌, drop}
-use Rattle.token_queue.specs.Requests.{requests_in}
+use Rattle.token_queue.specs.rule.Requests.{requests_in}
 use Rattle.token_queue.proofs.walk.first_from.Given as goal
 
 abbrev pub invariant-loop-place : goal.invariant-loop-place

@@ -1,6 +1,6 @@
 use Rattle.std.proofs.Common.{length, ◌-◌, ◌≡◌, ◌↔◌, ◌<◌, ◌≤◌, drop, is_some, true}
-use Rattle.token_queue.specs.Requests.{requests_in}
-use Rattle.token_queue.specs.Places.{request_at}
+use Rattle.token_queue.specs.rule.Requests.{requests_in}
+use Rattle.token_queue.specs.code.Places.{request_at}
 use Rattle.token_queue.proofs.walk.same_requests.Given as goal
 
 abbrev pub invariant-loop-here : goal.invariant-loop-here

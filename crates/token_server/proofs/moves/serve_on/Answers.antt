@@ -1,9 +1,9 @@
 use Rattle.std.specs.Prelude.{◌++◌, List}
 use Rattle.std.proofs.Common.{sym, ap, subst, ◌∙◌}
 use Rattle.token_queue.specs.declared.held.Held.{Held}
-use Rattle.token_queue.specs.Actives.{requests_of, waiting_for}
-use Rattle.token_server.specs.Ready.{AreDistinct}
-use Rattle.token_server.specs.Edits.{held_without, held_still}
+use Rattle.token_queue.specs.rule.Actives.{requests_of, waiting_for}
+use Rattle.token_server.specs.code.Ready.{AreDistinct}
+use Rattle.token_server.specs.code.Edits.{held_without, held_still}
 use Rattle.token_server.proofs.EndLaws.{distinct-kept}
 use Rattle.token_server.proofs.moves.serve_on.Goals as goal
 

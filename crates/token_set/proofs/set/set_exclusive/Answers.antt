@@ -1,5 +1,5 @@
 use Rattle.std.proofs.Common.{◌≡◌, ap, arith}
-use Rattle.intervals.specs.Bytes.{Range}
+use Rattle.intervals.specs.rule.Bytes.{Range}
 use Rattle.token_set.proofs.LevelLaws.{done-start, done-more, done-end, done-none}
 use Rattle.token_set.proofs.set.set_exclusive.Goals as goal
 

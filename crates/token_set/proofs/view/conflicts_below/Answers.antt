@@ -1,5 +1,5 @@
 use Rattle.std.proofs.Common.{sym, ap, ◌∙◌, arith}
-use Rattle.intervals.specs.Bytes.{Range}
+use Rattle.intervals.specs.rule.Bytes.{Range}
 use Rattle.token_set.proofs.TokenLaws.{none-conflicts}
 use Rattle.token_set.proofs.ViewLaws.{conflict-byte}
 use Rattle.token_set.proofs.view.conflicts_below.Goals as goal

@@ -1,6 +1,6 @@
 use Rattle.std.specs.Prelude.{max}
 use Rattle.std.proofs.Common.{sym, ap, ◌∙◌, arith}
-use Rattle.intervals.specs.Bytes.{Range}
+use Rattle.intervals.specs.rule.Bytes.{Range}
 use Rattle.token_set.proofs.view.conflicts_within.Goals as goal
 
 pub returns-clause-some : goal.returns-clause-some

@@ -2,10 +2,10 @@ use Rattle.std.specs.Prelude.{true}
 use Rattle.std.specs.BTreeMap as tree
 use Rattle.std.specs.Ordering.{nat_cmp}
 use Rattle.std.proofs.Common.{◌≡◌, ◌⊎◌, ℕ, Some, sym, ◌∙◌, subst}
-use Rattle.members.specs.Parts.{MembersParts, members_state}
-use Rattle.actors.specs.Lines.{parts}
-use Rattle.actors.specs.Awaited.{members_of}
-use Rattle.actors.specs.Denials.{MayCallCome, declares}
+use Rattle.members.specs.rule.Parts.{MembersParts, members_state}
+use Rattle.actors.specs.rule.Lines.{parts}
+use Rattle.actors.specs.code.Awaited.{members_of}
+use Rattle.actors.specs.rule.Denials.{MayCallCome, declares}
 use Rattle.lockscript.specs.declared.script_line.Command.{Command}
 use Rattle.actors.proofs.Denied.{call_may, if_ok, met_past}
 use Rattle.actors.proofs.denials.Passed.pass.Goals as goal

@@ -2,9 +2,9 @@ use Rattle.std.specs.Prelude.{List, All, filter_map}
 use Rattle.std.proofs.Common.{rules, subst}
 use Rattle.messages.specs.declared.entry.Entry.{Entry}
 use Rattle.actors.specs.declared.played_line.PlayedLine.{PlayedLine}
-use Rattle.actors.specs.Cuts.{AreBarred, IsUnanswered, killed_by}
-use Rattle.actors.specs.Denials.{MayAllCome, first_of}
-use Rattle.actors.specs.Lines.{parts}
+use Rattle.actors.specs.rule.Cuts.{AreBarred, IsUnanswered, killed_by}
+use Rattle.actors.specs.rule.Denials.{MayAllCome, first_of}
+use Rattle.actors.specs.rule.Lines.{parts}
 use Rattle.actors.proofs.thread_run.ThreadRun.new.Goals as goal
 
 pub returns-clause-of_script : goal.returns-clause-of_script

@@ -5,18 +5,18 @@ use Rattle.std.specs.Prelude.{OnErr, OnOk, is_ok}
 use Rattle.std.specs.declared.alloc.AllocError.{AllocError}
 use Rattle.messages.specs.declared.event.Event.{Event}
 use Rattle.messages.specs.declared.entry.Entry.{Entry}
-use Rattle.cluster_core.specs.World.{WorldState}
-use Rattle.cluster_core.specs.Next.{next}
-use Rattle.cluster_core.specs.Parts.{world_state}
-use Rattle.cluster_core.specs.Journals.{RunFields, GoesOn}
+use Rattle.cluster_core.specs.rule.World.{WorldState}
+use Rattle.cluster_core.specs.rule.Next.{next}
+use Rattle.cluster_core.specs.rule.Parts.{world_state}
+use Rattle.cluster_core.specs.rule.Journals.{RunFields, GoesOn}
 use Rattle.book.specs.declared.edit.Edit.{Edit}
-use Rattle.book.specs.Fields.{SeatFields, StampFields}
-use Rattle.book.specs.States.{Fits, Becomes}
-use Rattle.book.specs.Commits.{IsStepFrom, Refuses, Commits, seen_at}
+use Rattle.book.specs.rule.Fields.{SeatFields, StampFields}
+use Rattle.book.specs.rule.States.{Fits, Becomes}
+use Rattle.book.specs.rule.Commits.{IsStepFrom, Refuses, Commits, seen_at}
 use Rattle.book.proofs.Committed.{committed, committed_reached}
 use Rattle.book.proofs.Steps.{leads_on}
 use Rattle.book.specs.declared.state.State.{State}
-use Rattle.book.specs.LastSpots.{AreReached, Noted}
+use Rattle.book.specs.code.LastSpots.{AreReached, Noted}
 use Rattle.book.proofs.book.Book.commit.Given.{Over}
 use Rattle.book.proofs.book.Book.commit.Goals as goal
 

@@ -3,13 +3,13 @@ use Rattle.std.proofs.lemmas.Result.{err_from_is_err_and}
 use Rattle.messages.specs.declared.actor.Actor.TheVariants.{Server as AServer}
 use Rattle.messages.specs.declared.event.Event.TheVariants.{FailServer}
 use Rattle.messages.specs.declared.refusal.Refused.{Refused}
-use Rattle.cluster_core.specs.Next.{kept_next}
-use Rattle.cluster_core.specs.Parts.{world_state}
+use Rattle.cluster_core.specs.rule.Next.{kept_next}
+use Rattle.cluster_core.specs.rule.Parts.{world_state}
 use Rattle.cluster_core.proofs.steps.CertainRefusals.{err_is, fail-unspent}
-use Rattle.messages.specs.Messages.{sending}
-use Rattle.cluster_core.specs.Journals.{RunFields}
-use Rattle.book.specs.Fields.{StampFields}
-use Rattle.book.specs.Turns.{Failed}
+use Rattle.messages.specs.rule.Messages.{sending}
+use Rattle.cluster_core.specs.rule.Journals.{RunFields}
+use Rattle.book.specs.rule.Fields.{StampFields}
+use Rattle.book.specs.code.Turns.{Failed}
 use Rattle.book.proofs.Turns.{failed_others}
 use Rattle.book.proofs.Committed.{failed, turned_reached}
 use Rattle.book.proofs.book.Book.fail_server.Goals as goal

@@ -1,6 +1,6 @@
 use Rattle.std.proofs.Common.{sym, subst}
-use Rattle.cluster_core.specs.World.{WorldState}
-use Rattle.book.specs.States.{HasState}
+use Rattle.cluster_core.specs.rule.World.{WorldState}
+use Rattle.book.specs.rule.States.{HasState}
 use Rattle.book.proofs.book.Book.new.Goals as goal
 
 pub returns-clause-seats : goal.returns-clause-seats

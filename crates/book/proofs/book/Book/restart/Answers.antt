@@ -2,14 +2,14 @@ use Rattle.std.proofs.Common.{refl, sym, subst}
 use Rattle.messages.specs.declared.actor.Actor.TheVariants.{Node as ANode}
 use Rattle.messages.specs.declared.event.Event.TheVariants.{Restart}
 use Rattle.messages.specs.declared.entry.Entry.{Entry}
-use Rattle.node_core.specs.Parts.{node_state}
-use Rattle.cluster_core.specs.World.{WorldState}
-use Rattle.cluster_core.specs.Parts.{world_state}
-use Rattle.cluster_core.specs.Journals.{RunFields}
+use Rattle.node_core.specs.rule.Parts.{node_state}
+use Rattle.cluster_core.specs.rule.World.{WorldState}
+use Rattle.cluster_core.specs.rule.Parts.{world_state}
+use Rattle.cluster_core.specs.rule.Journals.{RunFields}
 use Rattle.cluster_core.proofs.steps.Steps.{kept_taken}
 use Rattle.book.specs.declared.state.State.TheVariants.{OfNode}
-use Rattle.book.specs.Fields.{SeatFields}
-use Rattle.book.specs.Turns.{Restarted}
+use Rattle.book.specs.rule.Fields.{SeatFields}
+use Rattle.book.specs.code.Turns.{Restarted}
 use Rattle.book.proofs.Turns.{restarted_mine, restarted_others}
 use Rattle.book.proofs.Committed.{restarted, turned_reached}
 use Rattle.book.proofs.book.Book.restart.Goals as goal

@@ -2,14 +2,14 @@ use Rattle.std.proofs.Common.{refl, sym, ap, ◌∙◌, subst}
 use Rattle.messages.specs.declared.actor.Actor.TheVariants.{Server as AServer}
 use Rattle.messages.specs.declared.event.Event.TheVariants.{StartServer}
 use Rattle.messages.specs.declared.entry.Entry.{Entry}
-use Rattle.token_server.specs.Parts.{server_state}
-use Rattle.cluster_core.specs.World.{WorldState}
-use Rattle.cluster_core.specs.Parts.{world_state}
-use Rattle.cluster_core.specs.Journals.{RunFields}
+use Rattle.token_server.specs.rule.Parts.{server_state}
+use Rattle.cluster_core.specs.rule.World.{WorldState}
+use Rattle.cluster_core.specs.rule.Parts.{world_state}
+use Rattle.cluster_core.specs.rule.Journals.{RunFields}
 use Rattle.cluster_core.proofs.steps.Steps.{kept_taken}
 use Rattle.book.specs.declared.state.State.TheVariants.{OfServer}
-use Rattle.book.specs.Fields.{SeatFields, StampFields}
-use Rattle.book.specs.Turns.{Started}
+use Rattle.book.specs.rule.Fields.{SeatFields, StampFields}
+use Rattle.book.specs.code.Turns.{Started}
 use Rattle.book.proofs.Turns.{started_mine, started_others}
 use Rattle.book.proofs.Committed.{started, turned_reached}
 use Rattle.book.proofs.book.Book.start_server.Goals as goal

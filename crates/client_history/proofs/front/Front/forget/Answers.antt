@@ -2,7 +2,7 @@ use Rattle.std.specs.Prelude.{not, ◌↔◌}
 use Rattle.std.specs.List.{list_any}
 use Rattle.std.proofs.Common.{ℕ, List, nat_eq, rules, subst, sym}
 use Rattle.std.proofs.lemmas.Fn.{filter_same}
-use Rattle.client_history.specs.Explained.{Stands}
+use Rattle.client_history.specs.rule.Explained.{Stands}
 use Rattle.client_history.proofs.Taken.{stays}
 use Rattle.client_history.proofs.front.Front.forget.Goals as goal
 

@@ -1,5 +1,5 @@
 use Rattle.std.proofs.Common.{List, ℕ, subst, sym}
-use Rattle.client_history.specs.Taken.{IsAlsoTaken}
+use Rattle.client_history.specs.code.Taken.{IsAlsoTaken}
 use Rattle.client_history.proofs.Taken.{put_in}
 use Rattle.client_history.proofs.front.Front.take.Goals as goal
 

@@ -2,11 +2,11 @@ use Rattle.std.specs.Prelude.{slice_index_or}
 use Rattle.std.proofs.Common.{◌≡◌, ◌∙◌, ℕ, ◌+◌, ◌<◌, ◌≤◌, sym, subst, arith, List, length, take}
 use Rattle.std.proofs.lemmas.List.{take_all}
 use Rattle.messages.specs.declared.entry.Entry.{Entry}
-use Rattle.messages.specs.Shapes.{ShapeFields}
-use Rattle.cluster_core.specs.World.{WorldState, first_world, journal_limit}
-use Rattle.cluster_core.specs.Parts.{world_state}
-use Rattle.cluster_core.specs.Runs.{Leads}
-use Rattle.cluster_core.specs.Journals.{IsFirstWrong}
+use Rattle.messages.specs.rule.Shapes.{ShapeFields}
+use Rattle.cluster_core.specs.rule.World.{WorldState, first_world, journal_limit}
+use Rattle.cluster_core.specs.rule.Parts.{world_state}
+use Rattle.cluster_core.specs.rule.Runs.{Leads}
+use Rattle.cluster_core.specs.rule.Journals.{IsFirstWrong}
 use Rattle.cluster_core.proofs.runs.JournalRuns.{leads_read}
 use Rattle.cluster_core.proofs.runs.Checked.{first_wrong, none_wrong}
 use Rattle.cluster_core.proofs.runs.Replayed.{replayed_count}

@@ -1,7 +1,7 @@
 use Rattle.std.proofs.Common.{◌≡◌, take}
-use Rattle.cluster_core.specs.World.{first_world}
-use Rattle.cluster_core.specs.Parts.{world_state}
-use Rattle.cluster_core.specs.Runs.{Leads}
+use Rattle.cluster_core.specs.rule.World.{first_world}
+use Rattle.cluster_core.specs.rule.Parts.{world_state}
+use Rattle.cluster_core.specs.rule.Runs.{Leads}
 use Rattle.cluster_core.proofs.journal.Journal.check.Given as goal
 
 abbrev pub invariant-loop-index : goal.invariant-loop-index

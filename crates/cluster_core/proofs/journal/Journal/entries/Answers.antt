@@ -1,6 +1,6 @@
 use Rattle.std.proofs.Common.{subst}
-use Rattle.cluster_core.specs.Journals.{JournalFields}
-use Rattle.cluster_core.specs.Safe.{LeadsToSafe}
+use Rattle.cluster_core.specs.rule.Journals.{JournalFields}
+use Rattle.cluster_core.specs.rule.Safe.{LeadsToSafe}
 use Rattle.cluster_core.proofs.runs.Runs.{safe_run}
 use Rattle.cluster_core.proofs.journal.Journal.entries.Goals as goal
 

@@ -1,4 +1,4 @@
-use Rattle.cluster_core.specs.Journals.{RunFields}
+use Rattle.cluster_core.specs.rule.Journals.{RunFields}
 use Rattle.cluster_core.proofs.runs.JournalRuns.{led_after}
 use Rattle.cluster_core.proofs.run.Run.after.Goals as goal
 

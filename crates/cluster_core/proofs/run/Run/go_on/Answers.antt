@@ -1,8 +1,8 @@
 use Rattle.std.proofs.Common.{◌∙◌, ◌<◌, ap, sym, subst, List, ◌++◌, ◌∷◌, []}
 use Rattle.messages.specs.declared.entry.Entry.{Entry}
-use Rattle.cluster_core.specs.Journals.{RunFields}
-use Rattle.cluster_core.specs.Parts.{world_state}
-use Rattle.cluster_core.specs.World.{journal_limit}
+use Rattle.cluster_core.specs.rule.Journals.{RunFields}
+use Rattle.cluster_core.specs.rule.Parts.{world_state}
+use Rattle.cluster_core.specs.rule.World.{journal_limit}
 use Rattle.cluster_core.proofs.runs.JournalRuns.{goes_on}
 use Rattle.cluster_core.proofs.steps.Steps.{kept_of}
 use Rattle.cluster_core.proofs.run.Run.go_on.Goals as goal

@@ -1,12 +1,12 @@
 use Rattle.std.proofs.Common.{◌≡◌, ◌∙◌, sym, subst, arith}
-use Rattle.cluster_core.specs.Journals.{JournalFields, journal_of}
-use Rattle.cluster_core.specs.Parts.{world_state}
-use Rattle.cluster_core.specs.Histories.{HasOneHistory}
-use Rattle.cluster_core.specs.Plain.{HasPlainHistory}
-use Rattle.cluster_core.specs.Safe.{LeadsToSafe}
-use Rattle.cluster_core.specs.Numbers.{LeadsToNumbers}
-use Rattle.cluster_core.specs.Evidence.{DenialsHaveEvidence}
-use Rattle.cluster_core.specs.World.{first_world}
+use Rattle.cluster_core.specs.rule.Journals.{JournalFields, journal_of}
+use Rattle.cluster_core.specs.rule.Parts.{world_state}
+use Rattle.cluster_core.specs.rule.Histories.{HasOneHistory}
+use Rattle.cluster_core.specs.rule.Plain.{HasPlainHistory}
+use Rattle.cluster_core.specs.rule.Safe.{LeadsToSafe}
+use Rattle.cluster_core.specs.rule.Numbers.{LeadsToNumbers}
+use Rattle.cluster_core.specs.rule.Evidence.{DenialsHaveEvidence}
+use Rattle.cluster_core.specs.rule.World.{first_world}
 use Rattle.cluster_core.proofs.common.Lengths.{leads-count}
 use Rattle.cluster_core.proofs.runs.Runs.{every_run, every_plain, safe_run, every_denial, no_number}
 use Rattle.cluster_core.proofs.run.Run.into_journal.Goals as goal

@@ -1,7 +1,7 @@
 use Rattle.std.proofs.Common.{◌≡◌, arith, subst}
-use Rattle.cluster_core.specs.World.{first_world}
-use Rattle.cluster_core.specs.Parts.{world_state}
-use Rattle.cluster_core.specs.Journals.{RunFields}
+use Rattle.cluster_core.specs.rule.World.{first_world}
+use Rattle.cluster_core.specs.rule.Parts.{world_state}
+use Rattle.cluster_core.specs.rule.Journals.{RunFields}
 use Rattle.cluster_core.proofs.common.Lengths.{leads-count}
 use Rattle.cluster_core.proofs.run.Run.len.Goals as goal
 

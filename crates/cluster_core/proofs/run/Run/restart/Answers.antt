@@ -1,7 +1,7 @@
 use Rattle.std.proofs.Common.{◌∙◌, sym, subst, ◌≡◌}
-use Rattle.node_core.specs.Parts.{node_state}
-use Rattle.cluster_core.specs.Journals.{RunFields}
-use Rattle.cluster_core.specs.Parts.{world_state}
+use Rattle.node_core.specs.rule.Parts.{node_state}
+use Rattle.cluster_core.specs.rule.Journals.{RunFields}
+use Rattle.cluster_core.specs.rule.Parts.{world_state}
 use Rattle.cluster_core.proofs.steps.Actors.{restart_keeps}
 use Rattle.cluster_core.proofs.run.Run.restart.Goals as goal
 

@@ -1,8 +1,8 @@
 use Rattle.std.proofs.Common.{◌≡◌, ◌∙◌, sym, subst}
-use Rattle.token_server.specs.Parts.{server_state}
-use Rattle.cluster_core.specs.Journals.{RunFields}
-use Rattle.cluster_core.specs.Next.{next_server}
-use Rattle.cluster_core.specs.Parts.{world_state}
+use Rattle.token_server.specs.rule.Parts.{server_state}
+use Rattle.cluster_core.specs.rule.Journals.{RunFields}
+use Rattle.cluster_core.specs.rule.Next.{next_server}
+use Rattle.cluster_core.specs.rule.Parts.{world_state}
 use Rattle.cluster_core.proofs.steps.Actors.{start_gives}
 use Rattle.cluster_core.proofs.run.Run.start.Goals as goal
 

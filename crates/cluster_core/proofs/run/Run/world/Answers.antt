@@ -1,7 +1,7 @@
 use Rattle.std.proofs.Common.{subst}
-use Rattle.cluster_core.specs.Journals.{RunFields}
-use Rattle.cluster_core.specs.Parts.{world_state}
-use Rattle.cluster_core.specs.Safe.{IsSafe}
+use Rattle.cluster_core.specs.rule.Journals.{RunFields}
+use Rattle.cluster_core.specs.rule.Parts.{world_state}
+use Rattle.cluster_core.specs.rule.Safe.{IsSafe}
 use Rattle.cluster_core.proofs.runs.Runs.{safe_run}
 use Rattle.cluster_core.proofs.run.Run.world.Goals as goal
 

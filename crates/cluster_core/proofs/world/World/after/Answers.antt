@@ -1,7 +1,7 @@
 use Rattle.std.proofs.Common.{◌≡◌, ◌∙◌, ◌<◌, ◌≤◌, List, length, get_or, ap, subst, arith}
 use Rattle.messages.specs.declared.entry.Entry.{Entry}
-use Rattle.cluster_core.specs.World.{first_world}
-use Rattle.cluster_core.specs.Parts.{world_state}
+use Rattle.cluster_core.specs.rule.World.{first_world}
+use Rattle.cluster_core.specs.rule.Parts.{world_state}
 use Rattle.cluster_core.proofs.runs.Replayed.{replayed_none, replayed_count, replayed_next, replayed_more, replayed_all}
 use Rattle.cluster_core.proofs.world.World.after.Goals as goal
 

@@ -1,4 +1,4 @@
-use Rattle.cluster_core.specs.Parts.{world_state}
+use Rattle.cluster_core.specs.rule.Parts.{world_state}
 use Rattle.cluster_core.proofs.runs.Replayed.{Replayed}
 use Rattle.cluster_core.proofs.world.World.after.Given as goal
 

@@ -3,10 +3,10 @@ use Rattle.std.proofs.Common.{◌≢◌, sym, subst, Result, Err}
 use Rattle.messages.specs.declared.entry.Entry.{Entry}
 use Rattle.messages.specs.declared.refusal.Refused.{Refused}
 use Rattle.cluster_core.specs.declared.world.change.Change.{Change}
-use Rattle.cluster_core.specs.World.{WorldState}
-use Rattle.cluster_core.specs.Next.{next}
-use Rattle.cluster_core.specs.Parts.{world_state}
-use Rattle.cluster_core.specs.Changes.{Makes}
+use Rattle.cluster_core.specs.rule.World.{WorldState}
+use Rattle.cluster_core.specs.rule.Next.{next}
+use Rattle.cluster_core.specs.rule.Parts.{world_state}
+use Rattle.cluster_core.specs.code.Changes.{Makes}
 use Rattle.cluster_core.proofs.world.World.apply.Goals as goal
 
 pub returns-in-Started-clause-err : goal.returns-in-Started-clause-err

@@ -1,11 +1,11 @@
 use Rattle.std.specs.Prelude.{◌-◌, slice_index_or, Ok}
 use Rattle.std.proofs.Common.{◌≡◌, ◌∙◌, ◌<◌, ◌++◌, true, length, arith, rules, refl, ap, sym, subst}
 use Rattle.std.proofs.lemmas.Result.{err_from_is_err_and}
-use Rattle.messages.specs.Messages.{is_within}
-use Rattle.node_core.specs.Parts.{NodeParts, node_state}
-use Rattle.node_core.specs.Plans.{planned}
-use Rattle.node_core.specs.Node.{node_rule}
-use Rattle.cluster_core.specs.Parts.{WorldParts, world_state}
+use Rattle.messages.specs.rule.Messages.{is_within}
+use Rattle.node_core.specs.rule.Parts.{NodeParts, node_state}
+use Rattle.node_core.specs.code.Plans.{planned}
+use Rattle.node_core.specs.rule.Node.{node_rule}
+use Rattle.cluster_core.specs.rule.Parts.{WorldParts, world_state}
 use Rattle.cluster_core.proofs.common.Numbered.{within_is}
 use Rattle.cluster_core.proofs.steps.CertainRefusals.{node_goes}
 use Rattle.cluster_core.proofs.steps.WorldSteps.{node_settled, node_named, node_returns, one_there}

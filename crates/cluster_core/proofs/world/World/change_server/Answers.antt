@@ -1,11 +1,11 @@
 use Rattle.std.specs.Prelude.{◌-◌, slice_index_or, Ok}
 use Rattle.std.proofs.Common.{◌≡◌, ◌∙◌, ◌<◌, ◌++◌, true, length, arith, rules, refl, ap, sym, subst}
 use Rattle.std.proofs.lemmas.Result.{err_from_is_err_and}
-use Rattle.token_server.specs.Parts.{ServerParts, server_state}
-use Rattle.token_server.specs.Edits.{planned}
-use Rattle.token_server.specs.Server.{server_rule}
-use Rattle.cluster_core.specs.Parts.{WorldParts, world_state}
-use Rattle.messages.specs.Messages.{is_within}
+use Rattle.token_server.specs.rule.Parts.{ServerParts, server_state}
+use Rattle.token_server.specs.code.Edits.{planned}
+use Rattle.token_server.specs.rule.Server.{server_rule}
+use Rattle.cluster_core.specs.rule.Parts.{WorldParts, world_state}
+use Rattle.messages.specs.rule.Messages.{is_within}
 use Rattle.cluster_core.proofs.common.Numbered.{within_is}
 use Rattle.cluster_core.proofs.steps.CertainRefusals.{server_goes}
 use Rattle.cluster_core.proofs.steps.WorldSteps.{one_there, server_names, server_returns, server_settled}

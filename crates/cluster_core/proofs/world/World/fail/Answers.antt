@@ -1,8 +1,8 @@
 use Rattle.std.proofs.Common.{◌≡◌, ◌<◌, true, sym, subst, Ok}
-use Rattle.messages.specs.Messages.{is_within}
-use Rattle.cluster_core.specs.World.{journal_limit}
-use Rattle.cluster_core.specs.Next.{fail_rule}
-use Rattle.cluster_core.specs.Parts.{WorldParts, world_state}
+use Rattle.messages.specs.rule.Messages.{is_within}
+use Rattle.cluster_core.specs.rule.World.{journal_limit}
+use Rattle.cluster_core.specs.rule.Next.{fail_rule}
+use Rattle.cluster_core.specs.rule.Parts.{WorldParts, world_state}
 use Rattle.cluster_core.proofs.steps.EpochSteps.{failed_parts, failed_world, failed_done, opened}
 use Rattle.cluster_core.proofs.world.World.fail.Goals as goal
 

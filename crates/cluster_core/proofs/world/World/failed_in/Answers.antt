@@ -1,8 +1,8 @@
 use Rattle.std.proofs.Common.{◌≡◌, ◌∙◌}
-use Rattle.members.specs.Members.{was_declared}
-use Rattle.members.specs.Parts.{members_state}
-use Rattle.cluster_core.specs.World.{has_failed}
-use Rattle.cluster_core.specs.Parts.{WorldParts, world_state}
+use Rattle.members.specs.rule.Members.{was_declared}
+use Rattle.members.specs.rule.Parts.{members_state}
+use Rattle.cluster_core.specs.rule.World.{has_failed}
+use Rattle.cluster_core.specs.rule.Parts.{WorldParts, world_state}
 use Rattle.cluster_core.proofs.steps.EpochSteps.{failed_there, opened}
 use Rattle.cluster_core.proofs.world.World.failed_in.Goals as goal
 

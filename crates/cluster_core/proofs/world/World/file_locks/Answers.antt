@@ -2,11 +2,11 @@ use Rattle.std.proofs.Common.{◌≡◌, ◌∙◌, ◌+◌, List, ◌++◌, ap,
 use Rattle.std.specs.Ordering.{is_lt}
 use Rattle.std.proofs.lemmas.Fn.{always_returns_same}
 use Rattle.model.specs.declared.lock_info.LockInfo.{LockInfo}
-use Rattle.lock_table.specs.Listing.{lock_cmp}
+use Rattle.lock_table.specs.code.Listing.{lock_cmp}
 use Rattle.lock_table.proofs.ListingLemmas.{listing_from, locks_weak}
-use Rattle.node_core.specs.Parts.{node_state}
-use Rattle.cluster_core.specs.Parts.{WorldParts, world_state}
-use Rattle.cluster_core.specs.Union.{union}
+use Rattle.node_core.specs.rule.Parts.{node_state}
+use Rattle.cluster_core.specs.rule.Parts.{WorldParts, world_state}
+use Rattle.cluster_core.specs.rule.Union.{union}
 use Rattle.cluster_core.proofs.listings.TokenLists.{is_number}
 use Rattle.cluster_core.proofs.listings.LockLists.{no_regions, more_regions, all_regions}
 use Rattle.cluster_core.proofs.world.World.file_locks.Goals as goal

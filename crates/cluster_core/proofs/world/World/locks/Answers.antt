@@ -2,8 +2,8 @@ use Rattle.std.proofs.Common.{◌≡◌, ◌∙◌, ◌+◌, [], List, ◌++◌,
 use Rattle.std.proofs.lemmas.Result.{IfOk-from_err}
 use Rattle.cluster_core.specs.declared.held_lock.HeldLock.{HeldLock}
 use Rattle.model.specs.declared.lock_info.LockInfo.{LockInfo}
-use Rattle.cluster_core.specs.Parts.{WorldParts, world_state}
-use Rattle.cluster_core.specs.Listings.{Adds, IsHeldBefore, held_lock}
+use Rattle.cluster_core.specs.rule.Parts.{WorldParts, world_state}
+use Rattle.cluster_core.specs.rule.Listings.{Adds, IsHeldBefore, held_lock}
 use Rattle.cluster_core.proofs.listings.TokenLists.{is_number}
 use Rattle.cluster_core.proofs.listings.LockLists.{IsHeldInFirst, adds_locks, held_none, held_next, held_all}
 use Rattle.cluster_core.proofs.world.World.locks.Goals as goal

@@ -1,9 +1,9 @@
 use Rattle.std.proofs.Common.{◌≡◌, true, rules, Ok}
-use Rattle.messages.specs.Messages.{is_within}
+use Rattle.messages.specs.rule.Messages.{is_within}
 use Rattle.messages.specs.declared.entry.Entry.{Entry}
-use Rattle.cluster_core.specs.World.{WorldState}
-use Rattle.cluster_core.specs.Next.{restart_rule}
-use Rattle.cluster_core.specs.Parts.{WorldParts, world_state}
+use Rattle.cluster_core.specs.rule.World.{WorldState}
+use Rattle.cluster_core.specs.rule.Next.{restart_rule}
+use Rattle.cluster_core.specs.rule.Parts.{WorldParts, world_state}
 use Rattle.cluster_core.proofs.steps.MemberSteps.{restart_is, opened}
 use Rattle.cluster_core.proofs.world.World.may_restart.Goals as goal
 

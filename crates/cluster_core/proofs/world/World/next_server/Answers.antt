@@ -1,8 +1,8 @@
 use Rattle.std.proofs.Common.{◌∙◌, ap}
 use Rattle.messages.specs.declared.outcome.Outcome.{Outcome}
-use Rattle.token_server.specs.Parts.{server_state}
-use Rattle.cluster_core.specs.Parts.{WorldParts}
-use Rattle.cluster_core.specs.Changes.{IsStart}
+use Rattle.token_server.specs.rule.Parts.{server_state}
+use Rattle.cluster_core.specs.rule.Parts.{WorldParts}
+use Rattle.cluster_core.specs.code.Changes.{IsStart}
 use Rattle.cluster_core.proofs.steps.EpochSteps.{may_start, opened}
 use Rattle.cluster_core.proofs.world.World.next_server.Goals as goal
 

@@ -1,7 +1,7 @@
 use Rattle.std.proofs.Common.{◌≡◌, true, sym, subst}
-use Rattle.messages.specs.Messages.{is_within}
-use Rattle.node_core.specs.Parts.{node_state}
-use Rattle.cluster_core.specs.Parts.{WorldParts, alive_at, world_state}
+use Rattle.messages.specs.rule.Messages.{is_within}
+use Rattle.node_core.specs.rule.Parts.{node_state}
+use Rattle.cluster_core.specs.rule.Parts.{WorldParts, alive_at, world_state}
 use Rattle.cluster_core.proofs.steps.WorldSteps.{read_node}
 use Rattle.cluster_core.proofs.world.World.node.Goals as goal
 

@@ -1,14 +1,14 @@
 use Rattle.std.specs.Prelude.{IfOk, IfErr, ◌≢◌, ◌-◌, slice_index_or}
 use Rattle.std.specs.declared.result.Result.TheVariants.{Ok, Err}
 use Rattle.std.proofs.Common.{◌≡◌, true, sym, subst}
-use Rattle.messages.specs.Messages.{is_within}
+use Rattle.messages.specs.rule.Messages.{is_within}
 use Rattle.messages.specs.declared.refusal.StepError.{StepError}
 use Rattle.messages.specs.declared.refusal.StepError.TheVariants.{NoMemory}
-use Rattle.cluster_core.specs.Parts.{WorldParts, alive_at, world_state}
-use Rattle.node_core.specs.Node.{node_rule}
-use Rattle.node_core.specs.State.{NodeState}
-use Rattle.node_core.specs.Parts.{NodeParts}
-use Rattle.node_core.specs.Plans.{Fits, planned}
+use Rattle.cluster_core.specs.rule.Parts.{WorldParts, alive_at, world_state}
+use Rattle.node_core.specs.rule.Node.{node_rule}
+use Rattle.node_core.specs.rule.State.{NodeState}
+use Rattle.node_core.specs.rule.Parts.{NodeParts}
+use Rattle.node_core.specs.code.Plans.{Fits, planned}
 use Rattle.cluster_core.proofs.steps.WorldSteps.{read_node, plan_found}
 use Rattle.cluster_core.proofs.world.World.node_plan.Goals as goal
 

@@ -1,7 +1,7 @@
 use Rattle.std.proofs.Common.{◌≡◌, refl, Err}
-use Rattle.cluster_core.specs.Next.{restart_rule}
-use Rattle.cluster_core.specs.Parts.{WorldParts, world_state}
-use Rattle.cluster_core.specs.Changes.{IsRestart}
+use Rattle.cluster_core.specs.rule.Next.{restart_rule}
+use Rattle.cluster_core.specs.rule.Parts.{WorldParts, world_state}
+use Rattle.cluster_core.specs.code.Changes.{IsRestart}
 use Rattle.cluster_core.proofs.steps.MemberSteps.{may_restart, restart_goes, opened}
 use Rattle.cluster_core.proofs.world.World.plan_restart.Goals as goal
 

@@ -1,9 +1,9 @@
 use Rattle.std.proofs.Common.{◌∙◌, ap, sym, Err}
 use Rattle.std.proofs.lemmas.Result.{err_from_is_err_and}
-use Rattle.messages.specs.Refusals.{refused_by}
+use Rattle.messages.specs.rule.Refusals.{refused_by}
 use Rattle.messages.specs.declared.refusal.Refused.{Refused}
 use Rattle.messages.specs.declared.event.Event.TheVariants.{Deliver}
-use Rattle.cluster_core.specs.Parts.{world_state}
+use Rattle.cluster_core.specs.rule.Parts.{world_state}
 use Rattle.cluster_core.proofs.steps.CertainRefusals.{err_is, server_refused}
 use Rattle.cluster_core.proofs.world.World.plan_server_delivery.Goals as goal
 

@@ -1,10 +1,10 @@
 use Rattle.std.proofs.Common.{◌∙◌, ◌++◌, ap, map, List}
 use Rattle.std.proofs.lemmas.Result.{on_ok_weaker}
-use Rattle.intervals.specs.Bytes.{Range}
+use Rattle.intervals.specs.rule.Bytes.{Range}
 use Rattle.model.specs.declared.level.Level.{Level}
-use Rattle.node_core.specs.Parts.{node_state}
-use Rattle.cluster_core.specs.Parts.{world_state}
-use Rattle.cluster_core.specs.Listings.{token_run}
+use Rattle.node_core.specs.rule.Parts.{node_state}
+use Rattle.cluster_core.specs.rule.Parts.{world_state}
+use Rattle.cluster_core.specs.rule.Listings.{token_run}
 use Rattle.cluster_core.proofs.listings.TokenLists.{adds_file}
 use Rattle.cluster_core.proofs.world.World.push_file_tokens.Goals as goal
 

@@ -1,8 +1,8 @@
 use Rattle.std.proofs.Common.{◌≡◌, ◌∙◌, ap, arith, false, rules, sym}
 use Rattle.std.proofs.lemmas.Result.{IfOk-from_err}
-use Rattle.cluster_core.specs.Parts.{WorldParts, world_state}
+use Rattle.cluster_core.specs.rule.Parts.{WorldParts, world_state}
 use Rattle.cluster_core.proofs.listings.TokenLists.{no_files, next_file, all_files}
-use Rattle.cluster_core.specs.Listings.{IsTokenOf, IsTokenBefore}
+use Rattle.cluster_core.specs.rule.Listings.{IsTokenOf, IsTokenBefore}
 use Rattle.cluster_core.proofs.common.Lists.{adds_none}
 use Rattle.cluster_core.proofs.steps.MemberSteps.{dead_token}
 use Rattle.cluster_core.proofs.world.World.push_node_tokens.Goals as goal

@@ -1,5 +1,5 @@
-use Rattle.cluster_core.specs.Parts.{world_state}
-use Rattle.cluster_core.specs.Listings.{Adds, IsTokenBefore}
+use Rattle.cluster_core.specs.rule.Parts.{world_state}
+use Rattle.cluster_core.specs.rule.Listings.{Adds, IsTokenBefore}
 use Rattle.cluster_core.proofs.listings.TokenLists.{IsOfFirstFiles}
 use Rattle.cluster_core.proofs.world.World.push_node_tokens.Given as goal
 

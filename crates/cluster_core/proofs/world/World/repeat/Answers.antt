@@ -1,5 +1,5 @@
 use Rattle.std.proofs.Common.{◌∙◌}
-use Rattle.cluster_core.specs.Parts.{world_state}
+use Rattle.cluster_core.specs.rule.Parts.{world_state}
 use Rattle.cluster_core.proofs.runs.Replayed.{made_again, not_refused}
 use Rattle.cluster_core.proofs.world.World.repeat.Goals as goal
 

@@ -1,9 +1,9 @@
 use Rattle.std.proofs.Common.{◌≡◌, ◌<◌, sym, subst, Ok}
-use Rattle.node_core.specs.Parts.{NodeParts}
-use Rattle.cluster_core.specs.World.{journal_limit}
-use Rattle.cluster_core.specs.Next.{restart_rule}
-use Rattle.cluster_core.specs.Parts.{WorldParts, world_state}
-use Rattle.cluster_core.specs.Changes.{IsRestart}
+use Rattle.node_core.specs.rule.Parts.{NodeParts}
+use Rattle.cluster_core.specs.rule.World.{journal_limit}
+use Rattle.cluster_core.specs.rule.Next.{restart_rule}
+use Rattle.cluster_core.specs.rule.Parts.{WorldParts, world_state}
+use Rattle.cluster_core.specs.code.Changes.{IsRestart}
 use Rattle.cluster_core.proofs.steps.MemberSteps.{restarted_parts, restarted_world, restarted_done}
 use Rattle.cluster_core.proofs.world.World.restart.Goals as goal
 

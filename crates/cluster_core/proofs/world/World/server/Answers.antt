@@ -1,7 +1,7 @@
 use Rattle.std.proofs.Common.{◌≡◌, true, sym, subst}
-use Rattle.messages.specs.Messages.{is_within}
-use Rattle.token_server.specs.Parts.{server_state}
-use Rattle.cluster_core.specs.Parts.{WorldParts, world_state}
+use Rattle.messages.specs.rule.Messages.{is_within}
+use Rattle.token_server.specs.rule.Parts.{server_state}
+use Rattle.cluster_core.specs.rule.Parts.{WorldParts, world_state}
 use Rattle.cluster_core.proofs.steps.WorldSteps.{read_server}
 use Rattle.cluster_core.proofs.world.World.server.Goals as goal
 

@@ -1,15 +1,15 @@
 use Rattle.std.specs.Prelude.{IfOk, IfErr, ◌≢◌, ◌-◌, slice_index_or}
 use Rattle.std.specs.declared.result.Result.TheVariants.{Ok, Err}
 use Rattle.std.proofs.Common.{◌≡◌, true, sym, subst}
-use Rattle.messages.specs.Messages.{is_within}
+use Rattle.messages.specs.rule.Messages.{is_within}
 use Rattle.messages.specs.declared.refusal.StepError.{StepError}
 use Rattle.messages.specs.declared.refusal.StepError.TheVariants.{NoMemory, Spent}
-use Rattle.cluster_core.specs.Parts.{WorldParts, world_state}
+use Rattle.cluster_core.specs.rule.Parts.{WorldParts, world_state}
 use Rattle.token_server.specs.declared.event.ServerEvent.TheVariants as served
-use Rattle.token_server.specs.Server.{server_rule}
-use Rattle.token_server.specs.State.{ServerState}
-use Rattle.token_server.specs.Parts.{ServerParts}
-use Rattle.token_server.specs.Edits.{planned, Fits}
+use Rattle.token_server.specs.rule.Server.{server_rule}
+use Rattle.token_server.specs.rule.State.{ServerState}
+use Rattle.token_server.specs.rule.Parts.{ServerParts}
+use Rattle.token_server.specs.code.Edits.{planned, Fits}
 use Rattle.cluster_core.proofs.steps.WorldSteps.{read_server, server_found}
 use Rattle.cluster_core.proofs.world.World.server_delivery.Goals as goal
 

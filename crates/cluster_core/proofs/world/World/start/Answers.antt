@@ -1,13 +1,13 @@
 use Rattle.std.proofs.Common.{◌≡◌, ◌<◌, ◌≤◌, ◌∙◌, ◌++◌, false, List, ap, sym, subst, Ok, Err}
 use Rattle.std.proofs.lemmas.Result.{err_from_is_err_and}
 use Rattle.messages.specs.declared.refusal.Refused.{Refused}
-use Rattle.members.specs.Parts.{incarnation_in}
+use Rattle.members.specs.rule.Parts.{incarnation_in}
 use Rattle.messages.specs.declared.message.Message.{Message}
-use Rattle.token_server.specs.Parts.{ServerParts}
-use Rattle.cluster_core.specs.World.{journal_limit, most_incarnations}
-use Rattle.cluster_core.specs.Next.{start_rule}
-use Rattle.cluster_core.specs.Parts.{WorldParts, works_at, world_state}
-use Rattle.cluster_core.specs.Changes.{IsStart}
+use Rattle.token_server.specs.rule.Parts.{ServerParts}
+use Rattle.cluster_core.specs.rule.World.{journal_limit, most_incarnations}
+use Rattle.cluster_core.specs.rule.Next.{start_rule}
+use Rattle.cluster_core.specs.rule.Parts.{WorldParts, works_at, world_state}
+use Rattle.cluster_core.specs.code.Changes.{IsStart}
 use Rattle.cluster_core.proofs.steps.EpochSteps.{started_parts, started_world, started_done, start_taken, opened}
 use Rattle.cluster_core.proofs.world.World.start.Goals as goal
 

@@ -1,8 +1,8 @@
 use Rattle.std.proofs.Common.{◌≡◌, ◌∙◌, List, [], sym, ap, subst, arith}
 use Rattle.std.proofs.lemmas.Result.{IfOk-from_err}
 use Rattle.cluster_core.specs.declared.token_run.TokenRun.{TokenRun}
-use Rattle.cluster_core.specs.Listings.{Adds, IsTokenBefore}
-use Rattle.cluster_core.specs.Parts.{WorldParts, world_state}
+use Rattle.cluster_core.specs.rule.Listings.{Adds, IsTokenBefore}
+use Rattle.cluster_core.specs.rule.Parts.{WorldParts, world_state}
 use Rattle.cluster_core.proofs.listings.TokenLists.{IsOfFirstNodes, no_nodes, next_node, all_nodes}
 use Rattle.cluster_core.proofs.world.World.tokens.Goals as goal
 

@@ -1,6 +1,6 @@
 use Rattle.std.proofs.Common.{[]}
-use Rattle.cluster_core.specs.Parts.{world_state}
-use Rattle.cluster_core.specs.Listings.{Adds, IsTokenBefore}
+use Rattle.cluster_core.specs.rule.Parts.{world_state}
+use Rattle.cluster_core.specs.rule.Listings.{Adds, IsTokenBefore}
 use Rattle.cluster_core.proofs.listings.TokenLists.{IsOfFirstNodes}
 use Rattle.cluster_core.proofs.world.World.tokens.Given as goal
 

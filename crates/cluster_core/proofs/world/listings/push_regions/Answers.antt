@@ -1,6 +1,6 @@
 use Rattle.std.proofs.Common.{sym, append-nil}
 use Rattle.std.proofs.lemmas.Result.{IfOk-from_err}
-use Rattle.cluster_core.specs.Listings.{held_lock}
+use Rattle.cluster_core.specs.rule.Listings.{held_lock}
 use Rattle.cluster_core.proofs.common.Lists.{mapped_more, mapped_all}
 use Rattle.cluster_core.proofs.world.listings.push_regions.Goals as goal
 

@@ -1,5 +1,5 @@
 use Rattle.std.proofs.Common.{◌≡◌, ◌++◌, map, take}
-use Rattle.cluster_core.specs.Listings.{held_lock}
+use Rattle.cluster_core.specs.rule.Listings.{held_lock}
 use Rattle.cluster_core.proofs.world.listings.push_regions.Given as goal
 
 abbrev pub invariant-loop-lock : goal.invariant-loop-lock

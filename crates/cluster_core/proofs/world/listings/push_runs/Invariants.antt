@@ -1,5 +1,5 @@
 use Rattle.std.proofs.Common.{◌≡◌, ◌++◌, map, take}
-use Rattle.cluster_core.specs.Listings.{token_run}
+use Rattle.cluster_core.specs.rule.Listings.{token_run}
 use Rattle.cluster_core.proofs.world.listings.push_runs.Given as goal
 
 abbrev pub invariant-loop-run : goal.invariant-loop-run

@@ -1,5 +1,5 @@
 use Rattle.std.proofs.Common.{ap, sym, ◌∙◌}
-use Rattle.command_line.specs.Table.{rule_given}
+use Rattle.command_line.specs.code.Table.{rule_given}
 use Rattle.command_line.proofs.argument.Argument.made.Goals as goal
 
 pub returns-in-Number : goal.returns-in-Number

@@ -1,8 +1,8 @@
 use Rattle.std.proofs.Common.{◌≡◌, None, true, ap, arith, sym, subst, ◌∙◌, take, drop, ◌++◌, length, rules}
 use Rattle.std.proofs.Math.Seq.{take-append_seam}
-use Rattle.model.specs.Descriptors.{with_process}
-use Rattle.descriptors.specs.Rows.{processes}
-use Rattle.descriptors.specs.Counts.{AreCounts, places}
+use Rattle.model.specs.rule.Descriptors.{with_process}
+use Rattle.descriptors.specs.code.Rows.{processes}
+use Rattle.descriptors.specs.code.Counts.{AreCounts, places}
 use Rattle.descriptors.proofs.RowLaws.{idle-opened}
 use Rattle.descriptors.proofs.CountLaws.{counts-begun}
 use Rattle.descriptors.proofs.processes.Processes.begin.Goals as goal

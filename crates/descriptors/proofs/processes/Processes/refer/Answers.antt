@@ -1,10 +1,10 @@
 use Rattle.std.proofs.Common.{◌≡◌, ◌+◌, Some, ap, arith, sym, subst, ◌∙◌, take, drop, ◌++◌, length, rules}
 use Rattle.std.proofs.Math.Seq.{take-append_seam}
 use Rattle.std.proofs.lemmas.List.{length-set}
-use Rattle.model.specs.Descriptors.{with_descriptor}
-use Rattle.descriptors.specs.Rows.{processes}
-use Rattle.descriptors.specs.Counts.{AreCounts, count_of, places}
-use Rattle.descriptors.specs.Edits.{IsKnown}
+use Rattle.model.specs.rule.Descriptors.{with_descriptor}
+use Rattle.descriptors.specs.code.Rows.{processes}
+use Rattle.descriptors.specs.code.Counts.{AreCounts, count_of, places}
+use Rattle.descriptors.specs.code.Edits.{IsKnown}
 use Rattle.descriptors.proofs.RowLaws.{runs_within, runs-numbered, processes-runs}
 use Rattle.descriptors.proofs.CountLaws.{counts-opened, known-lowest, room-for-one}
 use Rattle.descriptors.proofs.PlaceLaws.{known-place}

@@ -1,7 +1,7 @@
 use Rattle.std.proofs.Common.{ap, sym, ◌∙◌}
-use Rattle.model.specs.Descriptors.{Processes}
-use Rattle.model.specs.Table.{Table, descriptor, closed_if}
-use Rattle.fcntl_table.specs.Hosts.{HostRows, process_at, processes_of}
+use Rattle.model.specs.rule.Descriptors.{Processes}
+use Rattle.model.specs.rule.Table.{Table, descriptor, closed_if}
+use Rattle.fcntl_table.specs.rule.Hosts.{HostRows, process_at, processes_of}
 use Rattle.fcntl_table.proofs.HostLaws.{changes-nothing, changes-written, hosts-written, processes-found, runs-nowhere, shut_on}
 use Rattle.fcntl_table.proofs.hosts.Hosts.close.Goals as goal
 

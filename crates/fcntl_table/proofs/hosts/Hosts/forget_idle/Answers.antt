@@ -1,5 +1,5 @@
 use Rattle.std.proofs.Common.{ap, ◌∙◌}
-use Rattle.fcntl_table.specs.Hosts.{processes_of}
+use Rattle.fcntl_table.specs.rule.Hosts.{processes_of}
 use Rattle.fcntl_table.proofs.HostLaws.{forgotten, hosts-removed}
 use Rattle.fcntl_table.proofs.hosts.Hosts.forget_idle.Goals.{in-Some-1, in-None-1}
 use Rattle.fcntl_table.proofs.hosts.Hosts.forget_idle.Goals as goal

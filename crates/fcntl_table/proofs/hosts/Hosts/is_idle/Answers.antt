@@ -1,5 +1,5 @@
 use Rattle.std.proofs.Common.{◌≡◌}
-use Rattle.model.specs.Descriptors.{Processes, no_processes}
+use Rattle.model.specs.rule.Descriptors.{Processes, no_processes}
 use Rattle.std.proofs.Common.{refl}
 use Rattle.fcntl_table.proofs.HostLaws.{by_found, by_not_found}
 use Rattle.fcntl_table.proofs.hosts.Hosts.is_idle.Goals as goal

@@ -2,9 +2,9 @@ use Rattle.std.proofs.Common.{◌≡◌}
 use Rattle.std.specs.Prelude.{Ok, Err, IfOk, IfErr}
 use Rattle.std.proofs.lemmas.Result.{IfOk-weaker}
 use Rattle.model.specs.declared.reply.Reply.TheVariants.{NoProcess}
-use Rattle.model.specs.Descriptors.{Processes, after}
-use Rattle.descriptors.specs.Rows.{Refuses}
-use Rattle.descriptors.specs.Edits.{edited}
+use Rattle.model.specs.rule.Descriptors.{Processes, after}
+use Rattle.descriptors.specs.code.Rows.{Refuses}
+use Rattle.descriptors.specs.code.Edits.{edited}
 use Rattle.fcntl_table.proofs.HostLaws.{by_found, by_not_found, fits_on, none-refused}
 use Rattle.fcntl_table.proofs.hosts.Hosts.plan.Goals as goal
 

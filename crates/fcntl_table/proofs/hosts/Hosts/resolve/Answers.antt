@@ -1,6 +1,6 @@
 use Rattle.std.proofs.Common.{sym, ◌∙◌, ap}
-use Rattle.model.specs.Descriptors.{Processes}
-use Rattle.descriptors.specs.Rows.{resolved}
+use Rattle.model.specs.rule.Descriptors.{Processes}
+use Rattle.descriptors.specs.code.Rows.{resolved}
 use Rattle.fcntl_table.proofs.HostLaws.{processes-found, processes-not_found}
 use Rattle.fcntl_table.proofs.hosts.Hosts.resolve.Goals as goal
 

@@ -1,9 +1,9 @@
 use Rattle.std.proofs.Common.{◌≡◌, refl, subst}
 use Rattle.std.specs.Prelude.{Err}
-use Rattle.model.specs.Table.{around}
+use Rattle.model.specs.rule.Table.{around}
 use Rattle.model.specs.declared.op.ProcessCall.{ProcessCall}
-use Rattle.model.specs.Descriptors.{after}
-use Rattle.fcntl_table.specs.Tables.{table_of}
+use Rattle.model.specs.rule.Descriptors.{after}
+use Rattle.fcntl_table.specs.rule.Tables.{table_of}
 use Rattle.fcntl_table.proofs.TableLaws.{refused-kept}
 use Rattle.fcntl_table.proofs.table.FcntlTable.call.Goals as goal
 

@@ -1,6 +1,6 @@
 use Rattle.std.proofs.Common.{◌≡◌}
 use Rattle.model.proofs.FailLaws.{exited_before}
-use Rattle.fcntl_table.specs.Tables.{table_of}
+use Rattle.fcntl_table.specs.rule.Tables.{table_of}
 use Rattle.fcntl_table.proofs.table.FcntlTable.exit_all.Given as goal
 
 abbrev pub invariant-loop-pid : goal.invariant-loop-pid

@@ -1,5 +1,5 @@
 use Rattle.std.proofs.Common.{◌∙◌, ap}
-use Rattle.model.specs.Table.{empty_table}
+use Rattle.model.specs.rule.Table.{empty_table}
 use Rattle.fcntl_table.proofs.TableLaws.{table-empty}
 use Rattle.fcntl_table.proofs.table.FcntlTable.new.Goals as goal
 

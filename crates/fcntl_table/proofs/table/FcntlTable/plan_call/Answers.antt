@@ -1,11 +1,11 @@
 use Rattle.std.proofs.Common.{◌≡◌, ℕ, ap, subst}
 use Rattle.std.specs.Prelude.{Ok}
 use Rattle.model.specs.declared.process.Process.{Process}
-use Rattle.model.specs.Descriptors.{Processes, after}
-use Rattle.descriptors.specs.Rows.{Refuses}
-use Rattle.descriptors.specs.Edits.{edited}
-use Rattle.fcntl_table.specs.Hosts.{processes_of}
-use Rattle.fcntl_table.specs.Tables.{table_of}
+use Rattle.model.specs.rule.Descriptors.{Processes, after}
+use Rattle.descriptors.specs.code.Rows.{Refuses}
+use Rattle.descriptors.specs.code.Edits.{edited}
+use Rattle.fcntl_table.specs.rule.Hosts.{processes_of}
+use Rattle.fcntl_table.specs.rule.Tables.{table_of}
 use Rattle.fcntl_table.proofs.TableLaws.{planned-ok, planned-refused, not-refused, refused-outright, if_matched}
 use Rattle.fcntl_table.proofs.table.FcntlTable.plan_call.Goals as goal
 

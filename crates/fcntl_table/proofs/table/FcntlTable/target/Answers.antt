@@ -1,7 +1,7 @@
 use Rattle.std.proofs.Common.{◌≡◌, ap, ◌∙◌, w64}
 use Rattle.std.proofs.lemmas.Int.{to_z-of_z}
 use mir.Val.{to_z, of_z}
-use Rattle.intervals.specs.Segment.{seg}
+use Rattle.intervals.specs.rule.Segment.{seg}
 use Rattle.model.specs.declared.process.Process.{Process}
 use Rattle.fcntl_table.proofs.TargetLaws.{segment-is}
 use Rattle.fcntl_table.proofs.TableLaws.{target-of, target-refused}

@@ -1,5 +1,5 @@
 use Rattle.history_text.specs.declared.known.Known.{Known}
-use Rattle.history_text.specs.Readings.{Learns}
+use Rattle.history_text.specs.rule.Readings.{Learns}
 use Rattle.history_text.proofs.LifeLaws.{learns_both}
 use Rattle.history_text.proofs.known.Known.caller.Goals as goal
 

@@ -1,5 +1,5 @@
 use Rattle.history_text.specs.declared.known.Known.{Known}
-use Rattle.history_text.specs.Readings.{Learns}
+use Rattle.history_text.specs.rule.Readings.{Learns}
 use Rattle.history_text.proofs.LifeLaws.{extends_none, learns_both}
 use Rattle.history_text.proofs.known.Known.next_asked.Goals as goal
 

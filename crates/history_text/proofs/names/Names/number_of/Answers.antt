@@ -1,7 +1,7 @@
 use Rattle.std.proofs.Common.{◌≡◌, ℕ, List, [], ◌∷◌, ◌++◌, length, map, slice_get, Some, sym, ap, subst, ◌∙◌, arith}
 use Rattle.std.proofs.lemmas.List.{length-map}
 use Rattle.std.specs.String.{string_bytes}
-use Rattle.history_text.specs.Owners.{AreDistinct}
+use Rattle.history_text.specs.rule.Owners.{AreDistinct}
 use Rattle.history_text.proofs.NameLaws.{added_count, added_last, added_name, distinct_names, found_name}
 use Rattle.history_text.proofs.names.Names.number_of.Goals as goal
 

@@ -1,8 +1,8 @@
 use Rattle.std.proofs.Common.{ℕ, ◌+◌, ◌≤◌, List, refl, ap, sym, subst, ◌∙◌, arith}
-use Rattle.texts.specs.Reads.{IsWithin}
+use Rattle.texts.specs.rule.Reads.{IsWithin}
 use Rattle.history_text.specs.declared.life.Life.{Life}
-use Rattle.history_text.specs.Files.{IsCallOf}
-use Rattle.history_text.specs.Steps.{IsWhole}
+use Rattle.history_text.specs.rule.Files.{IsCallOf}
+use Rattle.history_text.specs.code.Steps.{IsWhole}
 use Rattle.history_text.proofs.FileLaws.{files_extend}
 use Rattle.history_text.proofs.reader.Reader.take_call.Goals as goal
 

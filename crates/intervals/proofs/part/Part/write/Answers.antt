@@ -1,5 +1,5 @@
 use Rattle.std.proofs.Common.{length, ap, ◌∙◌, arith}
-use Rattle.intervals.specs.Runs.{begins_at}
+use Rattle.intervals.specs.code.Runs.{begins_at}
 use Rattle.intervals.proofs.part.Part.write.Goals as goal
 
 pub write-requires-clause-room : goal.write-requires-clause-room

@@ -1,10 +1,10 @@
 use Rattle.std.proofs.Common.{◌≡◌, ◌≤◌, ◌+◌, ◌-◌, ◌++◌, ◌∷◌, List, take, drop, length, subst, ap, sym, ◌∙◌, arith}
 use Rattle.std.proofs.lemmas.List.{append_assoc, append-nil, length-append, take_all}
 use Rattle.intervals.specs.declared.run.Run.{Run}
-use Rattle.intervals.specs.Bytes.{greatest, starts_below}
-use Rattle.intervals.specs.Runs.{value_at, AreRuns}
-use Rattle.intervals.specs.Entries.{BeginAbove}
-use Rattle.intervals.specs.Parts.{all_runs, AreSome, row_runs, part_at, runs_above}
+use Rattle.intervals.specs.rule.Bytes.{greatest, starts_below}
+use Rattle.intervals.specs.code.Runs.{value_at, AreRuns}
+use Rattle.intervals.specs.code.Entries.{BeginAbove}
+use Rattle.intervals.specs.code.Parts.{all_runs, AreSome, row_runs, part_at, runs_above}
 use Rattle.intervals.proofs.Runs.{drop_read}
 use Rattle.intervals.proofs.Split.{runs-front, runs-back}
 use Rattle.intervals.proofs.Starts.{begin_below, starts_below_are}

@@ -1,5 +1,5 @@
 use Rattle.std.proofs.Common.{◌≡◌, ◌+◌, ◌++◌, take}
-use Rattle.intervals.specs.Parts.{all_runs, part_at}
+use Rattle.intervals.specs.code.Parts.{all_runs, part_at}
 use Rattle.intervals.proofs.Starts.{begin_below}
 use Rattle.intervals.proofs.row.Row.begin_within.Given as goal
 

@@ -1,6 +1,6 @@
 use Rattle.std.proofs.Common.{◌≡◌, ◌+◌, length, take, drop, ap, sym, ◌∙◌, arith}
 use Rattle.std.proofs.lemmas.List.{length-append}
-use Rattle.intervals.specs.Parts.{all_runs, part_at, runs_within}
+use Rattle.intervals.specs.code.Parts.{all_runs, part_at, runs_within}
 use Rattle.intervals.proofs.Places.{within_few, take_part, take_few}
 use Rattle.intervals.proofs.row.Row.count.Goals as goal
 

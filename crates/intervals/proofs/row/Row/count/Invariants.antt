@@ -1,5 +1,5 @@
 use Rattle.std.proofs.Common.{◌≡◌, ◌+◌, length, take}
-use Rattle.intervals.specs.Parts.{all_runs, part_at}
+use Rattle.intervals.specs.code.Parts.{all_runs, part_at}
 use Rattle.intervals.proofs.row.Row.count.Given as goal
 
 abbrev pub invariant-loop-part : goal.invariant-loop-part

@@ -1,5 +1,5 @@
 use Rattle.std.proofs.Common.{◌++◌, length}
-use Rattle.intervals.specs.Parts.{all_runs, row_runs}
+use Rattle.intervals.specs.code.Parts.{all_runs, row_runs}
 use Rattle.intervals.proofs.SameRows.{AreLeft}
 use Rattle.intervals.proofs.row.Row.has_runs_of.Given as goal
 

@@ -1,6 +1,6 @@
 use Rattle.std.proofs.Common.{ap, sym, ◌∙◌, ◌++◌, drop, take, arith}
 use Rattle.std.proofs.lemmas.List.{append_assoc}
-use Rattle.intervals.specs.Parts.{all_runs}
+use Rattle.intervals.specs.code.Parts.{all_runs}
 use Rattle.intervals.proofs.Places.{all_runs-insert, some-insert}
 use Rattle.intervals.proofs.row.Row.insert.Goals as goal
 

@@ -1,5 +1,5 @@
 use Rattle.std.proofs.Common.{◌-◌, drop, subst}
-use Rattle.intervals.specs.Parts.{all_runs, BeginsTo}
+use Rattle.intervals.specs.code.Parts.{all_runs, BeginsTo}
 use Rattle.intervals.proofs.Split.{runs-back}
 use Rattle.intervals.proofs.Places.{place_ended}
 use Rattle.intervals.proofs.row.Row.place.Goals as goal

@@ -1,5 +1,5 @@
 use Rattle.std.proofs.Common.{◌≡◌, ℕ, refl, ap, sym, ◌∙◌, ◌+◌, ◌-◌, ◌≤◌, List, length, ◌++◌, take, drop, set, rules, arith}
-use Rattle.intervals.specs.Parts.{all_runs}
+use Rattle.intervals.specs.code.Parts.{all_runs}
 use Rattle.std.proofs.lemmas.Bool.{eqb-true}
 use Rattle.std.proofs.lemmas.List.{length-append, length-drop}
 use lib.Seq.{length-take-le}

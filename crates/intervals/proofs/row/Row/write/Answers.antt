@@ -1,9 +1,9 @@
 use Rattle.std.proofs.Common.{◌≡◌, ℕ, pred, ◌+◌, ◌-◌, ◌≤◌, subst, ap, arith}
 use Rattle.intervals.specs.declared.row.Row.{Row}
-use Rattle.intervals.specs.Bytes.{Range, greatest}
-use Rattle.intervals.specs.Runs.{EndsBelow}
-use Rattle.intervals.specs.Entries.{BeginAbove}
-use Rattle.intervals.specs.Parts.{part_at, runs_below, runs_above}
+use Rattle.intervals.specs.rule.Bytes.{Range, greatest}
+use Rattle.intervals.specs.code.Runs.{EndsBelow}
+use Rattle.intervals.specs.code.Entries.{BeginAbove}
+use Rattle.intervals.specs.code.Parts.{part_at, runs_below, runs_above}
 use Rattle.intervals.proofs.Split.{runs-front}
 use Rattle.intervals.proofs.Places.{IsWritten, is_written, length_near, runs_near, ends_near, places_rise}
 use Rattle.intervals.proofs.row.Row.write.Given.{Over}

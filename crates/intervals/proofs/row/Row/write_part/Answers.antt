@@ -1,8 +1,8 @@
 use Rattle.std.proofs.Common.{◌≡◌, ◌+◌, ◌<◌, [], length, refl, ap, subst, sym, ◌∙◌, rules, arith}
 use Rattle.std.specs.Vec.{vec_capacity}
-use Rattle.intervals.specs.Bytes.{greatest}
-use Rattle.intervals.specs.Runs.{AreRuns, EndsBelow}
-use Rattle.intervals.specs.Parts.{part_at}
+use Rattle.intervals.specs.rule.Bytes.{greatest}
+use Rattle.intervals.specs.code.Runs.{AreRuns, EndsBelow}
+use Rattle.intervals.specs.code.Parts.{part_at}
 use Rattle.intervals.proofs.Places.{put_part, part_read, rejoined, rewritten, no_runs, put_emptied}
 use Rattle.intervals.proofs.row.Row.write_part.Goals as goal
 

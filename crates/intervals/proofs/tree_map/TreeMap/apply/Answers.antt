@@ -1,6 +1,6 @@
 use Rattle.std.proofs.Common.{◌≡◌, ◌+◌, true, nat_le, le-leb, length, ap, arith}
-use Rattle.intervals.specs.Bytes.{greatest}
-use Rattle.intervals.specs.Parts.{row_runs}
+use Rattle.intervals.specs.rule.Bytes.{greatest}
+use Rattle.intervals.specs.code.Parts.{row_runs}
 use Rattle.intervals.proofs.Rows.{few_runs}
 use Rattle.intervals.proofs.tree_map.TreeMap.apply.Goals as goal
 

@@ -1,7 +1,7 @@
 use Rattle.std.proofs.Common.{subst, arith}
-use Rattle.intervals.specs.Runs.{value_at}
-use Rattle.intervals.specs.Entries.{NoneFrom, IsNext}
-use Rattle.intervals.specs.Parts.{row_runs, part_at, runs_above}
+use Rattle.intervals.specs.code.Runs.{value_at}
+use Rattle.intervals.specs.code.Entries.{NoneFrom, IsNext}
+use Rattle.intervals.specs.code.Parts.{row_runs, part_at, runs_above}
 use Rattle.intervals.proofs.Split.{runs-front}
 use Rattle.intervals.proofs.Rows.{some-drop}
 use Rattle.intervals.proofs.Places.{runs_near}

@@ -1,5 +1,5 @@
 use Rattle.std.proofs.Common.{◌-◌, arith}
-use Rattle.intervals.specs.Parts.{row_runs, part_at, runs_above}
+use Rattle.intervals.specs.code.Parts.{row_runs, part_at, runs_above}
 use Rattle.intervals.proofs.Split.{runs-front}
 use Rattle.intervals.proofs.Ordered.{previous_of}
 use Rattle.intervals.proofs.Places.{runs_near}

@@ -1,7 +1,7 @@
 use Rattle.std.proofs.Common.{◌++◌, drop, refl, ap, subst, arith}
-use Rattle.intervals.specs.Runs.{value_at}
-use Rattle.intervals.specs.Entries.{IsNext}
-use Rattle.intervals.specs.Parts.{all_runs, row_runs, part_at, runs_above}
+use Rattle.intervals.specs.code.Runs.{value_at}
+use Rattle.intervals.specs.code.Entries.{IsNext}
+use Rattle.intervals.specs.code.Parts.{all_runs, row_runs, part_at, runs_above}
 use Rattle.intervals.proofs.Split.{runs-front}
 use Rattle.intervals.proofs.Places.{runs_near}
 use Rattle.intervals.proofs.RowReads.{rest_of, rest_next, rest_lacks, above_only}

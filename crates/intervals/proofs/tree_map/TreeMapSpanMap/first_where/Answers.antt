@@ -1,8 +1,8 @@
 use Rattle.std.proofs.Common.{◌++◌, subst, arith}
 use Rattle.std.proofs.lemmas.Bool.{both_ways}
-use Rattle.intervals.specs.Bytes.{Range}
-use Rattle.intervals.specs.Runs.{AreRuns}
-use Rattle.intervals.specs.Parts.{all_runs, row_runs, part_at, runs_above}
+use Rattle.intervals.specs.rule.Bytes.{Range}
+use Rattle.intervals.specs.code.Runs.{AreRuns}
+use Rattle.intervals.specs.code.Parts.{all_runs, row_runs, part_at, runs_above}
 use Rattle.intervals.proofs.Split.{runs-front}
 use Rattle.intervals.proofs.Rows.{some-drop}
 use Rattle.intervals.proofs.Places.{runs_near}

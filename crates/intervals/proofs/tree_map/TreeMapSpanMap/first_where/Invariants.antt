@@ -1,5 +1,5 @@
 use Rattle.std.proofs.Common.{◌++◌, length}
-use Rattle.intervals.specs.Parts.{all_runs, AreSome}
+use Rattle.intervals.specs.code.Parts.{all_runs, AreSome}
 use Rattle.intervals.proofs.RowReads.{IsLeft}
 use Rattle.intervals.proofs.tree_map.TreeMapSpanMap.first_where.Given as goal
 

@@ -1,6 +1,6 @@
 use Rattle.std.proofs.Common.{sym, ◌∙◌}
 use Rattle.std.proofs.lemmas.Result.{err_from_is_err_and}
-use Rattle.journal_text.specs.Places.IsStuck.{misplaced}
+use Rattle.journal_text.specs.code.Places.IsStuck.{misplaced}
 use Rattle.journal_text.proofs.Stuck.{misplaced-line, misplaced-none, refusal-is}
 use Rattle.journal_text.proofs.reader.Reader.next_line.Goals as goal
 

@@ -1,8 +1,8 @@
 use Rattle.std.specs.Prelude.{ℕ, ◌+◌, Bool}
 use Rattle.std.proofs.Common.{sym, ◌∙◌, arith}
 use Rattle.token_set.proofs.SearchLaws.{some_passes-from, none_passes-from}
-use Rattle.known_nodes.specs.Rows.{is_awaited}
-use Rattle.known_nodes.specs.Edits.{rows_overlaid}
+use Rattle.known_nodes.specs.rule.Rows.{is_awaited}
+use Rattle.known_nodes.specs.code.Edits.{rows_overlaid}
 use Rattle.known_nodes.proofs.known_nodes.KnownNodes.awaits.Goals as goal
 
 pub returns-then-is_awaited : goal.returns-then-is_awaited

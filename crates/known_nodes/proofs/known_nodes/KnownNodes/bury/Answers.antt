@@ -1,7 +1,7 @@
 use Rattle.std.specs.Prelude.{ℕ, ◌+◌, Option}
 use Rattle.std.proofs.Common.{refl, sym, subst, ◌∙◌, arith}
-use Rattle.known_nodes.specs.Rows.{Row}
-use Rattle.known_nodes.specs.Marks.{NoneExclusive}
+use Rattle.known_nodes.specs.rule.Rows.{Row}
+use Rattle.known_nodes.specs.code.Marks.{NoneExclusive}
 use Rattle.known_nodes.proofs.KnownNodeLaws.{rows_of-set_same, deaths_of-set}
 use Rattle.known_nodes.proofs.EditLaws.{deaths_with-there}
 use Rattle.known_nodes.proofs.known_nodes.KnownNodes.bury.Goals as goal

@@ -2,8 +2,8 @@ use Rattle.std.specs.Prelude.{◌≡◌, List, [], ◌∷◌, ◌++◌}
 use Rattle.std.proofs.Common.{ap, sym, subst, ◌∙◌, take}
 use Rattle.std.proofs.lemmas.List.{take_more, take_all}
 use Rattle.known_nodes.specs.declared.known_node.KnownNode.{KnownNode}
-use Rattle.known_nodes.specs.Parts.{rows_of}
-use Rattle.known_nodes.specs.Marks.{NoneExclusive}
+use Rattle.known_nodes.specs.rule.Parts.{rows_of}
+use Rattle.known_nodes.specs.code.Marks.{NoneExclusive}
 use Rattle.known_nodes.proofs.known_nodes.KnownNodes.copy.Goals as goal
 
 pub loop-known_node-preserved : goal.loop-known_node-preserved

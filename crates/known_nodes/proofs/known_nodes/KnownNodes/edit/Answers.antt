@@ -1,10 +1,10 @@
 use Rattle.std.specs.Prelude.{ℕ, ◌-◌, length, IfSome, Option}
 use Rattle.std.proofs.Common.{sym, ap, subst, ◌∙◌}
-use Rattle.model.specs.Limits.{IsNumber}
+use Rattle.model.specs.rule.Limits.{IsNumber}
 use Rattle.known_nodes.specs.declared.row_edit.RowEdit.{RowEdit}
 use Rattle.known_nodes.specs.declared.node_change.Changed.{Changed}
-use Rattle.known_nodes.specs.Parts.{rows_of, deaths_of}
-use Rattle.known_nodes.specs.Changes.{row_after, dead_after, rows_after, deaths_after}
+use Rattle.known_nodes.specs.rule.Parts.{rows_of, deaths_of}
+use Rattle.known_nodes.specs.code.Changes.{row_after, dead_after, rows_after, deaths_after}
 use Rattle.known_nodes.proofs.EditLaws.{Changes, rows_of-edit, deaths_of-edit, rows_of-there, deaths_of-there, stays-at}
 use Rattle.known_nodes.proofs.known_nodes.KnownNodes.edit.Goals as goal
 

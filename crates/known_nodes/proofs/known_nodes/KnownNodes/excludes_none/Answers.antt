@@ -3,9 +3,9 @@ use Rattle.std.proofs.Common.{sym, subst}
 use Rattle.std.proofs.lemmas.Bool.{not-true}
 use Rattle.known_nodes.specs.declared.known_node.KnownNode.{KnownNode}
 use Rattle.known_nodes.specs.declared.row_edit.RowEdit.{RowEdit}
-use Rattle.known_nodes.specs.Parts.{rows_of}
-use Rattle.known_nodes.specs.Edits.{rows_overlaid}
-use Rattle.known_nodes.specs.Marks.{NoneExclusive}
+use Rattle.known_nodes.specs.rule.Parts.{rows_of}
+use Rattle.known_nodes.specs.code.Edits.{rows_overlaid}
+use Rattle.known_nodes.specs.code.Marks.{NoneExclusive}
 use Rattle.known_nodes.proofs.MarkLaws.{exclusive-edited}
 use Rattle.known_nodes.proofs.known_nodes.KnownNodes.excludes_none.Goals as goal
 

@@ -1,6 +1,6 @@
 use Rattle.std.specs.Prelude.{◌≡◌, ℕ, length}
-use Rattle.known_nodes.specs.Parts.{deaths_of}
-use Rattle.known_nodes.specs.Edits.{given_rows}
+use Rattle.known_nodes.specs.rule.Parts.{deaths_of}
+use Rattle.known_nodes.specs.code.Edits.{given_rows}
 use Rattle.known_nodes.proofs.known_nodes.KnownNodes.give_each.Given as goal
 
 -- making the new rows that are left leads to what making all leads to

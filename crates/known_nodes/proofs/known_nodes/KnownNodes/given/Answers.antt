@@ -3,9 +3,9 @@ use Rattle.std.proofs.Common.{sym, ap, ◌∙◌, arith}
 use Rattle.known_nodes.specs.declared.known_node.KnownNode.{KnownNode}
 use Rattle.known_nodes.specs.declared.row_edit.RowAfter.{RowAfter}
 use Rattle.known_nodes.specs.declared.row_edit.RowEdit.{RowEdit}
-use Rattle.known_nodes.specs.Rows.{Row}
-use Rattle.known_nodes.specs.Parts.{known_node_at}
-use Rattle.known_nodes.specs.Edits.{row_kept, row_promised, given_to_known_node, rows_overlaid}
+use Rattle.known_nodes.specs.rule.Rows.{Row}
+use Rattle.known_nodes.specs.rule.Parts.{known_node_at}
+use Rattle.known_nodes.specs.code.Edits.{row_kept, row_promised, given_to_known_node, rows_overlaid}
 use Rattle.known_nodes.proofs.EditLaws.{overlaid-here, overlaid-elsewhere, overlaid-none, rows_of-there}
 use Rattle.known_nodes.proofs.known_nodes.KnownNodes.given.Goals.{in-Some-edit+in_ok-row-in-Some-edit, in_default-edit+in_ok-row-in_default-edit, in_default-edit-via-in-Some-edit+else-edit-place, in_default-edit-via-in_default-edit}
 use Rattle.known_nodes.proofs.known_nodes.KnownNodes.given.Goals as goal

@@ -4,8 +4,8 @@ use Rattle.std.proofs.Common.{◌+◌, refl, ap, sym, subst, append-nil, ◌∙�
 use Rattle.std.proofs.lemmas.Option.{slice_get_read}
 use Rattle.messages.specs.declared.message.Message.{Message}
 use Rattle.known_nodes.specs.declared.known_node.KnownNode.{KnownNode}
-use Rattle.known_nodes.specs.Parts.{rows_of}
-use Rattle.known_nodes.specs.Rows.{outstanding_to}
+use Rattle.known_nodes.specs.rule.Parts.{rows_of}
+use Rattle.known_nodes.specs.rule.Rows.{outstanding_to}
 use Rattle.known_nodes.proofs.OutstandingLaws.{outstanding-next}
 use Rattle.known_nodes.proofs.known_nodes.KnownNodes.outstanding.Goals as goal
 use Rattle.known_nodes.proofs.known_nodes.KnownNodes.outstanding.Goals.{in-Some+in_ok-push, in_default}

@@ -1,7 +1,7 @@
 use Rattle.std.specs.Prelude.{ℕ}
 use Rattle.std.proofs.Common.{subst, ◌∙◌}
-use Rattle.messages.specs.Epochs.{before_epoch}
-use Rattle.known_nodes.specs.Rebuilds.{AreRebuilt}
+use Rattle.messages.specs.rule.Epochs.{before_epoch}
+use Rattle.known_nodes.specs.code.Rebuilds.{AreRebuilt}
 use Rattle.known_nodes.proofs.RebuildLaws.{rebuilt-rows, rebuilt-deaths, rebuilt-free}
 use Rattle.known_nodes.proofs.known_nodes.KnownNodes.rebuilt.Goals.{In_ok-rebuilt}
 use Rattle.known_nodes.proofs.known_nodes.KnownNodes.rebuilt.Goals as goal

@@ -1,6 +1,6 @@
 use Rattle.std.specs.Option.{option_copied}
 use Rattle.std.proofs.Common.{sym, ap, ◌∙◌}
-use Rattle.known_nodes.specs.Parts.{row_seen}
+use Rattle.known_nodes.specs.rule.Parts.{row_seen}
 use Rattle.known_nodes.proofs.EditLaws.{rows_of-there, rows_of-none}
 use Rattle.known_nodes.proofs.known_nodes.KnownNodes.row.Goals as goal
 

@@ -1,7 +1,7 @@
 use Rattle.std.proofs.Common.{sym, ap, ◌∙◌, arith}
 use Rattle.std.specs.Prelude.{Option}
 use Rattle.known_nodes.specs.declared.row_edit.RowEdit.{RowEdit}
-use Rattle.known_nodes.specs.Edits.{rows_overlaid}
+use Rattle.known_nodes.specs.code.Edits.{rows_overlaid}
 use Rattle.known_nodes.proofs.EditLaws.{overlaid-here, overlaid-elsewhere, overlaid-none, seen-matches, rows_of-there}
 use Rattle.known_nodes.proofs.known_nodes.KnownNodes.row_after.Goals.{in_default-via-in-Some+else-edit-from, in_default-via-in_default}
 use Rattle.known_nodes.proofs.known_nodes.KnownNodes.row_after.Goals as goal

@@ -1,6 +1,6 @@
 use Rattle.std.proofs.lemmas.Bool.{both_ways}
-use Rattle.intervals.specs.Runs.{value_at}
-use Rattle.lock_table.specs.Rows.{HoldsSome, IsGap}
+use Rattle.intervals.specs.code.Runs.{value_at}
+use Rattle.lock_table.specs.code.Rows.{HoldsSome, IsGap}
 use Rattle.lock_table.proofs.RowLemmas.{gap_within}
 use Rattle.lock_table.proofs.Writes.{row_unwanted, row_added}
 use Rattle.lock_table.proofs.SameRows.{rows_are}

@@ -1,6 +1,6 @@
 use Rattle.std.proofs.Common.{arith}
 use Rattle.std.specs.List.{remove}
-use Rattle.lock_table.specs.Rows.{rows_held, IsRowAt, IsGap}
+use Rattle.lock_table.specs.code.Rows.{rows_held, IsRowAt, IsGap}
 use Rattle.lock_table.proofs.RowLemmas.{held-remove, held-same, rows-remove, place_below}
 use Rattle.lock_table.proofs.PageLemmas.{covers-without}
 use Rattle.lock_table.proofs.SameRows.{rows_are}

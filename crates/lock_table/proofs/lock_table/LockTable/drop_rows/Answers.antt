@@ -1,7 +1,7 @@
 use Rattle.std.proofs.Common.{rules}
 use Rattle.std.proofs.lemmas.Fn.{filter_same}
 use Rattle.std.specs.List.{filter}
-use Rattle.lock_table.specs.Rows.{rows_held}
+use Rattle.lock_table.specs.code.Rows.{rows_held}
 use Rattle.lock_table.proofs.RowLemmas.{is_of_other, held-filter, rows-filter}
 use Rattle.lock_table.proofs.PageLemmas.{covers-without_anywhere}
 use Rattle.lock_table.proofs.SameRows.{rows_are}

@@ -1,11 +1,11 @@
 use Rattle.std.proofs.Common.{◌≡◌, List, take, subst, arith}
 use Rattle.std.proofs.lemmas.List.{take_all}
 use Rattle.std.proofs.lemmas.Bool.{both_ways}
-use Rattle.intervals.specs.Bytes.{IsLargest}
-use Rattle.model.specs.Locks.{FileLocks, IsRegion}
+use Rattle.intervals.specs.rule.Bytes.{IsLargest}
+use Rattle.model.specs.rule.Locks.{FileLocks, IsRegion}
 use Rattle.lock_table.specs.declared.owner_locks.OwnerLocks.{OwnerLocks}
-use Rattle.lock_table.specs.Rows.{rows_held}
-use Rattle.lock_table.specs.Blockers.{HasInWay}
+use Rattle.lock_table.specs.code.Rows.{rows_held}
+use Rattle.lock_table.specs.code.Blockers.{HasInWay}
 use Rattle.lock_table.proofs.BlockerLemmas.{rows_step}
 use Rattle.lock_table.proofs.RowLemmas.{row_holds}
 use Rattle.lock_table.proofs.PageLemmas.{none_near}

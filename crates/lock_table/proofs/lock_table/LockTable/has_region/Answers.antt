@@ -1,9 +1,9 @@
 use Rattle.std.proofs.Common.{sym, ap, subst, arith, ℕ, Option}
 use Rattle.std.specs.Prelude.{◌↔◌, IsTrue}
 use Rattle.std.proofs.lemmas.Bool.{false≢true}
-use Rattle.intervals.specs.Bytes.{IsRun}
+use Rattle.intervals.specs.rule.Bytes.{IsRun}
 use Rattle.model.specs.declared.mode.Mode.{Mode}
-use Rattle.lock_table.specs.Rows.{IsRowAt, IsGap}
+use Rattle.lock_table.specs.code.Rows.{IsRowAt, IsGap}
 use Rattle.lock_table.proofs.RowLemmas.{held-gap, held-at, place_below}
 use Rattle.lock_table.proofs.SameRows.{rows_are}
 use Rattle.lock_table.proofs.lock_table.LockTable.has_region.Goals as goal

@@ -3,8 +3,8 @@ use Rattle.std.specs.Ordering.{is_lt}
 use Rattle.std.proofs.lemmas.List.{take_all}
 use Rattle.std.proofs.lemmas.Fn.{always_returns_same}
 use Rattle.model.specs.declared.lock_info.LockInfo.{LockInfo}
-use Rattle.lock_table.specs.Rows.{rows_held}
-use Rattle.lock_table.specs.Listing.{lock_cmp}
+use Rattle.lock_table.specs.code.Rows.{rows_held}
+use Rattle.lock_table.specs.code.Listing.{lock_cmp}
 use Rattle.lock_table.proofs.BlockerLemmas.{rows_step}
 use Rattle.lock_table.proofs.RowLemmas.{row_holds}
 use Rattle.lock_table.proofs.ListingLemmas.{lists_none, lists_join, listing_from, locks_weak}

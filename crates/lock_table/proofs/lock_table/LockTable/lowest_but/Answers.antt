@@ -1,5 +1,5 @@
 use Rattle.std.proofs.Common.{◌≡◌}
-use Rattle.lock_table.specs.Rows.{rows_held}
+use Rattle.lock_table.specs.code.Rows.{rows_held}
 use Rattle.lock_table.proofs.BlockerLemmas.{lowest_none, lowest_join, lowest_past, row_passed, rows_step}
 use Rattle.lock_table.proofs.PageLemmas.{none_near}
 use Rattle.lock_table.proofs.lock_table.LockTable.lowest_but.Goals as goal

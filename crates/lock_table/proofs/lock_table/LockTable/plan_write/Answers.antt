@@ -1,5 +1,5 @@
 use Rattle.std.proofs.Common.{arith}
-use Rattle.lock_table.specs.Rows.{IsRowAt, IsGap}
+use Rattle.lock_table.specs.code.Rows.{IsRowAt, IsGap}
 use Rattle.lock_table.proofs.RowLemmas.{place_below, row_or_gap}
 use Rattle.lock_table.proofs.Writes.{has_runs}
 use Rattle.lock_table.proofs.SameRows.{rows_are}

@@ -1,8 +1,8 @@
 use Rattle.std.proofs.Common.{◌∙◌, sym, ap, ℕ, Option, arith}
-use Rattle.intervals.specs.Bytes.{put}
+use Rattle.intervals.specs.rule.Bytes.{put}
 use Rattle.model.specs.declared.mode.Mode.{Mode}
-use Rattle.model.specs.Locks.{regions}
-use Rattle.lock_table.specs.Rows.{IsRowAt, IsGap}
+use Rattle.model.specs.rule.Locks.{regions}
+use Rattle.lock_table.specs.code.Rows.{IsRowAt, IsGap}
 use Rattle.lock_table.proofs.RowLemmas.{held-gap, held-at, place_below}
 use Rattle.lock_table.proofs.SameRows.{rows_are}
 use Rattle.lock_table.proofs.lock_table.LockTable.regions_with.Goals as goal

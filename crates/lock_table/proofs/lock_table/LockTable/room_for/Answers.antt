@@ -1,4 +1,4 @@
-use Rattle.lock_table.specs.Rows.{IsRowAt}
+use Rattle.lock_table.specs.code.Rows.{IsRowAt}
 use Rattle.lock_table.proofs.RowLemmas.{row_or_gap}
 use Rattle.lock_table.proofs.SameRows.{rows_are}
 use Rattle.lock_table.proofs.lock_table.LockTable.room_for.Goals as goal

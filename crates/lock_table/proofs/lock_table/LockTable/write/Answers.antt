@@ -1,4 +1,4 @@
-use Rattle.lock_table.specs.Rows.{IsGap}
+use Rattle.lock_table.specs.code.Rows.{IsGap}
 use Rattle.lock_table.proofs.SameRows.{rows_are}
 use Rattle.lock_table.proofs.lock_table.LockTable.write.Goals as goal
 

@@ -1,9 +1,9 @@
 use Rattle.std.proofs.Common.{ap, length, arith}
 use Rattle.std.proofs.lemmas.Bool.{both_ways}
 use Rattle.std.proofs.lemmas.List.{length-set}
-use Rattle.intervals.specs.Runs.{value_at}
+use Rattle.intervals.specs.code.Runs.{value_at}
 use Rattle.lock_table.specs.declared.owner_locks.OwnerLocks.{OwnerLocks}
-use Rattle.lock_table.specs.Rows.{HasRuns, HoldsSome, IsRowAt}
+use Rattle.lock_table.specs.code.Rows.{HasRuns, HoldsSome, IsRowAt}
 use Rattle.lock_table.proofs.RowLemmas.{place_below}
 use Rattle.lock_table.proofs.Writes.{remove-set, row_set, row_gone}
 use Rattle.lock_table.proofs.SameRows.{rows_are}

@@ -1,5 +1,5 @@
 use Rattle.std.proofs.Common.{◌≡◌, ap}
-use Rattle.intervals.specs.Bytes.{Range}
+use Rattle.intervals.specs.rule.Bytes.{Range}
 use Rattle.lock_table.proofs.ListingLemmas.{listed-start, listed-more, listed-end}
 use Rattle.lock_table.proofs.owner_locks.OwnerLocks.push_regions.Goals as goal
 

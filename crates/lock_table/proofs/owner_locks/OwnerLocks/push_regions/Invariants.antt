@@ -1,5 +1,5 @@
 use Rattle.std.proofs.Common.{◌+◌, ◌-◌}
-use Rattle.intervals.specs.Bytes.{greatest}
+use Rattle.intervals.specs.rule.Bytes.{greatest}
 use Rattle.lock_table.proofs.ListingLemmas.{Listed}
 use Rattle.lock_table.proofs.owner_locks.OwnerLocks.push_regions.Given as goal
 

@@ -1,8 +1,8 @@
 use Rattle.std.proofs.Common.{◌≡◌, ℕ, ◌⊎◌, drop, Some}
 use Rattle.model.specs.declared.mode.Mode.{Mode}
 use Rattle.model.specs.declared.owner.Owner.{Owner}
-use Rattle.lock_table.specs.Rows.{rows_held}
-use Rattle.lock_table.specs.Pages.{IsKept, MayHold}
+use Rattle.lock_table.specs.code.Rows.{rows_held}
+use Rattle.lock_table.specs.code.Pages.{IsKept, MayHold}
 use Rattle.lock_table.proofs.page_index.PageIndex.renew.Given as goal
 
 abbrev pub invariant-loop-row : goal.invariant-loop-row

@@ -1,5 +1,5 @@
 use Rattle.std.proofs.Common.{◌≡◌, ◌+◌, ◌∙◌, sym, true, [], arith}
-use Rattle.texts.specs.LineFeeds.{is_skipped}
+use Rattle.texts.specs.rule.LineFeeds.{is_skipped}
 use Rattle.lockscript.proofs.Passes.{passes-join, passes-skipped, shorter-line}
 use Rattle.lockscript.proofs.lines.Lines.next_command.Goals as goal
 

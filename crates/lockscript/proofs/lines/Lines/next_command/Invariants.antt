@@ -1,5 +1,5 @@
 use Rattle.std.proofs.Common.{◌≤◌, [], length}
-use Rattle.texts.specs.LineFeeds.{PassesLines}
+use Rattle.texts.specs.rule.LineFeeds.{PassesLines}
 use Rattle.lockscript.proofs.lines.Lines.next_command.Given as goal
 
 abbrev pub invariant-loop-line : goal.invariant-loop-line

@@ -1,5 +1,5 @@
 use Rattle.std.proofs.Common.{length}
-use Rattle.lockscript.specs.Scripts.{Begun, script_of}
+use Rattle.lockscript.specs.rule.Scripts.{Begun, script_of}
 use Rattle.lockscript.proofs.script.Script.parse.Given as goal
 
 abbrev pub invariant-loop-lines : goal.invariant-loop-lines

@@ -1,5 +1,5 @@
 use Rattle.std.proofs.Common.{arith, true, refl}
-use Rattle.members.specs.Parts.{incarnation_of}
+use Rattle.members.specs.rule.Parts.{incarnation_of}
 use Rattle.members.proofs.Numbered.{begun_empty, begun_more}
 use Rattle.members.proofs.Rules.{first_is_first}
 use Rattle.members.proofs.crowd.Crowd.new.Goals as goal

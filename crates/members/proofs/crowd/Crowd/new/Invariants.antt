@@ -1,5 +1,5 @@
 use Rattle.std.proofs.Common.{true}
-use Rattle.members.specs.Parts.{incarnation_of}
+use Rattle.members.specs.rule.Parts.{incarnation_of}
 use Rattle.members.proofs.Numbered.{Begun}
 use Rattle.members.proofs.crowd.Crowd.new.Given as goal
 

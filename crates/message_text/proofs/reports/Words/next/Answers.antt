@@ -1,5 +1,5 @@
 use Rattle.std.proofs.Common.{◌∷◌, [], if◌then◌else◌, Bool, sym, ap, ◌∙◌}
-use Rattle.message_text.specs.Reports.{words_of}
+use Rattle.message_text.specs.code.Reports.{words_of}
 use Rattle.message_text.proofs.ReportWords.{words_of-alone, words_of-first}
 use Rattle.message_text.proofs.reports.Words.next.Goals as goal
 

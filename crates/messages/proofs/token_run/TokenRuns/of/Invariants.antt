@@ -1,5 +1,5 @@
 use Rattle.std.proofs.Common.{◌≡◌, take, map}
-use Rattle.messages.specs.TokenRuns.{run_of}
+use Rattle.messages.specs.rule.TokenRuns.{run_of}
 use Rattle.messages.proofs.token_run.TokenRuns.of.Given as goal
 
 abbrev pub invariant-loop-span : goal.invariant-loop-span

@@ -1,8 +1,8 @@
 use Rattle.std.proofs.Common.{ap, sym, subst, ◌∙◌}
 use Rattle.model.specs.declared.host.Host.{Host}
-use Rattle.node_core.specs.State.{host}
-use Rattle.node_core.specs.Parts.{NodeParts, node_state}
-use Rattle.node_core.specs.Plans.{files_told, planned, RowsFit, Fits}
+use Rattle.node_core.specs.rule.State.{host}
+use Rattle.node_core.specs.rule.Parts.{NodeParts, node_state}
+use Rattle.node_core.specs.code.Plans.{files_told, planned, RowsFit, Fits}
 use Rattle.node_core.proofs.PlanLaws.{Leaves, node-planned, node-edited}
 use Rattle.node_core.proofs.node.Node.apply_edit.Goals as goal
 

@@ -1,12 +1,12 @@
 use Rattle.std.specs.Prelude.{◌≡◌, ◌+◌, Ok, Err, IfOk}
 use Rattle.std.proofs.Common.{ap, sym, subst, ◌∙◌}
 use Rattle.model.specs.declared.reply.Reply.{Reply}
-use Rattle.model.specs.Limits.{IsNumber}
-use Rattle.descriptors.specs.Rows.{processes, resolved}
-use Rattle.node_core.specs.State.{Effect}
-use Rattle.node_core.specs.Try.{settled, with_freed}
-use Rattle.node_core.specs.Parts.{NodeParts, node_state}
-use Rattle.node_core.specs.Plans.{numbered, effect_of}
+use Rattle.model.specs.rule.Limits.{IsNumber}
+use Rattle.descriptors.specs.code.Rows.{processes, resolved}
+use Rattle.node_core.specs.rule.State.{Effect}
+use Rattle.node_core.specs.rule.Try.{settled, with_freed}
+use Rattle.node_core.specs.rule.Parts.{NodeParts, node_state}
+use Rattle.node_core.specs.code.Plans.{numbered, effect_of}
 use Rattle.node_core.proofs.ShutLaws.{close-found, close-refused, opened-within-shape}
 use Rattle.node_core.proofs.node.Node.call_close.Goals as goal
 

@@ -1,11 +1,11 @@
 use Rattle.std.specs.Prelude.{◌≡◌, IfOk}
 use Rattle.std.proofs.Common.{ap, sym, subst, ◌∙◌}
-use Rattle.model.specs.Descriptors.{has_open}
-use Rattle.descriptors.specs.Rows.{processes}
-use Rattle.node_core.specs.State.{Effect}
-use Rattle.node_core.specs.Try.{with_freed_of}
-use Rattle.node_core.specs.Parts.{NodeParts, node_state}
-use Rattle.node_core.specs.Plans.{effect_of}
+use Rattle.model.specs.rule.Descriptors.{has_open}
+use Rattle.descriptors.specs.code.Rows.{processes}
+use Rattle.node_core.specs.rule.State.{Effect}
+use Rattle.node_core.specs.rule.Try.{with_freed_of}
+use Rattle.node_core.specs.rule.Parts.{NodeParts, node_state}
+use Rattle.node_core.specs.code.Plans.{effect_of}
 use Rattle.node_core.proofs.ShutLaws.{exit-done, exit-refused}
 use Rattle.node_core.proofs.node.Node.call_exit.Goals as goal
 

@@ -2,8 +2,8 @@ use Rattle.std.specs.Prelude.{◌-◌, List}
 use Rattle.std.specs.List.{slice_get}
 use Rattle.std.proofs.Common.{ℕ, length, ◌∙◌, ap, subst, sym}
 use Rattle.node_core.specs.declared.file_row.FileRow.{FileRow}
-use Rattle.model.specs.Limits.{IsNumber}
-use Rattle.node_core.specs.Files.{file_state}
+use Rattle.model.specs.rule.Limits.{IsNumber}
+use Rattle.node_core.specs.rule.Files.{file_state}
 use Rattle.node_core.proofs.NodeLaws.{file-within, file-state}
 use Rattle.node_core.proofs.node.Node.file.Goals as goal
 

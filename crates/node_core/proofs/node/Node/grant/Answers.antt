@@ -2,11 +2,11 @@ use Rattle.std.specs.Prelude.{◌≡◌, IfOk}
 use Rattle.std.proofs.Common.{ap, sym, subst, ◌∙◌}
 use Rattle.messages.specs.declared.message.Message.{Message}
 use Rattle.node_core.specs.declared.command.Command.{Command}
-use Rattle.node_core.specs.State.{open_call}
-use Rattle.node_core.specs.Try.{tried_if}
-use Rattle.node_core.specs.Commands.{in_epoch, before, granted}
-use Rattle.node_core.specs.Parts.{node_state, after_grant}
-use Rattle.node_core.specs.Plans.{effect_of}
+use Rattle.node_core.specs.rule.State.{open_call}
+use Rattle.node_core.specs.rule.Try.{tried_if}
+use Rattle.node_core.specs.rule.Commands.{in_epoch, before, granted}
+use Rattle.node_core.specs.rule.Parts.{node_state, after_grant}
+use Rattle.node_core.specs.code.Plans.{effect_of}
 use Rattle.node_core.proofs.EpochLaws.{in_order-next, granted-in, effect-before}
 use Rattle.node_core.proofs.node.Node.grant.Goals as goal
 

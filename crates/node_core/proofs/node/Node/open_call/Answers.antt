@@ -1,7 +1,7 @@
 use Rattle.std.specs.Prelude.{Option, IfSome}
 use Rattle.std.proofs.Common.{sym, subst}
 use Rattle.node_core.specs.declared.open_call.OpenCall.{OpenCall}
-use Rattle.node_core.specs.Parts.{node_state, IsCallOf}
+use Rattle.node_core.specs.rule.Parts.{node_state, IsCallOf}
 use Rattle.node_core.proofs.NodeLaws.{find-own}
 use Rattle.node_core.proofs.node.Node.open_call.Goals as goal
 

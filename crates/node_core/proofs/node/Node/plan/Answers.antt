@@ -1,6 +1,6 @@
 use Rattle.std.proofs.Common.{subst}
 use Rattle.node_core.specs.declared.event.NodeEvent.TheVariants.{Call, Interrupt, Retry}
-use Rattle.node_core.specs.Parts.{IsNode}
+use Rattle.node_core.specs.rule.Parts.{IsNode}
 use Rattle.node_core.proofs.PlanLaws.{step-fits}
 use Rattle.node_core.proofs.node.Node.plan.Goals as goal
 

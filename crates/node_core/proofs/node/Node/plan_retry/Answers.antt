@@ -1,11 +1,11 @@
 use Rattle.std.specs.Prelude.{Ok, Err, None}
 use Rattle.std.proofs.Common.{ap, sym, ◌∙◌}
 use Rattle.messages.specs.declared.refusal.StepError.TheVariants.{Stranger}
-use Rattle.node_core.specs.State.{open_call_of, outcome}
-use Rattle.node_core.specs.Try.{tried_if}
-use Rattle.node_core.specs.Calls.{is_pid}
-use Rattle.node_core.specs.Parts.{node_state}
-use Rattle.node_core.specs.Plans.{drafted}
+use Rattle.node_core.specs.rule.State.{open_call_of, outcome}
+use Rattle.node_core.specs.rule.Try.{tried_if}
+use Rattle.node_core.specs.rule.Calls.{is_pid}
+use Rattle.node_core.specs.rule.Parts.{node_state}
+use Rattle.node_core.specs.code.Plans.{drafted}
 use Rattle.node_core.proofs.PlanLaws.{on, outcome-planned}
 use Rattle.node_core.proofs.node.Node.plan_retry.Goals as goal
 

@@ -1,4 +1,4 @@
-use Rattle.node_core.specs.Parts.{node_state}
+use Rattle.node_core.specs.rule.Parts.{node_state}
 use Rattle.node_core.proofs.ReaderLaws.{node-owners, node-anchored}
 use Rattle.node_core.proofs.node.Node.regions.Goals as goal
 

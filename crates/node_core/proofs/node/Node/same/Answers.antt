@@ -1,6 +1,6 @@
 use Rattle.std.proofs.Common.{sym, ap, ◌∙◌}
 use Rattle.std.proofs.lemmas.Bool.{iff_false, false≢true}
-use Rattle.node_core.specs.Files.{file_state}
+use Rattle.node_core.specs.rule.Files.{file_state}
 use Rattle.node_core.proofs.NodeLaws.{same-state, state-same}
 use Rattle.node_core.proofs.node.Node.same.Goals as goal
 

@@ -2,10 +2,10 @@ use Rattle.std.specs.Prelude.{Some, Err}
 use Rattle.std.proofs.Common.{◌≡◌, sym, ◌∙◌, ap, w64}
 use Rattle.std.proofs.lemmas.Int.{to_z-of_z}
 use mir.Val.{to_z, of_z}
-use Rattle.intervals.specs.Segment.{seg}
-use Rattle.model.specs.Table.{target_at}
-use Rattle.descriptors.specs.Rows.{processes, resolved}
-use Rattle.node_core.specs.Parts.{NodeParts}
+use Rattle.intervals.specs.rule.Segment.{seg}
+use Rattle.model.specs.rule.Table.{target_at}
+use Rattle.descriptors.specs.code.Rows.{processes, resolved}
+use Rattle.node_core.specs.rule.Parts.{NodeParts}
 use Rattle.node_core.proofs.NodeLaws.{target-refused, target-found, target-file}
 use Rattle.fcntl_table.proofs.TargetLaws.{segment-is}
 use Rattle.node_core.proofs.node.Node.target.Goals as goal

@@ -1,8 +1,8 @@
 use Rattle.std.proofs.Common.{sym, ◌∙◌}
-use Rattle.model.specs.Descriptors.{has_open}
-use Rattle.descriptors.specs.Rows.{processes}
-use Rattle.node_core.specs.Try.{with_freed}
-use Rattle.node_core.specs.Plans.{effect_of}
+use Rattle.model.specs.rule.Descriptors.{has_open}
+use Rattle.descriptors.specs.code.Rows.{processes}
+use Rattle.node_core.specs.rule.Try.{with_freed}
+use Rattle.node_core.specs.code.Plans.{effect_of}
 use Rattle.node_core.proofs.NodeLaws.{if-both}
 use Rattle.node_core.proofs.PlanLaws.{told-nothing}
 use Rattle.node_core.proofs.node.Node.tell_if_open.Goals as goal

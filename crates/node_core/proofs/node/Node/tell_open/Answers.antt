@@ -1,11 +1,11 @@
 use Rattle.std.specs.Prelude.{◌≡◌, ℕ, ◌<◌, ◌+◌, List, All}
 use Rattle.std.proofs.Common.{arith, ap, sym, subst, ◌∙◌}
 use Rattle.std.proofs.lemmas.List.Elements.{All-nil}
-use Rattle.model.specs.Descriptors.{has_open}
-use Rattle.descriptors.specs.Rows.{processes}
-use Rattle.node_core.specs.Try.{with_freed_of}
-use Rattle.node_core.specs.Parts.{node_state}
-use Rattle.node_core.specs.Plans.{effect_of}
+use Rattle.model.specs.rule.Descriptors.{has_open}
+use Rattle.descriptors.specs.code.Rows.{processes}
+use Rattle.node_core.specs.rule.Try.{with_freed_of}
+use Rattle.node_core.specs.rule.Parts.{node_state}
+use Rattle.node_core.specs.code.Plans.{effect_of}
 use Rattle.node_core.proofs.ShutLaws.{freed-zero, freed-more, next-file, last-file}
 use Rattle.node_core.proofs.node.Node.tell_open.Goals as goal
 

@@ -1,9 +1,9 @@
 use Rattle.std.proofs.Common.{◌≡◌, ◌≤◌, ◌∙◌, ap, sym, subst}
-use Rattle.intervals.specs.Bytes.{Range}
-use Rattle.messages.specs.Wants.{Wants}
-use Rattle.token_set.specs.Sets.{token_of}
-use Rattle.token_set.specs.Tokens.{desired}
-use Rattle.node_core.specs.Parts.{NodeParts, node_state}
+use Rattle.intervals.specs.rule.Bytes.{Range}
+use Rattle.messages.specs.rule.Wants.{Wants}
+use Rattle.token_set.specs.code.Sets.{token_of}
+use Rattle.token_set.specs.rule.Tokens.{desired}
+use Rattle.node_core.specs.rule.Parts.{NodeParts, node_state}
 use Rattle.node_core.proofs.NodeLaws.{desired-ends}
 use Rattle.node_core.proofs.node.Node.wanted_by.Goals as goal
 

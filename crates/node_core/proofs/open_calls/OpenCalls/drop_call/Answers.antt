@@ -1,7 +1,7 @@
 use Rattle.std.specs.Prelude.{◌==◌, not, filter}
 use Rattle.std.proofs.Common.{ap, sym, ◌∙◌, rules, tests}
 use Rattle.std.proofs.lemmas.Fn.{filter_same}
-use Rattle.node_core.specs.Hints.{IsHinted}
+use Rattle.node_core.specs.code.Hints.{IsHinted}
 use Rattle.node_core.proofs.CallLaws.{filter-absent}
 use Rattle.node_core.proofs.open_calls.OpenCalls.drop_call.Goals as goal
 

@@ -2,7 +2,7 @@ use Rattle.std.specs.Prelude.{◌==◌, find}
 use Rattle.std.proofs.Common.{ap, sym, ◌∙◌, rules, tests}
 use Rattle.std.proofs.lemmas.Iterator.{YieldsList-from_slice}
 use Rattle.std.proofs.lemmas.Iterator.Search.{find_from_yields_List}
-use Rattle.node_core.specs.Hints.{IsHinted}
+use Rattle.node_core.specs.code.Hints.{IsHinted}
 use Rattle.node_core.proofs.CallLaws.{find-absent}
 use Rattle.node_core.proofs.open_calls.OpenCalls.get.Goals as goal
 

@@ -1,7 +1,7 @@
 use Rattle.std.proofs.Common.{◌∙◌, ap, List}
-use Rattle.messages.specs.Entries.{EntryFields}
-use Rattle.pictures.specs.Indexes.{is_past}
-use Rattle.pictures.specs.Places.{is_lost}
+use Rattle.messages.specs.code.Entries.{EntryFields}
+use Rattle.pictures.specs.code.Indexes.{is_past}
+use Rattle.pictures.specs.rule.Places.{is_lost}
 use Rattle.pictures.proofs.Lasts.{is_lost-by_last}
 use Rattle.pictures.proofs.deliveries.Deliveries.is_lost.Goals as goal
 

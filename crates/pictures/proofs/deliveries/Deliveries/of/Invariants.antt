@@ -1,5 +1,5 @@
 use Rattle.std.proofs.Common.{◌≡◌, take}
-use Rattle.pictures.specs.Indexes.{KnowsCome}
+use Rattle.pictures.specs.code.Indexes.{KnowsCome}
 use Rattle.pictures.proofs.deliveries.Deliveries.of.Given as goal
 
 abbrev pub invariant-loop-entry : goal.invariant-loop-entry

@@ -1,5 +1,5 @@
 use Rattle.std.proofs.Common.{◌≡◌, map, take}
-use Rattle.pictures.specs.Places.{fate_of}
+use Rattle.pictures.specs.rule.Places.{fate_of}
 use Rattle.pictures.proofs.fates.Fates.of_sends.Given as goal
 
 abbrev pub invariant-loop-message : goal.invariant-loop-message

@@ -2,8 +2,8 @@ use Rattle.std.proofs.Common.{◌∷◌, ◌++◌, [], ◌&&◌, Bool, arith, re
 use Rattle.std.specs.Prelude.{is_some, if◌then◌else◌}
 use Rattle.std.proofs.lemmas.Grind.{common_steps}
 use Rattle.model.specs.declared.host.Host.{Host}
-use Rattle.model.specs.Owners.{host_of_call, same_host}
-use Rattle.placement.specs.CallIndexes.{row_of}
+use Rattle.model.specs.rule.Owners.{host_of_call, same_host}
+use Rattle.placement.specs.code.CallIndexes.{row_of}
 use Rattle.placement.proofs.CallIndexes.{taken-row}
 use Rattle.placement.proofs.call_index.CallIndex.note.Goals as goal
 

@@ -1,7 +1,7 @@
 use Rattle.std.specs.Prelude.{◌↔◌, IsTrue}
 use Rattle.std.proofs.Common.{false, List, subst}
 use Rattle.cluster_core.specs.declared.item.Item.{Item}
-use Rattle.cluster_core.specs.Histories.{Rising}
+use Rattle.cluster_core.specs.rule.Histories.{Rising}
 use Rattle.placement.proofs.history.History.new.Goals as goal
 
 pub returns-then-not-is_rising-clause-rising : goal.returns-then-not-is_rising-clause-rising

@@ -2,7 +2,7 @@ use Rattle.std.proofs.Common.{sym, ◌∙◌, ap, None, Option, List, ℕ, get_o
 use Rattle.std.specs.List.Sorted.{IsNonDecreasingBy}
 use Rattle.model.specs.declared.op.Op.{Op}
 use Rattle.placement.specs.declared.made_call.MadeCall.{MadeCall}
-use Rattle.placement.specs.CallsMade.{called_by_entry}
+use Rattle.placement.specs.code.CallsMade.{called_by_entry}
 use Rattle.placement.proofs.CallsMade.{called_read}
 use Rattle.placement.proofs.made.Made.get.Goals as goal
 

@@ -1,7 +1,7 @@
 use Rattle.std.proofs.Common.{◌≡◌, sym, ◌∙◌, ap, Some, None, Option, List, ℕ, ◌+◌, ◌++◌, ◌∷◌, [], length, arith, refl}
 use Rattle.model.specs.declared.op.Op.{Op}
 use Rattle.placement.specs.declared.made_call.MadeCall.{MadeCall}
-use Rattle.placement.specs.CallsMade.{called_from}
+use Rattle.placement.specs.code.CallsMade.{called_from}
 use Rattle.placement.proofs.CallsMade.{length-called, more_none, more_some}
 use Rattle.placement.proofs.made.Made.push.Goals.{in-Some+in_ok-push, in_default}
 use Rattle.placement.proofs.made.Made.push.Goals as goal

@@ -1,9 +1,9 @@
 use Rattle.std.proofs.Common.{ℕ, ◌-◌, sym, ap, subst, Some, None, ◌∙◌, List, [], ◌∷◌, ◌++◌, length, reverse, slice_get, Option}
 use Rattle.model.specs.declared.op.Op.{Op}
 use Rattle.messages.specs.declared.entry.Entry.{Entry}
-use Rattle.cluster_core.specs.Calls.{called_by}
+use Rattle.cluster_core.specs.code.Calls.{called_by}
 use Rattle.placement.specs.declared.slot.Slot.{Slot}
-use Rattle.placement.specs.Rests.{RestFields, Takes, stands_from}
+use Rattle.placement.specs.code.Rests.{RestFields, Takes, stands_from}
 use Rattle.placement.proofs.Rests.{rest_of, takes, last_is}
 use Rattle.placement.proofs.placed_entries.PlacedEntries.next.Goals as goal
 

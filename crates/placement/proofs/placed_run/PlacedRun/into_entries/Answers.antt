@@ -1,7 +1,7 @@
 use Rattle.std.proofs.Common.{sym, subst, ap, ◌∙◌, length}
-use Rattle.cluster_core.specs.Histories.{HasHistory, EachAtItsPlace}
-use Rattle.cluster_core.specs.Journals.{JournalFields}
-use Rattle.cluster_core.specs.Placement.{items_in}
+use Rattle.cluster_core.specs.rule.Histories.{HasHistory, EachAtItsPlace}
+use Rattle.cluster_core.specs.rule.Journals.{JournalFields}
+use Rattle.cluster_core.specs.code.Placement.{items_in}
 use Rattle.placement.proofs.Placing.{length-placed}
 use Rattle.placement.proofs.Placements.{in_places}
 use Rattle.placement.proofs.placed_run.PlacedRun.into_entries.Goals as goal

@@ -1,7 +1,7 @@
 use Rattle.std.proofs.Common.{◌≡◌, subst, List}
 use Rattle.messages.specs.declared.entry.Entry.{Entry}
-use Rattle.cluster_core.specs.Placement.{slots_of}
-use Rattle.placement.specs.Standing.{standing}
+use Rattle.cluster_core.specs.code.Placement.{slots_of}
+use Rattle.placement.specs.code.Standing.{standing}
 use Rattle.placement.proofs.placed_run.PlacedRun.new.Goals as goal
 
 pub invariant_of-result : goal.invariant_of-result

@@ -1,14 +1,14 @@
 use Rattle.std.proofs.Common.{◌≡◌, ◌∙◌, sym, ap, subst}
-use Rattle.messages.specs.Shapes.{ShapeFields}
-use Rattle.cluster_core.specs.Histories.{HasOneHistory}
-use Rattle.cluster_core.specs.Journals.{JournalFields, RunFields}
-use Rattle.cluster_core.specs.Parts.{world_state}
-use Rattle.cluster_core.specs.Runs.{Leads}
-use Rattle.cluster_core.specs.Safe.{IsSafe}
-use Rattle.cluster_core.specs.World.{first_world}
+use Rattle.messages.specs.rule.Shapes.{ShapeFields}
+use Rattle.cluster_core.specs.rule.Histories.{HasOneHistory}
+use Rattle.cluster_core.specs.rule.Journals.{JournalFields, RunFields}
+use Rattle.cluster_core.specs.rule.Parts.{world_state}
+use Rattle.cluster_core.specs.rule.Runs.{Leads}
+use Rattle.cluster_core.specs.rule.Safe.{IsSafe}
+use Rattle.cluster_core.specs.rule.World.{first_world}
 use Rattle.cluster_core.proofs.runs.JournalRuns.{leads_shape}
-use Rattle.player.specs.Parts.{PlayerParts, PlayedParts, progress, state_of}
-use Rattle.player.specs.Played.{PlayedState, played_of}
+use Rattle.player.specs.code.Parts.{PlayerParts, PlayedParts, progress, state_of}
+use Rattle.player.specs.rule.Played.{PlayedState, played_of}
 use Rattle.player.proofs.player.Player.finish.Goals as goal
 
 pub new-requires : goal.new-requires

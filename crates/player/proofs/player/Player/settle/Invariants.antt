@@ -1,7 +1,7 @@
 use Rattle.std.proofs.Common.{◌-◌, ◌^◌, List, Some}
 use Rattle.messages.specs.declared.message.Message.{Message}
-use Rattle.player.specs.Parts.{progress}
-use Rattle.player.specs.Progress.{Delivers, InTurn}
+use Rattle.player.specs.code.Parts.{progress}
+use Rattle.player.specs.rule.Progress.{Delivers, InTurn}
 use Rattle.player.proofs.player.Player.settle.Given as goal
 
 abbrev pub invariant-loop-alloc : goal.invariant-loop-alloc

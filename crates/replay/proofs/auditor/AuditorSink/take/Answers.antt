@@ -1,5 +1,5 @@
 use Rattle.std.proofs.Common.{sym}
-use Rattle.cluster_core.specs.Parts.{world_state}
+use Rattle.cluster_core.specs.rule.Parts.{world_state}
 use Rattle.replay.proofs.Audits.{counts-more, tells-more, tells-next, tells-wrong}
 use Rattle.replay.proofs.auditor.AuditorSink.take.Goals as goal
 use Rattle.replay.proofs.auditor.AuditorSink.take.Goals.{then-not-branch, else-not-branch}

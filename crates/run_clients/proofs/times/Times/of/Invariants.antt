@@ -1,4 +1,4 @@
-use Rattle.run_clients.specs.Times.{AreTimes}
+use Rattle.run_clients.specs.code.Times.{AreTimes}
 use Rattle.run_clients.proofs.times.Times.of.Given as goal
 
 abbrev pub invariant-loop-index : goal.invariant-loop-index

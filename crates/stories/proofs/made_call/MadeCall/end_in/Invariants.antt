@@ -1,8 +1,8 @@
 use Rattle.std.proofs.Common.{◌≡◌, ◌+◌, ℕ, drop, ◌&&◌, nat_lt}
 use Rattle.std.specs.Prelude.{find}
 use Rattle.std.specs.List.{enumerate_from}
-use Rattle.messages.specs.Entries.{EntryFields}
-use Rattle.stories.specs.OpenCalls.{end_of, ends}
+use Rattle.messages.specs.code.Entries.{EntryFields}
+use Rattle.stories.specs.rule.OpenCalls.{end_of, ends}
 use Rattle.stories.proofs.made_call.MadeCall.end_in.Given as goal
 
 abbrev pub invariant-loop-entry : goal.invariant-loop-entry

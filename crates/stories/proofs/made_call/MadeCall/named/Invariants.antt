@@ -1,10 +1,10 @@
 use Rattle.std.proofs.Common.{◌≡◌, ◌+◌, ℕ, drop}
 use Rattle.std.specs.Prelude.{filter_map, find}
 use Rattle.std.specs.List.{enumerate_from}
-use Rattle.messages.specs.Entries.{EntryFields}
-use Rattle.messages.specs.Messages.{same_call}
+use Rattle.messages.specs.code.Entries.{EntryFields}
+use Rattle.messages.specs.rule.Messages.{same_call}
 use Rattle.stories.specs.declared.made_call.MadeCall.{MadeCall}
-use Rattle.stories.specs.OpenCalls.{call_made, made_by}
+use Rattle.stories.specs.rule.OpenCalls.{call_made, made_by}
 use Rattle.stories.proofs.made_call.MadeCall.named.Given as goal
 
 abbrev pub invariant-loop-entry : goal.invariant-loop-entry

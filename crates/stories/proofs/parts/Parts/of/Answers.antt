@@ -2,9 +2,9 @@ use Rattle.std.proofs.Common.{◌≡◌, ◌∙◌, ◌+◌, ◌<◌, ℕ, ap, s
 use Rattle.std.specs.List.{list_any}
 use Rattle.model.specs.declared.call.CallId.{CallId}
 use Rattle.messages.specs.declared.message.Message.{Message}
-use Rattle.messages.specs.Entries.{EntryFields}
-use Rattle.stories.specs.About.{PlacedFields, answers, belongs, placed}
-use Rattle.stories.specs.OpenIndexes.{part_in, with_one}
+use Rattle.messages.specs.code.Entries.{EntryFields}
+use Rattle.stories.specs.rule.About.{PlacedFields, answers, belongs, placed}
+use Rattle.stories.specs.code.OpenIndexes.{part_in, with_one}
 use Rattle.stories.proofs.CallParts.{ends_earlier, no_answer_at, part_next}
 use Rattle.stories.proofs.Passes.{drop_here}
 use Rattle.stories.proofs.parts.Parts.of.Goals as goal

@@ -1,8 +1,8 @@
 use Rattle.std.proofs.Common.{◌≡◌, ℕ, ◌+◌, ◌*◌, ◌<◌, ◌≤◌, ◌++◌, false, drop, filter}
 use Rattle.std.specs.List.{list_any}
 use Rattle.model.specs.declared.call.CallId.{CallId}
-use Rattle.stories.specs.About.{PlacedFields, answers, belongs, part_of, placed}
-use Rattle.stories.specs.OpenIndexes.{ends_at, part_in}
+use Rattle.stories.specs.rule.About.{PlacedFields, answers, belongs, part_of, placed}
+use Rattle.stories.specs.code.OpenIndexes.{ends_at, part_in}
 use Rattle.stories.proofs.parts.Parts.of.Given as goal
 
 abbrev pub invariant-loop-entry : goal.invariant-loop-entry

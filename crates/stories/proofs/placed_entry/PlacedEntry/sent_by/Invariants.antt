@@ -1,5 +1,5 @@
 use Rattle.std.proofs.Common.{◌≡◌, ◌+◌, ◌++◌, drop, filter}
-use Rattle.stories.specs.About.{is_about, numbered, sent_by, NumberedFields}
+use Rattle.stories.specs.rule.About.{is_about, numbered, sent_by, NumberedFields}
 use Rattle.stories.proofs.placed_entry.PlacedEntry.sent_by.Given as goal
 
 abbrev pub invariant-loop-message : goal.invariant-loop-message

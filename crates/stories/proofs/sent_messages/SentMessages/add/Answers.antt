@@ -1,6 +1,6 @@
 use Rattle.std.proofs.Common.{List, [], ◌∷◌, ◌++◌, ap, sym, ◌∙◌}
-use Rattle.stories.specs.About.{NumberedFields, number_of}
-use Rattle.stories.specs.Index.{number_in}
+use Rattle.stories.specs.rule.About.{NumberedFields, number_of}
+use Rattle.stories.specs.code.Index.{number_in}
 use Rattle.stories.specs.declared.sent_messages.SentMessages.TheInside.{Inside}
 use Rattle.stories.proofs.Firsts.{known_again, known_first}
 use Rattle.stories.proofs.sent_messages.SentMessages.add.Goals as goal

@@ -1,5 +1,5 @@
 use Rattle.std.proofs.Common.{◌≡◌, take}
-use Rattle.stories.specs.About.{sent_about}
+use Rattle.stories.specs.rule.About.{sent_about}
 use Rattle.stories.proofs.sent_messages.SentMessages.of.Given as goal
 
 abbrev pub invariant-loop-placed : goal.invariant-loop-placed

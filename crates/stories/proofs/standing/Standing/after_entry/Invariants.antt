@@ -1,5 +1,5 @@
 use Rattle.std.proofs.Common.{◌≡◌, drop, fold}
-use Rattle.stories.specs.Pending.{after_entry, after_message}
+use Rattle.stories.specs.rule.Pending.{after_entry, after_message}
 use Rattle.stories.proofs.standing.Standing.after_entry.Given as goal
 
 abbrev pub invariant-loop-message : goal.invariant-loop-message

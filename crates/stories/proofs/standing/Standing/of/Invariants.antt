@@ -1,7 +1,7 @@
 use Rattle.std.proofs.Common.{◌≡◌, drop, fold}
-use Rattle.stories.specs.About.{PlacedFields}
+use Rattle.stories.specs.rule.About.{PlacedFields}
 use Rattle.stories.specs.declared.standing.Standing.{Standing}
-use Rattle.stories.specs.Pending.{after_entry, standing_of}
+use Rattle.stories.specs.rule.Pending.{after_entry, standing_of}
 use Rattle.stories.proofs.standing.Standing.of.Given as goal
 
 abbrev pub invariant-loop-placed : goal.invariant-loop-placed

@@ -1,4 +1,4 @@
-use Rattle.texts.specs.Layout.{space}
+use Rattle.texts.specs.rule.Layout.{space}
 use Rattle.texts.proofs.Pairs.{reads-pair}
 use Rattle.texts.proofs.SingleWords.{lacks-tested}
 use Rattle.texts.proofs.text.Tuple2Text.read.Goals as goal

@@ -1,5 +1,5 @@
 use Rattle.std.proofs.Common.{sym, ap, ◌∙◌}
-use Rattle.token_queue.specs.Actives.{ActiveParts}
+use Rattle.token_queue.specs.rule.Actives.{ActiveParts}
 use Rattle.token_queue.proofs.ActiveLaws.{found-held}
 use Rattle.token_queue.proofs.active.Active.find.Goals as goal
 

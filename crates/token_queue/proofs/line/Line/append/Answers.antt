@@ -1,6 +1,6 @@
 use Rattle.std.specs.Prelude.{◌++◌, drop}
 use Rattle.std.proofs.Common.{ap, subst, sym, ◌∙◌}
-use Rattle.token_queue.specs.Requests.{AreOfDistinctCalls}
+use Rattle.token_queue.specs.rule.Requests.{AreOfDistinctCalls}
 use Rattle.token_queue.proofs.LineLaws.{distinct-before, first-rest}
 use Rattle.token_queue.proofs.line.Line.append.Goals as goal
 

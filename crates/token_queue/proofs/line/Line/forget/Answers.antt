@@ -2,7 +2,7 @@ use Rattle.std.specs.Prelude.{◌≡◌, ◌<◌, ℕ, List, Option, Some, None,
 use Rattle.std.proofs.Common.{ap, subst, sym, ◌∙◌, get_or, arith}
 use Rattle.std.proofs.lemmas.List.{get_or_default}
 use Rattle.token_queue.specs.declared.token_request.TokenRequest.{TokenRequest}
-use Rattle.token_queue.specs.Places.{request_at}
+use Rattle.token_queue.specs.code.Places.{request_at}
 use Rattle.token_queue.proofs.LineLaws.{IsForgotten, IsForgotten-start, IsForgotten-taken, IsForgotten-stays, IsForgotten-none}
 use Rattle.token_queue.proofs.line.Line.forget.Goals.{in-Some+then-is_up_to, in-Some+else-is_up_to, in_default}
 use Rattle.token_queue.proofs.line.Line.forget.Goals as goal

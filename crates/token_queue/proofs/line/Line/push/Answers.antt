@@ -1,8 +1,8 @@
 use Rattle.std.specs.Prelude.{◌∷◌, ◌++◌, [], List, Option, Some}
 use Rattle.std.proofs.Common.{ap, subst, sym, ◌∙◌}
 use Rattle.token_queue.specs.declared.token_request.TokenRequest.{TokenRequest}
-use Rattle.token_queue.specs.Requests.{LineParts, requests_in}
-use Rattle.token_queue.specs.Places.{IsFront}
+use Rattle.token_queue.specs.rule.Requests.{LineParts, requests_in}
+use Rattle.token_queue.specs.code.Places.{IsFront}
 use Rattle.token_queue.proofs.SlotLaws.{requests_in-append}
 use Rattle.token_queue.proofs.LineLaws.{IsFront-push}
 use Rattle.token_queue.proofs.line.Line.push.Goals as goal

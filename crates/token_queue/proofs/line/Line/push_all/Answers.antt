@@ -1,7 +1,7 @@
 use Rattle.std.specs.Prelude.{◌≡◌, ◌+◌, ◌∷◌, ◌++◌, [], length, take, drop, find, None}
 use Rattle.std.proofs.Common.{ap, subst, sym, ◌∙◌, arith, length-append, append_assoc}
 use Rattle.std.proofs.lemmas.List.{get_or_read, length_push}
-use Rattle.token_queue.specs.Requests.{is_of_call, requests_in, AreOfDistinctCalls}
+use Rattle.token_queue.specs.rule.Requests.{is_of_call, requests_in, AreOfDistinctCalls}
 use Rattle.token_queue.proofs.WalkLaws.{requests_in-around, requests_in-full, requests_in-empty}
 use Rattle.token_queue.proofs.LineLaws.{distinct-before}
 use Rattle.token_queue.proofs.line.Line.push_all.Goals.{in-Some, in_default}

@@ -1,5 +1,5 @@
 use Rattle.std.proofs.Common.{◌≡◌, ◌+◌, ◌++◌, length, take}
-use Rattle.token_queue.specs.Requests.{requests_in}
+use Rattle.token_queue.specs.rule.Requests.{requests_in}
 use Rattle.token_queue.proofs.line.Line.push_all.Given as goal
 
 abbrev pub invariant-loop-slot : goal.invariant-loop-slot

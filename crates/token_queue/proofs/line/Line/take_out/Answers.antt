@@ -1,8 +1,8 @@
 use Rattle.std.specs.Prelude.{◌≡◌, List, Option, map, filter, not, drop}
 use Rattle.std.proofs.Common.{ap, subst, sym, ◌∙◌}
 use Rattle.token_queue.specs.declared.token_request.TokenRequest.{TokenRequest}
-use Rattle.token_queue.specs.Requests.{LineParts, is_of_call, requests_in}
-use Rattle.token_queue.specs.Places.{IsFront, unless}
+use Rattle.token_queue.specs.rule.Requests.{LineParts, is_of_call, requests_in}
+use Rattle.token_queue.specs.code.Places.{IsFront, unless}
 use Rattle.token_queue.proofs.SlotLaws.{requests_in-unless}
 use Rattle.token_queue.proofs.LineLaws.{rest-unless, IsFront-from}
 use Rattle.token_queue.proofs.line.Line.take_out.Goals as goal

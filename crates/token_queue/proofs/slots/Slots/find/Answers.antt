@@ -2,9 +2,9 @@ use Rattle.std.specs.Prelude.{◌≡◌, find, None, Some}
 use Rattle.std.proofs.Common.{ap, sym, ◌∙◌, arith}
 use Rattle.std.proofs.lemmas.List.{get_or_read}
 use Rattle.indexmap.specs.IndexMap.{get}
-use Rattle.messages.specs.Messages.{same_call}
-use Rattle.token_queue.specs.Requests.{is_of_call, requests_in}
-use Rattle.token_queue.specs.Places.{SlotParts}
+use Rattle.messages.specs.rule.Messages.{same_call}
+use Rattle.token_queue.specs.rule.Requests.{is_of_call, requests_in}
+use Rattle.token_queue.specs.code.Places.{SlotParts}
 use Rattle.token_queue.proofs.SlotLaws.{find-none}
 use Rattle.token_queue.proofs.PlaceLaws.{get-same_call, found-at, within, HasNone-placed}
 use Rattle.token_queue.proofs.slots.Slots.find.Goals as goal

@@ -1,6 +1,6 @@
 use Rattle.std.proofs.Common.{subst}
-use Rattle.token_queue.specs.Requests.{requests_in, AreOfDistinctCalls}
-use Rattle.token_queue.specs.Places.{SlotParts}
+use Rattle.token_queue.specs.rule.Requests.{requests_in, AreOfDistinctCalls}
+use Rattle.token_queue.specs.code.Places.{SlotParts}
 use Rattle.token_queue.proofs.SlotLaws.{distinct}
 use Rattle.token_queue.proofs.PlaceLaws.{AreApart-placed}
 use Rattle.token_queue.proofs.slots.Slots.len.Goals as goal

@@ -1,9 +1,9 @@
 use Rattle.std.specs.Prelude.{◌≡◌, ◌+◌, cond, find, length, None, Some, Option, ℕ, is_some}
 use Rattle.std.proofs.Common.{ap, ◌∙◌, arith}
 use Rattle.indexmap.specs.IndexMap.{get, index_map_len}
-use Rattle.messages.specs.Messages.{same_call}
-use Rattle.token_queue.specs.Requests.{is_of_call, requests_in}
-use Rattle.token_queue.specs.Places.{SlotParts}
+use Rattle.messages.specs.rule.Messages.{same_call}
+use Rattle.token_queue.specs.rule.Requests.{is_of_call, requests_in}
+use Rattle.token_queue.specs.code.Places.{SlotParts}
 use Rattle.token_queue.proofs.PlaceLaws.{get-same_call, updates-same_call, absent, ArePlaced-push}
 use Rattle.token_queue.proofs.slots.Slots.push.Goals as goal
 

@@ -1,9 +1,9 @@
 use Rattle.std.specs.Prelude.{◌≡◌, ◌+◌, ℕ, cond, Option, None, Some, map, is_some}
 use Rattle.std.proofs.Common.{ap, sym, ◌∙◌, arith, length-set}
 use Rattle.indexmap.specs.IndexMap.{get, index_map_len}
-use Rattle.messages.specs.Messages.{same_call}
-use Rattle.token_queue.specs.Requests.{is_of_call}
-use Rattle.token_queue.specs.Places.{SlotParts, unless}
+use Rattle.messages.specs.rule.Messages.{same_call}
+use Rattle.token_queue.specs.rule.Requests.{is_of_call}
+use Rattle.token_queue.specs.code.Places.{SlotParts, unless}
 use Rattle.token_queue.proofs.SlotLaws.{untouched, cleared}
 use Rattle.token_queue.proofs.PlaceLaws.{get-same_call, updates-same_call, AreApart-placed, HasNone-placed, within, ArePlaced-clear}
 use Rattle.token_queue.proofs.slots.Slots.take_out.Goals as goal

@@ -1,8 +1,8 @@
 use Rattle.std.specs.Prelude.{◌++◌}
 use Rattle.std.proofs.Common.{sym, subst}
-use Rattle.token_queue.specs.Actives.{requests_of}
-use Rattle.token_server.specs.Parts.{ServerParts}
-use Rattle.token_server.specs.Edits.{Fits}
+use Rattle.token_queue.specs.rule.Actives.{requests_of}
+use Rattle.token_server.specs.rule.Parts.{ServerParts}
+use Rattle.token_server.specs.code.Edits.{Fits}
 use Rattle.token_server.proofs.ComesLaws.{distinct-first}
 use Rattle.token_server.proofs.ReadyLaws.{applied}
 use Rattle.token_server.proofs.server.Server.apply.Goals as goal

@@ -3,16 +3,16 @@ use Rattle.std.proofs.Common.{sym, ap, subst, ◌∙◌, take, drop, arith}
 use Rattle.std.proofs.lemmas.List.Elements.{All-drop}
 use Rattle.token_queue.specs.declared.held.Held.{Held}
 use Rattle.token_queue.specs.declared.token_request.TokenRequest.{TokenRequest}
-use Rattle.token_queue.specs.Actives.{waiting_for}
-use Rattle.known_nodes.specs.Rows.{Row}
+use Rattle.token_queue.specs.rule.Actives.{waiting_for}
+use Rattle.known_nodes.specs.rule.Rows.{Row}
 use Rattle.known_nodes.specs.declared.node_change.Changed.{Changed}
-use Rattle.token_server.specs.Obstacles.{obstacle}
-use Rattle.known_nodes.specs.Parts.{rows_of}
-use Rattle.token_server.specs.Parts.{ServerParts, server_state}
-use Rattle.known_nodes.specs.Marks.{NoneExclusive}
-use Rattle.known_nodes.specs.Changes.{rows_after}
-use Rattle.known_nodes.specs.Edits.{rows_overlaid}
-use Rattle.token_server.specs.Edits.{reached}
+use Rattle.token_server.specs.code.Obstacles.{obstacle}
+use Rattle.known_nodes.specs.rule.Parts.{rows_of}
+use Rattle.token_server.specs.rule.Parts.{ServerParts, server_state}
+use Rattle.known_nodes.specs.code.Marks.{NoneExclusive}
+use Rattle.known_nodes.specs.code.Changes.{rows_after}
+use Rattle.known_nodes.specs.code.Edits.{rows_overlaid}
+use Rattle.token_server.specs.code.Edits.{reached}
 use Rattle.token_server.proofs.AwaitLaws.{Await, await-more, await-first, unfreed-all}
 use Rattle.token_server.proofs.TurnLaws.{read-place, take-next}
 use Rattle.token_server.proofs.server.Server.awaited.Goals as goal

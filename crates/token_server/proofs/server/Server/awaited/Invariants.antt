@@ -1,7 +1,7 @@
 use Rattle.std.specs.Prelude.{◌≡◌, ◌≤◌}
 use Rattle.std.proofs.Common.{take}
-use Rattle.token_server.specs.Obstacles.{obstacle}
-use Rattle.token_server.specs.Edits.{reached}
+use Rattle.token_server.specs.code.Obstacles.{obstacle}
+use Rattle.token_server.specs.code.Edits.{reached}
 use Rattle.token_server.proofs.AwaitLaws.{Await}
 use Rattle.token_server.proofs.server.Server.awaited.Given as goal
 

@@ -1,7 +1,7 @@
 use Rattle.std.specs.Prelude.{◌≡◌, false}
 use Rattle.std.proofs.Common.{sym, ap, ◌∙◌}
-use Rattle.token_server.specs.State.{awaits}
-use Rattle.token_server.specs.Parts.{ServerParts, server_state}
+use Rattle.token_server.specs.rule.State.{awaits}
+use Rattle.token_server.specs.rule.Parts.{ServerParts, server_state}
 use Rattle.token_server.proofs.server.Server.awaits_after.Goals as goal
 
 pub returns-else-self : goal.returns-else-self

@@ -2,18 +2,18 @@ use Rattle.std.specs.Prelude.{◌≡◌, ℕ, Option, Some, Result, Ok}
 use Rattle.std.specs.Option.{option_map}
 use Rattle.std.proofs.Common.{sym, ap, refl, ◌∙◌}
 use Rattle.messages.specs.declared.refusal.StepError.{StepError}
-use Rattle.messages.specs.Epochs.{before_epoch}
+use Rattle.messages.specs.rule.Epochs.{before_epoch}
 use Rattle.token_server.specs.declared.told.Told.{Told}
-use Rattle.known_nodes.specs.Rows.{Commands}
-use Rattle.token_server.specs.State.{ServerState, begin}
-use Rattle.known_nodes.specs.Sent.{next_number}
-use Rattle.token_server.specs.Parts.{ServerParts}
-use Rattle.token_server.specs.Sketches.{commands_of}
+use Rattle.known_nodes.specs.rule.Rows.{Commands}
+use Rattle.token_server.specs.rule.State.{ServerState, begin}
+use Rattle.known_nodes.specs.code.Sent.{next_number}
+use Rattle.token_server.specs.rule.Parts.{ServerParts}
+use Rattle.token_server.specs.code.Sketches.{commands_of}
 use Rattle.known_nodes.specs.declared.command.Order.TheVariants.{Revoke}
-use Rattle.token_server.specs.Serve.{narrowed}
-use Rattle.known_nodes.specs.Orders.{message_of}
-use Rattle.token_server.specs.Told.{with_told}
-use Rattle.token_server.specs.Edits.{drafted}
+use Rattle.token_server.specs.rule.Serve.{narrowed}
+use Rattle.known_nodes.specs.code.Orders.{message_of}
+use Rattle.token_server.specs.code.Told.{with_told}
+use Rattle.token_server.specs.code.Edits.{drafted}
 use Rattle.token_server.proofs.ToldLaws.{has_number}
 use Rattle.token_server.proofs.TurnLaws.{turn-gone, turn-sent}
 use Rattle.token_server.proofs.server.Server.command.Goals as goal

@@ -2,14 +2,14 @@ use Rattle.std.specs.Prelude.{◌≡◌, ◌+◌, false, List, ◌∷◌, ◌++�
 use Rattle.std.proofs.Common.{refl, ap, subst, take, drop, arith}
 use Rattle.std.proofs.lemmas.Result.{err_from_is_err_and}
 use Rattle.token_queue.specs.declared.held.Held.{Held}
-use Rattle.token_queue.specs.Actives.{requests_of}
+use Rattle.token_queue.specs.rule.Actives.{requests_of}
 use Rattle.token_server.specs.declared.lists.Lists.{Lists}
-use Rattle.token_server.specs.State.{ServerState}
-use Rattle.token_server.specs.Obstacles.{is_idle}
-use Rattle.token_server.specs.Serve.{each_served}
-use Rattle.token_server.specs.Told.{with_told, commands_told}
-use Rattle.token_server.specs.Edits.{held_after, drafted}
-use Rattle.token_server.specs.Turns.{kept_of}
+use Rattle.token_server.specs.rule.State.{ServerState}
+use Rattle.token_server.specs.code.Obstacles.{is_idle}
+use Rattle.token_server.specs.rule.Serve.{each_served}
+use Rattle.token_server.specs.code.Told.{with_told, commands_told}
+use Rattle.token_server.specs.code.Edits.{held_after, drafted}
+use Rattle.token_server.specs.code.Turns.{kept_of}
 use Rattle.token_server.proofs.ToldLaws.{Answer}
 use Rattle.token_server.proofs.TurnLaws.{read-place, waits-here, turn-spent, fresh-split, fresh-turn, served-whole}
 use Rattle.token_server.proofs.server.Server.commands.Goals as goal

@@ -3,16 +3,16 @@ use Rattle.std.proofs.Common.{refl, sym, ap, subst, ◌∙◌, take, drop, arith
 use Rattle.std.proofs.lemmas.List.{take_all}
 use Rattle.std.proofs.lemmas.Result.{err_from_is_err_and}
 use Rattle.token_queue.specs.declared.held.Held.{Held}
-use Rattle.token_queue.specs.Actives.{waiting_for}
+use Rattle.token_queue.specs.rule.Actives.{waiting_for}
 use Rattle.token_queue.proofs.ActiveLaws.{waiting_for-length}
 use Rattle.token_server.specs.declared.lists.Lists.{Lists}
 use Rattle.token_server.specs.declared.told.Told.{Told}
-use Rattle.token_server.specs.State.{ServerState}
-use Rattle.token_server.specs.Obstacles.{is_idle}
-use Rattle.token_server.specs.Told.{told_to}
-use Rattle.token_server.specs.Parts.{ServerParts, server_state}
-use Rattle.token_server.specs.Edits.{keeps, held_after, drafted}
-use Rattle.token_server.specs.Turns.{kept, kept_of, AreServed}
+use Rattle.token_server.specs.rule.State.{ServerState}
+use Rattle.token_server.specs.code.Obstacles.{is_idle}
+use Rattle.token_server.specs.code.Told.{told_to}
+use Rattle.token_server.specs.rule.Parts.{ServerParts, server_state}
+use Rattle.token_server.specs.code.Edits.{keeps, held_after, drafted}
+use Rattle.token_server.specs.code.Turns.{kept, kept_of, AreServed}
 use Rattle.token_server.proofs.TurnLaws.{read-place, waits-place, quiet-place, waits-here, turn-spent, kept-split, kept-turn, kept-left, kept-silent, kept-rest, quiet-told, told-quiet, served-start, index-past, rest-untouched, rest-told}
 use Rattle.token_server.proofs.server.Server.commands_kept.Goals.{then-keeps+in_ok-serve_one, else-keeps}
 use Rattle.token_server.proofs.server.Server.commands_kept.Goals as goal

@@ -1,7 +1,7 @@
 use Rattle.std.specs.Prelude.{◌≡◌}
 use Rattle.std.proofs.Common.{refl, arith, sym, ap, ◌∙◌}
-use Rattle.token_server.specs.Parts.{ServerParts}
-use Rattle.token_server.specs.Edits.{reached}
+use Rattle.token_server.specs.rule.Parts.{ServerParts}
+use Rattle.token_server.specs.code.Edits.{reached}
 use Rattle.token_server.proofs.GrantLaws.{conflicts_at, first-next, first-none}
 use Rattle.token_server.proofs.server.Server.conflicting_node.Goals as goal
 

@@ -1,5 +1,5 @@
 use Rattle.std.specs.Prelude.{◌≡◌, ℕ, ◌≤◌, false}
-use Rattle.token_server.specs.Edits.{reached}
+use Rattle.token_server.specs.code.Edits.{reached}
 use Rattle.token_server.proofs.GrantLaws.{conflicts_at}
 use Rattle.token_server.proofs.server.Server.conflicting_node.Given as goal
 

@@ -2,10 +2,10 @@ use Rattle.std.specs.Prelude.{◌≡◌, ◌+◌, ◌≤◌, List, true, false, 
 use Rattle.std.proofs.Common.{ap, subst, ◌∙◌, drop, arith}
 use Rattle.std.proofs.lemmas.List.{take_all}
 use Rattle.token_queue.specs.declared.held.Held.{Held}
-use Rattle.token_queue.specs.Actives.{requests_of}
-use Rattle.token_server.specs.Obstacles.{are_apart, may_turn}
-use Rattle.known_nodes.specs.Parts.{rows_of}
-use Rattle.token_server.specs.Parts.{ServerParts}
+use Rattle.token_queue.specs.rule.Actives.{requests_of}
+use Rattle.token_server.specs.code.Obstacles.{are_apart, may_turn}
+use Rattle.known_nodes.specs.rule.Parts.{rows_of}
+use Rattle.token_server.specs.rule.Parts.{ServerParts}
 use Rattle.token_server.proofs.AwaitLaws.{rest-more, rest-none, rest-apart}
 use Rattle.token_server.proofs.TurnLaws.{read-place}
 use Rattle.token_server.proofs.server.Server.freed_up_to.Goals.{then-may_be_freed+else-takes_all, else-may_be_freed}

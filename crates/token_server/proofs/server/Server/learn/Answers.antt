@@ -5,15 +5,15 @@ use Rattle.std.proofs.lemmas.Result.{IfOk-weaker, IfErr-weaker}
 use Rattle.messages.specs.declared.outcome.Outcome.{Outcome}
 use Rattle.messages.specs.declared.refusal.StepError.{StepError}
 use Rattle.messages.specs.declared.refusal.StepError.TheVariants.{NoMemory, Stranger}
-use Rattle.messages.specs.Messages.{is_within}
-use Rattle.token_server.specs.State.{ServerState, forgotten, requeued}
-use Rattle.token_server.specs.Serve.{serve}
-use Rattle.token_server.specs.Resends.{sending_first}
-use Rattle.token_server.specs.Server.{learn_rule}
-use Rattle.token_server.specs.Parts.{ServerParts, server_state}
-use Rattle.token_server.specs.Ready.{IsOrderly}
-use Rattle.token_server.specs.Sketches.{sketched}
-use Rattle.token_server.specs.Edits.{planned}
+use Rattle.messages.specs.rule.Messages.{is_within}
+use Rattle.token_server.specs.rule.State.{ServerState, forgotten, requeued}
+use Rattle.token_server.specs.rule.Serve.{serve}
+use Rattle.token_server.specs.rule.Resends.{sending_first}
+use Rattle.token_server.specs.rule.Server.{learn_rule}
+use Rattle.token_server.specs.rule.Parts.{ServerParts, server_state}
+use Rattle.token_server.specs.code.Ready.{IsOrderly}
+use Rattle.token_server.specs.code.Sketches.{sketched}
+use Rattle.token_server.specs.code.Edits.{planned}
 use Rattle.token_server.proofs.OrderlyLaws.{orderly-forgotten, orderly-requeued}
 use Rattle.token_server.proofs.RefusalLaws.{learn-spent}
 use Rattle.token_server.proofs.server.Server.learn.Goals as goal

@@ -3,15 +3,15 @@ use Rattle.std.proofs.Common.{refl, sym, ap, subst, ◌∙◌}
 use Rattle.std.proofs.lemmas.List.Elements.{All-append}
 use Rattle.token_queue.specs.declared.token_request.TokenRequest.{TokenRequest}
 use Rattle.token_queue.specs.declared.held.Held.{Held}
-use Rattle.token_queue.specs.Actives.{requests_of, waiting_for}
-use Rattle.intervals.specs.Search.{some_passes}
-use Rattle.known_nodes.specs.Rows.{Row, is_awaited}
-use Rattle.token_server.specs.State.{awaits}
-use Rattle.token_server.specs.Admitting.{IsAdmitted}
-use Rattle.token_server.specs.Obstacles.{obstacle}
-use Rattle.token_server.specs.Ready.{AreDistinct}
-use Rattle.token_server.specs.Sketches.{without, still_active, queue_moved, waiting_moved, sketched}
-use Rattle.token_server.specs.Edits.{reached}
+use Rattle.token_queue.specs.rule.Actives.{requests_of, waiting_for}
+use Rattle.intervals.specs.rule.Search.{some_passes}
+use Rattle.known_nodes.specs.rule.Rows.{Row, is_awaited}
+use Rattle.token_server.specs.rule.State.{awaits}
+use Rattle.token_server.specs.code.Admitting.{IsAdmitted}
+use Rattle.token_server.specs.code.Obstacles.{obstacle}
+use Rattle.token_server.specs.code.Ready.{AreDistinct}
+use Rattle.token_server.specs.code.Sketches.{without, still_active, queue_moved, waiting_moved, sketched}
+use Rattle.token_server.specs.code.Edits.{reached}
 use Rattle.token_server.proofs.ReadyLaws.{distinct-queue, kept-all}
 use Rattle.token_server.proofs.server.Server.lists.Goals as goal
 

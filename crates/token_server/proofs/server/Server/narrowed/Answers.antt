@@ -1,14 +1,14 @@
 use Rattle.std.specs.Prelude.{◌≡◌, List, ◌++◌, All}
 use Rattle.std.proofs.Common.{refl, sym, ap, subst, ◌∙◌}
-use Rattle.intervals.specs.Bytes.{Range}
+use Rattle.intervals.specs.rule.Bytes.{Range}
 use Rattle.token_queue.specs.declared.held.Held.{Held}
 use Rattle.token_queue.specs.declared.token_request.TokenRequest.{TokenRequest}
-use Rattle.token_queue.specs.Actives.{requests_of}
+use Rattle.token_queue.specs.rule.Actives.{requests_of}
 use Rattle.token_server.specs.declared.lists.Lists.{Lists}
-use Rattle.token_server.specs.Serve.{narrowed}
-use Rattle.token_server.specs.Parts.{ServerParts}
-use Rattle.token_server.specs.Sketches.{without, still_active}
-use Rattle.token_server.specs.Told.{cut_all}
+use Rattle.token_server.specs.rule.Serve.{narrowed}
+use Rattle.token_server.specs.rule.Parts.{ServerParts}
+use Rattle.token_server.specs.code.Sketches.{without, still_active}
+use Rattle.token_server.specs.code.Told.{cut_all}
 use Rattle.token_server.proofs.SpanLaws.{one_span}
 use Rattle.token_server.proofs.CutLaws.{HasByte, IsLeft, left-all, left-exact}
 use Rattle.token_server.proofs.TurnLaws.{held_after-requests}

@@ -1,11 +1,11 @@
 use Rattle.std.specs.Prelude.{◌≡◌, ℕ, ◌≤◌, Bool, false, IfSome, Option}
 use Rattle.std.proofs.Common.{sym, ap, subst, ◌∙◌, arith}
-use Rattle.intervals.specs.Search.{some_passes}
+use Rattle.intervals.specs.rule.Search.{some_passes}
 use Rattle.token_set.proofs.SearchLaws.{none_passes-from}
-use Rattle.model.specs.Limits.{IsNumber}
-use Rattle.messages.specs.Epochs.{before_epoch}
-use Rattle.known_nodes.specs.Rows.{Row, is_awaited}
-use Rattle.known_nodes.specs.Parts.{rows_of}
+use Rattle.model.specs.rule.Limits.{IsNumber}
+use Rattle.messages.specs.rule.Epochs.{before_epoch}
+use Rattle.known_nodes.specs.rule.Rows.{Row, is_awaited}
+use Rattle.known_nodes.specs.rule.Parts.{rows_of}
 use Rattle.token_server.proofs.IdleLaws.{idle-server}
 use Rattle.token_server.proofs.server.Server.new.Goals as goal
 

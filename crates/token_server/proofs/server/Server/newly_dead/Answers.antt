@@ -1,9 +1,9 @@
 use Rattle.std.specs.Prelude.{◌≡◌, All}
 use Rattle.std.proofs.Common.{sym, ap, subst, ◌∙◌, arith}
-use Rattle.known_nodes.specs.Parts.{deaths_of}
-use Rattle.token_server.specs.Parts.{ServerParts, server_state}
-use Rattle.token_server.specs.State.{requests}
-use Rattle.token_server.specs.Sketches.{dropped}
+use Rattle.known_nodes.specs.rule.Parts.{deaths_of}
+use Rattle.token_server.specs.rule.Parts.{ServerParts, server_state}
+use Rattle.token_server.specs.rule.State.{requests}
+use Rattle.token_server.specs.code.Sketches.{dropped}
 use Rattle.token_server.proofs.CareLaws.{requests-parts}
 use Rattle.token_server.proofs.OrderlyLaws.{Living}
 use Rattle.token_server.proofs.ReadyLaws.{living-without}

@@ -4,14 +4,14 @@ use Rattle.std.proofs.lemmas.Result.{IfOk-weaker, IfErr-weaker}
 use Rattle.messages.specs.declared.outcome.Outcome.{Outcome}
 use Rattle.messages.specs.declared.refusal.StepError.{StepError}
 use Rattle.messages.specs.declared.refusal.StepError.TheVariants.{NoMemory}
-use Rattle.messages.specs.Messages.{sending}
-use Rattle.token_server.specs.State.{ServerState}
-use Rattle.token_server.specs.Serve.{serve}
-use Rattle.token_server.specs.Resends.{sending_first}
-use Rattle.token_server.specs.Parts.{ServerParts, server_state}
-use Rattle.token_server.specs.Ready.{IsReady, IsOrderly}
-use Rattle.token_server.specs.Sketches.{sketched}
-use Rattle.token_server.specs.Edits.{planned}
+use Rattle.messages.specs.rule.Messages.{sending}
+use Rattle.token_server.specs.rule.State.{ServerState}
+use Rattle.token_server.specs.rule.Serve.{serve}
+use Rattle.token_server.specs.rule.Resends.{sending_first}
+use Rattle.token_server.specs.rule.Parts.{ServerParts, server_state}
+use Rattle.token_server.specs.code.Ready.{IsReady, IsOrderly}
+use Rattle.token_server.specs.code.Sketches.{sketched}
+use Rattle.token_server.specs.code.Edits.{planned}
 use Rattle.token_server.proofs.ReadyLaws.{nothing-served, never-refused}
 use Rattle.token_server.proofs.server.Server.no_change.Goals as goal
 

@@ -1,14 +1,14 @@
 use Rattle.std.specs.Prelude.{◌≡◌, ◌<◌, ◌≤◌, Option}
 use Rattle.std.specs.Option.{option_map, option_to_list}
 use Rattle.std.proofs.Common.{sym, ap, subst, ◌∙◌, arith}
-use Rattle.model.specs.Limits.{HostFields}
+use Rattle.model.specs.rule.Limits.{HostFields}
 use Rattle.messages.specs.declared.message.Message.{Message}
-use Rattle.messages.specs.Messages.{host_of}
+use Rattle.messages.specs.rule.Messages.{host_of}
 use Rattle.token_server.specs.declared.sketch.Sketch.{Sketch}
-use Rattle.known_nodes.specs.Parts.{deaths_of}
-use Rattle.token_server.specs.Parts.{ServerParts, server_state}
-use Rattle.token_server.specs.Ready.{IsOrderly}
-use Rattle.token_server.specs.Sketches.{sketched}
+use Rattle.known_nodes.specs.rule.Parts.{deaths_of}
+use Rattle.token_server.specs.rule.Parts.{ServerParts, server_state}
+use Rattle.token_server.specs.code.Ready.{IsOrderly}
+use Rattle.token_server.specs.code.Sketches.{sketched}
 use Rattle.token_server.proofs.OrderlyLaws.{orderly-delivered}
 use Rattle.token_server.proofs.RefusalLaws.{deliver-spent}
 use Rattle.token_server.proofs.server.Server.plan_delivery.Goals as goal

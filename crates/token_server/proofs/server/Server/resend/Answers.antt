@@ -4,15 +4,15 @@ use Rattle.std.proofs.lemmas.Result.{IfOk-weaker, IfErr-weaker}
 use Rattle.messages.specs.declared.outcome.Outcome.{Outcome}
 use Rattle.messages.specs.declared.refusal.StepError.{StepError}
 use Rattle.messages.specs.declared.refusal.StepError.TheVariants.{NoMemory}
-use Rattle.token_server.specs.State.{ServerState}
-use Rattle.token_server.specs.Serve.{serve}
-use Rattle.known_nodes.specs.Rows.{outstanding_to}
-use Rattle.token_server.specs.Resends.{outstanding, sending_first, resend_rule}
-use Rattle.known_nodes.specs.Parts.{rows_of}
-use Rattle.token_server.specs.Parts.{ServerParts, server_state}
-use Rattle.token_server.specs.Ready.{IsOrderly}
-use Rattle.token_server.specs.Sketches.{sketched}
-use Rattle.token_server.specs.Edits.{planned}
+use Rattle.token_server.specs.rule.State.{ServerState}
+use Rattle.token_server.specs.rule.Serve.{serve}
+use Rattle.known_nodes.specs.rule.Rows.{outstanding_to}
+use Rattle.token_server.specs.rule.Resends.{outstanding, sending_first, resend_rule}
+use Rattle.known_nodes.specs.rule.Parts.{rows_of}
+use Rattle.token_server.specs.rule.Parts.{ServerParts, server_state}
+use Rattle.token_server.specs.code.Ready.{IsOrderly}
+use Rattle.token_server.specs.code.Sketches.{sketched}
+use Rattle.token_server.specs.code.Edits.{planned}
 use Rattle.token_server.proofs.OrderlyLaws.{orderly-requeued}
 use Rattle.token_server.proofs.RefusalLaws.{resend-spent}
 use Rattle.token_server.proofs.server.Server.resend.Goals as goal

@@ -2,10 +2,10 @@ use Rattle.std.specs.Prelude.{List, Result, Ok}
 use Rattle.std.proofs.Common.{sym, ap, subst, ◌∙◌}
 use Rattle.messages.specs.declared.message.Message.{Message}
 use Rattle.messages.specs.declared.refusal.StepError.{StepError}
-use Rattle.token_server.specs.State.{ServerState}
-use Rattle.token_server.specs.Ready.{AreDistinct}
-use Rattle.token_server.specs.Sketches.{without, sketched}
-use Rattle.token_server.specs.Edits.{made, PartsFit}
+use Rattle.token_server.specs.rule.State.{ServerState}
+use Rattle.token_server.specs.code.Ready.{AreDistinct}
+use Rattle.token_server.specs.code.Sketches.{without, sketched}
+use Rattle.token_server.specs.code.Edits.{made, PartsFit}
 use Rattle.token_server.proofs.ReadyLaws.{moved-new, distinct-queue, distinct-waiting}
 use Rattle.token_server.proofs.server.Server.serve.Goals as goal
 

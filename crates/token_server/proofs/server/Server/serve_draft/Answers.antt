@@ -5,12 +5,12 @@ use Rattle.messages.specs.declared.message.Message.{Message}
 use Rattle.messages.specs.declared.refusal.StepError.{StepError}
 use Rattle.messages.specs.declared.refusal.StepError.TheVariants.{NoMemory}
 use Rattle.token_server.specs.declared.told.Told.{Told}
-use Rattle.token_server.specs.State.{ServerState, awaits}
-use Rattle.token_server.specs.Serve.{serve}
-use Rattle.token_server.specs.Told.{with_told, commands_told}
-use Rattle.token_server.specs.Ready.{IsReady}
-use Rattle.token_server.specs.Sketches.{sketched}
-use Rattle.token_server.specs.Edits.{drafted, held_after, made_of}
+use Rattle.token_server.specs.rule.State.{ServerState, awaits}
+use Rattle.token_server.specs.rule.Serve.{serve}
+use Rattle.token_server.specs.code.Told.{with_told, commands_told}
+use Rattle.token_server.specs.code.Ready.{IsReady}
+use Rattle.token_server.specs.code.Sketches.{sketched}
+use Rattle.token_server.specs.code.Edits.{drafted, held_after, made_of}
 use Rattle.token_server.proofs.ReadyLaws.{drafted-serves, drafted-orderly, drafted-apart, told-awaits, told-ready}
 use Rattle.token_server.proofs.server.Server.serve_draft.Goals as goal
 

@@ -1,8 +1,8 @@
 use Rattle.std.specs.Prelude.{◌≡◌, ℕ, ◌≤◌}
 use Rattle.std.proofs.Common.{sym, ap, subst, ◌∙◌}
-use Rattle.token_server.specs.Parts.{ServerParts}
-use Rattle.token_server.specs.Sketches.{without}
-use Rattle.token_server.specs.Edits.{HasRoom, many_moved}
+use Rattle.token_server.specs.rule.Parts.{ServerParts}
+use Rattle.token_server.specs.code.Sketches.{without}
+use Rattle.token_server.specs.code.Edits.{HasRoom, many_moved}
 use Rattle.token_server.proofs.ReadyLaws.{many-fewer, room-fewer}
 use Rattle.token_server.proofs.server.Server.spares.Goals as goal
 

@@ -2,10 +2,10 @@ use Rattle.std.specs.Prelude.{[], ◌+◌, List, Option, Some}
 use Rattle.std.proofs.Common.{sym, subst, arith}
 use Rattle.std.proofs.lemmas.List.{take_all}
 use Rattle.token_queue.specs.declared.token_request.TokenRequest.{TokenRequest}
-use Rattle.token_queue.specs.Requests.{requests_in}
-use Rattle.token_queue.specs.Actives.{requests_of}
-use Rattle.token_server.specs.Admitting.{IsAdmitted}
-use Rattle.token_server.specs.Sketches.{still_active}
+use Rattle.token_queue.specs.rule.Requests.{requests_in}
+use Rattle.token_queue.specs.rule.Actives.{requests_of}
+use Rattle.token_server.specs.code.Admitting.{IsAdmitted}
+use Rattle.token_server.specs.code.Sketches.{still_active}
 use Rattle.token_server.proofs.AdmittingLaws.{admitted-none}
 use Rattle.token_server.proofs.ComesLaws.{freed-rest}
 use Rattle.token_server.proofs.server.admitting.admit_freed.Goals as goal

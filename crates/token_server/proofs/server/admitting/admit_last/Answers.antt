@@ -1,10 +1,10 @@
 use Rattle.std.specs.Prelude.{◌≡◌, Bool, ◌||◌, List, [], ◌∷◌, ◌++◌}
 use Rattle.std.proofs.Common.{sym, ap, subst, ◌∙◌}
 use Rattle.token_queue.specs.declared.token_request.TokenRequest.{TokenRequest}
-use Rattle.token_server.specs.Serve.{meets_some}
-use Rattle.token_server.specs.Admitting.{IsAdmitted}
-use Rattle.token_server.specs.Sketches.{without}
-use Rattle.token_server.specs.Comes.{served_on}
+use Rattle.token_server.specs.rule.Serve.{meets_some}
+use Rattle.token_server.specs.code.Admitting.{IsAdmitted}
+use Rattle.token_server.specs.code.Sketches.{without}
+use Rattle.token_server.specs.code.Comes.{served_on}
 use Rattle.token_server.proofs.AdmittingLaws.{or-end, admitted-stays, admitted-goes}
 use Rattle.token_server.proofs.FreedLaws.{distinct-before}
 use Rattle.token_server.proofs.ComesLaws.{own-call, without-nil}

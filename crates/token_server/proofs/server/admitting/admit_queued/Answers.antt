@@ -3,13 +3,13 @@ use Rattle.std.proofs.Common.{refl, sym, ap, subst, ◌∙◌}
 use Rattle.model.specs.declared.call.CallId.{CallId}
 use Rattle.token_queue.specs.declared.held.Held.{Held}
 use Rattle.token_queue.specs.declared.token_request.TokenRequest.{TokenRequest}
-use Rattle.token_queue.specs.Requests.{is_of_call, requests_in}
-use Rattle.token_queue.specs.Actives.{requests_of}
+use Rattle.token_queue.specs.rule.Requests.{is_of_call, requests_in}
+use Rattle.token_queue.specs.rule.Actives.{requests_of}
 use Rattle.token_queue.proofs.LineLaws.{filter-none}
-use Rattle.token_server.specs.Admitting.{IsAdmitted}
-use Rattle.token_server.specs.Ready.{AreDistinct}
-use Rattle.token_server.specs.Sketches.{without, still_active}
-use Rattle.token_server.specs.Comes.{HasEnded}
+use Rattle.token_server.specs.code.Admitting.{IsAdmitted}
+use Rattle.token_server.specs.code.Ready.{AreDistinct}
+use Rattle.token_server.specs.code.Sketches.{without, still_active}
+use Rattle.token_server.specs.code.Comes.{HasEnded}
 use Rattle.token_server.proofs.AdmittingLaws.{admitted-settled}
 use Rattle.token_server.proofs.ComesLaws.{without-nil, stays-all}
 use Rattle.token_server.proofs.server.admitting.admit_queued.Goals as goal

@@ -1,14 +1,14 @@
 use Rattle.std.specs.Prelude.{◌≡◌, ◌+◌, List, [], ◌∷◌, ◌++◌}
 use Rattle.std.proofs.Common.{sym, ap, subst, ◌∙◌, take, drop}
 use Rattle.std.proofs.lemmas.List.{take_more, take_all}
-use Rattle.intervals.specs.Bytes.{Range}
+use Rattle.intervals.specs.rule.Bytes.{Range}
 use Rattle.token_queue.specs.declared.held.Held.{Held}
 use Rattle.token_queue.specs.declared.token_request.TokenRequest.{TokenRequest}
-use Rattle.token_queue.specs.Actives.{requests_of}
+use Rattle.token_queue.specs.rule.Actives.{requests_of}
 use Rattle.token_server.specs.declared.lists.Lists.{Lists}
-use Rattle.token_server.specs.Serve.{narrowed}
-use Rattle.token_server.specs.Told.{cut}
-use Rattle.token_server.specs.Turns.{kept}
+use Rattle.token_server.specs.rule.Serve.{narrowed}
+use Rattle.token_server.specs.code.Told.{cut}
+use Rattle.token_server.specs.code.Turns.{kept}
 use Rattle.token_server.proofs.SpanLaws.{one_span}
 use Rattle.token_server.proofs.CutLaws.{IsLeft, left-start, left-bounds, left-least}
 use Rattle.token_server.proofs.TurnLaws.{kept-requests, kept-parts, left-next}

@@ -1,11 +1,11 @@
 use Rattle.std.specs.Prelude.{◌≡◌, ◌≤◌, ◌+◌, List, [], ◌∷◌, ◌++◌}
 use Rattle.std.proofs.Common.{sym, ap, subst, ◌∙◌, take}
 use Rattle.std.proofs.lemmas.List.{take_more, take_all, map-append}
-use Rattle.intervals.specs.Bytes.{Range}
+use Rattle.intervals.specs.rule.Bytes.{Range}
 use Rattle.token_queue.specs.declared.held.Held.{Held}
 use Rattle.token_queue.specs.declared.token_request.TokenRequest.{TokenRequest}
-use Rattle.token_queue.specs.Actives.{requests_of}
-use Rattle.token_server.specs.Told.{cut}
+use Rattle.token_queue.specs.rule.Actives.{requests_of}
+use Rattle.token_server.specs.code.Told.{cut}
 use Rattle.token_server.proofs.CutLaws.{AreCut, cut-start, cut-more}
 use Rattle.token_server.proofs.server.serving.cut_by_all.Goals as goal
 

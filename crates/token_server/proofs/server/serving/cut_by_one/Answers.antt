@@ -1,6 +1,6 @@
 use Rattle.std.specs.Prelude.{◌≤◌}
 use Rattle.std.proofs.Common.{sym, ap, ◌∙◌, arith}
-use Rattle.intervals.specs.Bytes.{Range}
+use Rattle.intervals.specs.rule.Bytes.{Range}
 use Rattle.token_server.proofs.CutLaws.{cut-clear}
 use Rattle.token_server.proofs.server.serving.cut_by_one.Goals as goal
 

@@ -1,9 +1,9 @@
 use Rattle.std.proofs.Common.{ap, ◌∙◌}
-use Rattle.intervals.specs.Bytes.{whole}
+use Rattle.intervals.specs.rule.Bytes.{whole}
 use Rattle.model.specs.declared.mode.Mode.TheVariants.{Read}
 use Rattle.token_set.specs.declared.edit.TokenEdit.{TokenEdit}
-use Rattle.token_set.specs.Tokens.{conflicts}
-use Rattle.token_set.specs.Edits.{edited}
+use Rattle.token_set.specs.rule.Tokens.{conflicts}
+use Rattle.token_set.specs.code.Edits.{edited}
 use Rattle.token_set.proofs.ViewLaws.{written-unexclusive}
 use Rattle.token_set.proofs.edit.TokenEdit.may_exclude.Goals as goal
 

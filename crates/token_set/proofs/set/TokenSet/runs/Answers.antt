@@ -1,5 +1,5 @@
 use Rattle.std.proofs.Common.{◌≡◌, ap, arith}
-use Rattle.intervals.specs.Bytes.{Range}
+use Rattle.intervals.specs.rule.Bytes.{Range}
 use Rattle.token_set.proofs.RunLaws.{listed_more}
 use Rattle.token_set.proofs.set.TokenSet.runs.Goals as goal
 

@@ -1,0 +1,4 @@
+pub mod Awaited
+pub mod Weathers
+pub mod Refusals
+pub mod Distances

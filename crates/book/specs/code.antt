@@ -1,0 +1,4 @@
+pub mod Receipts
+pub mod Seats
+pub mod Turns
+pub mod LastSpots

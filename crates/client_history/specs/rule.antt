@@ -1,0 +1,3 @@
+pub mod Acts
+pub mod Explained
+pub mod Verdicts

@@ -1,0 +1,4 @@
+pub mod Changes
+pub mod SentIndexes
+pub mod Calls
+pub mod Placement

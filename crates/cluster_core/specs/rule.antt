@@ -1,0 +1,13 @@
+pub mod World
+pub mod Next
+pub mod Runs
+pub mod Parts
+pub mod Journals
+pub mod Union
+pub mod Histories
+pub mod Plain
+pub mod Evidence
+pub mod Listings
+pub mod Safe
+pub mod Numbers
+pub mod Actors

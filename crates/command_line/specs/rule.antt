@@ -1,0 +1,5 @@
+pub mod Tasks
+pub mod JudgeTasks
+pub mod Program
+pub mod Words
+pub mod Kinds

@@ -1,0 +1,223 @@
+-- The command line as clap reads it.
+use Rattle.std.specs.Prelude.{◌≡◌, ◌≢◌, ◌≤◌, ℕ, pos, Bool, true, false, codes, List, [], ◌∷◌, map, option_map, unwrap_or, Option, Some}
+use Rattle.std.specs.Str.Parse.{IsNumeral, digits_value, without_leading_plus}
+use Rattle.clap.specs.Words.{App, Row, Rule, Text, all_of, first_of, one_of, new_app, new_rule, with_rule, with_subcommand}
+use Rattle.clap.specs.Simple.{on_top}
+use Rattle.clap.specs.declared.builder.action.ArgAction.TheVariants.{Append, SetTrue}
+use Rattle.clap.specs.declared.builder.value_parser.ValueParser.TheVariants.{Signed}
+use Rattle.command_line.specs.rule.JudgeTasks.{MayJudge, rule_text}
+use Rattle.command_line.specs.rule.Tasks.{Task, run, threads, audit, history, explain, open_calls, check, picture, from_strace, recorded_history, explore, schedule, judge, format_text, greatest_seed, most_nodes, MayBeQuiet, MayRecord}
+
+-- a word that must be there: a path, or the name of a call
+abbrev pub path_rule : Text → Rule
+path_rule id = record (new_rule id) { required = true }
+
+-- one such word or more
+abbrev pub paths_rule : Text → Rule
+paths_rule id = record (path_rule id) { action = Some Append }
+
+-- an option with a value, which may be left out: its name, and the name behind `--`
+abbrev pub option_rule : Text → Text → Rule
+option_rule id long = record (new_rule id) { long = Some long }
+
+-- one that may be given several times
+abbrev pub values_rule : Text → Text → Rule
+values_rule id long = record (option_rule id long) { action = Some Append }
+
+-- one whose value is a number from the least to the greatest, with the text of the number that it is where it is left out
+abbrev pub number_rule : Text → Text → Text → ℕ → ℕ → Rule
+number_rule id long default least greatest = record (option_rule id long) { defaults = default ∷ []; parser = Some (Signed (pos least) (pos greatest)) }
+
+-- a flag, which may be left out
+abbrev pub flag_rule : Text → Rule
+flag_rule name = record (option_rule name name) { action = Some SetTrue }
+
+-- `--journal FILE`
+abbrev pub file_rule : Rule
+file_rule = option_rule (codes "FILE") (codes "journal")
+
+-- `--after JOURNAL`
+abbrev pub after_rule : Rule
+after_rule = option_rule (codes "JOURNAL") (codes "after")
+
+-- `--place PLACES`
+abbrev pub places_rule : Rule
+places_rule = option_rule (codes "PLACES") (codes "place")
+
+-- `--around CALL`
+abbrev pub around_rule : Rule
+around_rule = option_rule (codes "CALL") (codes "around")
+
+-- `--format FORMAT`, which is `svg` if it is left out
+abbrev pub format_rule : Rule
+format_rule = record (option_rule (codes "FORMAT") (codes "format")) { defaults = codes "svg" ∷ [] }
+
+-- `--seed N`, a number from 0 to the greatest seed, and 1 if it is left out; `--first N` is one too
+abbrev pub seed_rule : Text → Rule
+seed_rule long = number_rule (codes "N") long (codes "1") 0 greatest_seed
+
+-- `--seeds COUNT`, from 1 on, and 100 if it is left out
+abbrev pub seeds_rule : Rule
+seeds_rule = number_rule (codes "COUNT") (codes "seeds") (codes "100") 1 greatest_seed
+
+-- `--from K` and `--to L`, from 1 on, and the least and the greatest if they are left out
+abbrev pub from_rule : Rule
+from_rule = number_rule (codes "K") (codes "from") (codes "1") 1 greatest_seed
+
+abbrev pub to_rule : Rule
+to_rule = number_rule (codes "L") (codes "to") (codes "4294967295") 1 greatest_seed
+
+-- `--steps N`, from 1 on, and 10000000 if it is left out
+abbrev pub steps_rule : Rule
+steps_rule = number_rule (codes "N") (codes "steps") (codes "10000000") 1 greatest_seed
+
+-- `--explains FILE`
+abbrev pub explains_rule : Rule
+explains_rule = option_rule (codes "FILE") (codes "explains")
+
+-- `--allow RULE`, as often as rules are allowed
+abbrev pub allow_rule : Rule
+allow_rule = values_rule (codes "RULE") (codes "allow")
+
+-- `--nodes N`, from 1 to 64, and 1 if it is left out
+abbrev pub nodes_rule : Rule
+nodes_rule = number_rule (codes "N") (codes "nodes") (codes "1") 1 most_nodes
+
+abbrev pub run_app : App
+run_app = with_rule (with_rule (with_rule (with_rule (with_rule (with_rule (new_app (codes "run")) (path_rule (codes "SCRIPT"))) after_rule) file_rule) (flag_rule (codes "expect"))) (flag_rule (codes "open"))) (flag_rule (codes "quiet"))
+
+abbrev pub threads_app : App
+threads_app = with_rule (with_rule (with_rule (with_rule (with_rule (new_app (codes "threads")) (path_rule (codes "SCRIPT"))) (seed_rule (codes "seed"))) (flag_rule (codes "stop-when-stuck"))) (flag_rule (codes "no-join"))) file_rule
+
+abbrev pub audit_app : App
+audit_app = with_rule (new_app (codes "audit")) (path_rule (codes "JOURNAL"))
+
+abbrev pub history_app : App
+history_app = with_rule (with_rule (new_app (codes "history")) (path_rule (codes "JOURNAL"))) (flag_rule (codes "as-clients"))
+
+abbrev pub explain_app : App
+explain_app = with_rule (with_rule (new_app (codes "explain")) (path_rule (codes "JOURNAL"))) (path_rule (codes "CALL"))
+
+abbrev pub open_app : App
+open_app = with_rule (new_app (codes "open")) (path_rule (codes "JOURNAL"))
+
+abbrev pub check_app : App
+check_app = with_rule (with_rule (new_app (codes "check")) (paths_rule (codes "SCRIPT"))) file_rule
+
+abbrev pub picture_app : App
+picture_app = with_rule (with_rule (with_rule (with_rule (with_rule (new_app (codes "picture")) (path_rule (codes "JOURNAL"))) around_rule) from_rule) to_rule) format_rule
+
+abbrev pub strace_app : App
+strace_app = with_rule (with_rule (with_rule (with_rule (new_app (codes "from-strace")) (paths_rule (codes "RECORDING"))) nodes_rule) places_rule) (flag_rule (codes "history"))
+
+abbrev pub explore_app : App
+explore_app = with_rule (with_rule (with_rule (with_rule (new_app (codes "explore")) (path_rule (codes "SCRIPT"))) seeds_rule) (seed_rule (codes "first"))) (flag_rule (codes "failures"))
+
+abbrev pub schedule_app : App
+schedule_app = with_rule (with_rule (with_rule (new_app (codes "schedule")) (path_rule (codes "SCRIPT"))) (seed_rule (codes "seed"))) (flag_rule (codes "failures"))
+
+abbrev pub judge_app : App
+judge_app =
+    with_rule (with_rule (with_rule (with_rule (with_rule (with_rule (with_rule (with_rule (with_rule (new_app (codes "judge")) (paths_rule (codes "HISTORY"))) steps_rule) explains_rule) allow_rule) (flag_rule (codes "order"))) (flag_rule (codes "go-on"))) (flag_rule (codes "stats"))) (flag_rule (codes "json"))) (flag_rule (codes "picture"))
+
+-- no command is no command line
+abbrev pub bare_app : App
+bare_app = on_top (λ s. record s { has_version = true; subcommand_required = true; arg_required_else_help = true }) (new_app (codes "lockreplay"))
+
+-- the commands that read a script or a journal and change neither, behind those that run a script
+abbrev pub readers_app : App
+readers_app =
+    with_subcommand (with_subcommand (with_subcommand (with_subcommand (with_subcommand (with_subcommand (with_subcommand (with_subcommand bare_app run_app.top) threads_app.top) audit_app.top) history_app.top) explain_app.top) open_app.top) check_app.top) picture_app.top
+
+abbrev pub program_app : App
+program_app = with_subcommand (with_subcommand (with_subcommand (with_subcommand readers_app strace_app.top) explore_app.top) schedule_app.top) judge_app.top
+
+-- the command that is met, with what is read of its arguments
+abbrev pub read_in : List (List Row → Option Text) → Option (Text × List Row) → Option (Text × List (Option Text))
+read_in readers = option_map (λ p. (p.0, map (λ read. read p.1) readers))
+
+-- the same with the values of the arguments of these names
+abbrev pub values_in : List Text → Option (Text × List Row) → Option (Text × List (Option Text))
+values_in ids = read_in (map (λ id. first_of id) ids)
+
+-- the text writes this number, which lies between the bounds
+pub record IsNumber (least greatest : ℕ) (text : Text) (number : ℕ) : Type 0 where
+  pub digits : IsNumeral 10 (without_leading_plus text)
+  pub value : number ≡ digits_value 10 (without_leading_plus text)
+  pub from_least : least ≤ number
+  pub within : number ≤ greatest
+
+-- the text that stands for a flag that is given, and for one that is left out
+abbrev pub flag_text : Bool → Text
+flag_text true = codes "true"
+flag_text false = codes "false"
+
+-- the paths, numbers and flags of the commands that have more than paths
+abbrev pub run_values_in : Option (Text × List Row) → Option (Text × List (Option Text))
+run_values_in = read_in (first_of (codes "SCRIPT") ∷ first_of (codes "JOURNAL") ∷ first_of (codes "FILE") ∷ one_of (codes "expect") ∷ one_of (codes "open") ∷ one_of (codes "quiet") ∷ [])
+
+abbrev pub threads_values_in : Option (Text × List Row) → Option (Text × List (Option Text))
+threads_values_in = read_in (first_of (codes "SCRIPT") ∷ one_of (codes "N") ∷ one_of (codes "stop-when-stuck") ∷ one_of (codes "no-join") ∷ first_of (codes "FILE") ∷ [])
+
+abbrev pub picture_values_in : Option (Text × List Row) → Option (Text × List (Option Text))
+picture_values_in = read_in (first_of (codes "JOURNAL") ∷ first_of (codes "CALL") ∷ one_of (codes "K") ∷ one_of (codes "L") ∷ first_of (codes "FORMAT") ∷ [])
+
+abbrev pub history_values_in : Option (Text × List Row) → Option (Text × List (Option Text))
+history_values_in = read_in (first_of (codes "JOURNAL") ∷ one_of (codes "as-clients") ∷ [])
+
+-- the recordings, and what else is said of them
+abbrev pub strace_values_in : Option (Text × List Row) → Option (Text × Option (List Text) × List (Option Text))
+strace_values_in = option_map (λ p. (p.0, all_of (codes "RECORDING") p.1, map (λ read. read p.1) (one_of (codes "N") ∷ first_of (codes "PLACES") ∷ one_of (codes "history") ∷ [])))
+
+-- the scripts of a check, and the file that it names
+abbrev pub check_values_in : Option (Text × List Row) → Option (Text × Option (List Text) × Option Text)
+check_values_in = option_map (λ p. (p.0, all_of (codes "SCRIPT") p.1, first_of (codes "FILE") p.1))
+
+abbrev pub explore_values_in : Option (Text × List Row) → Option (Text × List (Option Text))
+explore_values_in = read_in (first_of (codes "SCRIPT") ∷ one_of (codes "COUNT") ∷ one_of (codes "N") ∷ one_of (codes "failures") ∷ [])
+
+abbrev pub schedule_values_in : Option (Text × List Row) → Option (Text × List (Option Text))
+schedule_values_in = read_in (first_of (codes "SCRIPT") ∷ one_of (codes "N") ∷ one_of (codes "failures") ∷ [])
+
+-- the histories of a judgement, the words of its rules, and what else it has
+abbrev pub judge_values_in : Option (Text × List Row) → Option (Text × Option (List Text) × List Text × List (Option Text))
+judge_values_in =
+    option_map (λ p. (
+      p.0,
+      all_of (codes "HISTORY") p.1,
+      unwrap_or (all_of (codes "RULE") p.1) [],
+      map (λ read. read p.1) (one_of (codes "N") ∷ first_of (codes "FILE") ∷ one_of (codes "order") ∷ one_of (codes "go-on") ∷ one_of (codes "stats") ∷ one_of (codes "json") ∷ one_of (codes "picture") ∷ []),
+    ))
+
+-- it is the command of the task, with its paths, its numbers, its flags, its format, the name of its call and the words that place processes
+abbrev pub IsMet : Option (Text × List Row) → Task → Type 0
+IsMet met (run script after journal expected listed quiet) =
+    (run_values_in met ≡ Some (codes "run", Some script ∷ after ∷ journal ∷ Some (flag_text expected) ∷ Some (flag_text listed) ∷ Some (flag_text quiet) ∷ [])) × MayBeQuiet journal expected quiet
+IsMet met (threads script seed stop no_join journal) =
+    (text : Text) × (threads_values_in met ≡ Some (codes "threads", Some script ∷ Some text ∷ Some (flag_text stop) ∷ Some (flag_text no_join) ∷ journal ∷ [])) × IsNumber 0 greatest_seed text seed
+IsMet met (audit journal) = values_in (codes "JOURNAL" ∷ []) met ≡ Some (codes "audit", Some journal ∷ [])
+IsMet met (history journal as_clients) = history_values_in met ≡ Some (codes "history", Some journal ∷ Some (flag_text as_clients) ∷ [])
+IsMet met (explain journal call) = values_in (codes "JOURNAL" ∷ codes "CALL" ∷ []) met ≡ Some (codes "explain", Some journal ∷ Some call ∷ [])
+IsMet met (open_calls journal) = values_in (codes "JOURNAL" ∷ []) met ≡ Some (codes "open", Some journal ∷ [])
+IsMet met (check scripts journal) = (check_values_in met ≡ Some (codes "check", Some scripts, journal)) × (scripts ≢ [])
+IsMet met (picture journal call first last format) =
+    (from : Text) × (to : Text) × (picture_values_in met ≡ Some (codes "picture", Some journal ∷ call ∷ Some from ∷ Some to ∷ Some (format_text format) ∷ []))
+    × IsNumber 1 greatest_seed from first × IsNumber 1 greatest_seed to last
+IsMet met (from_strace recording nodes places) =
+    (text : Text) × (strace_values_in met ≡ Some (codes "from-strace", Some (recording ∷ []), Some text ∷ places ∷ Some (flag_text false) ∷ [])) × IsNumber 1 most_nodes text nodes
+IsMet met (recorded_history recordings) =
+    (text : Text) × (nodes : ℕ) × (places : Option Text) × (strace_values_in met ≡ Some (codes "from-strace", Some recordings, Some text ∷ places ∷ Some (flag_text true) ∷ []))
+    × IsNumber 1 most_nodes text nodes × MayRecord recordings nodes places
+IsMet met (explore script seeds first failures) =
+    (count : Text) × (text : Text) × (explore_values_in met ≡ Some (codes "explore", Some script ∷ Some count ∷ Some text ∷ Some (flag_text failures) ∷ []))
+    × IsNumber 1 greatest_seed count seeds × IsNumber 0 greatest_seed text first
+IsMet met (schedule script seed failures) =
+    (text : Text) × (schedule_values_in met ≡ Some (codes "schedule", Some script ∷ Some text ∷ Some (flag_text failures) ∷ [])) × IsNumber 0 greatest_seed text seed
+IsMet met (judge t) =
+    (text : Text) × (judge_values_in met ≡ Some (
+      codes "judge",
+      Some t.histories,
+      map rule_text t.allowed,
+      Some text ∷ t.explains ∷ Some (flag_text t.order) ∷ Some (flag_text t.go_on) ∷ Some (flag_text t.stats) ∷ Some (flag_text t.json) ∷ Some (flag_text t.picture) ∷ [],
+    ))
+    × IsNumber 1 greatest_seed text t.steps × MayJudge t

@@ -1,0 +1,180 @@
+-- What a line may ask for.
+use Rattle.std.specs.Prelude.{ℕ, ◌≡◌, ◌≤◌, ◌≢◌, ⊤, Bool, true, false, List, Option, Some, None, [], ◌∷◌, ◌++◌, codes, decimal, map, option_map}
+use Rattle.clap.specs.Words.{Text}
+use Rattle.command_line.specs.rule.JudgeTasks.{JudgeTask, MayJudge, allow_words, judge_task_of}
+use Rattle.command_line.specs.declared.format.Format.{Format}
+use Rattle.command_line.specs.declared.format.Format.TheVariants.{Svg, Mermaid, Trace}
+use Rattle.command_line.specs.declared.line.Line.{Line}
+use Rattle.command_line.specs.declared.picture_line.PictureLine.{PictureLine}
+use Rattle.command_line.specs.declared.run_line.RunLine.{RunLine}
+use Rattle.command_line.specs.declared.run_line.ThreadsLine.{ThreadsLine}
+use Rattle.command_line.specs.declared.line.Line.TheVariants.{Run, Threads, Audit, History, Explain, Open, Check, Picture, FromStrace, RecordedHistory, Explore, Schedule, Judge}
+
+-- what is to be done, with the paths of the files that are named, the name of a call, and the words that place processes
+pub data Task : Type 0 where
+  -- to run the script of the first path, behind the journal of the second, if there is one, to write the journal to the third, if there is one, to compare the replies with what the script expects, if that is asked for, to list the calls without a reply, if that is, and to leave the listing away, if that is
+  run : Text → Option Text → Option Text → Bool → Bool → Bool → Task
+  -- to run the script of the first path on threads, with this seed, to end the run where it is stuck and to make lines of failures and starts beside open calls, if that is asked for, and to write the journal to the second, if there is one
+  threads : Text → ℕ → Bool → Bool → Option Text → Task
+  -- to say whether the journal is one of a run
+  audit : Text → Task
+  -- to print the history of the journal, or what its clients saw, if that is asked for
+  history : Text → Bool → Task
+  -- to tell the story of the call of this name, the second text, in the journal
+  explain : Text → Text → Task
+  -- to list the calls of the journal that have no reply
+  open_calls : Text → Task
+  -- to say what is wrong in each script of these paths, and why a journal can't be written to the other, if there is one
+  check : List Text → Option Text → Task
+  -- to draw the journal, around the call of this name, if there is one, from one entry to another, in this format
+  picture : Text → Option Text → ℕ → ℕ → Format → Task
+  -- to turn the recording of calls into a script of a cluster of so many nodes, with processes at the places that the words name, if there are any
+  from_strace : Text → ℕ → Option Text → Task
+  -- to turn recordings of calls into a history of clients: that of the one path, or those of several machines, each of which is named before its path
+  recorded_history : List Text → Task
+  -- to run the script under so many schedules, from this seed on, with failures, if they are asked for
+  explore : Text → ℕ → ℕ → Bool → Task
+  -- to print the script of the schedule of this seed, with failures, if they are asked for
+  schedule : Text → ℕ → Bool → Task
+  -- to judge histories
+  judge : JudgeTask → Task
+
+-- of a run, also on threads, and of a picture
+abbrev pub run_task_of : RunLine → Task
+run_task_of line = run line.script.now (option_map (λ file. file.now) line.after) (option_map (λ file. file.now) line.journal) line.expect line.«open» line.quiet
+
+abbrev pub threads_task_of : ThreadsLine → Task
+threads_task_of line = threads line.script.now line.seed line.stop_when_stuck line.no_join (option_map (λ file. file.now) line.journal)
+
+abbrev pub picture_task_of : PictureLine → Task
+picture_task_of line = picture line.journal.now (option_map (λ name. name.now) line.around) line.from line.to line.format
+
+abbrev pub task_of : Line → Task
+task_of (Run line) = run_task_of line
+task_of (Threads line) = threads_task_of line
+task_of (Audit journal) = audit journal.now
+task_of (History journal as_clients) = history journal.now as_clients
+task_of (Explain journal call) = explain journal.now call.now
+task_of (Open journal) = open_calls journal.now
+task_of (Check scripts journal) = check (map (λ script. script.now) scripts.items) (option_map (λ file. file.now) journal)
+task_of (Picture line) = picture_task_of line
+task_of (FromStrace recording nodes places) = from_strace recording.now nodes (option_map (λ words. words.now) places)
+task_of (RecordedHistory recordings) = recorded_history (map (λ recording. recording.now) recordings.items)
+task_of (Explore script seeds first failures) = explore script.now seeds first failures
+task_of (Schedule script seed failures) = schedule script.now seed failures
+task_of (Judge line) = judge (judge_task_of line)
+
+abbrev pub given : Option Text → List Text
+given None = []
+given (Some text) = text ∷ []
+
+-- the paths, also with the name of a machine before it, the name of a call, and the words that place processes
+abbrev pub paths_of : Task → List Text
+paths_of (run script after journal expected listed quiet) = script ∷ given after ++ given journal
+paths_of (threads script seed stop no_join journal) = script ∷ given journal
+paths_of (audit journal) = journal ∷ []
+paths_of (history journal as_clients) = journal ∷ []
+paths_of (explain journal call) = journal ∷ call ∷ []
+paths_of (open_calls journal) = journal ∷ []
+paths_of (check scripts journal) = scripts ++ given journal
+paths_of (picture journal call first last format) = journal ∷ given call
+paths_of (from_strace recording nodes places) = recording ∷ given places
+paths_of (recorded_history recordings) = recordings
+paths_of (explore script seeds first failures) = script ∷ []
+paths_of (schedule script seed failures) = script ∷ []
+paths_of (judge t) = t.histories ++ given t.explains
+
+-- the path of the file to which the journal of a run is written; of a check none is
+abbrev pub journal_path : Task → Option Text
+journal_path (run script after to expected listed quiet) = to
+journal_path (threads script seed stop no_join to) = to
+journal_path (audit journal) = None
+journal_path (history journal as_clients) = None
+journal_path (explain journal call) = None
+journal_path (open_calls journal) = None
+journal_path (check scripts journal) = None
+journal_path (picture journal call first last format) = None
+journal_path (from_strace recording nodes places) = None
+journal_path (recorded_history recordings) = None
+journal_path (explore script seeds first failures) = None
+journal_path (schedule script seed failures) = None
+journal_path (judge t) = None
+
+-- an option with its value, a number among them, and a flag, as words
+abbrev pub option_words : Text → Option Text → List Text
+option_words name None = []
+option_words name (Some value) = name ∷ value ∷ []
+
+abbrev pub number_words : Text → ℕ → List Text
+number_words name number = name ∷ decimal number ∷ []
+
+abbrev pub flag_words : Text → Bool → List Text
+flag_words name false = []
+flag_words name true = name ∷ []
+
+-- those of several flags
+abbrev pub flags_words : List (Text × Bool) → List Text
+flags_words [] = []
+flags_words (flag ∷ flags) = flag_words flag.0 flag.1 ++ flags_words flags
+
+-- the word that asks for a format
+abbrev pub format_text : Format → Text
+format_text Svg = codes "svg"
+format_text Mermaid = codes "mermaid"
+format_text Trace = codes "trace"
+
+-- the words that ask for it, in their usual order
+abbrev pub plain_words_of : Task → List Text
+plain_words_of (run script after journal expected listed quiet) =
+    codes "run" ∷ script ∷ option_words (codes "--after") after ++ option_words (codes "--journal") journal ++ flag_words (codes "--expect") expected ++ flag_words (codes "--open") listed ++ flag_words (codes "--quiet") quiet
+plain_words_of (threads script seed stop no_join journal) =
+    codes "threads" ∷ script ∷ number_words (codes "--seed") seed ++ flag_words (codes "--stop-when-stuck") stop ++ flag_words (codes "--no-join") no_join ++ option_words (codes "--journal") journal
+plain_words_of (audit journal) = codes "audit" ∷ journal ∷ []
+plain_words_of (history journal as_clients) = codes "history" ∷ journal ∷ flag_words (codes "--as-clients") as_clients
+plain_words_of (explain journal call) = codes "explain" ∷ journal ∷ call ∷ []
+plain_words_of (open_calls journal) = codes "open" ∷ journal ∷ []
+plain_words_of (check scripts journal) = codes "check" ∷ scripts ++ option_words (codes "--journal") journal
+plain_words_of (picture journal call first last format) =
+    codes "picture" ∷ journal ∷ option_words (codes "--around") call ++ number_words (codes "--from") first ++ number_words (codes "--to") last ++ codes "--format" ∷ format_text format ∷ []
+plain_words_of (from_strace recording nodes places) = codes "from-strace" ∷ recording ∷ number_words (codes "--nodes") nodes ++ option_words (codes "--place") places
+plain_words_of (recorded_history recordings) = codes "from-strace" ∷ recordings ++ codes "--history" ∷ []
+plain_words_of (explore script seeds first failures) = codes "explore" ∷ script ∷ number_words (codes "--seeds") seeds ++ number_words (codes "--first") first ++ flag_words (codes "--failures") failures
+plain_words_of (schedule script seed failures) = codes "schedule" ∷ script ∷ number_words (codes "--seed") seed ++ flag_words (codes "--failures") failures
+plain_words_of (judge t) =
+    codes "judge" ∷ t.histories ++ (number_words (codes "--steps") t.steps ++ (option_words (codes "--explains") t.explains ++ (allow_words t.allowed
+    ++ flags_words ((codes "--order", t.order) ∷ (codes "--go-on", t.go_on) ∷ (codes "--stats", t.stats) ∷ (codes "--json", t.json) ∷ (codes "--picture", t.picture) ∷ []))))
+
+-- the greatest seed, which has 32 bits; of entries and of seeds that are counted there are no more
+abbrev pub greatest_seed : ℕ
+greatest_seed = 4294967295
+
+-- the most nodes of a cluster
+abbrev pub most_nodes : ℕ
+most_nodes = 64
+
+-- the listing of a run may be left away where its journal is kept, or its replies are compared with what is expected
+abbrev pub MayBeQuiet : Option Text → Bool → Bool → Type 0
+MayBeQuiet journal expected false = ⊤
+MayBeQuiet None false true = ⊥
+MayBeQuiet None true true = ⊤
+MayBeQuiet (Some path) expected true = ⊤
+
+-- of a history of recordings nothing is said of nodes
+abbrev pub MayRecord : List Text → ℕ → Option Text → Type 0
+MayRecord recordings nodes places = (recordings ≢ []) × (nodes ≡ 1) × (places ≡ None)
+
+-- the words are those of numbers in their range, a run that leaves its listing away keeps its journal or compares its replies, a check has a script, and a history of clients a recording; and what a judgement is asked for goes together
+abbrev pub HasPlainWords : Task → Type 0
+HasPlainWords (run script after journal expected listed quiet) = MayBeQuiet journal expected quiet
+HasPlainWords (threads script seed stop no_join journal) = seed ≤ greatest_seed
+HasPlainWords (audit journal) = ⊤
+HasPlainWords (history journal as_clients) = ⊤
+HasPlainWords (explain journal call) = ⊤
+HasPlainWords (open_calls journal) = ⊤
+HasPlainWords (check scripts journal) = scripts ≢ []
+HasPlainWords (picture journal call first last format) = (1 ≤ first) × (first ≤ greatest_seed) × (1 ≤ last) × (last ≤ greatest_seed)
+HasPlainWords (from_strace recording nodes places) = (1 ≤ nodes) × (nodes ≤ most_nodes)
+HasPlainWords (recorded_history recordings) = recordings ≢ []
+HasPlainWords (explore script seeds first failures) = (1 ≤ seeds) × (seeds ≤ greatest_seed) × (first ≤ greatest_seed)
+HasPlainWords (schedule script seed failures) = seed ≤ greatest_seed
+HasPlainWords (judge t) = (1 ≤ t.steps) × (t.steps ≤ greatest_seed) × MayJudge t

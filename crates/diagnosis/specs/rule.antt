@@ -1,0 +1,3 @@
+pub mod BadLines
+pub mod Reports
+pub mod JournalReports

@@ -1,0 +1,65 @@
+-- The rows of a trace.
+use Rattle.std.specs.Prelude.{ℕ, ◌+◌, ◌*◌, List, [], map}
+use Rattle.std.specs.Option.{option_map_or}
+use Rattle.model.specs.declared.call.CallId.{CallId}
+use Rattle.messages.specs.declared.actor.Actor.{Actor}
+use Rattle.messages.specs.declared.actor.Actor.TheVariants.{Node as ANode, Server as AServer}
+use Rattle.messages.specs.declared.event.Event.{Event}
+use Rattle.messages.specs.declared.event.Event.TheVariants.{Call, Deliver, Interrupt, Retry, Resend, Declare, Restart, Learn, FailServer, StartServer}
+use Rattle.messages.specs.declared.message.Message.{Message}
+use Rattle.messages.specs.code.Entries.{EntryFields}
+use Rattle.messages.specs.rule.Messages.{addressee, host_of}
+use Rattle.indexmap.specs.IndexSet.{insert_all}
+use Rattle.pictures.specs.declared.bar.Bar.{Bar}
+use Rattle.pictures.specs.rule.Stretches.{PlacedFields}
+use Rattle.diagrams.specs.declared.track.Track.{Track}
+use Rattle.diagrams.specs.declared.track.Track.TheVariants.{Process, Node, Server}
+use Rattle.diagrams.specs.contracts.track.TrackPartialEq.TheImpl as derived
+
+-- the process of a trace that a row belongs to: a server by the number of its file, a node in one incarnation by both numbers
+abbrev pub process_of : Track → ℕ
+process_of (Process node incarnation pid) = 100000 * node + incarnation
+process_of (Node node incarnation) = 100000 * node + incarnation
+process_of (Server file) = file
+
+-- the thread there: a process by its number, what comes to a node or a server as one more
+abbrev pub thread_of : Track → ℕ
+thread_of (Process node incarnation pid) = pid
+thread_of (Node node incarnation) = 1000
+thread_of (Server file) = 1000
+
+-- the row of the process that makes a call
+abbrev pub track_of_call : CallId → ℕ → Track
+track_of_call call pid = Process call.node call.incarnation pid
+
+abbrev pub track_of_bar : Bar → Track
+track_of_bar b = track_of_call b.made.call b.made.pid
+
+-- the incarnation that an entry names: that of its call, or its own
+abbrev pub incarnation_of : EntryFields → ℕ
+incarnation_of e = option_map_or (λ c. c.incarnation) e.call e.incarnation
+
+-- the row of the actor to which a message comes; a node is taken in the incarnation that the message names
+abbrev pub track_to : Message → Actor → Track
+track_to m (ANode node) = Node node ((host_of m).incarnation)
+track_to m (AServer file) = Server file
+
+-- the row on which an event stands, of an entry that names this incarnation
+abbrev pub track_in : ℕ → Event → Track
+track_in incarnation (Call node pid op) = Process node incarnation pid
+track_in incarnation (Deliver message) = track_to message (addressee message)
+track_in incarnation (Interrupt node pid) = Process node incarnation pid
+track_in incarnation (Retry node pid) = Process node incarnation pid
+track_in incarnation (Resend file) = Server file
+track_in incarnation (Declare node) = Node node incarnation
+track_in incarnation (Restart node) = Node node incarnation
+track_in incarnation (Learn file node known) = Server file
+track_in incarnation (FailServer file) = Server file
+track_in incarnation (StartServer file) = Server file
+
+abbrev pub track_of : EntryFields → Track
+track_of e = track_in (incarnation_of e) e.event
+
+-- the rows of these calls and entries, each once
+abbrev pub tracks : List Bar → List PlacedFields → List Track
+tracks bars part = insert_all derived.ghosts.eq (insert_all derived.ghosts.eq [] (map track_of_bar bars)) (map (λ p. track_of p.entry) part)

@@ -1,0 +1,3 @@
+pub mod ByProcess
+pub mod Indexes
+pub mod Laws

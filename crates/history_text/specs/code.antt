@@ -1,0 +1,3 @@
+pub mod Drops
+pub mod Seconds
+pub mod Steps

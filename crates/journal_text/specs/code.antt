@@ -1,0 +1,4 @@
+pub mod Fits
+pub mod Places
+pub mod Built
+pub mod OneText

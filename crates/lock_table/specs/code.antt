@@ -1,0 +1,6 @@
+pub mod SharedSpans
+pub mod Regions
+pub mod Rows
+pub mod Blockers
+pub mod Listing
+pub mod Pages

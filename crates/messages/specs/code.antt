@@ -1,0 +1,2 @@
+pub mod KeptOutcomes
+pub mod Entries

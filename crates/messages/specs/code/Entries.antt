@@ -1,0 +1,52 @@
+-- The entries of the journal.
+use Rattle.std.specs.Prelude.{◌≡◌, ◌≤◌, ℕ, List, Option, Some, None}
+use Rattle.model.specs.declared.call.CallId.{CallId}
+use Rattle.model.specs.declared.reply.Reply.{Reply}
+use Rattle.model.specs.rule.Limits.{IsCall}
+use Rattle.messages.specs.declared.message.Message.{Message}
+use Rattle.messages.specs.declared.outcome.Outcome.{Outcome}
+use Rattle.messages.specs.declared.event.Event.{Event}
+use Rattle.messages.specs.declared.event.Event.TheVariants.{Call, Interrupt, Retry, Declare, Restart, FailServer, StartServer}
+
+pub record EntryFields : Type 0 where
+  pub event : Event
+  pub incarnation : ℕ
+  pub call : Option CallId
+  pub reply : Option (CallId × Reply)
+  pub sends : List Message
+
+-- a call has a name, which is of its node; any other event has none
+abbrev pub NamesItsCall : Event → Option CallId → Type 0
+NamesItsCall (Call node pid op) None = ⊥
+NamesItsCall (Call node pid op) (Some id) = id.node ≡ node
+NamesItsCall _ call = call ≡ None
+
+-- the incarnation or epoch of an event, from 1: live (interrupt, retry), declared failed (declaration, failure) or beginning (restart, start); else 0
+abbrev pub NamesItsIncarnation : Event → ℕ → Type 0
+NamesItsIncarnation (Interrupt node pid) incarnation = 1 ≤ incarnation
+NamesItsIncarnation (Retry node pid) incarnation = 1 ≤ incarnation
+NamesItsIncarnation (Declare node) incarnation = 1 ≤ incarnation
+NamesItsIncarnation (Restart node) incarnation = 1 ≤ incarnation
+NamesItsIncarnation (FailServer file) incarnation = 1 ≤ incarnation
+NamesItsIncarnation (StartServer file) incarnation = 1 ≤ incarnation
+NamesItsIncarnation _ incarnation = incarnation ≡ 0
+
+-- the entry as it is stored: one number for the incarnation of a call's name and for the one that another event names
+abbrev pub kept : Event → ℕ → ℕ → Option (CallId × Reply) → List Message → EntryFields
+kept (Call node pid op) incarnation number reply sends =
+    record { event = Call node pid op; incarnation = 0; call = Some (record { node = node; incarnation = incarnation; number = number }); reply = reply; sends = sends }
+kept event incarnation number reply sends = record { event = event; incarnation = incarnation; call = None; reply = reply; sends = sends }
+
+-- the two numbers stored with an event: incarnation and number of a call's name; else the incarnation that the event names, if any
+abbrev pub IsKept : Event → ℕ → ℕ → Type 0
+IsKept (Call node pid op) incarnation number = IsCall (record { node = node; incarnation = incarnation; number = number })
+IsKept event incarnation number = NamesItsIncarnation event incarnation
+
+-- the incarnation and the number that are stored: the ones of the call's name if there is one, else the incarnation that the event names
+abbrev pub kept_name : ℕ → Option CallId → ℕ × ℕ
+kept_name incarnation (Some call) = (call.incarnation, call.number)
+kept_name incarnation None = (incarnation, 0)
+
+-- the entry of an event with its outcome and the incarnation that it names, 0 for none
+abbrev pub entry_of : Event → ℕ → Outcome → EntryFields
+entry_of event incarnation outcome = record { event = event; incarnation = incarnation; call = outcome.call; reply = outcome.reply; sends = outcome.sends }

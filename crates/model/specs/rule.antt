@@ -1,0 +1,9 @@
+pub mod Limits
+pub mod Owners
+pub mod Locks
+pub mod Descriptors
+pub mod Table
+pub mod Step
+pub mod Replay
+pub mod Anchors
+pub mod Laws

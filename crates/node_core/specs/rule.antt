@@ -1,0 +1,11 @@
+pub mod State
+pub mod Try
+pub mod Calls
+pub mod Commands
+pub mod Retries
+pub mod Interrupts
+pub mod Node
+pub mod Answers
+pub mod Files
+pub mod Parts
+pub mod Laws

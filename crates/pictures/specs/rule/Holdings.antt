@@ -1,0 +1,27 @@
+-- What the live nodes hold behind the entries of a journal.
+use Rattle.std.specs.Prelude.{ℕ, ◌&&◌, nat_le, List, filter, map, take}
+use Rattle.std.specs.List.{enumerate_from}
+use Rattle.messages.specs.declared.entry.Entry.{Entry}
+use Rattle.cluster_core.specs.declared.held_lock.HeldLock.{HeldLock}
+use Rattle.cluster_core.specs.declared.token_run.TokenRun.{TokenRun}
+use Rattle.cluster_core.specs.rule.Journals.{JournalFields}
+use Rattle.cluster_core.specs.rule.Listings.{IsTokenListing, IsLockListing}
+use Rattle.cluster_core.specs.rule.Runs.{Leads}
+use Rattle.cluster_core.specs.rule.World.{WorldState, first_world}
+
+-- the position of an entry, and the tokens and the locks that the live nodes hold behind it
+pub record HoldingsFields : Type 0 where
+  pub position : ℕ
+  pub tokens : List TokenRun
+  pub locks : List HeldLock
+
+-- the positions of the entries from the one to the other, of which the first has 1
+abbrev pub positions_within : ℕ → ℕ → List Entry → List ℕ
+positions_within from to entries = filter (λ position. nat_le from position && nat_le position to) (map (λ p. p.0) (enumerate_from 1 entries))
+
+-- the tokens and the locks are those of the world to which the entries up to the position lead
+pub record AreHeldBehind (j : JournalFields) (h : HoldingsFields) : Type 0 where
+  pub world : WorldState
+  pub leads : Leads (first_world j.shape) (take h.position j.entries) world
+  pub tokens : IsTokenListing world h.tokens
+  pub locks : IsLockListing world h.locks

@@ -1,0 +1,7 @@
+pub mod Standing
+pub mod CallsMade
+pub mod Rests
+pub mod CallIndexes
+pub mod Indexes
+pub mod Waits
+pub mod Blocking

@@ -1,0 +1,39 @@
+-- The items that slots stand for, with entries named by their indexes.
+use Rattle.std.specs.Prelude.{ℕ, List, map, slice_get, Option, Some, None}
+use Rattle.model.specs.declared.call.CallId.{CallId}
+use Rattle.model.specs.declared.op.Op.{Op}
+use Rattle.model.specs.declared.reply.Reply.{Reply}
+use Rattle.messages.specs.declared.entry.Entry.{Entry}
+use Rattle.cluster_core.specs.declared.item.Item.{Item}
+use Rattle.cluster_core.specs.code.Calls.{called_by, item_of, gone_at}
+use Rattle.placement.specs.declared.slot.Slot.{Slot}
+use Rattle.placement.specs.declared.slot.Slot.TheVariants.{Empty, Declared, Answered}
+
+-- the process and the operation of the call that an entry makes, if it makes one
+abbrev pub made_by : Option Entry → Option (ℕ × Op)
+made_by None = None
+made_by (Some e) = called_by e.event None
+
+-- the failure of a node that an entry, at that position, declares, if it declares one
+abbrev pub declared_by : ℕ → Option Entry → Option Item
+declared_by at None = None
+declared_by at (Some e) = gone_at at e.incarnation e.event
+
+-- the item at that position of a call with this answer
+abbrev pub answered_so : ℕ → Option (ℕ × Op) → Option (CallId × Reply) → Option Item
+answered_so at made None = None
+answered_so at made (Some answer) = item_of at answer.0 answer.1 made
+
+-- the item at that position of the call that an entry answers
+abbrev pub answered_by : ℕ → Option (ℕ × Op) → Option Entry → Option Item
+answered_by at made None = None
+answered_by at made (Some e) = answered_so at made e.reply
+
+-- the item in a slot, if one stands there
+abbrev pub stands : List Entry → Slot → Option Item
+stands all Empty = None
+stands all (Declared at entry) = declared_by at (slice_get all entry)
+stands all (Answered at call reply) = answered_by at (made_by (slice_get all call)) (slice_get all reply)
+
+abbrev pub standing : List Entry → List Slot → List (Option Item)
+standing all slots = map (stands all) slots

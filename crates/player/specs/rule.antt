@@ -1,0 +1,2 @@
+pub mod Progress
+pub mod Played

@@ -1,0 +1,5 @@
+pub mod Places
+pub mod Placings
+pub mod Known
+pub mod Steps
+pub mod Texts

@@ -1,0 +1,3 @@
+pub mod Refusals
+pub mod LaterRuns
+pub mod Comparing

@@ -1,0 +1,67 @@
+-- What the script of a file comes to.
+use Rattle.std.specs.Prelude.{◌≡◌, ℕ, ◌&&◌, Bool, List, length, Option}
+use Rattle.cluster_core.specs.declared.held_lock.HeldLock.{HeldLock}
+use Rattle.cluster_core.specs.declared.item.Item.{Item}
+use Rattle.cluster_core.specs.declared.token_run.TokenRun.{TokenRun}
+use Rattle.cluster_core.specs.rule.Histories.{HasHistory, EachAtItsPlace}
+use Rattle.cluster_core.specs.rule.Listings.{IsTokenListing, IsLockListing}
+use Rattle.cluster_core.specs.rule.Journals.{JournalFields}
+use Rattle.cluster_core.specs.rule.Safe.{IsSafe}
+use Rattle.explorer.specs.rule.Comparisons.{breaks_behind}
+use Rattle.lockscript.specs.rule.Listing.{listing_start, listing_text}
+use Rattle.lockscript.specs.rule.Scripts.{ScriptFields, IsScript}
+use Rattle.lockscript.specs.rule.ShapedScripts.{IsForShape}
+use Rattle.messages.specs.rule.Shapes.{ShapeFields}
+use Rattle.player.specs.rule.Played.{PlayedState, ComesTo, GoesOnTo}
+use Rattle.replay.specs.rule.Stores.{HasText}
+
+-- the file writes this script
+abbrev pub HasScript : (Option (List ℕ) → Type 0) → ScriptFields → Type 0
+HasScript Holds script = HasText Holds (λ text. IsScript text script)
+
+-- and the script comes to this
+abbrev pub HasRun : (Option (List ℕ) → Type 0) → PlayedState → Type 0
+HasRun Holds played = (script : ScriptFields) × HasScript Holds script × ComesTo script.shape script.lines played
+
+-- the same, and it is known whether a reply of the run begins otherwise than the text of the script expects, where the two are compared
+abbrev pub HasComparedRun : (Option (List ℕ) → Type 0) → Bool → PlayedState → Bool → Type 0
+HasComparedRun Holds compares played breaking =
+    (script : ScriptFields) × HasText Holds (λ text. IsScript text script × (breaking ≡ (compares && breaks_behind text script.lines 0 played))) × ComesTo script.shape script.lines played
+
+-- the file writes this script, of a cluster of this shape
+abbrev pub HasScriptFor : (Option (List ℕ) → Type 0) → ShapeFields → ScriptFields → Type 0
+HasScriptFor Holds shape script = HasText Holds (λ text. IsForShape shape text script)
+
+-- and behind the run of the journal the script comes to this
+abbrev pub HasRunBehind : (Option (List ℕ) → Type 0) → JournalFields → PlayedState → Type 0
+HasRunBehind Holds j played = (script : ScriptFields) × HasScriptFor Holds j.shape script × GoesOnTo j script.lines played
+
+-- the same, and it is known whether a reply behind that journal begins otherwise than the text of the script expects, where the two are compared
+abbrev pub HasComparedRunBehind : (Option (List ℕ) → Type 0) → JournalFields → Bool → PlayedState → Bool → Type 0
+HasComparedRunBehind Holds j compares played breaking =
+    (script : ScriptFields) × HasText Holds (λ text. IsForShape j.shape text script × (breaking ≡ (compares && breaks_behind text script.lines (length j.entries) played))) × GoesOnTo j script.lines played
+
+-- what a listing of a run tells: the tokens and the locks at its end, which is safe, and a history of one table, each call of it at its place
+pub record Lists (played : PlayedState) (tokens : List TokenRun) (locks : List HeldLock) (history : List Item) : Type 0 where
+  pub tokens_at_end : IsTokenListing played.world tokens
+  pub locks_at_end : IsLockListing played.world locks
+  pub safe_at_end : IsSafe played.world
+  pub one_table : HasHistory played.journal.shape played.journal.entries history
+  pub at_places : EachAtItsPlace played.journal.entries history
+
+-- the listing of a run, with its refused lines and its entries
+pub record IsListing (played : PlayedState) (text : List ℕ) : Type 0 where
+  pub tokens : List TokenRun
+  pub locks : List HeldLock
+  pub history : List Item
+  pub lists : Lists played tokens locks history
+  pub sections : text ≡ listing_text played.refused played.journal.entries tokens locks history
+
+-- the listing of a run up to its history
+pub record IsListingBegun (played : PlayedState) (text : List ℕ) : Type 0 where
+  pub tokens : List TokenRun
+  pub locks : List HeldLock
+  pub tokens_at_end : IsTokenListing played.world tokens
+  pub locks_at_end : IsLockListing played.world locks
+  pub safe_at_end : IsSafe played.world
+  pub start : text ≡ listing_start played.refused played.journal.entries tokens locks

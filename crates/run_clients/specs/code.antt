@@ -1,0 +1,3 @@
+pub mod Anchored
+pub mod References
+pub mod Times

@@ -1,0 +1,109 @@
+-- The calls that the clients of a run saw, and that one table of record locks explains them.
+use Rattle.std.specs.Prelude.{◌≡◌, ℕ, zero, suc, ◌+◌, ◌==◌, ◌≤◌, length, false, if◌then◌else◌, List, [], ◌∷◌, ◌++◌, map, filter_map, Option, Some, None}
+use Rattle.std.specs.List.{AllByRecursion}
+use Rattle.model.specs.declared.call.CallId.{CallId}
+use Rattle.model.specs.declared.reply.Reply.{Reply}
+use Rattle.model.specs.declared.reply.Reply.TheVariants.{Done}
+use Rattle.model.specs.declared.op.Op.{Op}
+use Rattle.model.specs.declared.op.Op.TheVariants.{Exit}
+use Rattle.model.specs.rule.Table.{Table, empty_table}
+use Rattle.messages.specs.rule.Shapes.{ShapeFields, IsShape}
+use Rattle.messages.specs.rule.Versions.{most_regions}
+use Rattle.messages.specs.declared.entry.Entry.{Entry}
+use Rattle.cluster_core.specs.rule.World.{WorldState, first_world, journal_limit}
+use Rattle.cluster_core.specs.rule.Runs.{Leads}
+use Rattle.cluster_core.specs.declared.item.Item.{Item}
+use Rattle.cluster_core.specs.declared.item.Item.TheVariants.{Answered, Gone}
+use Rattle.cluster_core.specs.rule.Histories.{caller, ItemStep, IsCalledAt, IsRepliedAt, HasHistory, EachAtItsPlace}
+use Rattle.client_history.specs.declared.client_call.ClientCall.{ClientCall}
+use Rattle.client_history.specs.rule.Explained.{IsExplainedBy, always}
+use Rattle.run_clients.specs.declared.answer.Answer.{Answer}
+use Rattle.run_clients.specs.declared.answer.Answer.TheVariants.{At, Never}
+use Rattle.run_clients.specs.declared.deed.Deed.{Deed}
+use Rattle.run_clients.specs.declared.file_call.FileCall.{FileCall}
+use Rattle.run_clients.specs.rule.Deeds.{call_deeds, gone_deeds, lock_deed}
+use Rattle.run_clients.specs.code.Times.{IsTimed}
+
+-- the operation of an item; of a node that fails the exit of its processes
+abbrev pub op_of : Item → Op
+op_of (Answered at id pid op reply) = op
+op_of (Gone at node incarnation) = Exit
+
+-- the deeds of an item
+abbrev pub item_deeds : Table → Item → List Deed
+item_deeds t (Answered at id pid op reply) = call_deeds t (caller id pid) op reply
+item_deeds t (Gone at node incarnation) = gone_deeds t node incarnation
+
+-- the deed as a call of its owner
+abbrev pub call_of : Op → ℕ → Answer → Deed → FileCall
+call_of op begin end d = record { file = d.file; op = op; owner = d.owner; begin = begin; end = end; act = d.act }
+
+-- the calls of the items, which lead from one table to another: for each item its deeds there, from its call to its reply
+abbrev pub AreSeen : List Entry → Table → List Item → List FileCall → Table → Type 0
+AreSeen es t [] seen last = (t ≡ last) × (seen ≡ [])
+AreSeen es t (i ∷ is) seen last =
+    (next : Table) × (begin : ℕ) × (end : ℕ) × (rest : List FileCall)
+    × ItemStep t i next
+    × IsTimed es i begin end
+    × (seen ≡ map (call_of (op_of i) begin (At end)) (item_deeds t i) ++ rest)
+    × AreSeen es next is rest last
+
+-- a lock call that the run has no reply to, with the deed that it would have if it were answered in the last table
+pub record IsOpenCall (es : List Entry) (last : Table) (s : FileCall) : Type 0 where
+  pub id : CallId
+  pub pid : ℕ
+  pub called : IsCalledAt es id pid s.op s.begin
+  pub unanswered : (reply : Reply) (at : ℕ) → IsRepliedAt es id reply at → ⊥
+  pub deed : Deed
+  pub does : lock_deed last (caller id pid) s.op Done ≡ Some deed
+  pub is : s ≡ call_of s.op s.begin Never deed
+
+-- open calls come behind the old ones
+abbrev pub HasOpened : List Entry → Table → List FileCall → List FileCall → Type 0
+HasOpened es last old new = (more : List FileCall) × (new ≡ old ++ more) × AllByRecursion (IsOpenCall es last) more
+
+-- the calls that the clients of a run saw: those of its history, in its order, and behind them calls that have no reply
+pub record IsSeen (shape : ShapeFields) (es : List Entry) (seen : List FileCall) : Type 0 where
+  pub history : List Item
+  pub is_history : HasHistory shape es history
+  pub at_places : EachAtItsPlace es history
+  pub answered : List FileCall
+  pub last : Table
+  pub calls : AreSeen es (empty_table (most_regions shape.version)) history answered last
+  pub unanswered : List FileCall
+  pub open_calls : AllByRecursion (IsOpenCall es last) unanswered
+  pub are : seen ≡ answered ++ unanswered
+
+abbrev pub end_of : Answer → Option ℕ
+end_of (At position) = Some position
+end_of Never = None
+
+-- the call without its file
+abbrev pub client_call : FileCall → ClientCall
+client_call s = record { owner = s.owner; begin = s.begin; end = end_of s.end; act = s.act; is_last = false; follows = None }
+
+-- the call, if it is about the file
+abbrev pub about : ℕ → FileCall → Option ClientCall
+about file s = if s.file == file then Some (client_call s) else None
+
+-- the calls about the file, in their order
+abbrev pub calls_about : ℕ → List FileCall → List ClientCall
+calls_about file seen = filter_map (about file) seen
+
+-- that many indexes, from this one on
+abbrev pub indexes_from : ℕ → ℕ → List ℕ
+indexes_from from zero = []
+indexes_from from (suc n) = from ∷ indexes_from (from + 1) n
+
+-- one table of record locks explains the calls about each file, as many of them as have replies, in the order in which they stand
+abbrev pub AreExplained : List FileCall → Type 0
+AreExplained seen = (file : ℕ) → (count : ℕ) × IsExplainedBy always (calls_about file seen) (indexes_from 0 count)
+
+-- one table of record locks explains what the clients of any run saw, if the run is no longer than a journal may be
+abbrev pub EveryRunIsExplained : Type 0
+EveryRunIsExplained =
+    (shape : ShapeFields) (es : List Entry) (w : WorldState)
+    → IsShape shape
+    → length es ≤ journal_limit
+    → Leads (first_world shape) es w
+    → (seen : List FileCall) × IsSeen shape es seen × AreExplained seen

@@ -1,0 +1,4 @@
+pub mod About
+pub mod Pending
+pub mod OpenCalls
+pub mod Stories

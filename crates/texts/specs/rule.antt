@@ -1,0 +1,5 @@
+pub mod FirstBadLine
+pub mod Layout
+pub mod LineFeeds
+pub mod Reads
+pub mod Words

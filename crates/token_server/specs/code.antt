@@ -1,0 +1,12 @@
+pub mod Readers
+pub mod Ready
+pub mod Sketches
+pub mod Told
+pub mod Edits
+pub mod Obstacles
+pub mod Grants
+pub mod Waiting
+pub mod Admissions
+pub mod Admitting
+pub mod Comes
+pub mod Turns

@@ -1,0 +1,5 @@
+pub mod State
+pub mod Parts
+pub mod Serve
+pub mod Resends
+pub mod Server

@@ -1,0 +1,4 @@
+pub mod Sets
+pub mod Runs
+pub mod Edits
+pub mod Views
