@@ -12,7 +12,7 @@ pub enum CommitError {
     #[error("not of this cluster")]
     Stranger,
     /// The incarnation of the seat's node, or the epoch of its token server, was declared failed.
-    #[error("the node was declared failed")]
+    #[error("the node or the token server was declared failed")]
     Fenced,
     /// The journal has 1,048,576 entries, the most that it may have.
     #[error("the journal is full")]

@@ -59,16 +59,16 @@ pub enum Refused {
     #[error("no number is left")]
     Spent,
     /// The node, or the token server, is not alive.
-    #[error("the node is not alive")]
+    #[error("the node or the token server is not alive")]
     NotAlive,
     /// The node, or the token server, is alive.
-    #[error("the node is alive")]
+    #[error("the node or the token server is alive")]
     NotDead,
     /// The node, or the token server, has had its last incarnation.
-    #[error("the node was restarted too often")]
+    #[error("the node or the token server was restarted too often")]
     TooManyRestarts,
     /// The node, or the token server, was declared failed, and takes no step.
-    #[error("the node was declared failed")]
+    #[error("the node or the token server was declared failed")]
     Fenced,
 }
 

@@ -1,5 +1,5 @@
-//! The states of a world's actors: compared with others, and begun again.
-ghost use Rattle.std.specs.Prelude.{◌≡◌, ◌≢◌, ◌↔◌, true, Ok, Err, ◌&&◌, IsTrue, IfOk, IfErr, OnOk};
+//! The states of a world's actors: for reading, compared with others, and begun again.
+ghost use Rattle.std.specs.Prelude.{◌≡◌, ◌≢◌, ◌↔◌, ◌-◌, true, false, Ok, Err, ◌&&◌, IsTrue, IfOk, IfErr, OnOk, MatchOption};
 ghost use Rattle.messages.specs.declared.event.Event.TheVariants.{Restart, StartServer};
 ghost use Rattle.messages.specs.declared.entry.Entry.{Entry};
 ghost use Rattle.messages.specs.declared.refusal.Refused.{Refused};
@@ -8,7 +8,7 @@ ghost use Rattle.messages.specs.rule.Messages.{is_within};
 ghost use Rattle.node_core.specs.rule.Parts.{node_state};
 ghost use Rattle.token_server.specs.rule.Parts.{server_state};
 ghost use Rattle.token_server.specs.rule.Resends.{outstanding};
-ghost use Rattle.cluster_core.specs.rule.World.{WorldState, has_node, has_file, was_declared, has_failed};
+ghost use Rattle.cluster_core.specs.rule.World.{WorldState, has_node, has_file, is_alive, was_declared, has_failed};
 ghost use Rattle.cluster_core.specs.rule.Next.{is_known, next_server, restart_rule, kept_next};
 ghost use Rattle.cluster_core.specs.rule.Parts.{world_state};
 ghost use Rattle.cluster_core.specs.rule.Actors.{HasNode, HasServer};
@@ -54,6 +54,40 @@ impl World {
         ensures { result ≡ has_failed (world_state self.now) file epoch }
     {
         self.members.failed(file, epoch)
+    }
+
+    /// The greatest incarnation of the node that was declared failed; 0 where none was, or the shape has no such node.
+    pub fn dead(&self, node: u8) -> u16
+        ensures { result ≡ ((world_state self.now).nodes node).incarnation - 1 }
+    {
+        self.members.dead(node)
+    }
+
+    /// The node with that number, where the shape has it and it is alive.
+    pub fn live_node(&self, number: u8) -> Option<&Node>
+        ensures { MatchOption result (is_alive (world_state self.now) number ≡ false) (λ n. HasNode (world_state self.now) number (node_state n.now)) }
+    {
+        if !is_number(u16::from(self.shape.nodes()), u16::from(number)) || !self.is_alive(number) {
+            return None;
+        }
+        Some(self.node(number))
+    }
+
+    /// The token server of the file, where the shape has the file: as it works, or as it was when it failed.
+    pub fn server_of(&self, file: u16) -> Option<&Server>
+        ensures { MatchOption result (has_file (world_state self.now) file ≡ false) (λ s. server_state s.now ≡ (world_state self.now).servers file) }
+    {
+        if !is_number(self.shape.files(), file) {
+            return None;
+        }
+        Some(self.server(file))
+    }
+
+    /// Whether the shape has the file, and its token server works: it was not declared failed, or started again since.
+    pub fn is_working(&self, file: u16) -> bool
+        ensures { result ≡ (has_file (world_state self.now) file && (world_state self.now).working file) }
+    {
+        is_number(self.shape.files(), file) && self.works(file)
     }
 
     /// Whether the node with that number is alive, and its state equals this one.
