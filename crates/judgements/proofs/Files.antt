@@ -26,9 +26,6 @@ contradicted-file file (Explained order) word is = absurd (cc)
 contradicted-file file (Contradicted misfits unknown) word is = is
 contradicted-file file (Unknown call) word is = absurd (cc)
 
-pub none-yet : (history : History) → SoFar history outcome.Yes 0
-none-yet history = record { yes = λ word clock. All-nil IsExplained; no = λ word clock. absurd (cc) }
-
 -- one more file is judged
 pub so-far-more : (history : History) (was now said : Outcome) (count : ℕ) (file : FileCalls) (found : Judged) → count < length history.files.items → file ≡ get_or history.files.items count file
     → (HasOneClock history → IsJudged file found) → now ≡ outcome_of found → (said ≡ outcome.Yes → (was ≡ outcome.Yes) × (now ≡ outcome.Yes)) → (said ≡ outcome.No → (was ≡ outcome.No) ⊎ (now ≡ outcome.No))

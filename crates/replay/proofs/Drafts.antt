@@ -27,15 +27,9 @@ adds_more old mid new bytes more first second = λ path text has.
 abbrev pub Lacks : Drafted → Drafted → List ℕ → List ℕ → Type 0
 Lacks old new whole rest = (added : List ℕ) × Adds old new added × (added ++ rest ≡ whole)
 
-pub lacks_all : (draft : Drafted) (whole : List ℕ) → Lacks draft draft whole whole
-lacks_all draft whole = ([], adds_none draft, refl)
-
 pub lacks_less : (old mid new : Drafted) (whole part rest left : List ℕ) → Lacks old mid whole left → left ≡ part ++ rest → Adds mid new part → Lacks old new whole rest
 lacks_less old mid new whole part rest left lacks is more =
     (lacks.0 ++ part, adds_more old mid new lacks.0 part lacks.1 more, append_assoc lacks.0 part rest ∙ (ap (λ (bytes : List ℕ). lacks.0 ++ bytes) (sym is) ∙ lacks.2))
-
-pub lacks_none : (old new : Drafted) (whole : List ℕ) → Lacks old new whole [] → Adds old new whole
-lacks_none old new whole lacks = subst (λ (bytes : List ℕ). Adds old new bytes) (sym (append-nil lacks.0) ∙ lacks.2) lacks.1
 
 -- the text of entries, the first of which is the last of a list
 pub entries_less : (version : Version) (position : ℕ) (whole rest : List Entry) (first : Entry) → whole ≡ rest ++ (first ∷ []) → entries_text version position (reverse whole) ≡ entry_text version position first ++ entries_text version (position + 1) (reverse rest)
@@ -52,11 +46,6 @@ journal_added old headed filled new s head version entries written count same_sh
     let front = head_text s ++ end ++ entries_text s.version 1 entries in
     subst (λ (bytes : List ℕ). Adds old new bytes) (sym (append_assoc front (end_text (length entries)) end))
     (adds_more old filled new front (end_text (length entries) ++ end) (adds_more old headed filled (head_text s ++ end) (entries_text s.version 1 entries) first lines) last)
-
--- what is known of a result where it is there, together
-pub ok_both : {T E : Type 0} (result : Result T E) (P : T → Type 0) (Q : Type 0) → IfOk result P → OnOk result Q → IfOk result (λ value. P value × Q)
-ok_both (Ok value) P Q first second = (first, second)
-ok_both (Err error) P Q first second = tt
 
 -- why the journal that is made beside what a run shows took no file's place is a fault of the run
 pub journal_fault : (old begun new : Files) (RanShort : Type 0) (Refuses : List ℕ → Type 0) (task : Task) (path : List ℕ) (f : Fault) → SameFiles old begun → journal_path task ≡ Some path → HasRunOf old task → IsInputFault old RanShort Refuses task fault.NoMemory → IsUnwritten begun Refuses path new f → (f ≢ fault.CannotWriteOutput) × IsFault old RanShort Refuses task new f

@@ -27,11 +27,6 @@ text-fault Holds RanShort path bytes fault.JournalFull holds text is = (is.0, (b
 text-fault Holds RanShort path bytes fault.OldJournal holds text is = absurd is
 text-fault Holds RanShort path bytes (fault.Faulty report) holds text is = absurd is
 
--- a bad line is a fault of the text
-pub bad-fault : (bytes : List ℕ) (error : ParseError) → IsBadLine bytes error → IsTextFault bytes (fault_of_parse error)
-bad-fault bytes NoMemory bad = absurd bad
-bad-fault bytes (BadLine line) bad = bad
-
 -- the text was measured, and is not too long
 pub record IsMeasured (bytes : List ℕ) (s : ShapeFields) (count : ℕ) : Type 0 where
   pub measured : HasLength bytes s count

@@ -49,22 +49,6 @@ old-fault Holds RanShort path bytes JournalFull holds text not_old is = (is.0, (
 old-fault Holds RanShort path bytes OldJournal holds text not_old is = absurd is
 old-fault Holds RanShort path bytes (Faulty report) holds text not_old is = absurd is
 
--- why the text of the file is no script of the journal's cluster
-pub parse-fault : (j : JournalFields) (Holds : Option (List ℕ) → Type 0) (RanShort : Type 0) (path bytes : List ℕ) (error : ParseError) → Holds (Some bytes) → IsUtf8 bytes → IsRefusedForShape j.shape bytes error
-    → IsBehindFault j Holds RanShort path (fault_of_parse error)
-parse-fault j Holds RanShort path bytes parse.NoMemory holds text is = inr (is.0, (bytes, holds, text, is.1))
-parse-fault j Holds RanShort path bytes (parse.BadLine line) holds text is = (bytes, holds, text, is)
-
--- why the script was not run to its end
-pub play-fault : (j : JournalFields) (Holds : Option (List ℕ) → Type 0) (RanShort : Type 0) (path : List ℕ) (script : ScriptFields) (error : PlayError) → HasScriptFor Holds j.shape script → (error ≡ play.JournalFull → FillsBehind j script.lines)
-    → IsBehindFault j Holds RanShort path (fault_of_play error)
-play-fault j Holds RanShort path script play.NoMemory has full = inr (script, has)
-play-fault j Holds RanShort path script play.JournalFull has full = (script, has, full refl)
-
--- what a script comes to, or why not, by the files that there were
-pub had-run : (old new : Files) (path : List ℕ) (j : JournalFields) (compares : Bool) (played : PlayedState) (breaking : Bool) → SameFiles old new → HasComparedRunBehind (new path) j compares played breaking → HasComparedRunBehind (old path) j compares played breaking
-had-run old new path j compares played breaking same has = (has.0, had-text old new path _ same has.1, has.2)
-
 -- a run that is compared is a run
 pub uncompared : (Holds : Option (List ℕ) → Type 0) (compares breaking : Bool) (played : PlayedState) → HasComparedRun Holds compares played breaking → HasRun Holds played
 uncompared Holds compares breaking played has = (has.0, (has.1.0, has.1.1, has.1.2, has.1.3.0), has.2)

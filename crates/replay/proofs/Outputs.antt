@@ -13,19 +13,10 @@ part-before old new xs ys p = (p.0, p.1 ++ ys, ap (λ (t : List ℕ). t ++ ys) p
 pub part-after : (old mid new : Option (List ℕ)) (xs ys : List ℕ) → Appends old mid xs → AppendsPart mid new ys → AppendsPart old new (xs ++ ys)
 part-after old mid new xs ys first p = (xs ++ p.0, p.1, ap (λ (t : List ℕ). xs ++ t) p.2 ∙ sym (append_assoc xs p.0 p.1), Appends-trans old mid new xs p.0 first p.3)
 
--- all of the bytes are a beginning of them
-pub part-whole : (old new : Option (List ℕ)) (xs : List ℕ) → Appends old new xs → AppendsPart old new xs
-part-whole old new xs p = (xs, [], sym (append-nil xs), p)
-
 -- bytes, and then more
 pub writes-after : {E : Type 0} (old mid new : Option (List ℕ)) (Failed : Type 0) (xs ys : List ℕ) (r : Result ⊤ E) → Appends old mid xs → Writes mid new Failed ys r → Writes old new Failed (xs ++ ys) r
 writes-after old mid new Failed xs ys (Ok done) first second = Appends-trans old mid new xs ys first second
 writes-after old mid new Failed xs ys (Err error) first second = (part-after old mid new xs ys first second.0, second.1)
-
--- whatever came of it
-pub writes-or-fails : {E : Type 0} (old new : Option (List ℕ)) (Failed : Type 0) (xs : List ℕ) (r : Result ⊤ E) → Writes old new Failed xs r → WritesOrFails old new Failed xs
-writes-or-fails old new Failed xs (Ok done) writes = inl writes
-writes-or-fails old new Failed xs (Err error) writes = inr writes
 
 -- what stays takes nothing
 pub kept_none : (old new : Option (List ℕ)) → Keeps old new → Appends old new []
