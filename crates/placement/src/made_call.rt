@@ -1,7 +1,7 @@
 //! A call of a run, as it is kept after its entry is gone.
 use model::op::Op;
 
-/// A call, in 32 bytes: the index of the entry that makes it, from 0, the process and the operation.
+/// A call, in 40 bytes: the index of the entry that makes it, from 0, the process and the operation.
 #[derive(Clone, Copy)]
 pub(crate) struct MadeCall {
     pub(crate) entry: u32,
@@ -9,4 +9,4 @@ pub(crate) struct MadeCall {
     pub(crate) op: Op,
 }
 
-const _: () = prove!(size_of::<MadeCall>() == 32);
+const _: () = prove!(size_of::<MadeCall>() == 40);

@@ -16,7 +16,7 @@ use std::marker::Model;
 const ENTRIES_AT_ONCE: usize = 16_384;
 
 /// The entries of a run that are left, each with the item that stands there in the history, if one does. An entry
-/// that was taken out needs less memory: only the call that it makes is kept, in 32 bytes.
+/// that was taken out needs less memory: only the call that it makes is kept, in 40 bytes.
 #[derive(Drop)]
 pub struct PlacedEntries {
     // The calls of the entries that were taken out, in their order.
