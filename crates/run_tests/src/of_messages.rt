@@ -27,10 +27,19 @@ const REFUSALS: [(Refused, &str); 9] = [
     (Refused::Stranger, "not of this cluster"),
     (Refused::JournalFull, "the journal is full"),
     (Refused::Spent, "no number is left"),
-    (Refused::NotAlive, "the node or the token server is not alive"),
+    (
+        Refused::NotAlive,
+        "the node or the token server is not alive",
+    ),
     (Refused::NotDead, "the node or the token server is alive"),
-    (Refused::TooManyRestarts, "the node or the token server was restarted too often"),
-    (Refused::Fenced, "the node or the token server was declared failed"),
+    (
+        Refused::TooManyRestarts,
+        "the node or the token server was restarted too often",
+    ),
+    (
+        Refused::Fenced,
+        "the node or the token server was declared failed",
+    ),
 ];
 
 fn says<E: Display>(alloc: Global, refusal: &E, text: &str) -> Result<bool, AllocError> {
