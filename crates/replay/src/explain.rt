@@ -10,10 +10,12 @@ use crate::fault::Fault;
 use crate::shown::Shown;
 use crate::store::Store;
 use cluster_core::journal::Journal;
+use cluster_core::world::World;
 use message_text::names::call_of;
 use placement::placed::placed;
+use states::open_words::open_text;
 use std::alloc::{AllocError, Global};
-use stories::{open_calls as calls, story};
+use stories::story;
 
 // The story of the call of this name, by the journal of a file, where that is one of a run.
 pub(crate) fn explain<'a, S: Store>(
@@ -83,7 +85,8 @@ pub(crate) fn open_calls<'a, S: Store>(
     }
 }
 
-// The calls without a reply, by a journal.
+// The calls without a reply, by a journal, with why they are open.
 pub(crate) fn open_in(alloc: Global, journal: &Journal) -> Result<String, AllocError> {
-    calls::open_calls(alloc, journal.shape().version(), journal.entries())
+    let world = World::after(alloc, journal)?;
+    open_text(alloc, journal.shape().version(), journal.entries(), &world)
 }

@@ -20,18 +20,13 @@ pub fn push_actor(out: &mut String, actor: Actor) -> Result<(), AllocError> {
 }
 
 /// Writes `process PID of node N calls: OP`.
-pub(crate) fn push_calling(
-    out: &mut String,
-    pid: u16,
-    node: u8,
-    op: &Op,
-) -> Result<(), AllocError> {
+pub fn push_calling(out: &mut String, pid: u16, node: u8, op: &Op) -> Result<(), AllocError> {
     write!(out, "process {pid} of node {node} calls: ")?;
     Operation::write(op, out)
 }
 
 /// Writes `ACTOR: MESSAGE` and the end of the line, where the actor is who takes the message.
-pub(crate) fn push_addressed(
+pub fn push_addressed(
     out: &mut String,
     version: Version,
     message: &Message,
@@ -43,7 +38,7 @@ pub(crate) fn push_addressed(
 }
 
 /// Writes how a call ended that this entry ended, and the end of the line.
-pub(crate) fn push_ended(out: &mut String, end: &End<'_>) -> Result<(), AllocError> {
+pub fn push_ended(out: &mut String, end: &End<'_>) -> Result<(), AllocError> {
     let position = end.position();
     match end.event() {
         Event::Declare { .. } => writeln!(out, "gone since entry {position}"),

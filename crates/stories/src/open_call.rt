@@ -4,7 +4,6 @@ use crate::ends::{Ends, first_end, note_end};
 use crate::made_call::MadeCall;
 use crate::parts::Parts;
 use crate::placed_entry::NumberedMessage;
-use crate::standing::Standing;
 use crate::under_way::under_way;
 use messages::entry::Entry;
 use std::alloc::{AllocError, Global};
@@ -12,13 +11,12 @@ use std::collections::HashMap;
 use std::marker::Model;
 
 /// A call without a reply: the first entry behind it that is an exit of its process or declares its node
-/// failed, the messages about it that are under way, and where it stands.
+/// failed, and the messages about it that are under way.
 #[derive(Drop)]
 pub struct OpenCall<'a> {
-    pub(crate) made: MadeCall,
-    pub(crate) end: Option<End<'a>>,
-    pub(crate) way: Vec<NumberedMessage<'a>>,
-    pub(crate) standing: Standing,
+    made: MadeCall,
+    end: Option<End<'a>>,
+    way: Vec<NumberedMessage<'a>>,
 }
 
 impl<'a> Model for OpenCall<'a> {
@@ -26,7 +24,32 @@ impl<'a> Model for OpenCall<'a> {
 
     ghost Value = { OpenFields };
 
-    ghost view = { λ o. record { made = o.made; end = o.end; way = o.way.items; standing = o.standing } };
+    ghost view = { λ o. record { made = o.made; end = o.end; way = o.way.items } };
+}
+
+impl<'a> OpenCall<'a> {
+    ghost use Rattle.std.specs.Prelude.{◌≡◌, MatchOption, None, Some};
+
+    /// The call, and the entry that makes it.
+    pub fn made(&self) -> MadeCall
+        ensures { result ≡ self.now.made }
+    {
+        self.made
+    }
+
+    /// The first entry behind it that ends it.
+    pub fn end(&self) -> Option<&End<'a>>
+        ensures { MatchOption result (self.now.end ≡ None) (λ end. self.now.end ≡ Some end.now) }
+    {
+        self.end.as_ref()
+    }
+
+    /// The messages about it that are under way, in the order of sending.
+    pub fn way(&self) -> &[NumberedMessage<'a>]
+        ensures { result.now ≡ self.now.way }
+    {
+        self.way.as_slice()
+    }
 }
 
 ghost use Rattle.std.specs.Prelude.{◌≡◌, ◌++◌, map, option_to_list, IfOk, OnOk};
@@ -37,9 +60,7 @@ ghost use Rattle.stories.specs.code.OpenIndexes.{open_with};
 /// of their entries.
 ///
 /// A message about a call is under way that was sent and came at no entry behind that which sends it, as
-/// one that was lost; of equal ones the first. A call stands by what came last: the lock in its way that a
-/// conflict told of; the server to which its request came, or which took it up again since; its own node,
-/// where that has taken a grant for it, or asked no server yet.
+/// one that was lost; of equal ones the first.
 pub fn unanswered<'a>(alloc: Global, entries: &'a [Entry]) -> Result<Vec<OpenCall<'a>>, AllocError>
     ensures { IfOk result (λ calls. calls.items ≡ map (open_call entries.entry.now) (open_calls entries.entry.now)) }
 {
@@ -72,14 +93,8 @@ fn add_open<'a>(
         && let Some(part) = parts.of_open(&made.call)
     {
         let way = under_way(alloc, part, &made.call)?;
-        let standing = Standing::of(part, &made.call);
         let end = first_end(ends, &made);
-        calls.push(OpenCall {
-            made,
-            end,
-            way,
-            standing,
-        })?;
+        calls.push(OpenCall { made, end, way })?;
     }
     Ok(())
 }

@@ -11,7 +11,7 @@ use std::marker::Model;
 
 /// A message with its number in the order of sending, from 1.
 #[derive(Drop)]
-pub(crate) struct NumberedMessage<'a> {
+pub struct NumberedMessage<'a> {
     pub(crate) number: u128,
     pub(crate) message: &'a Message,
 }
@@ -22,6 +22,24 @@ impl<'a> Model for NumberedMessage<'a> {
     ghost Value = { NumberedFields };
 
     ghost view = { λ m. record { number = m.number; message = m.message.now } };
+}
+
+impl<'a> NumberedMessage<'a> {
+    ghost use Rattle.std.specs.Prelude.{◌≡◌};
+
+    /// The number.
+    pub fn number(&self) -> u128
+        ensures { result ≡ self.now.number }
+    {
+        self.number
+    }
+
+    /// The message.
+    pub fn message(&self) -> &'a Message
+        ensures { result.now ≡ self.now.message }
+    {
+        self.message
+    }
 }
 
 /// An entry with its position in the journal, from 1, and with the number of the first message that it

@@ -11,9 +11,8 @@ use Rattle.messages.specs.declared.event.Event.TheVariants.{Call, Declare}
 use Rattle.messages.specs.code.Entries.{EntryFields}
 use Rattle.messages.specs.rule.Messages.{same_call}
 use Rattle.stories.specs.declared.made_call.MadeCall.{MadeCall}
-use Rattle.stories.specs.declared.standing.Standing.{Standing}
 use Rattle.stories.specs.rule.About.{NumberedFields, answers, part_of}
-use Rattle.stories.specs.rule.Pending.{standing_of, under_way}
+use Rattle.stories.specs.rule.Pending.{under_way}
 
 -- the call that an event makes, which takes this name, at an entry at this position
 abbrev pub made_by : ℕ → Event → Option CallId → Option MadeCall
@@ -54,12 +53,11 @@ call_made call entries = find (λ made. same_call made.call call) (made_calls en
 abbrev pub ended_by : CallId → List EntryFields → Option (ℕ × EntryFields)
 ended_by call entries = option_and_then (λ made. end_of made entries) (call_made call entries)
 
--- what an open call has: the call, the entry that ended it, the messages about it that are under way, and where it stands
+-- what an open call has: the call, the entry that ended it, and the messages about it that are under way
 pub record OpenFields : Type 0 where
   pub made : MadeCall
   pub end : Option (ℕ × EntryFields)
   pub way : List NumberedFields
-  pub standing : Standing
 
 -- the open call that entries make
 abbrev pub open_call : List EntryFields → MadeCall → OpenFields
@@ -67,5 +65,4 @@ open_call entries made = record {
   made = made;
   end = end_of made entries;
   way = under_way made.call (part_of made.call entries);
-  standing = standing_of made.call (part_of made.call entries);
 }

@@ -1,0 +1,5 @@
+pub mod Links
+pub mod Loops
+pub mod Requests
+pub mod Blocking
+pub mod OpenLists

@@ -1,0 +1,3 @@
+pub mod Places
+pub mod OpenCalls
+pub mod Cycles
