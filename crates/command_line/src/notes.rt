@@ -202,10 +202,11 @@ pub(crate) const OPEN_NOTES: &str = "\
 The journal is audited first. Where its entries are no run, the text is 'audit no K', as
 of 'lockreplay audit' (exit status 1).
 
-The text has a part for each call that has no reply: since which entry it is open, of
-which process it is and what it asks, which messages about it are under way, and what it
-waits for. Where every call has a reply, nothing is printed. The exit status is 0 in
-both cases. 'lockreplay explain' tells more of one call.";
+The text has a part for each call that has no reply, as it is at the journal's end: since
+which entry it is open, of which process it is and what it asks; each lock in its way, or
+else where its request is; and which messages about it were not delivered. Behind them
+stand cycles of waits. Where every call has a reply, nothing is printed. The exit status
+is 0 in both cases. 'lockreplay explain' tells more of one call.";
 
 /// What stands under the options of `picture`.
 pub(crate) const PICTURE_NOTES: &str = "\
