@@ -3,12 +3,12 @@ ghost use Rattle.std.specs.Prelude.{◌≡◌, ◌↔◌, true, IfOk, IsTrue, fi
 ghost use Rattle.std.specs.List.Sorted.{IsSortedByKey};
 ghost use Rattle.std.specs.Ordering.{nat_cmp, ordering_then};
 ghost use Rattle.lockscript.specs.declared.script_line.Command.{Command};
-ghost use Rattle.actors.specs.rule.Lines.{AreMade, asked_at, asked_by, asked_in, asker, has_asker, made_by};
+ghost use Rattle.actors.specs.rule.Lines.{AreMade, asked_at, asked_by, asked_in, asker, command_of, has_asker, made_by};
 
 use crate::played_line::PlayedLine;
 use lockscript::script_line::Command;
 use messages::entry::Entry;
-use messages::event::Event;
+use messages::event::{Event, MemberEvent, NodeInput};
 use std::alloc::{AllocError, Global};
 
 /// The command of a script's line, and the index, from 0, of the entry that it made.
@@ -37,20 +37,29 @@ pub(crate) fn asker_of(command: &Command) -> (u8, u16)
     }
 }
 
+// The command of a line that asks for this change of a member.
+fn command_of(event: &MemberEvent) -> Command
+    ensures { result ≡ command_of event.now }
+{
+    match event {
+        MemberEvent::Declare { node } => Command::Declare { node: *node },
+        MemberEvent::Restart { node } => Command::Restart { node: *node },
+        MemberEvent::FailServer { file } => Command::FailServer { file: *file },
+        MemberEvent::StartServer { file } => Command::StartServer { file: *file },
+    }
+}
+
 // The command of a line that asks for this event, if a line can ask for it.
 fn asked_by(event: &Event) -> Option<Command>
     ensures { result ≡ asked_by event.now }
 {
     match event {
-        Event::Call { node, pid, op } => Some(Command::Call {
+        Event::AtNode(node, NodeInput::Call { pid, op }) => Some(Command::Call {
             node: *node,
             pid: *pid,
             op: *op,
         }),
-        Event::Declare { node } => Some(Command::Declare { node: *node }),
-        Event::Restart { node } => Some(Command::Restart { node: *node }),
-        Event::FailServer { file } => Some(Command::FailServer { file: *file }),
-        Event::StartServer { file } => Some(Command::StartServer { file: *file }),
+        Event::Member(change) => Some(command_of(change)),
         _ => None,
     }
 }

@@ -2,7 +2,8 @@
 ghost use Rattle.std.specs.Prelude.{◌≡◌, ◌+◌, ◌≤◌, ◌↔◌, IfOk, IfErr, true, IsErrOf, length};
 ghost use Rattle.actors.specs.declared.call_error.CallError.TheVariants.{Stranger};
 ghost use Rattle.model.specs.rule.Limits.{IsNumber, most_nodes, most_processes};
-ghost use Rattle.messages.specs.declared.event.Event.TheVariants.{Declare, FailServer};
+ghost use Rattle.messages.specs.declared.event.Event.TheVariants.{Member};
+ghost use Rattle.messages.specs.declared.event.MemberEvent.TheVariants.{Declare, FailServer};
 ghost use Rattle.cluster_core.specs.rule.Histories.{HasOneHistory};
 ghost use Rattle.cluster_core.specs.rule.World.{journal_limit};
 ghost use Rattle.actors.specs.code.Refusals.{may_refuse_failure, may_refuse_start};
@@ -139,7 +140,7 @@ impl<'a, J: Name, G: Gate> Cluster<'a, J, G> {
     /// # Errors
     /// Those of `Book::declare`: `JournalFull`, `Stranger`, `NotAlive` or `NoMemory`.
     pub fn declare<R: Wait>(&self, rt: &R, node: u8) -> Result<Stamp, Refused>
-        ensures event { IfOk result (λ stamp. stamp.event ≡ Declare node) }
+        ensures event { IfOk result (λ stamp. stamp.event ≡ Member (Declare node)) }
         ensures refused { IfErr result (λ e. may_refuse_failure e ≡ true) }
     {
         let Some(place) = self.place(node) else {
@@ -188,7 +189,7 @@ impl<'a, J: Name, G: Gate> Cluster<'a, J, G> {
     /// # Errors
     /// Those of `Book::fail_server`: `JournalFull`, `Stranger`, `NotAlive` or `NoMemory`.
     pub fn fail_server<R: Wait>(&self, rt: &R, file: u16) -> Result<Stamp, Refused>
-        ensures event { IfOk result (λ stamp. stamp.event ≡ FailServer file) }
+        ensures event { IfOk result (λ stamp. stamp.event ≡ Member (FailServer file)) }
         ensures refused { IfErr result (λ e. may_refuse_failure e ≡ true) }
     {
         self.book.lock(rt).fail_server(self.alloc, file)

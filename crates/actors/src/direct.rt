@@ -1,6 +1,7 @@
 //! The calls that a client makes at its node's desk, on its own thread.
 ghost use Rattle.std.specs.Prelude.{◌≡◌, IfSome};
-ghost use Rattle.messages.specs.declared.event.Event.TheVariants.{Call};
+ghost use Rattle.messages.specs.declared.event.Event.TheVariants.{AtNode};
+ghost use Rattle.messages.specs.declared.event.NodeInput.TheVariants.{Call};
 
 use crate::commits::commit;
 use crate::desk::Desk;
@@ -12,7 +13,7 @@ use book::book::Book;
 use book::mark::Mark;
 use book::seat::Seat;
 use book::stamp::Stamp;
-use messages::event::Event;
+use messages::event::{Event, NodeInput};
 use model::op::Op;
 use model::process::Process;
 use std::alloc::Global;
@@ -58,7 +59,7 @@ impl<'a, J: Name, G: Gate> Direct<'a, J, G> {
         op: Op,
         seen: Option<&Mark>,
     ) -> Option<Stamp>
-        ensures { IfSome result (λ stamp. stamp.event ≡ Call process.node process.pid op) }
+        ensures { IfSome result (λ stamp. stamp.event ≡ AtNode process.node (Call process.pid op)) }
     {
         if self.halt.is_set() {
             return None;
@@ -70,11 +71,11 @@ impl<'a, J: Name, G: Gate> Direct<'a, J, G> {
         if work.has_open && may_release(&op) {
             return None;
         }
-        let event = Event::Call {
-            node: process.node,
+        let call = NodeInput::Call {
             pid: process.pid,
             op,
         };
+        let event = Event::AtNode(process.node, call);
         self.step(rt, &mut work.seat, event, seen)
     }
 

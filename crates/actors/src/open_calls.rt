@@ -6,7 +6,7 @@ use crate::call_error::CallError;
 use crate::patience::Patience;
 use book::receipt::Receipt;
 use book::stamp::Stamp;
-use messages::event::Event;
+use messages::event::{Event, NodeInput};
 use messages::message::Message;
 use model::mode::Mode;
 use model::op::{LockCommand, Op};
@@ -87,7 +87,7 @@ pub(crate) fn may_release(op: &Op) -> bool {
 // The process whose call the event tries again, if it is a retry.
 fn retried(event: &Event) -> Option<u16> {
     match event {
-        Event::Retry { pid, .. } => Some(*pid),
+        Event::AtNode(_, NodeInput::Retry { pid }) => Some(*pid),
         _ => None,
     }
 }

@@ -1,7 +1,7 @@
 //! The test whether a run is stuck: no open call can be answered any more.
 use messages::command_number::CommandNumber;
 use messages::entry::Entry;
-use messages::event::Event;
+use messages::event::{Event, NodeInput, ServerInput};
 use messages::message::{Blocking, Message};
 use messages::shared_message::SharedMessage;
 use model::call::CallId;
@@ -60,7 +60,9 @@ fn is_news(entry: &Entry) -> bool {
     }
     !matches!(
         entry.event(),
-        Event::Retry { .. } | Event::Resend { .. } | Event::Deliver(_)
+        Event::AtNode(_, NodeInput::Retry { .. })
+            | Event::AtServer(_, ServerInput::Resend)
+            | Event::Deliver(_)
     )
 }
 
@@ -87,7 +89,7 @@ fn is_of(one: &Try, other: &Try) -> bool {
 // The try that the entry makes, if it makes one.
 fn try_of(entry: &Entry) -> Option<Try> {
     match entry.event() {
-        Event::Retry { node, pid } => Some(Try {
+        Event::AtNode(node, NodeInput::Retry { pid }) => Some(Try {
             node: *node,
             pid: *pid,
             asked: entry.sends().iter().find_map(request_of),

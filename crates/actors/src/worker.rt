@@ -23,7 +23,7 @@ use book::seat::Seat;
 use book::stamp::Stamp;
 use crossbeam_channel::{Receiver, RecvTimeoutError};
 use messages::actor::Actor;
-use messages::event::Event;
+use messages::event::{Event, NodeInput, ServerInput};
 use messages::refusal::StepError;
 use model::op::Op;
 use model::process::Process;
@@ -256,11 +256,11 @@ impl<W: Weather> Worker<W> {
         ensures { OnOk result (vec_len self.new.waiting.calls < vec_capacity self.new.waiting.calls) }
     {
         self.admit(process, seat.incarnation())?;
-        let event = Event::Call {
-            node: process.node,
+        let call = NodeInput::Call {
             pid: process.pid,
             op,
         };
+        let event = Event::AtNode(process.node, call);
         let stamp = commit_step(rt, shared, seat, event, seen)?;
         self.outgoing.send_all(rt, shared, &stamp);
         Ok(stamp)
@@ -293,12 +293,8 @@ impl<W: Weather> Worker<W> {
         let Actor::Server(file) = self.actor else {
             return;
         };
-        let event = Event::Learn {
-            file,
-            node,
-            incarnation,
-        };
-        let learned = self.step(rt, shared, seat, event);
+        let news = ServerInput::Learn { node, incarnation };
+        let learned = self.step(rt, shared, seat, Event::AtServer(file, news));
         if learned == Err(CallError::NoMemory) {
             if let Some(mailbox) = shared.mailbox(self.actor) {
                 mailbox.send_surely(rt, Letter::Learn { node, incarnation }, shared.halt);
@@ -358,7 +354,8 @@ impl<W: Weather> Worker<W> {
         node: u8,
         pid: u16,
     ) {
-        match self.step(rt, shared, seat, Event::Retry { node, pid }) {
+        let event = Event::AtNode(node, NodeInput::Retry { pid });
+        match self.step(rt, shared, seat, event) {
             Ok(()) => {}
             Err(CallError::NoMemory) => self.waiting.wait_anew(pid),
             Err(why) => self.end_at(rt, shared.alloc, why),
@@ -376,7 +373,7 @@ impl<W: Weather> Worker<W> {
         if !self.resends.pass_tick() {
             return;
         }
-        match seat.prepare(shared.alloc, Event::Resend { file }) {
+        match seat.prepare(shared.alloc, Event::AtServer(file, ServerInput::Resend)) {
             Ok(prepared) => self.send_again(rt, shared, seat, prepared),
             Err(StepError::NoMemory) => self.lack_memory(shared),
             Err(_) => {}

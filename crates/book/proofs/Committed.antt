@@ -1,10 +1,11 @@
 -- Commits, declarations, failures and restarts of a book: each with all that it makes.
 use Rattle.std.proofs.Common.{◌≡◌, ◌≢◌, ℕ, ◌+◌, ◌<◌, true, [], ◌∷◌, ◌++◌, length, sym, ap, ◌∙◌, subst, Result, Ok, Err}
 use Rattle.messages.specs.rule.Messages.{sending}
-use Rattle.messages.specs.declared.actor.Actor.{Actor}
 use Rattle.messages.specs.declared.actor.Actor.TheVariants.{Node as ANode, Server as AServer}
 use Rattle.messages.specs.declared.event.Event.{Event}
-use Rattle.messages.specs.declared.event.Event.TheVariants.{Declare, Restart, FailServer, StartServer}
+use Rattle.messages.specs.declared.event.Event.TheVariants.{Member}
+use Rattle.messages.specs.declared.event.MemberEvent.{MemberEvent}
+use Rattle.messages.specs.declared.event.MemberEvent.TheVariants.{Declare, Restart, FailServer, StartServer}
 use Rattle.messages.specs.declared.entry.Entry.{Entry}
 use Rattle.messages.specs.declared.refusal.Refused.{Refused}
 use Rattle.messages.specs.declared.outcome.Outcome.{Outcome}
@@ -15,7 +16,7 @@ use Rattle.cluster_core.specs.rule.Parts.{world_state}
 use Rattle.cluster_core.specs.rule.Journals.{RunFields, GoesOn}
 use Rattle.cluster_core.proofs.common.Refusals.{ok_is}
 use Rattle.cluster_core.proofs.steps.Steps.{kept_taken, kept_of}
-use Rattle.cluster_core.specs.rule.Actors.{Records}
+use Rattle.cluster_core.specs.rule.Actors.{Records, member_of}
 use Rattle.book.specs.declared.state.State.{State}
 use Rattle.book.specs.rule.States.{actor_of, Becomes, HasState, StepsTo, is_declared, made_by}
 use Rattle.book.specs.rule.Fields.{SeatFields, PreparedFields, StampFields}
@@ -26,7 +27,7 @@ use Rattle.book.proofs.Fences.{stays_declared}
 use Rattle.book.proofs.Reached.{reached_noted, reached_forgotten}
 use Rattle.book.proofs.Stamps.{stays, new_stamp}
 use Rattle.book.proofs.Steps.{actor_kept, leads, comes_next, made_entry, may_step, mine, others}
-use Rattle.book.proofs.Turns.{declared_entry, declared_others, declared_fences, restarted_others, failed_entry, failed_others, failed_fences, started_entry, started_others}
+use Rattle.book.proofs.Turns.{declared_entry, declared_fences, others_stay, failed_entry, failed_fences, started_entry}
 
 -- a run that took the event recorded what it leads to
 records : (b d : RunFields) (event : Event) (made : WorldState × Entry) → GoesOn b event d → next (world_state b.world) event ≡ Ok made → Records b event made d
@@ -69,29 +70,27 @@ committed b d s r p seen t accepted is went becomes commits position said gave s
       stamps = λ x h. stays b.entries d.entries (made_by w p.event r.state p.outcome).1 x goes.entries h;
     }
 
--- seats, stamps and fences of a book after it took an event
-turned : (b d : RunFields) (event : Event) (a : Actor) → GoesOn b event d
-    → ((q : WorldState × Entry) (y : State) → next (world_state b.world) event ≡ Ok q → actor_of y ≢ a → HasState (world_state b.world) y → HasState q.0 y)
-    → Turns b event a d
-turned b d event a went others =
+-- seats, stamps and fences of a book after a member changed
+turned : (b d : RunFields) (event : MemberEvent) → GoesOn b (Member event) d → Turns b event d
+turned b d event went =
     let w = world_state b.world in
     let q : WorldState × Entry = (world_state d.world, went.0) in
-    let step = (kept_taken w event q went.1).1 in
+    let step = (kept_taken w (Member event) q went.1).1 in
     record {
       goes = went;
-      fences = λ x was. stays_declared w event q x.state step was;
+      fences = λ x was. stays_declared w (Member event) q x.state step was;
       stamps = λ x h. stays b.entries d.entries went.0 x went.2 h;
-      others = λ x ne has. others q x.state step ne has;
+      others = λ x ne has. others_stay w event q x.state step ne has;
     }
 
--- the stamp of the entry that an event made
-stamped : (b d : RunFields) (event : Event) (out : Outcome) (t : StampFields) (went : GoesOn b event d)
-    → ((q : WorldState × Entry) → next (world_state b.world) event ≡ Ok q → (k : ℕ) × (q.1 ≡ entry event k out))
-    → t.position ≡ length d.entries → t.event ≡ event → t.outcome ≡ out → t.seen ≡ 0 → IsLastStamp d event t
+-- the stamp of the entry that a change made
+stamped : (b d : RunFields) (event : MemberEvent) (out : Outcome) (t : StampFields) (went : GoesOn b (Member event) d)
+    → ((q : WorldState × Entry) → next (world_state b.world) (Member event) ≡ Ok q → (k : ℕ) × (q.1 ≡ entry (Member event) k out))
+    → t.position ≡ length d.entries → t.event ≡ Member event → t.outcome ≡ out → t.seen ≡ 0 → IsLastStamp d event t
 stamped b d event out t went entry_of position said gave seen_is =
     let w = world_state b.world in
     let q : WorldState × Entry = (world_state d.world, went.0) in
-    let k = entry_of q (kept_taken w event q went.1).1 in
+    let k = entry_of q (kept_taken w (Member event) q went.1).1 in
     record {
       position = position;
       event_is = said;
@@ -99,34 +98,34 @@ stamped b d event out t went entry_of position said gave seen_is =
       stamped = new_stamp b.entries d.entries went.0 k.0 t went.2 (k.1 ∙ (λ i. entry (sym said i) k.0 (sym gave i))) position;
     }
 
-pub declared : (b d : RunFields) (n : ℕ) (t : StampFields) → GoesOn b (Declare n) d → t.position ≡ length d.entries → t.event ≡ Declare n → t.outcome ≡ sending [] → t.seen ≡ 0 → Declared b n d t
+pub declared : (b d : RunFields) (n : ℕ) (t : StampFields) → GoesOn b (Member (Declare n)) d → t.position ≡ length d.entries → t.event ≡ Member (Declare n) → t.outcome ≡ sending [] → t.seen ≡ 0 → Declared b n d t
 declared b d n t went position said gave seen_is =
     let w = world_state b.world in
     let q : WorldState × Entry = (world_state d.world, went.0) in (
-      turned b d (Declare n) (ANode n) went (declared_others w n),
+      turned b d (Declare n) went,
       stamped b d (Declare n) (sending []) t went (declared_entry w n) position said gave seen_is,
-      λ s is same least. declared_fences w n q s.state (kept_taken w (Declare n) q went.1).1 is same least,
+      λ s is same least. declared_fences w n q s.state (kept_taken w (Member (Declare n)) q went.1).1 is same least,
     )
 
-pub restarted : (b d : RunFields) (n : ℕ) (s : SeatFields) → GoesOn b (Restart n) d → actor_of s.state ≡ ANode n → s.commits ≡ 0 → IsSeatOf d s → Restarted b n d s
+pub restarted : (b d : RunFields) (n : ℕ) (s : SeatFields) → GoesOn b (Member (Restart n)) d → actor_of s.state ≡ ANode n → s.commits ≡ 0 → IsSeatOf d s → Restarted b n d s
 restarted b d n s went actor commits stands = (
-  turned b d (Restart n) (ANode n) went (restarted_others (world_state b.world) n),
+  turned b d (Restart n) went,
   record { actor = actor; commits = commits; mine = stands },
 )
 
-pub failed : (b d : RunFields) (f : ℕ) (t : StampFields) → GoesOn b (FailServer f) d → t.position ≡ length d.entries → t.event ≡ FailServer f → t.outcome ≡ sending [] → t.seen ≡ 0 → Failed b f d t
+pub failed : (b d : RunFields) (f : ℕ) (t : StampFields) → GoesOn b (Member (FailServer f)) d → t.position ≡ length d.entries → t.event ≡ Member (FailServer f) → t.outcome ≡ sending [] → t.seen ≡ 0 → Failed b f d t
 failed b d f t went position said gave seen_is =
     let w = world_state b.world in
     let q : WorldState × Entry = (world_state d.world, went.0) in (
-      turned b d (FailServer f) (AServer f) went (failed_others w f),
+      turned b d (FailServer f) went,
       stamped b d (FailServer f) (sending []) t went (failed_entry w f) position said gave seen_is,
-      λ s is same least. failed_fences w f q s.state (kept_taken w (FailServer f) q went.1).1 is same least,
+      λ s is same least. failed_fences w f q s.state (kept_taken w (Member (FailServer f)) q went.1).1 is same least,
     )
 
-pub started : (b d : RunFields) (f : ℕ) (s : SeatFields) (t : StampFields) → GoesOn b (StartServer f) d → actor_of s.state ≡ AServer f → s.commits ≡ 0 → IsSeatOf d s → t.position ≡ length d.entries → t.event ≡ StartServer f → t.outcome ≡ sending (outstanding (next_server (world_state b.world) f)) → t.seen ≡ 0 → Started b f d s t
+pub started : (b d : RunFields) (f : ℕ) (s : SeatFields) (t : StampFields) → GoesOn b (Member (StartServer f)) d → actor_of s.state ≡ AServer f → s.commits ≡ 0 → IsSeatOf d s → t.position ≡ length d.entries → t.event ≡ Member (StartServer f) → t.outcome ≡ sending (outstanding (next_server (world_state b.world) f)) → t.seen ≡ 0 → Started b f d s t
 started b d f s t went actor commits stands position said gave seen_is =
     let w = world_state b.world in (
-      turned b d (StartServer f) (AServer f) went (started_others w f),
+      turned b d (StartServer f) went,
       record { actor = actor; commits = commits; mine = stands },
       stamped b d (StartServer f) (sending (outstanding (next_server w f))) t went (started_entry w f) position said gave seen_is,
     )
@@ -138,12 +137,10 @@ committed_reached b d s r p seen t old new made reached noted =
     reached_noted (world_state b.world) (world_state d.world) old new r.state reached noted made.mine
     (λ y ne has. made.others (record { state = y; commits = 0 }) (λ e. ne (e ∙ sym kept)) has)
 
--- after a failure or a start the spots are right, with none for its actor
-pub turned_reached : (b d : RunFields) (event : Event) (a : Actor) (old new : LastSpots) → GoesOn b event d → AreReached (world_state b.world) old → Forgotten old a new
-    → ((q : WorldState × Entry) (y : State) → next (world_state b.world) event ≡ Ok q → actor_of y ≢ a → HasState (world_state b.world) y → HasState q.0 y)
-    → AreReached (world_state d.world) new
-turned_reached b d event a old new went reached forgotten others =
+-- after the change of a member the spots are right, with none for it
+pub turned_reached : (b d : RunFields) (event : MemberEvent) (old new : LastSpots) → GoesOn b (Member event) d → AreReached (world_state b.world) old → Forgotten old (member_of event) new → AreReached (world_state d.world) new
+turned_reached b d event old new went reached forgotten =
     let w = world_state b.world in
     let q : WorldState × Entry = (world_state d.world, went.0) in
-    let step = (kept_taken w event q went.1).1 in
-    reached_forgotten w (world_state d.world) old new a reached forgotten (λ y ne has. others q y step ne has)
+    let step = (kept_taken w (Member event) q went.1).1 in
+    reached_forgotten w (world_state d.world) old new (member_of event) reached forgotten (λ y ne has. others_stay w event q y step ne has)

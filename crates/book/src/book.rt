@@ -1,6 +1,7 @@
 //! The book: the journal that the actors of a cluster share.
 ghost use Rattle.std.specs.Prelude.{◌≡◌, ◌≢◌, ◌+◌, ◌-◌, ◌<◌, ◌≤◌, ◌++◌, ◌∷◌, [], ℕ, Ok, Err, Some, true, length, slice_get, IfOk, IfErr, IfSome, OnOk, OnErr, MatchResult, MatchBool, option_copied};
-ghost use Rattle.messages.specs.declared.event.Event.TheVariants.{Declare, Restart, FailServer, StartServer};
+ghost use Rattle.messages.specs.declared.event.Event.TheVariants.{Member};
+ghost use Rattle.messages.specs.declared.event.MemberEvent.TheVariants.{Declare, Restart, FailServer, StartServer};
 ghost use Rattle.messages.specs.declared.refusal.Refused.{Refused};
 ghost use Rattle.messages.specs.declared.entry.Entry.{Entry};
 ghost use Rattle.messages.specs.rule.Shapes.{ShapeFields};
@@ -36,7 +37,7 @@ use cluster_core::run::Run;
 use cluster_core::world::World;
 use messages::actor::Actor;
 use messages::entry::Entry;
-use messages::event::Event;
+use messages::event::{Event, MemberEvent};
 use messages::items::Items;
 use messages::outcome::Outcome;
 use messages::refusal::Refused;
@@ -224,15 +225,16 @@ impl<J: Name> Book<J> {
     /// was.
     pub fn declare(&mut self, alloc: Global, node: u8) -> Result<Stamp, Refused>
         ensures ok { IfOk result (λ t. Declared self.old node self.new t) }
-        ensures err { IfErr result (λ e. e ≢ Refused.NoMemory → kept_next (world_state self.old.world) (Declare node) ≡ Err e) }
-        ensures refused { (e : Refused) → kept_next (world_state self.old.world) (Declare node) ≡ Err e → result ≡ Err e }
+        ensures err { IfErr result (λ e. e ≢ Refused.NoMemory → kept_next (world_state self.old.world) (Member (Declare node)) ≡ Err e) }
+        ensures refused { (e : Refused) → kept_next (world_state self.old.world) (Member (Declare node)) ≡ Err e → result ≡ Err e }
         ensures unchanged { OnErr result (self.new ≡ self.old) }
     {
-        self.run.take(alloc, Event::Declare { node })?;
+        let event = MemberEvent::Declare { node };
+        self.run.take(alloc, Event::Member(event))?;
         self.spots.forget(Actor::Node(node));
         let outcome = Outcome::sending(Items::new(alloc));
         let position = self.run.len();
-        Ok(Stamp::new(position, Event::Declare { node }, outcome, 0))
+        Ok(Stamp::new(position, Event::Member(event), outcome, 0))
     }
 
     /// Restarts the node, which was declared failed: it begins again, empty, in its next incarnation. Gives the seat
@@ -244,8 +246,8 @@ impl<J: Name> Book<J> {
     /// for memory was refused. The book is then as it was.
     pub fn restart(&mut self, alloc: Global, node: u8) -> Result<Seat<J>, Refused>
         ensures ok { IfOk result (λ s. Restarted self.old node self.new s) }
-        ensures err { IfErr result (λ e. e ≢ Refused.NoMemory → kept_next (world_state self.old.world) (Restart node) ≡ Err e) }
-        ensures refused { (e : Refused) → kept_next (world_state self.old.world) (Restart node) ≡ Err e → result ≡ Err e }
+        ensures err { IfErr result (λ e. e ≢ Refused.NoMemory → kept_next (world_state self.old.world) (Member (Restart node)) ≡ Err e) }
+        ensures refused { (e : Refused) → kept_next (world_state self.old.world) (Member (Restart node)) ≡ Err e → result ≡ Err e }
         ensures unchanged { OnErr result (self.new ≡ self.old) }
     {
         let begun = self.run.restart(alloc, node)?;
@@ -264,15 +266,16 @@ impl<J: Name> Book<J> {
     /// request for memory was refused. The book is then as it was.
     pub fn fail_server(&mut self, alloc: Global, file: u16) -> Result<Stamp, Refused>
         ensures ok { IfOk result (λ t. Failed self.old file self.new t) }
-        ensures err { IfErr result (λ e. e ≢ Refused.NoMemory → kept_next (world_state self.old.world) (FailServer file) ≡ Err e) }
-        ensures refused { (e : Refused) → kept_next (world_state self.old.world) (FailServer file) ≡ Err e → result ≡ Err e }
+        ensures err { IfErr result (λ e. e ≢ Refused.NoMemory → kept_next (world_state self.old.world) (Member (FailServer file)) ≡ Err e) }
+        ensures refused { (e : Refused) → kept_next (world_state self.old.world) (Member (FailServer file)) ≡ Err e → result ≡ Err e }
         ensures unchanged { OnErr result (self.new ≡ self.old) }
     {
-        self.run.take(alloc, Event::FailServer { file })?;
+        let event = MemberEvent::FailServer { file };
+        self.run.take(alloc, Event::Member(event))?;
         self.spots.forget(Actor::Server(file));
         let outcome = Outcome::sending(Items::new(alloc));
         let position = self.run.len();
-        Ok(Stamp::new(position, Event::FailServer { file }, outcome, 0))
+        Ok(Stamp::new(position, Event::Member(event), outcome, 0))
     }
 
     /// Starts the token server of the file again, which was declared failed: it is rebuilt in its next epoch. Gives
@@ -284,14 +287,15 @@ impl<J: Name> Book<J> {
     /// was refused. The book is then as it was.
     pub fn start_server(&mut self, alloc: Global, file: u16) -> Result<(Seat<J>, Stamp), Refused>
         ensures ok { IfOk result (λ r. Started self.old file self.new r.0 r.1) }
-        ensures err { IfErr result (λ e. e ≢ Refused.NoMemory → kept_next (world_state self.old.world) (StartServer file) ≡ Err e) }
-        ensures refused { (e : Refused) → kept_next (world_state self.old.world) (StartServer file) ≡ Err e → result ≡ Err e }
+        ensures err { IfErr result (λ e. e ≢ Refused.NoMemory → kept_next (world_state self.old.world) (Member (StartServer file)) ≡ Err e) }
+        ensures refused { (e : Refused) → kept_next (world_state self.old.world) (Member (StartServer file)) ≡ Err e → result ≡ Err e }
         ensures unchanged { OnErr result (self.new ≡ self.old) }
     {
         let (begun, asks) = self.run.start(alloc, file)?;
         self.spots.forget(Actor::Server(file));
         let position = self.run.len();
-        let stamp = Stamp::new(position, Event::StartServer { file }, asks, 0);
+        let event = Event::Member(MemberEvent::StartServer { file });
+        let stamp = Stamp::new(position, event, asks, 0);
         let state = State::OfServer {
             file,
             server: begun,

@@ -5,7 +5,7 @@ ghost use Rattle.book.specs.code.Receipts.{call_in, IsReceiptOf};
 
 use crate::mark::Mark;
 use crate::stamp::Stamp;
-use messages::event::Event;
+use messages::event::{Event, NodeInput};
 use model::call::CallId;
 use model::op::Op;
 use model::reply::Reply;
@@ -43,7 +43,7 @@ pub(crate) fn call_in(event: &Event, call: Option<CallId>) -> Option<(CallId, u1
     ensures { result ≡ call_in event.now call }
 {
     match event {
-        Event::Call { pid, op, .. } => {
+        Event::AtNode(_, NodeInput::Call { pid, op }) => {
             let id = call?;
             Some((id, *pid, *op))
         }

@@ -63,17 +63,9 @@ fn planned_node(
     ensures fits { IfOk result (λ change. NodeFits node.now change.edit) }
 {
     match event {
-        Event::Call { node: of, pid, op } if *of == number => {
-            node.plan(alloc, &NodeEvent::Call { pid: *pid, op: *op })
-        }
+        Event::AtNode(of, input) if *of == number => node.plan(alloc, &NodeEvent::Input(*input)),
         Event::Deliver(message) if is_node(number, message.get().addressee()) => {
             node.plan_delivery(alloc, message.get())
-        }
-        Event::Interrupt { node: of, pid } if *of == number => {
-            node.plan(alloc, &NodeEvent::Interrupt { pid: *pid })
-        }
-        Event::Retry { node: of, pid } if *of == number => {
-            node.plan(alloc, &NodeEvent::Retry { pid: *pid })
         }
         _ => Err(StepError::Stranger),
     }
@@ -95,17 +87,8 @@ fn planned_server(
         Event::Deliver(message) if is_server(number, message.get().addressee()) => {
             server.plan_delivery(alloc, message.get())
         }
-        Event::Resend { file } if *file == number => server.plan(alloc, &ServerEvent::Resend),
-        Event::Learn {
-            file,
-            node,
-            incarnation,
-        } if *file == number => {
-            let learn = ServerEvent::Learn {
-                node: *node,
-                incarnation: *incarnation,
-            };
-            server.plan(alloc, &learn)
+        Event::AtServer(file, input) if *file == number => {
+            server.plan(alloc, &ServerEvent::Input(*input))
         }
         _ => Err(StepError::Stranger),
     }

@@ -14,11 +14,12 @@ ghost use Rattle.token_server.specs.rule.Server.{server_rule};
 ghost use Rattle.token_server.specs.rule.Parts.{ServerParts, server_state};
 ghost use Rattle.token_server.specs.code.Edits.{planned, Fits as ServerFits};
 ghost use Rattle.cluster_core.specs.rule.World.{WorldState, journal_limit, was_declared, first_world};
-ghost use Rattle.cluster_core.specs.rule.Next.{is_known, is_fenced, is_stopped, has_actor, declare_rule, restart_rule, named_incarnation, after_node, after_server, taken, next, kept_next};
-ghost use Rattle.cluster_core.specs.rule.Parts.{world_state, IsStepOf, IsServerStepOf, IsTakenByNode, IsRest};
+ghost use Rattle.cluster_core.specs.rule.Next.{fits_shape, is_true, has_member, is_known, is_fenced, is_stopped, has_actor, declare_rule, restart_rule, member_rule, named_incarnation, delivered, taken, next, kept_next};
+ghost use Rattle.cluster_core.specs.rule.Parts.{world_state, IsRest};
 ghost use Rattle.cluster_core.specs.code.Changes.{IsNodeChange, IsServerChange, IsRestart, Makes, Plans};
-ghost use Rattle.messages.specs.declared.event.Event.TheVariants as event;
-ghost use Rattle.messages.specs.declared.event.Event.TheVariants.{Deliver};
+ghost use Rattle.messages.specs.declared.actor.Actor.TheVariants.{Node as ANode, Server as AServer};
+ghost use Rattle.messages.specs.declared.event.Event.TheVariants.{AtNode, AtServer, Deliver, Member};
+ghost use Rattle.messages.specs.declared.event.MemberEvent.TheVariants.{Declare, Restart};
 ghost use Rattle.node_core.specs.declared.event.NodeEvent.TheVariants as own;
 ghost use Rattle.token_server.specs.declared.event.ServerEvent.TheVariants as served;
 ghost use Rattle.messages.specs.declared.refusal.Refused.{Refused};
@@ -33,7 +34,7 @@ use crate::world::change::Change;
 use members::members::Members;
 use messages::actor::Actor;
 use messages::entry::Entry;
-use messages::event::Event;
+use messages::event::{Event, MemberEvent, NodeInput, ServerInput};
 use messages::items::Items;
 use messages::kept_outcome::KeptOutcome;
 use messages::kept_reply::KeptReply;
@@ -183,38 +184,60 @@ impl World {
         }
     }
 
+    // Whether what comes to a node names processes and files of the shape.
+    fn fits_shape(&self, input: &NodeInput) -> bool
+        ensures { result ≡ fits_shape self.now.shape input.now }
+    {
+        match input {
+            NodeInput::Call { pid, op } => is_number(256, *pid) && is_of_shape(self.shape, op),
+            NodeInput::Interrupt { pid } => is_number(256, *pid),
+            NodeInput::Retry { pid } => is_number(256, *pid),
+        }
+    }
+
+    // Whether what comes to a token server tells only of incarnations that were declared failed.
+    fn is_true(&self, input: &ServerInput) -> bool
+        ensures { result ≡ is_true (world_state self.now) input.now }
+    {
+        match input {
+            ServerInput::Resend => true,
+            ServerInput::Learn { node, incarnation } => {
+                is_number(self.shape.nodes() as u16, *node as u16)
+                    && self.was_declared(*node, *incarnation)
+            }
+        }
+    }
+
+    // Whether the cluster has the member, and a server may fail in its version.
+    fn has_member(&self, event: &MemberEvent) -> bool
+        ensures { result ≡ has_member (world_state self.now) event.now }
+    {
+        match event {
+            MemberEvent::Declare { node } | MemberEvent::Restart { node } => {
+                is_number(self.shape.nodes() as u16, *node as u16)
+            }
+            MemberEvent::FailServer { file } | MemberEvent::StartServer { file } => {
+                self.shape.version().may_rebuild() && is_number(self.shape.files(), *file)
+            }
+        }
+    }
+
     // Whether the event names only what the cluster has.
     fn is_known(&self, event: &Event) -> bool
         ensures { result ≡ is_known (world_state self.now) event.now }
     {
         match event {
-            Event::Call { node, pid, op } => {
-                is_number(self.shape.nodes() as u16, *node as u16)
-                    && is_number(256, *pid)
-                    && is_of_shape(self.shape, op)
+            Event::AtNode(node, input) => {
+                is_number(self.shape.nodes() as u16, *node as u16) && self.fits_shape(input)
+            }
+            Event::AtServer(file, input) => {
+                is_number(self.shape.files(), *file) && self.is_true(input)
             }
             Event::Deliver(message) => {
                 let message = message.get();
                 self.has_actor(&message.addressee()) && self.sent.contains(message)
             }
-            Event::Interrupt { node, pid } | Event::Retry { node, pid } => {
-                is_number(self.shape.nodes() as u16, *node as u16) && is_number(256, *pid)
-            }
-            Event::Resend { file } => is_number(self.shape.files(), *file),
-            Event::Declare { node } => is_number(self.shape.nodes() as u16, *node as u16),
-            Event::Restart { node } => is_number(self.shape.nodes() as u16, *node as u16),
-            Event::FailServer { file } | Event::StartServer { file } => {
-                self.shape.version().may_rebuild() && is_number(self.shape.files(), *file)
-            }
-            Event::Learn {
-                file,
-                node,
-                incarnation,
-            } => {
-                is_number(self.shape.files(), *file)
-                    && is_number(self.shape.nodes() as u16, *node as u16)
-                    && self.was_declared(*node, *incarnation)
-            }
+            Event::Member(change) => self.has_member(change),
         }
     }
 
@@ -251,16 +274,10 @@ impl World {
         ensures { result ≡ is_fenced (world_state self.now) event.now }
     {
         match event {
-            Event::Call { node, .. } => !self.is_alive(*node),
-            Event::Interrupt { node, .. } => !self.is_alive(*node),
-            Event::Retry { node, .. } => !self.is_alive(*node),
+            Event::AtNode(node, _) => !self.is_alive(*node),
+            Event::AtServer(file, _) => !self.works(*file),
             Event::Deliver(message) => self.is_stopped(&message.get().addressee()),
-            Event::Resend { file } => !self.works(*file),
-            Event::Learn { file, .. } => !self.works(*file),
-            Event::Declare { .. } => false,
-            Event::Restart { .. } => false,
-            Event::FailServer { .. } => false,
-            Event::StartServer { .. } => false,
+            Event::Member(_) => false,
         }
     }
 
@@ -273,25 +290,17 @@ impl World {
         &self.nodes[node as usize - 1]
     }
 
-    // The incarnation that the entry of a node's event names, or 0.
-    fn named_incarnation(&self, event: &Event, node: u8) -> u16
+    // The incarnation that the entry of what comes to the node names, or 0.
+    fn named_incarnation(&self, node: u8, input: &NodeInput) -> u16
         requires node { is_within self.now.shape.nodes node ≡ true }
         requires alive { (world_state self.now).alive node ≡ true }
-        requires taken { IsTakenByNode event.now }
-        ensures value { result ≡ named_incarnation ((world_state self.now).nodes node) event.now }
-        ensures incarnated { NamesItsIncarnation event.now result }
+        ensures value { result ≡ named_incarnation ((world_state self.now).nodes node) (AtNode node input.now) }
+        ensures incarnated { NamesItsIncarnation (AtNode node input.now) result }
     {
-        match event {
-            Event::Interrupt { .. } => self.node(node).incarnation(),
-            Event::Retry { .. } => self.node(node).incarnation(),
-            Event::Call { .. } => 0,
-            Event::Deliver(_) => 0,
-            Event::Resend { .. } => 0,
-            Event::Declare { .. } => 0,
-            Event::Restart { .. } => 0,
-            Event::Learn { .. } => 0,
-            Event::FailServer { .. } => 0,
-            Event::StartServer { .. } => 0,
+        match input {
+            NodeInput::Call { .. } => 0,
+            NodeInput::Interrupt { .. } => self.node(node).incarnation(),
+            NodeInput::Retry { .. } => self.node(node).incarnation(),
         }
     }
 
@@ -352,45 +361,32 @@ impl World {
         self.servers[file as usize - 1].plan_delivery(alloc, message)
     }
 
-    // The change that the event makes, which the node takes.
-    fn plan_node(
-        &self,
-        alloc: Global,
-        event: &Event,
-        node: u8,
-        step: &NodeEvent,
-    ) -> Result<Change, Refused>
+    // The change that what comes to the node makes.
+    fn plan_node(&self, alloc: Global, node: u8, input: &NodeInput) -> Result<Change, Refused>
         requires node { is_within self.now.shape.nodes node ≡ true }
         requires alive { (world_state self.now).alive node ≡ true }
-        requires same_event { IsStepOf event.now node step.now }
-        ensures ok { IfOk result (λ change. Makes self.now event.now change (after_node (world_state self.now) event.now node (node_rule ((world_state self.now).nodes node) step.now))) }
-        ensures err { IfErr result (λ e. e ≢ NoMemory → after_node (world_state self.now) event.now node (node_rule ((world_state self.now).nodes node) step.now) ≡ Err e) }
-        ensures refused { (e : Refused) → after_node (world_state self.now) event.now node (node_rule ((world_state self.now).nodes node) step.now) ≡ Err e → result ≡ Err e }
+        ensures ok { IfOk result (λ change. Makes self.now (AtNode node input.now) change (taken (world_state self.now) (AtNode node input.now))) }
+        ensures err { IfErr result (λ e. e ≢ NoMemory → taken (world_state self.now) (AtNode node input.now) ≡ Err e) }
+        ensures refused { (e : Refused) → taken (world_state self.now) (AtNode node input.now) ≡ Err e → result ≡ Err e }
     {
-        let incarnation = self.named_incarnation(event, node);
-        let change = self.node_plan(alloc, node, step)?;
+        let incarnation = self.named_incarnation(node, input);
+        let change = self.node_plan(alloc, node, &NodeEvent::Input(*input))?;
+        let boxed = Box::new(alloc, change)?;
         Ok(Change::OfNode {
             node,
             incarnation,
-            change: Box::new(alloc, change)?,
+            change: boxed,
         })
     }
 
-    // The change that the event makes, which the token server takes.
-    fn plan_server(
-        &self,
-        alloc: Global,
-        event: &Event,
-        file: u16,
-        step: &ServerEvent,
-    ) -> Result<Change, Refused>
-        requires file { is_within self.now.shape.files file ≡ true }
-        requires same_event { IsServerStepOf event.now step.now }
-        ensures ok { IfOk result (λ change. Makes self.now event.now change (after_server (world_state self.now) event.now file (server_rule ((world_state self.now).servers file) step.now))) }
-        ensures err { IfErr result (λ e. e ≢ NoMemory → after_server (world_state self.now) event.now file (server_rule ((world_state self.now).servers file) step.now) ≡ Err e) }
-        ensures refused { (e : Refused) → e ≢ Refused.Spent → after_server (world_state self.now) event.now file (server_rule ((world_state self.now).servers file) step.now) ≡ Err e → result ≡ Err e }
+    // The change that what comes to the token server makes.
+    fn plan_server(&self, alloc: Global, file: u16, input: &ServerInput) -> Result<Change, Refused>
+        requires { is_within self.now.shape.files file ≡ true }
+        ensures ok { IfOk result (λ change. Makes self.now (AtServer file input.now) change (taken (world_state self.now) (AtServer file input.now))) }
+        ensures err { IfErr result (λ e. e ≢ NoMemory → taken (world_state self.now) (AtServer file input.now) ≡ Err e) }
+        ensures refused { (e : Refused) → e ≢ Refused.Spent → taken (world_state self.now) (AtServer file input.now) ≡ Err e → result ≡ Err e }
     {
-        let change = self.server_plan(alloc, file, step)?;
+        let change = self.server_plan(alloc, file, &ServerEvent::Input(*input))?;
         Ok(Change::OfServer { file, change })
     }
 
@@ -403,15 +399,17 @@ impl World {
     ) -> Result<Change, Refused>
         requires node { is_within self.now.shape.nodes node ≡ true }
         requires alive { (world_state self.now).alive node ≡ true }
-        ensures ok { IfOk result (λ change. Makes self.now (Deliver message.now) change (after_node (world_state self.now) (Deliver message.now) node (node_rule ((world_state self.now).nodes node) (own.Deliver message.now)))) }
-        ensures err { IfErr result (λ e. e ≢ NoMemory → after_node (world_state self.now) (Deliver message.now) node (node_rule ((world_state self.now).nodes node) (own.Deliver message.now)) ≡ Err e) }
-        ensures refused { (e : Refused) → after_node (world_state self.now) (Deliver message.now) node (node_rule ((world_state self.now).nodes node) (own.Deliver message.now)) ≡ Err e → result ≡ Err e }
+        requires to { addressee message.now ≡ ANode node }
+        ensures ok { IfOk result (λ change. Makes self.now (Deliver message.now) change (delivered (world_state self.now) message.now (ANode node))) }
+        ensures err { IfErr result (λ e. e ≢ NoMemory → delivered (world_state self.now) message.now (ANode node) ≡ Err e) }
+        ensures refused { (e : Refused) → delivered (world_state self.now) message.now (ANode node) ≡ Err e → result ≡ Err e }
     {
         let change = self.node_delivery(alloc, node, message)?;
+        let boxed = Box::new(alloc, change)?;
         Ok(Change::OfNode {
             node,
             incarnation: 0,
-            change: Box::new(alloc, change)?,
+            change: boxed,
         })
     }
 
@@ -423,9 +421,10 @@ impl World {
         message: &Message,
     ) -> Result<Change, Refused>
         requires file { is_within self.now.shape.files file ≡ true }
-        ensures ok { IfOk result (λ change. Makes self.now (Deliver message.now) change (after_server (world_state self.now) (Deliver message.now) file (server_rule ((world_state self.now).servers file) (served.Deliver message.now)))) }
-        ensures err { IfErr result (λ e. e ≢ NoMemory → after_server (world_state self.now) (Deliver message.now) file (server_rule ((world_state self.now).servers file) (served.Deliver message.now)) ≡ Err e) }
-        ensures refused { (e : Refused) → e ≢ Refused.Spent → after_server (world_state self.now) (Deliver message.now) file (server_rule ((world_state self.now).servers file) (served.Deliver message.now)) ≡ Err e → result ≡ Err e }
+        requires to { addressee message.now ≡ AServer file }
+        ensures ok { IfOk result (λ change. Makes self.now (Deliver message.now) change (delivered (world_state self.now) message.now (AServer file))) }
+        ensures err { IfErr result (λ e. e ≢ NoMemory → delivered (world_state self.now) message.now (AServer file) ≡ Err e) }
+        ensures refused { (e : Refused) → e ≢ Refused.Spent → delivered (world_state self.now) message.now (AServer file) ≡ Err e → result ≡ Err e }
     {
         let change = self.server_delivery(alloc, file, message)?;
         Ok(Change::OfServer { file, change })
@@ -448,7 +447,7 @@ impl World {
     // The change by which the node is declared failed, or the refusal.
     fn plan_declare(&self, node: u8) -> Result<Change, Refused>
         requires { is_within self.now.shape.nodes node ≡ true }
-        ensures ok { IfOk result (λ change. Makes self.now (event.Declare node) change (declare_rule (world_state self.now) node)) }
+        ensures ok { IfOk result (λ change. Makes self.now (Member (Declare node)) change (declare_rule (world_state self.now) node)) }
         ensures err { IfErr result (λ e. declare_rule (world_state self.now) node ≡ Err e) }
         ensures refused { (e : Refused) → declare_rule (world_state self.now) node ≡ Err e → result ≡ Err e }
     {
@@ -461,7 +460,7 @@ impl World {
     // The change by which the node restarts, or the refusal.
     fn plan_restart(&self, alloc: Global, node: u8) -> Result<Change, Refused>
         requires { is_within self.now.shape.nodes node ≡ true }
-        ensures ok { IfOk result (λ change. Makes self.now (event.Restart node) change (restart_rule (world_state self.now) node)) }
+        ensures ok { IfOk result (λ change. Makes self.now (Member (Restart node)) change (restart_rule (world_state self.now) node)) }
         ensures err { IfErr result (λ e. e ≢ NoMemory → restart_rule (world_state self.now) node ≡ Err e) }
         ensures refused { (e : Refused) → restart_rule (world_state self.now) node ≡ Err e → result ≡ Err e }
     {
@@ -469,6 +468,21 @@ impl World {
         let first = Node::new(alloc, self.shape, node, incarnation)?;
         let begun = Box::new(alloc, first)?;
         Ok(Change::Restarted { node, begun })
+    }
+
+    // The change by which a member is declared failed or begins again, or the refusal.
+    fn plan_member(&self, alloc: Global, event: &MemberEvent) -> Result<Change, Refused>
+        requires { has_member (world_state self.now) event.now ≡ true }
+        ensures ok { IfOk result (λ change. Makes self.now (Member event.now) change (member_rule (world_state self.now) event.now)) }
+        ensures err { IfErr result (λ e. e ≢ NoMemory → member_rule (world_state self.now) event.now ≡ Err e) }
+        ensures refused { (e : Refused) → member_rule (world_state self.now) event.now ≡ Err e → result ≡ Err e }
+    {
+        match event {
+            MemberEvent::Declare { node } => self.plan_declare(*node),
+            MemberEvent::Restart { node } => self.plan_restart(alloc, *node),
+            MemberEvent::FailServer { file } => self.plan_failure(*file),
+            MemberEvent::StartServer { file } => self.plan_start(alloc, *file),
+        }
     }
 
     // The change that the event makes, whichever actor takes it.
@@ -480,33 +494,10 @@ impl World {
         ensures refused { (e : Refused) → e ≢ Refused.Spent → taken (world_state self.now) event.now ≡ Err e → result ≡ Err e }
     {
         match event {
-            Event::Call { node, pid, op } => {
-                let step = NodeEvent::Call { pid: *pid, op: *op };
-                self.plan_node(alloc, event, *node, &step)
-            }
+            Event::AtNode(node, input) => self.plan_node(alloc, *node, input),
+            Event::AtServer(file, input) => self.plan_server(alloc, *file, input),
             Event::Deliver(message) => self.plan_delivery(alloc, message.get()),
-            Event::Interrupt { node, pid } => {
-                self.plan_node(alloc, event, *node, &NodeEvent::Interrupt { pid: *pid })
-            }
-            Event::Retry { node, pid } => {
-                self.plan_node(alloc, event, *node, &NodeEvent::Retry { pid: *pid })
-            }
-            Event::Resend { file } => self.plan_server(alloc, event, *file, &ServerEvent::Resend),
-            Event::Declare { node } => self.plan_declare(*node),
-            Event::Restart { node } => self.plan_restart(alloc, *node),
-            Event::FailServer { file } => self.plan_failure(*file),
-            Event::StartServer { file } => self.plan_start(alloc, *file),
-            Event::Learn {
-                file,
-                node,
-                incarnation,
-            } => {
-                let step = ServerEvent::Learn {
-                    node: *node,
-                    incarnation: *incarnation,
-                };
-                self.plan_server(alloc, event, *file, &step)
-            }
+            Event::Member(change) => self.plan_member(alloc, change),
         }
     }
 
@@ -625,7 +616,8 @@ impl World {
         self.length += 1;
         let outcome = Outcome::sending(Items::new(alloc));
         let kept = KeptOutcome::nothing();
-        Entry::at_node(Event::Declare { node }, incarnation, outcome, kept)
+        let event = Event::Member(MemberEvent::Declare { node });
+        Entry::at_node(event, incarnation, outcome, kept)
     }
 
     // Restarts the node, in this state. Gives the entry.
@@ -641,7 +633,8 @@ impl World {
         self.length += 1;
         let outcome = Outcome::sending(Items::new(alloc));
         let kept = KeptOutcome::nothing();
-        Entry::at_node(Event::Restart { node }, incarnation, outcome, kept)
+        let event = Event::Member(MemberEvent::Restart { node });
+        Entry::at_node(event, incarnation, outcome, kept)
     }
 
     /// Makes the planned change. Only the messages that it sends, which go to the list of those sent, may take

@@ -4,7 +4,7 @@ use lockscript::replies::push_reply;
 use message_text::names::{push_call, push_host};
 use messages::actor::Actor;
 use messages::entry::Entry;
-use messages::event::Event;
+use messages::event::{Event, NodeInput, ServerInput};
 use messages::message::Message;
 use messages::version::Version;
 use model::call::CallId;
@@ -53,12 +53,12 @@ fn push_event_lines(
 ) -> Result<(), AllocError> {
     let event = placed.entry.event();
     match event {
-        Event::Call { .. } => push_call_note(out, placed),
+        Event::AtNode(_, NodeInput::Call { .. }) => push_call_note(out, placed),
         Event::Deliver(message) => match placed.origin {
             Some(_) => push_message_line(out, "->>", message.get()),
             None => Ok(()),
         },
-        Event::Interrupt { .. } | Event::Retry { .. } | Event::Resend { .. } => {
+        Event::AtNode(_, _) | Event::AtServer(_, ServerInput::Resend) => {
             push_note_start(out, actor_of(event))?;
             push_event_line(out, version, placed.entry)
         }

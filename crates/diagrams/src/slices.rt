@@ -2,7 +2,7 @@
 use crate::track::Track;
 use lockscript::operations::Operation;
 use message_text::names::push_call;
-use messages::event::Event;
+use messages::event::{Event, NodeInput};
 use messages::version::Version;
 use pictures::bar::Bar;
 use pictures::drawing::Drawing;
@@ -67,7 +67,7 @@ pub(crate) fn push_entry_events(
 ) -> Result<(), AllocError> {
     let event = placed.entry.event();
     let time = begin_of(placed.position);
-    if !matches!(event, Event::Call { .. }) {
+    if !matches!(event, Event::AtNode(_, NodeInput::Call { .. })) {
         push_head(out, "X", "entry", &Track::of(placed.entry), time)?;
         out.push_str(",\"dur\":1000")?;
         push_event(out, drawing.version, placed)?;

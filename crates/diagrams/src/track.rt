@@ -1,13 +1,13 @@
 //! Rows of a trace. Each error is `AllocError`: a request for memory was refused.
 ghost use Rattle.std.specs.Prelude.{◌≡◌};
-ghost use Rattle.diagrams.specs.rule.Tracks.{incarnation_of, process_of, thread_of, track_in, track_of, track_of_bar, track_of_call, track_to};
+ghost use Rattle.diagrams.specs.rule.Tracks.{incarnation_of, pid_of, process_of, thread_of, track_at, track_in, track_of, track_of_bar, track_of_call};
 
 use message_text::names::push_host;
 use messages::actor::Actor;
 use messages::entry::Entry;
-use messages::event::Event;
-use messages::message::Message;
+use messages::event::{Event, NodeInput};
 use model::call::CallId;
+use pictures::actors::member_of;
 use pictures::bar::Bar;
 use std::alloc::AllocError;
 use std::fmt::Write;
@@ -116,39 +116,42 @@ fn incarnation_of(entry: &Entry) -> u16
     }
 }
 
+// The process that it is of.
+fn pid_of(input: &NodeInput) -> u16
+    ensures { result ≡ pid_of input.now }
+{
+    match input {
+        NodeInput::Call { pid, .. } => *pid,
+        NodeInput::Interrupt { pid } => *pid,
+        NodeInput::Retry { pid } => *pid,
+    }
+}
+
+// The row of the actor itself, a node in this incarnation.
+fn track_at(incarnation: u16, actor: Actor) -> Track
+    ensures { result ≡ track_at incarnation actor }
+{
+    match actor {
+        Actor::Node(node) => Track::Node { node, incarnation },
+        Actor::Server(file) => Track::Server(file),
+    }
+}
+
 // The row on which an event stands, of an entry that names this incarnation.
 fn track_in(incarnation: u16, event: &Event) -> Track
     ensures { result ≡ track_in incarnation event.now }
 {
     match event {
-        Event::Deliver(message) => track_to(message.get(), message.get().addressee()),
-        Event::Call { node, pid, .. }
-        | Event::Interrupt { node, pid }
-        | Event::Retry { node, pid } => Track::Process {
+        Event::AtNode(node, input) => Track::Process {
             node: *node,
             incarnation,
-            pid: *pid,
+            pid: pid_of(input),
         },
-        Event::Declare { node } | Event::Restart { node } => Track::Node {
-            node: *node,
-            incarnation,
-        },
-        Event::Resend { file }
-        | Event::Learn { file, .. }
-        | Event::FailServer { file }
-        | Event::StartServer { file } => Track::Server(*file),
-    }
-}
-
-// The row of the actor to which a message comes.
-fn track_to(message: &Message, actor: Actor) -> Track
-    ensures { result ≡ track_to message.now actor }
-{
-    match actor {
-        Actor::Node(node) => Track::Node {
-            node,
-            incarnation: message.host().incarnation,
-        },
-        Actor::Server(file) => Track::Server(file),
+        Event::AtServer(file, _) => Track::Server(*file),
+        Event::Deliver(message) => {
+            let message = message.get();
+            track_at(message.host().incarnation, message.addressee())
+        }
+        Event::Member(change) => track_at(incarnation, member_of(change)),
     }
 }

@@ -9,7 +9,7 @@
 //!   unchanged; it goes to its addressee. It may be late, come again, or be lost.
 //! - A node that was declared failed takes no more steps in that incarnation, not even one that was
 //!   planned before.
-//! - A server may be told (`ServerEvent::Learn`) only of an incarnation that was declared failed. It
+//! - A server may be told (`ServerInput::Learn`) only of an incarnation that was declared failed. It
 //!   can't test that: of a live node it would forget what that node holds, and grant the same bytes to
 //!   another. Two nodes could then lock them at once.
 //! - A node restarts only after it was declared failed: empty (`Node::new`), and in its next

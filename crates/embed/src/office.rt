@@ -5,6 +5,7 @@ use crate::pace::Pace;
 use crate::shown::show_span;
 use crate::wire::message_in;
 use intervals::span::Span;
+use messages::event::ServerInput;
 use messages::items::Items;
 use messages::message::Message;
 use model::level::Level;
@@ -52,7 +53,8 @@ impl Office {
     fn take(&mut self, rt: &HostRuntime, letter: ServerLetter) -> anyhow::Result<Items<Message>> {
         match letter {
             ServerLetter::Declared { node, incarnation } => {
-                self.learn(rt.alloc(), &ServerEvent::Learn { node, incarnation })
+                let news = ServerInput::Learn { node, incarnation };
+                self.learn(rt.alloc(), &ServerEvent::Input(news))
             }
             ServerLetter::Line(line) => self.deliver(rt.alloc(), &line),
             ServerLetter::Tick => self.tick(rt),
@@ -102,7 +104,9 @@ impl Office {
 
     // What the server sends again, if there is any.
     fn resend(&mut self, alloc: Global) -> anyhow::Result<Option<Items<Message>>> {
-        let change = self.server.plan(alloc, &ServerEvent::Resend)?;
+        let change = self
+            .server
+            .plan(alloc, &ServerEvent::Input(ServerInput::Resend))?;
         if change.outcome.sends.is_empty() {
             return Ok(None);
         }

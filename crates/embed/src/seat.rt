@@ -3,6 +3,7 @@ use crate::letter::NodeLetter;
 use crate::pace::Pace;
 use crate::shown::show_span;
 use crate::wire::message_in;
+use messages::event::NodeInput;
 use messages::items::Items;
 use messages::message::Message;
 use messages::outcome::Outcome;
@@ -84,7 +85,9 @@ fn take(
     letter: NodeLetter,
 ) -> anyhow::Result<Items<Message>> {
     match letter {
-        NodeLetter::Call { pid, op } => step(rt, node, &NodeEvent::Call { pid, op }),
+        NodeLetter::Call { pid, op } => {
+            step(rt, node, &NodeEvent::Input(NodeInput::Call { pid, op }))
+        }
         NodeLetter::Line(line) => deliver(rt, node, &line),
         NodeLetter::Tick => tick(rt, node, pace),
     }
@@ -157,7 +160,8 @@ fn retry_all(
 fn retry(rt: &HostRuntime, node: &mut Node, call: &OpenCall) -> anyhow::Result<Items<Message>> {
     let by = node.host().node;
     println!(rt; "node {by} tries call {} again", call.number)?;
-    step(rt, node, &NodeEvent::Retry { pid: call.pid })
+    let retry = NodeInput::Retry { pid: call.pid };
+    step(rt, node, &NodeEvent::Input(retry))
 }
 
 // Prints an open call.

@@ -5,7 +5,7 @@ use crate::part::{Part, add_call, count_ready, next_ready, push_retries, see_all
 use cluster_core::run::Run;
 use lockscript::script_line::{Command, ScriptLine};
 use messages::entry::Entry;
-use messages::event::Event;
+use messages::event::{Event, MemberEvent};
 use model::op::{Op, ProcessCall};
 use std::alloc::{AllocError, Global};
 use std::collections::VecDeque;
@@ -121,7 +121,7 @@ impl<'a> Chooser<'a> {
         if see_all(self.parts.as_mut_slice(), entry) {
             self.rounds = 0;
         }
-        if let Event::Declare { node } = entry.event() {
+        if let Event::Member(MemberEvent::Declare { node }) = entry.event() {
             push_learns(
                 &mut self.due,
                 self.files.as_slice(),

@@ -1,6 +1,6 @@
 //! Who was declared failed.
 use messages::entry::Entry;
-use messages::event::Event;
+use messages::event::{Event, MemberEvent};
 use std::alloc::{AllocError, Global};
 
 /// The nodes, and the files whose token servers, that were declared failed and have not begun again.
@@ -24,12 +24,14 @@ impl Failed {
     /// # Errors
     /// `AllocError` where a request for memory was refused.
     pub(crate) fn see(&mut self, entry: &Entry) -> Result<(), AllocError> {
-        match entry.event() {
-            Event::Declare { node } => self.nodes.push(*node)?,
-            Event::Restart { node } => self.nodes.retain(|failed| failed != node),
-            Event::FailServer { file } => self.files.push(*file)?,
-            Event::StartServer { file } => self.files.retain(|failed| failed != file),
-            _ => {}
+        let Event::Member(change) = entry.event() else {
+            return Ok(());
+        };
+        match change {
+            MemberEvent::Declare { node } => self.nodes.push(*node)?,
+            MemberEvent::Restart { node } => self.nodes.retain(|failed| failed != node),
+            MemberEvent::FailServer { file } => self.files.push(*file)?,
+            MemberEvent::StartServer { file } => self.files.retain(|failed| failed != file),
         }
         Ok(())
     }

@@ -1,7 +1,7 @@
 //! The calls of a process that are to be made.
 use lockscript::script_line::Command;
 use messages::entry::Entry;
-use messages::event::Event;
+use messages::event::{Event, MemberEvent, NodeInput};
 use model::call::CallId;
 use std::alloc::{AllocError, Global};
 use std::collections::VecDeque;
@@ -67,8 +67,10 @@ impl Part {
     /// node. Whether the entry answers it.
     pub(crate) fn see(&mut self, entry: &Entry) -> bool {
         match entry.event() {
-            Event::Call { node, pid, .. } if self.is_of(*node, *pid) => self.open = entry.call(),
-            Event::Declare { node } if self.node == *node => self.open = None,
+            Event::AtNode(node, NodeInput::Call { pid, .. }) if self.is_of(*node, *pid) => {
+                self.open = entry.call()
+            }
+            Event::Member(MemberEvent::Declare { node }) if self.node == *node => self.open = None,
             _ => {}
         }
         let is_answered = match (self.open, entry.reply()) {

@@ -2,7 +2,7 @@
 use crate::answer::Answer;
 use crate::by_process::{ByProcess, add, value_at};
 use messages::entry::Entry;
-use messages::event::Event;
+use messages::event::{Event, NodeInput};
 use model::call::CallId;
 use model::reply::Reply;
 use std::alloc::{AllocError, Global};
@@ -108,9 +108,13 @@ fn names(alloc: Global, entries: &[Entry]) -> Result<Names, AllocError>
 fn note_name(names: &mut Names, alloc: Global, entry: &Entry) -> Result<(), AllocError>
     ensures { OnOk result ((node pid : ℕ) → list_in names.new node pid ≡ list_in names.old node pid ++ (if is_call_by node pid entry.now.event then option_to_list entry.now.call else [])) }
 {
-    if let (Event::Call { node, pid, .. }, Some(call)) = (entry.event(), entry.call()) {
-        add(names, alloc, *node, *pid, call)?;
-    }
+    let Some(call) = entry.call() else {
+        return Ok(());
+    };
+    let Event::AtNode(node, NodeInput::Call { pid, .. }) = entry.event() else {
+        return Ok(());
+    };
+    add(names, alloc, *node, *pid, call)?;
     Ok(())
 }
 

@@ -17,7 +17,10 @@ use Rattle.messages.specs.rule.Epochs.{IsCommand}
 use Rattle.messages.specs.rule.Messages.{addressee, greatest_number, is_among, is_within}
 use Rattle.messages.specs.rule.Shapes.{IsShape, ShapeFields, most_files}
 use Rattle.messages.specs.declared.event.Event.{Event}
-use Rattle.messages.specs.declared.event.Event.TheVariants as event
+use Rattle.messages.specs.declared.event.Event.TheVariants.{AtNode, AtServer, Deliver, Member}
+use Rattle.messages.specs.declared.event.NodeInput.TheVariants.{Call, Interrupt, Retry}
+use Rattle.messages.specs.declared.event.ServerInput.TheVariants.{Resend, Learn}
+use Rattle.messages.specs.declared.event.MemberEvent.TheVariants.{Declare, Restart, FailServer, StartServer}
 use Rattle.messages.specs.rule.Versions.{may_rebuild}
 use Rattle.messages.specs.declared.message.Message.{Message}
 use Rattle.messages.specs.declared.message.Message.TheVariants as message
@@ -107,31 +110,31 @@ module _ (w : WorldState) (incarnation : ℕ) (shape : IsShape w.shape) (fits : 
   host-in : (n : ℕ) → has_node w n ≡ true → 1 ≤ incarnation → IsHost n incarnation
   host-in n known from = record { node_in = node-in n known; incarnation_in = (from, fits) }
 
-  event-named : (e : Event) (call : Option CallId) → is_known w e ≡ true → FitsEvent e → NamesItsIncarnation e incarnation → IfSome call IsCall → NamesItsCall e call → ((m : Message) → e ≡ event.Deliver m → may_rebuild w.shape.version ≡ false → IsEarly m) → IsNamed w.shape.version e incarnation call
-  event-named (event.Call n pid o) None known fit from call_in names early = absurd names
-  event-named (event.Call n pid o) (Some id) known fit from call_in names early =
+  event-named : (e : Event) (call : Option CallId) → is_known w e ≡ true → FitsEvent e → NamesItsIncarnation e incarnation → IfSome call IsCall → NamesItsCall e call → ((m : Message) → e ≡ Deliver m → may_rebuild w.shape.version ≡ false → IsEarly m) → IsNamed w.shape.version e incarnation call
+  event-named (AtNode n (Call pid o)) None known fit from call_in names early = absurd names
+  event-named (AtNode n (Call pid o)) (Some id) known fit from call_in names early =
       let parts = and_parts (has_node w n) (is_pid pid && is_in_shape w.shape o) known in
       let rest = and_parts (is_pid pid) (is_in_shape w.shape o) parts.1 in
       record {
         name = named.Call id pid o;
-        event_is = ap (λ (k : ℕ). event.Call k pid o) (sym names);
+        event_is = ap (λ (k : ℕ). AtNode k (Call pid o)) (sym names);
         incarnation_is = from;
         call_is = refl;
         event_in = (call_in, pid-in pid rest.0, op-served w.shape o shape rest.1 fit);
       }
-  event-named (event.Deliver m) call known fit from call_in names early = record { name = named.Deliver m; event_is = refl; incarnation_is = from; call_is = names; event_in = message-served w.shape.version m fit (early m refl) }
-  event-named (event.Interrupt n pid) call known fit from call_in names early =
+  event-named (Deliver m) call known fit from call_in names early = record { name = named.Deliver m; event_is = refl; incarnation_is = from; call_is = names; event_in = message-served w.shape.version m fit (early m refl) }
+  event-named (AtNode n (Interrupt pid)) call known fit from call_in names early =
       let parts = and_parts (has_node w n) (is_pid pid) known in
       record { name = named.Interrupt (record { node = n; incarnation = incarnation }) pid; event_is = refl; incarnation_is = refl; call_is = names; event_in = (host-in n parts.0 from, pid-in pid parts.1) }
-  event-named (event.Retry n pid) call known fit from call_in names early =
+  event-named (AtNode n (Retry pid)) call known fit from call_in names early =
       let parts = and_parts (has_node w n) (is_pid pid) known in
       record { name = named.Retry (record { node = n; incarnation = incarnation }) pid; event_is = refl; incarnation_is = refl; call_is = names; event_in = (host-in n parts.0 from, pid-in pid parts.1) }
-  event-named (event.Resend file) call known fit from call_in names early = record { name = named.Resend file; event_is = refl; incarnation_is = from; call_is = names; event_in = file-in file known }
-  event-named (event.Declare n) call known fit from call_in names early =
+  event-named (AtServer file Resend) call known fit from call_in names early = record { name = named.Resend file; event_is = refl; incarnation_is = from; call_is = names; event_in = file-in file (and_parts (has_file w file) true known).0 }
+  event-named (Member (Declare n)) call known fit from call_in names early =
       record { name = named.Declare (record { node = n; incarnation = incarnation }); event_is = refl; incarnation_is = refl; call_is = names; event_in = host-in n known from }
-  event-named (event.Restart n) call known fit from call_in names early =
+  event-named (Member (Restart n)) call known fit from call_in names early =
       record { name = named.Restart (record { node = n; incarnation = incarnation }); event_is = refl; incarnation_is = refl; call_is = names; event_in = host-in n known from }
-  event-named (event.Learn file n i) call known fit from call_in names early =
+  event-named (AtServer file (Learn n i)) call known fit from call_in names early =
       let parts = and_parts (has_file w file) (has_node w n && was_declared w n i) known in
       let rest = and_parts (has_node w n) (was_declared w n i) parts.1 in
       let told = and_parts (nat_le 1 i) _ rest.1 in
@@ -143,10 +146,10 @@ module _ (w : WorldState) (incarnation : ℕ) (shape : IsShape w.shape) (fits : 
         call_is = names;
         event_in = (file-in file parts.0, record { node_in = node-in n rest.0; incarnation_in = (above, fit) });
       }
-  event-named (event.FailServer file) call known fit from call_in names early =
+  event-named (Member (FailServer file)) call known fit from call_in names early =
       let parts = and_parts (may_rebuild w.shape.version) (has_file w file) known in
       record { name = named.FailServer file incarnation; event_is = refl; incarnation_is = refl; call_is = names; event_in = (parts.0, file-in file parts.1, (from, fits)) }
-  event-named (event.StartServer file) call known fit from call_in names early =
+  event-named (Member (StartServer file)) call known fit from call_in names early =
       let parts = and_parts (may_rebuild w.shape.version) (has_file w file) known in
       record { name = named.StartServer file incarnation; event_is = refl; incarnation_is = refl; call_is = names; event_in = (parts.0, file-in file parts.1, (from, fits)) }
 
@@ -157,7 +160,7 @@ record IsServedEntry (version : Version) (e : EntryFields) : Type 0 where
   sends_in : All (IsServedMessage version) e.sends
 
 -- in version 1 all messages that were sent before an entry, and the ones it sends, are of the first epoch
-delivered-known : (w : WorldState) (e : Event) (m : Message) → is_known w e ≡ true → e ≡ event.Deliver m → is_among w.sent m ≡ true
+delivered-known : (w : WorldState) (e : Event) (m : Message) → is_known w e ≡ true → e ≡ Deliver m → is_among w.sent m ≡ true
 delivered-known w e m known is = (and_parts (has_actor w (addressee m)) (is_among w.sent m) (sym (ap (is_known w) is) ∙ known)).1
 
 leads-served : (s : ShapeFields) (before : List EntryFields) (w v : WorldState) (es : List EntryFields) → IsShape s → s ≡ w.shape → Leads (first_world s) before w → Leads w es v → All FitsEntry es → All (IsServedEntry s.version) es
@@ -169,7 +172,7 @@ leads-served s before w v (e ∷ es) shape is_of so_far leads fits =
     let same = leads_shape w mid (e ∷ []) (mid, leads.1, refl) in
     let longer = leads_push (first_world s) w mid before e so_far leads.1 in
     let here : ShapeFields → Type 0 = λ x. IsNamed x.version e.event e.incarnation e.call in
-    let delivered : (m : Message) → e.event ≡ event.Deliver m → may_rebuild w.shape.version ≡ false → IsEarly m = λ m is never. (early_run s before w (ap (λ (x : ShapeFields). may_rebuild x.version) is_of ∙ never) so_far).1 m (delivered-known w e.event m known is) in
+    let delivered : (m : Message) → e.event ≡ Deliver m → may_rebuild w.shape.version ≡ false → IsEarly m = λ m is never. (early_run s before w (ap (λ (x : ShapeFields). may_rebuild x.version) is_of ∙ never) so_far).1 m (delivered-known w e.event m known is) in
     let named_in = event-named w e.incarnation (subst IsShape is_of shape) fit.incarnation_in e.event e.call known fit.event_in fit.incarnation_named fit.call_in fit.call_named delivered in
     let sent : may_rebuild s.version ≡ false → All IsEarly e.sends = λ never. All-last (λ (d : EntryFields). All IsEarly d.sends) before e (early_run s (before ++ e ∷ []) mid never longer).0 in
     let first : IsServedEntry s.version e = record { event_in = subst here (sym is_of) named_in; reply_in = fit.reply_in; sends_in = messages-served s.version e.sends fit.sends_in sent } in

@@ -6,7 +6,7 @@ ghost use Rattle.journal_text.specs.rule.Served.{IsServedReply};
 
 use message_text::fits::{call_fits, lock_fits, message_fits};
 use messages::entry::Entry;
-use messages::event::Event;
+use messages::event::{Event, NodeInput, ServerInput};
 use messages::shared_message::SharedMessage;
 use model::op::Op;
 use model::reply::Reply;
@@ -33,12 +33,14 @@ fn event_fits(event: &Event)
     ensures { FitsEvent event.now }
 {
     match event {
-        Event::Call { op, .. } => op_fits(*op),
-        Event::Deliver(message) => message_fits(message.get()),
-        Event::Learn { incarnation, .. } => {
+        Event::AtNode(_, NodeInput::Call { op, .. }) => op_fits(*op),
+        Event::AtNode(_, NodeInput::Interrupt { .. } | NodeInput::Retry { .. }) => (),
+        Event::AtServer(_, ServerInput::Resend) => (),
+        Event::AtServer(_, ServerInput::Learn { incarnation, .. }) => {
             let _incarnation = *incarnation;
         }
-        _ => (),
+        Event::Deliver(message) => message_fits(message.get()),
+        Event::Member(_) => (),
     }
 }
 

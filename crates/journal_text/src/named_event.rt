@@ -5,7 +5,7 @@ ghost use Rattle.std.specs.Prelude.{◌≡◌, IfOk};
 ghost use Rattle.journal_text.specs.rule.Events as named;
 
 use message_text::written_message::WrittenMessage;
-use messages::event::Event;
+use messages::event::{Event, MemberEvent, NodeInput, ServerInput};
 use messages::shared_message::SharedMessage;
 use model::call::CallId;
 use model::host::Host;
@@ -43,32 +43,31 @@ impl NamedEvent<'_> {
         ensures { IfOk result (λ event. event ≡ named.event_of self.entry) }
     {
         Ok(match self {
-            NamedEvent::Call { call, pid, op } => Event::Call {
-                node: call.node,
-                pid,
-                op,
-            },
+            NamedEvent::Call { call, pid, op } => {
+                Event::AtNode(call.node, NodeInput::Call { pid, op })
+            }
             NamedEvent::Deliver(message) => {
                 Event::Deliver(SharedMessage::new(alloc, message.message(alloc)?)?)
             }
-            NamedEvent::Interrupt { host, pid } => Event::Interrupt {
-                node: host.node,
-                pid,
-            },
-            NamedEvent::Retry { host, pid } => Event::Retry {
-                node: host.node,
-                pid,
-            },
-            NamedEvent::Resend { file } => Event::Resend { file },
-            NamedEvent::Declare { host } => Event::Declare { node: host.node },
-            NamedEvent::Restart { host } => Event::Restart { node: host.node },
-            NamedEvent::Learn { file, host } => Event::Learn {
+            NamedEvent::Interrupt { host, pid } => {
+                Event::AtNode(host.node, NodeInput::Interrupt { pid })
+            }
+            NamedEvent::Retry { host, pid } => Event::AtNode(host.node, NodeInput::Retry { pid }),
+            NamedEvent::Resend { file } => Event::AtServer(file, ServerInput::Resend),
+            NamedEvent::Declare { host } => {
+                Event::Member(MemberEvent::Declare { node: host.node })
+            }
+            NamedEvent::Restart { host } => {
+                Event::Member(MemberEvent::Restart { node: host.node })
+            }
+            NamedEvent::Learn { file, host } => {
+                let Host { node, incarnation } = host;
+                Event::AtServer(file, ServerInput::Learn { node, incarnation })
+            }
+            NamedEvent::FailServer { file, .. } => Event::Member(MemberEvent::FailServer { file }),
+            NamedEvent::StartServer { file, .. } => Event::Member(MemberEvent::StartServer {
                 file,
-                node: host.node,
-                incarnation: host.incarnation,
-            },
-            NamedEvent::FailServer { file, .. } => Event::FailServer { file },
-            NamedEvent::StartServer { file, .. } => Event::StartServer { file },
+            }),
         })
     }
 

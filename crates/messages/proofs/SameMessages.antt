@@ -24,9 +24,18 @@ use Rattle.model.proofs.OwnerLaws.{owner_exact, owner_refl}
 pub use Rattle.model.proofs.OwnerLaws.{host_refl}
 use Rattle.messages.specs.contracts.message.MessagePartialEq.TheImpl as derived
 use Rattle.messages.specs.contracts.event.EventPartialEq.TheImpl as derived_of_events
+use Rattle.messages.specs.contracts.event.NodeInputPartialEq.TheImpl as derived_of_node_inputs
+use Rattle.messages.specs.contracts.event.ServerInputPartialEq.TheImpl as derived_of_server_inputs
+use Rattle.messages.specs.contracts.event.MemberEventPartialEq.TheImpl as derived_of_member_events
 use Rattle.messages.specs.rule.Wants.{Wants}
 use Rattle.messages.specs.declared.event.Event.{Event}
-use Rattle.messages.specs.declared.event.Event.TheVariants.{Call, Deliver, Interrupt, Retry, Resend, Declare, Restart, Learn, FailServer, StartServer}
+use Rattle.messages.specs.declared.event.Event.TheVariants.{AtNode, AtServer, Deliver, Member}
+use Rattle.messages.specs.declared.event.NodeInput.{NodeInput}
+use Rattle.messages.specs.declared.event.NodeInput.TheVariants.{Call, Interrupt, Retry}
+use Rattle.messages.specs.declared.event.ServerInput.{ServerInput}
+use Rattle.messages.specs.declared.event.ServerInput.TheVariants.{Resend, Learn}
+use Rattle.messages.specs.declared.event.MemberEvent.{MemberEvent}
+use Rattle.messages.specs.declared.event.MemberEvent.TheVariants.{Declare, Restart, FailServer, StartServer}
 use Rattle.messages.specs.declared.message.Blocking.{Blocking}
 use Rattle.messages.specs.declared.message.Blocking.TheVariants.{No, Yes}
 use Rattle.messages.specs.declared.message.Message.{Message}
@@ -158,21 +167,44 @@ op_eq-Decides (Lock a) (Lock b) = (λ h. ap Lock ((lock_call_eq-Decides a b).0 h
 op_eq-Decides (Unlock fd kind start len) (Unlock k j s l) = grind (arith, common_steps)
 op_eq-Decides _ _ = (λ h. absurd (false≢true h), λ e. cc)
 
-call_events : (node pid n p : ℕ) (op o : Op) → derived_of_events.ghosts.eq (Call node pid op) (Call n p o) ≡ ((node == n) && ((pid == p) && derived_of_ops.ghosts.eq op o))
-call_events node pid n p op o = search rules
+calls : (pid p : ℕ) (op o : Op) → derived_of_node_inputs.ghosts.eq (Call pid op) (Call p o) ≡ ((pid == p) && derived_of_ops.ghosts.eq op o)
+calls pid p op o = search rules
+
+-- the derived `==` of what comes to actors is equality
+node_input_eq-Decides : (a b : NodeInput) → Decides (derived_of_node_inputs.ghosts.eq a b) (a ≡ b)
+node_input_eq-Decides (Call pid op) (Call p o) = Decides-at _ _ (calls pid p op o) (
+    Decides-like _ (λ (pids, ops) i. Call (pids i) (ops i)) (λ e. (cc, cc))
+    (both (Decides-eqb pid p) (op_eq-Decides op o)))
+node_input_eq-Decides (Interrupt pid) (Interrupt p) = grind (arith, common_steps)
+node_input_eq-Decides (Retry pid) (Retry p) = grind (arith, common_steps)
+node_input_eq-Decides _ _ = (λ h. absurd (false≢true h), λ e. cc)
+
+server_input_eq-Decides : (a b : ServerInput) → Decides (derived_of_server_inputs.ghosts.eq a b) (a ≡ b)
+server_input_eq-Decides Resend Resend = (λ h. refl, λ e. refl)
+server_input_eq-Decides (Learn node incarnation) (Learn n i) = grind (arith, common_steps)
+server_input_eq-Decides _ _ = (λ h. absurd (false≢true h), λ e. cc)
+
+member_event_eq-Decides : (a b : MemberEvent) → Decides (derived_of_member_events.ghosts.eq a b) (a ≡ b)
+member_event_eq-Decides (Declare node) (Declare n) = grind (arith, common_steps)
+member_event_eq-Decides (Restart node) (Restart n) = grind (arith, common_steps)
+member_event_eq-Decides (FailServer file) (FailServer f) = grind (arith, common_steps)
+member_event_eq-Decides (StartServer file) (StartServer f) = grind (arith, common_steps)
+member_event_eq-Decides _ _ = (λ h. absurd (false≢true h), λ e. cc)
+
+at_nodes : (node n : ℕ) (input other : NodeInput) → derived_of_events.ghosts.eq (AtNode node input) (AtNode n other) ≡ ((node == n) && derived_of_node_inputs.ghosts.eq input other)
+at_nodes node n input other = search rules
+
+at_servers : (file f : ℕ) (input other : ServerInput) → derived_of_events.ghosts.eq (AtServer file input) (AtServer f other) ≡ ((file == f) && derived_of_server_inputs.ghosts.eq input other)
+at_servers file f input other = search rules
 
 -- the derived `==` of events decides equality
 pub event_eq-Decides : (a b : Event) → Decides (derived_of_events.ghosts.eq a b) (a ≡ b)
-event_eq-Decides (Call node pid op) (Call n p o) = Decides-at _ _ (call_events node pid n p op o) (
-    Decides-like _ (λ (nodes, (pids, ops)) i. Call (nodes i) (pids i) (ops i)) (λ e. (cc, (cc, cc)))
-    (both (Decides-eqb node n) (both (Decides-eqb pid p) (op_eq-Decides op o))))
+event_eq-Decides (AtNode node input) (AtNode n other) = Decides-at _ _ (at_nodes node n input other) (
+    Decides-like _ (λ (nodes, inputs) i. AtNode (nodes i) (inputs i)) (λ e. (cc, cc))
+    (both (Decides-eqb node n) (node_input_eq-Decides input other)))
+event_eq-Decides (AtServer file input) (AtServer f other) = Decides-at _ _ (at_servers file f input other) (
+    Decides-like _ (λ (files, inputs) i. AtServer (files i) (inputs i)) (λ e. (cc, cc))
+    (both (Decides-eqb file f) (server_input_eq-Decides input other)))
 event_eq-Decides (Deliver m) (Deliver n) = (λ h. ap Deliver ((message_eq-Decides m n).0 h), λ e. (message_eq-Decides m n).1 (cc))
-event_eq-Decides (Interrupt node pid) (Interrupt n p) = grind (arith, common_steps)
-event_eq-Decides (Retry node pid) (Retry n p) = grind (arith, common_steps)
-event_eq-Decides (Resend file) (Resend f) = grind (arith, common_steps)
-event_eq-Decides (Declare node) (Declare n) = grind (arith, common_steps)
-event_eq-Decides (Restart node) (Restart n) = grind (arith, common_steps)
-event_eq-Decides (FailServer file) (FailServer f) = grind (arith, common_steps)
-event_eq-Decides (StartServer file) (StartServer f) = grind (arith, common_steps)
-event_eq-Decides (Learn file node incarnation) (Learn f n i) = grind (arith, common_steps)
+event_eq-Decides (Member event) (Member other) = (λ h. ap Member ((member_event_eq-Decides event other).0 h), λ e. (member_event_eq-Decides event other).1 (cc))
 event_eq-Decides _ _ = (λ h. absurd (false≢true h), λ e. cc)

@@ -2,7 +2,7 @@
 ghost use Rattle.std.specs.Prelude.{◌≡◌, ◌↔◌, IsTrue};
 ghost use Rattle.messages.specs.code.Entries.{NamesItsCall, NamesItsIncarnation, entry_of, kept_name};
 
-use crate::event::Event;
+use crate::event::{Event, NodeInput};
 use crate::kept_outcome::KeptOutcome;
 use crate::outcome::Outcome;
 use crate::shared_message::SharedMessage;
@@ -89,7 +89,7 @@ impl Entry {
         ensures incarnated { NamesItsIncarnation self.now.event result }
     {
         match self.event {
-            Event::Call { .. } => 0,
+            Event::AtNode(_, NodeInput::Call { .. }) => 0,
             _ => self.incarnation,
         }
     }
@@ -100,7 +100,7 @@ impl Entry {
         ensures named { NamesItsCall self.now.event result }
     {
         match self.event {
-            Event::Call { node, .. } => Some(CallId {
+            Event::AtNode(node, NodeInput::Call { .. }) => Some(CallId {
                 node,
                 incarnation: self.incarnation,
                 number: self.number,

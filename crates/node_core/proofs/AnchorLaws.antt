@@ -34,6 +34,7 @@ use Rattle.messages.specs.declared.refusal.StepError.{StepError}
 use Rattle.messages.specs.declared.refusal.StepError.TheVariants.{Stranger, Busy, Spent}
 use Rattle.messages.specs.declared.outcome.Outcome.{Outcome}
 use Rattle.messages.specs.rule.Messages.{addressee, host_of, file_of, is_within, greatest_number}
+use Rattle.messages.specs.declared.event.NodeInput.TheVariants as input
 use Rattle.node_core.specs.declared.event.NodeEvent.{NodeEvent}
 use Rattle.node_core.specs.declared.event.NodeEvent.TheVariants as event
 use Rattle.model.specs.declared.op.LockCommand.{LockCommand}
@@ -307,10 +308,10 @@ retry-anchored s pid h =
 
 -- all holds still after each event
 pub rule-anchored : (s : NodeState) (e : NodeEvent) → IsAnchored s → IfOk (node_rule s e) (λ done. IsAnchored done.0)
-rule-anchored s (event.Call pid op) h = call-anchored s pid op h
+rule-anchored s (event.Input (input.Call pid op)) h = call-anchored s pid op h
 rule-anchored s (event.Deliver m) h = message-anchored s m h
-rule-anchored s (event.Interrupt pid) h = interrupt-anchored s pid h
-rule-anchored s (event.Retry pid) h = retry-anchored s pid h
+rule-anchored s (event.Input (input.Interrupt pid)) h = interrupt-anchored s pid h
+rule-anchored s (event.Input (input.Retry pid)) h = retry-anchored s pid h
 
 -- all holds of a node that begins
 pub first_anchored : (p : NodeParts) → processes p.processes ≡ no_processes → held p.locks ≡ no_locks → p.pending ≡ [] → AreAnchored (table_of p) p.node p.incarnation p.pending

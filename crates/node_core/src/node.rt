@@ -2,7 +2,7 @@
 ghost use Rattle.std.specs.Prelude.{◌≡◌, ◌≢◌, ◌≤◌, ◌-◌, ◌↔◌, Some, Ok, Err, IfOk, IfErr, IfSome, IsTrue};
 ghost use Rattle.std.specs.List.{slice_get};
 ghost use Rattle.model.specs.rule.Limits.{IsNumber, most_processes};
-ghost use Rattle.node_core.specs.declared.event.NodeEvent.TheVariants.{Deliver};
+ghost use Rattle.node_core.specs.declared.event.NodeEvent.TheVariants.{Input, Deliver};
 ghost use Rattle.node_core.specs.rule.State.{first_node, host, process, id_of, open_call, open_call_of};
 ghost use Rattle.node_core.specs.rule.Node.{node_rule};
 ghost use Rattle.node_core.specs.rule.Files.{state_of};
@@ -19,6 +19,7 @@ use crate::open_call::OpenCall;
 use crate::open_calls::OpenCalls;
 use descriptors::processes::Processes;
 use lock_table::lock_table::LockTable;
+use messages::event::NodeInput;
 use messages::file_number::FileNumber;
 use messages::message::Message;
 use messages::outcome::Outcome;
@@ -210,6 +211,21 @@ impl Node {
         self.plan_message(alloc, message)
     }
 
+    // Plans what the node does at what comes to it beside messages, as `plan` does for the event.
+    fn plan_input(&self, alloc: Global, input: &NodeInput) -> Result<Change, StepError>
+        ensures ok { IfOk result (λ change. node_rule (node_state self.now) (Input input.now) ≡ Ok (planned self.now change.edit, change.outcome)) }
+        ensures err { IfErr result (λ error. error ≢ StepError.NoMemory → node_rule (node_state self.now) (Input input.now) ≡ Err error) }
+        ensures refused { (r : StepError) → node_rule (node_state self.now) (Input input.now) ≡ Err r → result ≡ Err r }
+        ensures fits { IfOk result (λ change. Fits self.now change.edit) }
+    {
+        let _ = &self.shape; // tells the proof what holds of every node
+        match input {
+            NodeInput::Call { pid, op } => self.plan_call(alloc, *pid, op),
+            NodeInput::Interrupt { pid } => self.plan_interrupt(alloc, *pid),
+            NodeInput::Retry { pid } => self.plan_retry(alloc, *pid),
+        }
+    }
+
     /// Plans what the node does at an event, as `step` says. It costs what the parts that the event
     /// changes hold, and no more: the locks of one owner in one file, and one file. An `exit` looks
     /// at each file, whether a Freed is owed for it. A Hello costs as much as the token holds.
@@ -222,12 +238,9 @@ impl Node {
         ensures refused { (r : StepError) → node_rule (node_state self.now) event.now ≡ Err r → result ≡ Err r }
         ensures fits { IfOk result (λ change. Fits self.now change.edit) }
     {
-        let _ = &self.shape; // tells the proof what holds of every node
         match event {
-            NodeEvent::Call { pid, op } => self.plan_call(alloc, *pid, op),
+            NodeEvent::Input(input) => self.plan_input(alloc, input),
             NodeEvent::Deliver(message) => self.plan_delivery(alloc, message),
-            NodeEvent::Interrupt { pid } => self.plan_interrupt(alloc, *pid),
-            NodeEvent::Retry { pid } => self.plan_retry(alloc, *pid),
         }
     }
 

@@ -9,7 +9,7 @@ use Rattle.std.proofs.lemmas.Bool.Decides.{nat_tests}
 use Rattle.std.proofs.lemmas.List.{take_more}
 use Rattle.model.specs.declared.call.CallId.{CallId}
 use Rattle.messages.specs.declared.event.Event.{Event}
-use Rattle.messages.specs.declared.event.Event.TheVariants.{Call, Deliver, Interrupt, Retry, Resend, Declare, Restart, Learn, FailServer, StartServer}
+use Rattle.messages.specs.declared.event.Event.TheVariants.{AtNode, AtServer, Deliver, Member}
 use Rattle.messages.specs.declared.message.Message.{Message}
 use Rattle.messages.specs.contracts.message.MessagePartialEq.TheImpl as derived
 use Rattle.messages.specs.code.Entries.{EntryFields}
@@ -90,15 +90,9 @@ sent_next before e position m o at knows =
 -- an event that brings no message brings none that passes
 pub delivers-nothing : (test : Message → Bool) (event : Event) → ((m : Message) → event ≢ Deliver m) → delivers test event ≡ false
 delivers-nothing test (Deliver m) none = absurd (none m refl)
-delivers-nothing test (Call node pid op) none = refl
-delivers-nothing test (Interrupt node pid) none = refl
-delivers-nothing test (Retry node pid) none = refl
-delivers-nothing test (Resend file) none = refl
-delivers-nothing test (Declare node) none = refl
-delivers-nothing test (Restart node) none = refl
-delivers-nothing test (Learn file node incarnation) none = refl
-delivers-nothing test (FailServer file) none = refl
-delivers-nothing test (StartServer file) none = refl
+delivers-nothing test (AtNode node input) none = refl
+delivers-nothing test (AtServer file input) none = refl
+delivers-nothing test (Member event) none = refl
 
 pub take_here : {A : Type 0} (xs : List A) (k : ℕ) (x : A) → k < length xs → x ≡ get_or xs k x → take k xs ++ x ∷ [] ≡ take (k + 1) xs
 take_here xs k x within is = sym (take_more xs k x within ∙ ap (λ y. take k xs ++ y ∷ []) (sym is))

@@ -2,30 +2,37 @@
 ghost use Rattle.std.specs.Prelude.{◌≡◌};
 ghost use Rattle.std.specs.List.{list_any};
 ghost use Rattle.messages.specs.rule.Messages.{addressee};
+ghost use Rattle.cluster_core.specs.rule.Actors.{member_of};
 ghost use Rattle.stories.specs.rule.About.{delivers};
 ghost use Rattle.pictures.specs.rule.Actors.{actor_of, same_actor, sender_of, takes_part};
 
 use messages::actor::Actor;
 use messages::entry::Entry;
-use messages::event::Event;
+use messages::event::{Event, MemberEvent};
 use messages::message::Message;
 use messages::shared_message::SharedMessage;
+
+/// The node or the token server that fails, or begins again.
+pub fn member_of(event: &MemberEvent) -> Actor
+    ensures { result ≡ member_of event.now }
+{
+    match event {
+        MemberEvent::Declare { node } | MemberEvent::Restart { node } => Actor::Node(*node),
+        MemberEvent::FailServer { file } | MemberEvent::StartServer { file } => {
+            Actor::Server(*file)
+        }
+    }
+}
 
 /// Who takes the event.
 pub fn actor_of(event: &Event) -> Actor
     ensures { result ≡ actor_of event.now }
 {
     match event {
+        Event::AtNode(node, _) => Actor::Node(*node),
+        Event::AtServer(file, _) => Actor::Server(*file),
         Event::Deliver(message) => message.get().addressee(),
-        Event::Call { node, .. }
-        | Event::Interrupt { node, .. }
-        | Event::Retry { node, .. }
-        | Event::Declare { node }
-        | Event::Restart { node } => Actor::Node(*node),
-        Event::Resend { file }
-        | Event::Learn { file, .. }
-        | Event::FailServer { file }
-        | Event::StartServer { file } => Actor::Server(*file),
+        Event::Member(change) => member_of(change),
     }
 }
 

@@ -8,7 +8,7 @@ use crate::sheet::{middle_of, point_on, spot, x_of};
 use crate::words::{event_word, is_rule, message_word};
 use message_text::writing::push_message;
 use messages::actor::Actor;
-use messages::event::Event;
+use messages::event::{Event, NodeInput};
 use messages::message::Message;
 use std::alloc::AllocError;
 use std::fmt::Write;
@@ -71,7 +71,7 @@ fn push_word(
     placed: &PlacedEntry<'_>,
     event: &Event,
 ) -> Result<(), AllocError> {
-    if is_rule(event) || matches!(event, Event::Call { .. }) {
+    if is_rule(event) || matches!(event, Event::AtNode(_, NodeInput::Call { .. })) {
         return Ok(());
     }
     let row = Row::Lane(actor_of(event));

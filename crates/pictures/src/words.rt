@@ -1,5 +1,5 @@
 //! Words for what happens.
-use messages::event::Event;
+use messages::event::{Event, MemberEvent, NodeInput, ServerInput};
 use messages::message::Message;
 
 /// The word for a message.
@@ -21,16 +21,16 @@ pub fn message_word(message: &Message) -> &'static str {
 /// The word for an event: that for the message, where one comes.
 pub fn event_word(event: &Event) -> &'static str {
     match event {
-        Event::Call { .. } => "call",
+        Event::AtNode(_, NodeInput::Call { .. }) => "call",
+        Event::AtNode(_, NodeInput::Interrupt { .. }) => "interrupt",
+        Event::AtNode(_, NodeInput::Retry { .. }) => "retry",
+        Event::AtServer(_, ServerInput::Resend) => "resend",
+        Event::AtServer(_, ServerInput::Learn { .. }) => "learn",
         Event::Deliver(message) => message_word(message.get()),
-        Event::Interrupt { .. } => "interrupt",
-        Event::Retry { .. } => "retry",
-        Event::Resend { .. } => "resend",
-        Event::Declare { .. } => "declare",
-        Event::Restart { .. } => "restart",
-        Event::Learn { .. } => "learn",
-        Event::FailServer { .. } => "fail-server",
-        Event::StartServer { .. } => "start-server",
+        Event::Member(MemberEvent::Declare { .. }) => "declare",
+        Event::Member(MemberEvent::Restart { .. }) => "restart",
+        Event::Member(MemberEvent::FailServer { .. }) => "fail-server",
+        Event::Member(MemberEvent::StartServer { .. }) => "start-server",
     }
 }
 
@@ -38,10 +38,6 @@ pub fn event_word(event: &Event) -> &'static str {
 pub fn is_rule(event: &Event) -> bool {
     matches!(
         event,
-        Event::Declare { .. }
-            | Event::Restart { .. }
-            | Event::Learn { .. }
-            | Event::FailServer { .. }
-            | Event::StartServer { .. }
+        Event::Member(_) | Event::AtServer(_, ServerInput::Learn { .. })
     )
 }

@@ -4,7 +4,8 @@ use Rattle.std.specs.Option.{option_or}
 use Rattle.model.specs.declared.call.CallId.{CallId}
 use Rattle.model.specs.declared.op.Op.{Op}
 use Rattle.messages.specs.declared.event.Event.{Event}
-use Rattle.messages.specs.declared.event.Event.TheVariants.{Call, Deliver, Interrupt, Retry, Resend, Declare, Restart, Learn, FailServer, StartServer}
+use Rattle.messages.specs.declared.event.Event.TheVariants.{AtNode, AtServer, Deliver, Member}
+use Rattle.messages.specs.declared.event.NodeInput.TheVariants.{Call, Interrupt, Retry}
 use Rattle.messages.specs.declared.entry.Entry.{Entry}
 use Rattle.messages.specs.rule.Messages.{same_call}
 use Rattle.cluster_core.specs.code.Placement.{is_named, called_by, find_call}
@@ -19,16 +20,12 @@ call_in e id = find_call (e ∷ []) id
 
 -- the run with one more entry finds what it found before, or the new call
 found_on : (b : Bool) (event : Event) (x y z : Option (ℕ × Op)) → y ≡ option_or x z → cond b (called_by event y) y ≡ option_or (cond b (called_by event x) x) z
-found_on true (Call node pid op) x y z h = refl
+found_on true (AtNode node (Call pid op)) x y z h = refl
+found_on true (AtNode node (Interrupt pid)) x y z h = h
+found_on true (AtNode node (Retry pid)) x y z h = h
+found_on true (AtServer file input) x y z h = h
 found_on true (Deliver m) x y z h = h
-found_on true (Interrupt node pid) x y z h = h
-found_on true (Retry node pid) x y z h = h
-found_on true (Resend file) x y z h = h
-found_on true (Declare node) x y z h = h
-found_on true (Restart node) x y z h = h
-found_on true (Learn file node incarnation) x y z h = h
-found_on true (FailServer file) x y z h = h
-found_on true (StartServer file) x y z h = h
+found_on true (Member event) x y z h = h
 found_on false event x y z h = h
 
 find_call-push : (es : List Entry) (e : Entry) (id : CallId) → find_call (es ++ e ∷ []) id ≡ option_or (find_call es id) (call_in e id)
@@ -81,12 +78,12 @@ module _ (all es : List Entry) (e : Entry) where
       }
 
   -- an entry that makes a call adds it to the index
-  pub indexes_taken : (calls next : CallIndex) (id : CallId) (index node pid : ℕ) (op : Op) → slice_get all index ≡ Some e → e.call ≡ Some id → e.event ≡ Call node pid op → TakesIn calls id index next → Indexes all calls es → Indexes all next (es ++ e ∷ [])
+  pub indexes_taken : (calls next : CallIndex) (id : CallId) (index node pid : ℕ) (op : Op) → slice_get all index ≡ Some e → e.call ≡ Some id → e.event ≡ AtNode node (Call pid op) → TakesIn calls id index next → Indexes all calls es → Indexes all next (es ++ e ∷ [])
   indexes_taken calls next id index node pid op there named event takes before =
       let makes : made_by (slice_get all index) ≡ Some (pid, op) = ap made_by there ∙ ap (λ (v : Event). called_by v None) event in
       let grown : (q : CallId) → option_or (find_call es q) (cond (same_call q id) (Some (pid, op)) None) ≡ find_call (es ++ e ∷ []) q =
       λ q.
-      ap (λ (c : Option CallId). option_or (find_call es q) (cond (is_named q c) (called_by (Call node pid op) None) None)) (sym named)
+      ap (λ (c : Option CallId). option_or (find_call es q) (cond (is_named q c) (called_by (AtNode node (Call pid op)) None) None)) (sym named)
       ∙ (ap (λ (v : Event). option_or (find_call es q) (cond (is_named q e.call) (called_by v None) None)) (sym event)
       ∙ sym (find_call-push es e q)) in
       record {

@@ -18,7 +18,7 @@ use crate::slot::Slot;
 use cluster_core::item::Item;
 use cluster_core::journal::Journal;
 use messages::entry::Entry;
-use messages::event::Event;
+use messages::event::{Event, NodeInput};
 use messages::message::Message;
 use model::call::CallId;
 use std::alloc::{AllocError, Global};
@@ -87,7 +87,10 @@ fn note_call(
     let Some(id) = entry.call() else {
         return Ok(());
     };
-    let Event::Call { .. } = entry.event() else {
+    let Event::AtNode(_, input) = entry.event() else {
+        return Ok(());
+    };
+    let NodeInput::Call { .. } = input else {
         return Ok(());
     };
     calls.note(alloc, id, index as u32)

@@ -6,7 +6,7 @@ ghost use Rattle.placement.specs.code.Standing.{answered_so, stands};
 
 use cluster_core::item::Item;
 use messages::entry::Entry;
-use messages::event::Event;
+use messages::event::{Event, MemberEvent, NodeInput};
 use model::op::Op;
 
 /// What stands at an entry: nothing; the failure of a node, which an entry declares; or a call, which one entry makes
@@ -51,7 +51,7 @@ impl Slot {
 pub(crate) fn gone_at(position: u32, entry: &Entry) -> Option<Item>
     ensures { result ≡ gone_at position entry.now.incarnation entry.now.event }
 {
-    let Event::Declare { node } = entry.event() else {
+    let Event::Member(MemberEvent::Declare { node }) = entry.event() else {
         return None;
     };
     Some(Item::Gone {
@@ -65,7 +65,7 @@ pub(crate) fn gone_at(position: u32, entry: &Entry) -> Option<Item>
 pub(crate) fn made_by(entry: &Entry) -> Option<(u16, Op)>
     ensures { result ≡ called_by entry.now.event None }
 {
-    let Event::Call { pid, op, .. } = entry.event() else {
+    let Event::AtNode(_, NodeInput::Call { pid, op }) = entry.event() else {
         return None;
     };
     Some((*pid, *op))

@@ -8,6 +8,9 @@ use Rattle.std.specs.declared.result.Result.TheVariants.{Ok, Err}
 use Rattle.messages.specs.declared.refusal.Refused.{Refused}
 use Rattle.messages.specs.declared.refusal.Refused.TheVariants.{NoMemory, Fenced}
 use Rattle.messages.specs.declared.event.Event.TheVariants as event
+use Rattle.messages.specs.declared.event.NodeInput.TheVariants as input
+use Rattle.messages.specs.declared.event.ServerInput.TheVariants as order
+use Rattle.messages.specs.declared.event.MemberEvent.TheVariants as change
 use Rattle.messages.specs.declared.message.Message.{Message}
 use Rattle.messages.specs.declared.entry.Entry.{Entry}
 use Rattle.cluster_core.specs.rule.World.{WorldState}
@@ -75,19 +78,19 @@ settles_one line (Some p) q s (m ∷ ms) (n ∷ ns) a q_settled b s_settled =
     settles_one line a.0 q s ms ns a.2 q_settled (subst P (sym (delivers_one line p a.0 b.0 m n a.1 b.1)) b.2) s_settled
 
 does_one : (line : ℕ) (c : Command) (p : Progress) (q s : End) → Does line c p q → Does line c p s → q ≡ s
-does_one line (Call node pid op) p q s a b = ends_one line p q s (kept_next p.world (event.Call node pid op)) a b
+does_one line (Call node pid op) p q s a b = ends_one line p q s (kept_next p.world (event.AtNode node (input.Call pid op))) a b
 does_one line (Deliver number) p q s a b =
     let made = delivery p.world (slice_get p.world.sent (index_of number)) in
     ends_one line (after_delivery (index_of number) p made) q s made a b
 does_one line (Lose number) p q s a b = a ∙ sym b
-does_one line (Interrupt node pid) p q s a b = ends_one line p q s (kept_next p.world (event.Interrupt node pid)) a b
-does_one line (Retry node pid) p q s a b = ends_one line p q s (kept_next p.world (event.Retry node pid)) a b
-does_one line (Resend file) p q s a b = ends_one line p q s (kept_next p.world (event.Resend file)) a b
-does_one line (Declare node) p q s a b = ends_one line p q s (kept_next p.world (event.Declare node)) a b
-does_one line (Restart node) p q s a b = ends_one line p q s (kept_next p.world (event.Restart node)) a b
-does_one line (Learn file node incarnation) p q s a b = ends_one line p q s (kept_next p.world (event.Learn file node incarnation)) a b
-does_one line (FailServer file) p q s a b = ends_one line p q s (kept_next p.world (event.FailServer file)) a b
-does_one line (StartServer file) p q s a b = ends_one line p q s (kept_next p.world (event.StartServer file)) a b
+does_one line (Interrupt node pid) p q s a b = ends_one line p q s (kept_next p.world (event.AtNode node (input.Interrupt pid))) a b
+does_one line (Retry node pid) p q s a b = ends_one line p q s (kept_next p.world (event.AtNode node (input.Retry pid))) a b
+does_one line (Resend file) p q s a b = ends_one line p q s (kept_next p.world (event.AtServer file order.Resend)) a b
+does_one line (Declare node) p q s a b = ends_one line p q s (kept_next p.world (event.Member (change.Declare node))) a b
+does_one line (Restart node) p q s a b = ends_one line p q s (kept_next p.world (event.Member (change.Restart node))) a b
+does_one line (Learn file node incarnation) p q s a b = ends_one line p q s (kept_next p.world (event.AtServer file (order.Learn node incarnation))) a b
+does_one line (FailServer file) p q s a b = ends_one line p q s (kept_next p.world (event.Member (change.FailServer file))) a b
+does_one line (StartServer file) p q s a b = ends_one line p q s (kept_next p.world (event.Member (change.StartServer file))) a b
 does_one line Settle p q s a b = settles_one line (Some p) q s a.0 b.0 a.1 a.2 b.1 b.2
 
 -- the lines, run in order from one end, come to another

@@ -8,6 +8,9 @@ use Rattle.messages.specs.declared.refusal.Refused.{Refused}
 use Rattle.messages.specs.declared.refusal.Refused.TheVariants.{NoMemory, Stranger, JournalFull, Fenced}
 use Rattle.messages.specs.declared.event.Event.{Event}
 use Rattle.messages.specs.declared.event.Event.TheVariants as event
+use Rattle.messages.specs.declared.event.NodeInput.TheVariants as input
+use Rattle.messages.specs.declared.event.ServerInput.TheVariants as order
+use Rattle.messages.specs.declared.event.MemberEvent.TheVariants as change
 use Rattle.messages.specs.declared.message.Message.{Message}
 use Rattle.messages.specs.declared.entry.Entry.{Entry}
 use Rattle.cluster_core.specs.rule.World.{WorldState, journal_limit}
@@ -75,17 +78,17 @@ lost_leads w line index p true leads = leads
 lost_leads w line index p false leads = leads
 
 does_leads : (w : WorldState) (line : ℕ) (c : Command) (p : Progress) (end : End) → LeadsFrom w p → Does line c p end → EndLeads w end
-does_leads w line (Call node pid op) p end leads does = happens_leads w line (event.Call node pid op) p end leads does
+does_leads w line (Call node pid op) p end leads does = happens_leads w line (event.AtNode node (input.Call pid op)) p end leads does
 does_leads w line (Deliver number) p end leads does = comes_leads w line (index_of number) p end (slice_get p.world.sent (index_of number)) leads does
 does_leads w line (Lose number) p end leads does = end_leads w (Some (lost line (index_of number) p)) end does (lost_leads w line (index_of number) p (nat_lt (index_of number) (length p.world.sent)) leads)
-does_leads w line (Interrupt node pid) p end leads does = happens_leads w line (event.Interrupt node pid) p end leads does
-does_leads w line (Retry node pid) p end leads does = happens_leads w line (event.Retry node pid) p end leads does
-does_leads w line (Resend file) p end leads does = happens_leads w line (event.Resend file) p end leads does
-does_leads w line (Declare node) p end leads does = happens_leads w line (event.Declare node) p end leads does
-does_leads w line (Restart node) p end leads does = happens_leads w line (event.Restart node) p end leads does
-does_leads w line (Learn file node incarnation) p end leads does = happens_leads w line (event.Learn file node incarnation) p end leads does
-does_leads w line (FailServer file) p end leads does = happens_leads w line (event.FailServer file) p end leads does
-does_leads w line (StartServer file) p end leads does = happens_leads w line (event.StartServer file) p end leads does
+does_leads w line (Interrupt node pid) p end leads does = happens_leads w line (event.AtNode node (input.Interrupt pid)) p end leads does
+does_leads w line (Retry node pid) p end leads does = happens_leads w line (event.AtNode node (input.Retry pid)) p end leads does
+does_leads w line (Resend file) p end leads does = happens_leads w line (event.AtServer file order.Resend) p end leads does
+does_leads w line (Declare node) p end leads does = happens_leads w line (event.Member (change.Declare node)) p end leads does
+does_leads w line (Restart node) p end leads does = happens_leads w line (event.Member (change.Restart node)) p end leads does
+does_leads w line (Learn file node incarnation) p end leads does = happens_leads w line (event.AtServer file (order.Learn node incarnation)) p end leads does
+does_leads w line (FailServer file) p end leads does = happens_leads w line (event.Member (change.FailServer file)) p end leads does
+does_leads w line (StartServer file) p end leads does = happens_leads w line (event.Member (change.StartServer file)) p end leads does
 does_leads w line Settle p end leads does = turns_lead (Delivers line) w (delivers_leads w line) (Some p) does.0 end leads does.1
 
 -- the entries that the lines make lead on from the world before them

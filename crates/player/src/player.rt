@@ -18,7 +18,7 @@ use cluster_core::run::Run;
 use lockscript::play_error::PlayError;
 use lockscript::refused_line::RefusedLine;
 use lockscript::script_line::{Command, ScriptLine};
-use messages::event::Event;
+use messages::event::{Event, MemberEvent, NodeInput, ServerInput};
 use messages::refusal::Refused;
 use messages::shape::Shape;
 use std::alloc::Global;
@@ -120,33 +120,55 @@ impl Player {
     {
         match command {
             Command::Call { node, pid, op } => {
-                self.step(alloc, number, Event::Call { node, pid, op })
+                self.step(
+                    alloc,
+                    number,
+                    Event::AtNode(node, NodeInput::Call { pid, op }),
+                )
             }
             Command::Deliver { message } => self.deliver(alloc, number, message),
             Command::Lose { message } => self.lose(number, message),
             Command::Settle => self.settle(alloc, number),
             Command::Interrupt { node, pid } => {
-                self.step(alloc, number, Event::Interrupt { node, pid })
+                self.step(
+                    alloc,
+                    number,
+                    Event::AtNode(node, NodeInput::Interrupt { pid }),
+                )
             }
-            Command::Retry { node, pid } => { self.step(alloc, number, Event::Retry { node, pid }) }
-            Command::Resend { file } => self.step(alloc, number, Event::Resend { file }),
-            Command::Declare { node } => { self.step(alloc, number, Event::Declare { node }) }
-            Command::Restart { node } => { self.step(alloc, number, Event::Restart { node }) }
+            Command::Retry { node, pid } => {
+                self.step(alloc, number, Event::AtNode(node, NodeInput::Retry { pid }))
+            }
+            Command::Resend { file } => {
+                self.step(alloc, number, Event::AtServer(file, ServerInput::Resend))
+            }
+            Command::Declare { node } => {
+                self.step(alloc, number, Event::Member(MemberEvent::Declare { node }))
+            }
+            Command::Restart { node } => {
+                self.step(alloc, number, Event::Member(MemberEvent::Restart { node }))
+            }
             Command::Learn {
                 file,
                 node,
                 incarnation,
             } => {
-                let event = Event::Learn {
-                    file,
-                    node,
-                    incarnation,
-                };
-                self.step(alloc, number, event)
+                let input = ServerInput::Learn { node, incarnation };
+                self.step(alloc, number, Event::AtServer(file, input))
             }
-            Command::FailServer { file } => { self.step(alloc, number, Event::FailServer { file }) }
+            Command::FailServer { file } => {
+                self.step(
+                    alloc,
+                    number,
+                    Event::Member(MemberEvent::FailServer { file }),
+                )
+            }
             Command::StartServer { file } => {
-                self.step(alloc, number, Event::StartServer { file })
+                self.step(
+                    alloc,
+                    number,
+                    Event::Member(MemberEvent::StartServer { file }),
+                )
             }
         }
     }

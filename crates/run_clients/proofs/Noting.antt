@@ -12,7 +12,8 @@ use Rattle.model.specs.declared.reply.Reply.{Reply}
 use Rattle.model.specs.declared.reply.Reply.TheVariants.{Done}
 use Rattle.model.specs.rule.Table.{Table}
 use Rattle.messages.specs.declared.event.Event.{Event}
-use Rattle.messages.specs.declared.event.Event.TheVariants.{Call}
+use Rattle.messages.specs.declared.event.Event.TheVariants.{AtNode, AtServer, Deliver, Member}
+use Rattle.messages.specs.declared.event.NodeInput.TheVariants.{Call, Interrupt, Retry}
 use Rattle.messages.specs.declared.entry.Entry.{Entry}
 use Rattle.messages.specs.code.Entries.{NamesItsCall}
 use Rattle.messages.specs.rule.Messages.{same_call}
@@ -89,8 +90,12 @@ times_at_first es times begins ends = record {
 module _ (es : List Entry) (at : ℕ) (e : Entry) (there : EntryAt es at e) where
   -- the entry makes the call
   made_event : (id : CallId) (event : Event) → e.event ≡ event → e.call ≡ Some id → NamesItsCall event (Some id) → (pid : ℕ) × (op : Op) × IsCalledAt es id pid op at
-  made_event id (Call node pid op) is named its = (pid, op, record { calling = e; there = there; is_call = is ∙ ap (λ (n : ℕ). Call n pid op) (sym its); named = named })
-  made_event id _ is named its = absurd (none-some id (sym its))
+  made_event id (AtNode node (Call pid op)) is named its = (pid, op, record { calling = e; there = there; is_call = is ∙ ap (λ (n : ℕ). AtNode n (Call pid op)) (sym its); named = named })
+  made_event id (AtNode node (Interrupt pid)) is named its = absurd (none-some id (sym its))
+  made_event id (AtNode node (Retry pid)) is named its = absurd (none-some id (sym its))
+  made_event id (AtServer file input) is named its = absurd (none-some id (sym its))
+  made_event id (Deliver m) is named its = absurd (none-some id (sym its))
+  made_event id (Member event) is named its = absurd (none-some id (sym its))
 
   pub made_here : (id : CallId) → e.call ≡ Some id → NamesItsCall e.event (Some id) → IsMade es id at
   made_here id named its = made_event id e.event refl named its
@@ -141,12 +146,12 @@ module _ (es : List Entry) (times : Times) (are : AreTimes es times (length es))
   item_timed one_call one_reply (Gone at node incarnation) begin end placed kept = (placed, kept.0, kept.1)
 
 -- a lock call that has no reply
-module _ (es : List Entry) (last : Table) (times : Times) (at : ℕ) (e : Entry) (id : CallId) (node pid : ℕ) (op : Op) (there : EntryAt es at e) (are : AreTimes es times (length es)) (named : e.call ≡ Some id) (its : NamesItsCall e.event (Some id)) (event : e.event ≡ Call node pid op) (none : is_some (position_of_call times.ends id) ≡ false) where
+module _ (es : List Entry) (last : Table) (times : Times) (at : ℕ) (e : Entry) (id : CallId) (node pid : ℕ) (op : Op) (there : EntryAt es at e) (are : AreTimes es times (length es)) (named : e.call ≡ Some id) (its : NamesItsCall e.event (Some id)) (event : e.event ≡ AtNode node (Call pid op)) (none : is_some (position_of_call times.ends id) ≡ false) where
   one_opened : (d : Deed) → lock_deed last (caller id pid) op Done ≡ Some d → IsOpenCall es last (call_of op at Never d)
   one_opened d does = record {
     id = id;
     pid = pid;
-    called = record { calling = e; there = there; is_call = event ∙ ap (λ (n : ℕ). Call n pid op) (sym (subst (λ (v : Event). NamesItsCall v (Some id)) event its)); named = named };
+    called = record { calling = e; there = there; is_call = event ∙ ap (λ (n : ℕ). AtNode n (Call pid op)) (sym (subst (λ (v : Event). NamesItsCall v (Some id)) event its)); named = named };
     unanswered = λ reply k h. both_ways (is_some (position_of_call times.ends id)) none (are.ends.complete id k (reply, h) (within es k h.replying h.there));
     deed = d;
     does = does;

@@ -15,7 +15,7 @@ use crate::file_call::FileCall;
 use crate::times::Times;
 use fcntl_table::table::FcntlTable;
 use messages::entry::Entry;
-use messages::event::Event;
+use messages::event::{Event, NodeInput};
 use model::call::CallId;
 use model::limits::MOST_PROCESSES;
 use model::process::Process;
@@ -58,7 +58,10 @@ fn push_open_call(
     if times.is_answered(id) {
         return Ok(());
     }
-    let Event::Call { pid, op, .. } = entry.event() else {
+    let Event::AtNode(_, input) = entry.event() else {
+        return Ok(());
+    };
+    let NodeInput::Call { pid, op } = input else {
         return Ok(());
     };
     let Some(process) = process_of(id, *pid) else {

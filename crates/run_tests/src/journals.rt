@@ -28,9 +28,7 @@ pub fn is_of(entry: &Entry, outcome: &Outcome) -> bool {
 /// The actor that takes the event, if one does, where there is one file.
 pub fn actor_of(event: &Event) -> Actor {
     match event {
-        Event::Call { node, .. } | Event::Retry { node, .. } | Event::Interrupt { node, .. } => {
-            Actor::Node(*node)
-        }
+        Event::AtNode(node, _) => Actor::Node(*node),
         Event::Deliver(message) => message.get().addressee(),
         _ => Actor::Server(1),
     }

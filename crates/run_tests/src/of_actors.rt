@@ -7,7 +7,7 @@ use actors::weather::Fair;
 use book::confirms::Confirms;
 use book::receipt::Receipt;
 use cluster_core::journal::Journal;
-use messages::event::Event;
+use messages::event::{Event, MemberEvent, NodeInput};
 use model::mode::Mode;
 use model::op::{LockCall, LockCommand, Op, ProcessCall};
 use model::owner::Kind;
@@ -150,8 +150,10 @@ fn declare_beside<R: Threads + Wait + Clock + Sync>(
 // Whether node 1 is declared failed in the journal, and there is no call.
 fn has_no_call(journal: &Journal) -> bool {
     let entries = journal.entries();
-    entries.iter().any(|entry| matches!(entry.event(), Event::Declare { node: 1 }))
-        && entries.iter().all(|entry| entry.call().is_none())
+    entries.iter().any(|entry| matches!(
+        entry.event(),
+        Event::Member(MemberEvent::Declare { node: 1 })
+    )) && entries.iter().all(|entry| entry.call().is_none())
 }
 
 #[test]
@@ -244,14 +246,16 @@ fn is_wait_at(journal: &Journal, why: Option<CallError>) -> bool {
     match journal.entries().get(call_at.saturating_sub(1) as usize) {
         Some(entry) => matches!(
             entry.event(),
-            Event::Call {
-                node: 2,
-                pid: 2,
-                op: Op::Lock(LockCall {
-                    command: LockCommand::Wait,
-                    ..
-                })
-            }
+            Event::AtNode(
+                2,
+                NodeInput::Call {
+                    pid: 2,
+                    op: Op::Lock(LockCall {
+                        command: LockCommand::Wait,
+                        ..
+                    })
+                }
+            )
         ),
         None => false,
     }

@@ -10,7 +10,7 @@ use book::new_trail::NewTrail;
 use book::receipt::Receipt;
 use book::seat::Seat;
 use book::stamp::Stamp;
-use messages::event::Event;
+use messages::event::{Event, NodeInput, ServerInput};
 use messages::refusal::{Refused, StepError};
 use messages::shape::Shape;
 use model::op::{Op, ProcessCall};
@@ -34,11 +34,8 @@ fn spawn(node: u8) -> Event {
 }
 
 fn spawn_of(node: u8, pid: u16) -> Event {
-    Event::Call {
-        node,
-        pid,
-        op: Op::Process(ProcessCall::Spawn),
-    }
+    let op = Op::Process(ProcessCall::Spawn);
+    Event::AtNode(node, NodeInput::Call { pid, op })
 }
 
 // The first step of a node's process, committed at once. (A stamp in a box is dropped in fewer steps.)
@@ -94,12 +91,11 @@ fn begin_both<J: Name>(opened: &mut Opened<J>, alloc: Global) -> Option<bool> {
 fn keeps_strangers_out<J: Name>(opened: &mut Opened<J>, alloc: Global) -> Option<bool> {
     let Opened { book, seats } = opened;
     let foreign = seats.first()?.prepare(alloc, spawn(2)).err();
-    let learn = Event::Learn {
-        file: 1,
+    let news = ServerInput::Learn {
         node: 1,
         incarnation: 1,
     };
-    let refused = refusal(book, alloc, seats.last_mut()?, learn);
+    let refused = refusal(book, alloc, seats.last_mut()?, Event::AtServer(1, news));
     Some(foreign == Some(StepError::Stranger) && refused == Some(CommitError::Stranger))
 }
 
@@ -114,7 +110,8 @@ fn is_stale<J: Name>(opened: &mut Opened<J>, alloc: Global, other: &mut Opened<J
 fn is_fenced<J: Name>(opened: &mut Opened<J>, alloc: Global) -> Option<bool> {
     let Opened { book, seats } = opened;
     let seat = seats.last_mut()?;
-    let prepared = seat.prepare(alloc, Event::Resend { file: 1 }).ok()?;
+    let resend = Event::AtServer(1, ServerInput::Resend);
+    let prepared = seat.prepare(alloc, resend).ok()?;
     let failed = position(book.fail_server(alloc, 1));
     let again = book.fail_server(alloc, 1).err();
     let refused = book.commit(alloc, seat, prepared, None).err();

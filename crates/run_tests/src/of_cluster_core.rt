@@ -1,6 +1,6 @@
 //! Runs that are made of their events, some of which no script has.
 use cluster_core::journal::run;
-use messages::event::Event;
+use messages::event::{Event, MemberEvent, NodeInput, ServerInput};
 use messages::refusal::Refused;
 use messages::shape::Shape;
 use model::op::{Op, ProcessCall};
@@ -9,11 +9,8 @@ use std::alloc::Global;
 use std::test::Fail;
 
 fn spawn(pid: u16) -> Event {
-    Event::Call {
-        node: 1,
-        pid,
-        op: Op::Process(ProcessCall::Spawn),
-    }
+    let op = Op::Process(ProcessCall::Spawn);
+    Event::AtNode(1, NodeInput::Call { pid, op })
 }
 
 // Whether a process begins, and the event behind that is refused as one of what the cluster doesn't have.
@@ -24,14 +21,22 @@ fn is_refused(alloc: Global, shape: Shape, last: Event) -> bool {
 // Whether no process of node 1 has the number, and no process has one of node 0.
 fn lacks_process(alloc: Global, shape: Shape, pid: u16) -> bool {
     is_refused(alloc, shape, spawn(pid))
-        && is_refused(alloc, shape, Event::Interrupt { node: 1, pid })
-        && is_refused(alloc, shape, Event::Retry { node: 0, pid: 1 })
+        && is_refused(alloc, shape, Event::AtNode(1, NodeInput::Interrupt { pid }))
+        && is_refused(alloc, shape, Event::AtNode(0, NodeInput::Retry { pid: 1 }))
 }
 
 fn lacks_file(alloc: Global, shape: Shape, file: u16) -> bool {
-    is_refused(alloc, shape, Event::Resend { file })
-        && is_refused(alloc, shape, Event::FailServer { file })
-        && is_refused(alloc, shape, Event::StartServer { file })
+    is_refused(alloc, shape, Event::AtServer(file, ServerInput::Resend))
+        && is_refused(
+            alloc,
+            shape,
+            Event::Member(MemberEvent::FailServer { file }),
+        )
+        && is_refused(
+            alloc,
+            shape,
+            Event::Member(MemberEvent::StartServer { file }),
+        )
 }
 
 // Whether a run of two processes has two entries.

@@ -1,6 +1,6 @@
 //! Nodes, by messages that no server sends and calls that no script has.
 use crate::machines::{Machine, are_foreign, is_foreign, takes_all};
-use messages::event::Event;
+use messages::event::{Event, NodeInput};
 use messages::outcome::Outcome;
 use messages::refusal::StepError;
 use messages::shape::Shape;
@@ -21,10 +21,8 @@ impl Machine for Node {
 
     fn taken(alloc: Global, event: &Event) -> Option<NodeEvent> {
         match event {
-            Event::Call { pid, op, .. } => Some(NodeEvent::Call { pid: *pid, op: *op }),
+            Event::AtNode(_, input) => Some(NodeEvent::Input(*input)),
             Event::Deliver(message) => Some(NodeEvent::Deliver(message.get().copy(alloc).ok()?)),
-            Event::Interrupt { pid, .. } => Some(NodeEvent::Interrupt { pid: *pid }),
-            Event::Retry { pid, .. } => Some(NodeEvent::Retry { pid: *pid }),
             _ => None,
         }
     }
@@ -96,14 +94,11 @@ end 2
 
 // Whether the node has no process of that number.
 fn lacks<M: Machine>(alloc: Global, node: &M, pid: u16) -> bool {
-    let spawn = Event::Call {
-        node: 1,
-        pid,
-        op: Op::Process(ProcessCall::Spawn),
-    };
+    let op = Op::Process(ProcessCall::Spawn);
+    let spawn = Event::AtNode(1, NodeInput::Call { pid, op });
     is_foreign(alloc, node, &spawn)
-        && is_foreign(alloc, node, &Event::Retry { node: 1, pid })
-        && is_foreign(alloc, node, &Event::Interrupt { node: 1, pid })
+        && is_foreign(alloc, node, &Event::AtNode(1, NodeInput::Retry { pid }))
+        && is_foreign(alloc, node, &Event::AtNode(1, NodeInput::Interrupt { pid }))
 }
 
 // Whether it has none outside 1 to 256.

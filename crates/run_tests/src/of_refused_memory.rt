@@ -11,7 +11,7 @@ use cluster_core::journal::comes_next;
 use cluster_core::world::World;
 use messages::actor::Actor;
 use messages::entry::Entry;
-use messages::event::Event;
+use messages::event::{Event, MemberEvent};
 use messages::shape::Shape;
 use std::alloc::{AllocError, Global};
 use std::marker::Brand;
@@ -207,10 +207,10 @@ fn taken<J: Name>(
     event: &Event,
 ) -> Option<u32> {
     match event {
-        Event::Declare { node } => position(book.declare(alloc, *node)),
-        Event::Restart { node } => restarts(alloc, book, seats, *node),
-        Event::FailServer { file } => position(book.fail_server(alloc, *file)),
-        Event::StartServer { file } => starts(alloc, book, seats, *file),
+        Event::Member(MemberEvent::Declare { node }) => position(book.declare(alloc, *node)),
+        Event::Member(MemberEvent::Restart { node }) => restarts(alloc, book, seats, *node),
+        Event::Member(MemberEvent::FailServer { file }) => position(book.fail_server(alloc, *file)),
+        Event::Member(MemberEvent::StartServer { file }) => starts(alloc, book, seats, *file),
         _ => {
             let seat = seat_of(seats, actor_of(event))?;
             commits(book, alloc, seat, event.copy().ok()?)

@@ -19,16 +19,8 @@ impl Machine for Server {
 
     fn taken(alloc: Global, event: &Event) -> Option<ServerEvent> {
         match event {
+            Event::AtServer(_, input) => Some(ServerEvent::Input(*input)),
             Event::Deliver(message) => Some(ServerEvent::Deliver(message.get().copy(alloc).ok()?)),
-            Event::Resend { .. } => Some(ServerEvent::Resend),
-            Event::Learn {
-                node,
-                incarnation,
-                ..
-            } => Some(ServerEvent::Learn {
-                node: *node,
-                incarnation: *incarnation,
-            }),
             _ => None,
         }
     }

@@ -8,7 +8,7 @@ use Rattle.std.proofs.lemmas.Bool.Decides.{nat_tests}
 use Rattle.std.proofs.lemmas.List.Folds.{list_any_at}
 use Rattle.model.specs.declared.call.CallId.{CallId}
 use Rattle.messages.specs.declared.event.Event.{Event}
-use Rattle.messages.specs.declared.event.Event.TheVariants.{Call, Deliver, Interrupt, Retry, Resend, Declare, Restart, Learn, FailServer, StartServer}
+use Rattle.messages.specs.declared.event.Event.TheVariants.{AtNode, AtServer, Deliver, Member}
 use Rattle.messages.specs.code.Entries.{EntryFields}
 use Rattle.stories.specs.rule.About.{PlacedFields, answers, delivers, is_about, is_call}
 use Rattle.stories.specs.code.OpenIndexes.{call_come, ends_at, with_last, with_one}
@@ -50,15 +50,9 @@ part_next false part next rest all p is before = ap (λ (qs : List PlacedFields)
 -- a message that comes is about the call that it names
 pub delivers-come : (call : CallId) (event : Event) → delivers (is_about call) event ≡ is_call call (call_come event)
 delivers-come call (Deliver m) = refl
-delivers-come call (Call node pid op) = refl
-delivers-come call (Interrupt node pid) = refl
-delivers-come call (Retry node pid) = refl
-delivers-come call (Resend file) = refl
-delivers-come call (Declare node) = refl
-delivers-come call (Restart node) = refl
-delivers-come call (Learn file node incarnation) = refl
-delivers-come call (FailServer file) = refl
-delivers-come call (StartServer file) = refl
+delivers-come call (AtNode node input) = refl
+delivers-come call (AtServer file input) = refl
+delivers-come call (Member event) = refl
 
 -- no entry replies to a call where none of all does
 pub no_answer_at : (call : CallId) (es : List EntryFields) (k : ℕ) (e : EntryFields) → k < length es → e ≡ get_or es k e → list_any (answers call) es ≡ false → answers call e ≡ false

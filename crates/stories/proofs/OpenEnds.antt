@@ -9,7 +9,9 @@ use Rattle.model.specs.declared.call.CallId.{CallId}
 use Rattle.model.specs.declared.op.Op.{Op}
 use Rattle.model.specs.declared.op.Op.TheVariants.{Exit}
 use Rattle.messages.specs.declared.event.Event.{Event}
-use Rattle.messages.specs.declared.event.Event.TheVariants.{Call, Deliver, Interrupt, Retry, Resend, Declare, Restart, Learn, FailServer, StartServer}
+use Rattle.messages.specs.declared.event.Event.TheVariants.{AtNode, AtServer, Deliver, Member}
+use Rattle.messages.specs.declared.event.NodeInput.TheVariants.{Call, Interrupt, Retry}
+use Rattle.messages.specs.declared.event.MemberEvent.TheVariants.{Declare, Restart, FailServer, StartServer}
 use Rattle.messages.specs.code.Entries.{EntryFields}
 use Rattle.stories.specs.contracts.ending.EndingPartialEq.TheImpl as derived
 use Rattle.stories.specs.declared.ending.Ending.{Ending}
@@ -68,16 +70,16 @@ pub ends-by_ending : (made : MadeCall) (e : EntryFields) → ends made e e.event
 ends-by_ending made e = by e.event
   where
     exits : (pid : ℕ) (call : Option CallId) →
-        ends made (record e { call = call }) (Call 0 pid Exit)
-        ≡ (option_map_or (λ (one : Ending). derived.ghosts.eq one (exit_on made.call made.pid)) (ending_by (record e { call = call }) (Call 0 pid Exit)) false
-        || option_map_or (λ (one : Ending). derived.ghosts.eq one (failure_of made.call)) (ending_by (record e { call = call }) (Call 0 pid Exit)) false)
+        ends made (record e { call = call }) (AtNode 0 (Call pid Exit))
+        ≡ (option_map_or (λ (one : Ending). derived.ghosts.eq one (exit_on made.call made.pid)) (ending_by (record e { call = call }) (AtNode 0 (Call pid Exit))) false
+        || option_map_or (λ (one : Ending). derived.ghosts.eq one (failure_of made.call)) (ending_by (record e { call = call }) (AtNode 0 (Call pid Exit))) false)
     exits pid None = grind arith
     exits pid (Some call) = or_false ((pid == made.pid) && ((call.node == made.call.node) && (call.incarnation == made.call.incarnation)))
 
     calls : (node pid : ℕ) (op : Op) →
-        ends made e (Call node pid op)
-        ≡ (option_map_or (λ (one : Ending). derived.ghosts.eq one (exit_on made.call made.pid)) (ending_by e (Call node pid op)) false
-        || option_map_or (λ (one : Ending). derived.ghosts.eq one (failure_of made.call)) (ending_by e (Call node pid op)) false)
+        ends made e (AtNode node (Call pid op))
+        ≡ (option_map_or (λ (one : Ending). derived.ghosts.eq one (exit_on made.call made.pid)) (ending_by e (AtNode node (Call pid op))) false
+        || option_map_or (λ (one : Ending). derived.ghosts.eq one (failure_of made.call)) (ending_by e (AtNode node (Call pid op))) false)
     calls node pid Exit = exits pid e.call
     calls node pid _ = refl
 
@@ -85,16 +87,15 @@ ends-by_ending made e = by e.event
         ends made e event
         ≡ (option_map_or (λ (one : Ending). derived.ghosts.eq one (exit_on made.call made.pid)) (ending_by e event) false
         || option_map_or (λ (one : Ending). derived.ghosts.eq one (failure_of made.call)) (ending_by e event) false)
-    by (Call node pid op) = calls node pid op
+    by (AtNode node (Call pid op)) = calls node pid op
+    by (AtNode node (Interrupt pid)) = refl
+    by (AtNode node (Retry pid)) = refl
+    by (AtServer file input) = refl
     by (Deliver m) = refl
-    by (Interrupt node pid) = refl
-    by (Retry node pid) = refl
-    by (Resend file) = refl
-    by (Declare node) = refl
-    by (Restart node) = refl
-    by (Learn file node incarnation) = refl
-    by (FailServer file) = refl
-    by (StartServer file) = refl
+    by (Member (Declare node)) = refl
+    by (Member (Restart node)) = refl
+    by (Member (FailServer file)) = refl
+    by (Member (StartServer file)) = refl
 
 -- what stands behind a position and passes a test is found from behind it
 behind : (test : EntryFields → Bool) (position n : ℕ) (es : List EntryFields) → position < n →

@@ -1,6 +1,6 @@
 //! What ends calls without a reply.
 use messages::entry::Entry;
-use messages::event::Event;
+use messages::event::{Event, MemberEvent, NodeInput};
 use model::call::CallId;
 use model::op::Op;
 
@@ -44,12 +44,10 @@ impl Ending {
         ensures { result ≡ ending_by entry.now entry.now.event }
     {
         match entry.event() {
-            Event::Call {
-                pid,
-                op: Op::Exit,
-                ..
-            } => Some(Ending::exit_on(&entry.call()?, *pid)),
-            Event::Declare { node } => Some(Ending {
+            Event::AtNode(_, NodeInput::Call { pid, op: Op::Exit }) => {
+                Some(Ending::exit_on(&entry.call()?, *pid))
+            }
+            Event::Member(MemberEvent::Declare { node }) => Some(Ending {
                 pid: None,
                 node: *node,
                 incarnation: entry.incarnation(),

@@ -3,7 +3,7 @@ use crate::end::End;
 use lockscript::operations::Operation;
 use message_text::writing::push_message;
 use messages::actor::Actor;
-use messages::event::Event;
+use messages::event::{Event, MemberEvent};
 use messages::message::Message;
 use messages::version::Version;
 use model::op::Op;
@@ -41,7 +41,7 @@ pub fn push_addressed(
 pub fn push_ended(out: &mut String, end: &End<'_>) -> Result<(), AllocError> {
     let position = end.position();
     match end.event() {
-        Event::Declare { .. } => writeln!(out, "gone since entry {position}"),
+        Event::Member(MemberEvent::Declare { .. }) => writeln!(out, "gone since entry {position}"),
         _ => writeln!(out, "ended at entry {position}"),
     }
 }

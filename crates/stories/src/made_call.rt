@@ -5,7 +5,7 @@ ghost use Rattle.stories.specs.rule.OpenCalls.{call_made, end_of, ends, made_by}
 use crate::end::End;
 use crate::ending::Ending;
 use messages::entry::Entry;
-use messages::event::Event;
+use messages::event::{Event, NodeInput};
 use model::call::CallId;
 use model::op::Op;
 
@@ -25,7 +25,7 @@ impl MadeCall {
         ensures made { result ≡ made_by position entry.now.event entry.now.call }
         ensures place { IfSome result (λ made. made.position ≡ position) }
     {
-        let Event::Call { pid, op, .. } = entry.event() else {
+        let Event::AtNode(_, NodeInput::Call { pid, op }) = entry.event() else {
             return None;
         };
         let call = entry.call()?;

@@ -11,7 +11,7 @@ use journal_text::writing::push_event;
 use lockscript::replies::push_reply;
 use message_text::names::{push_call, push_lock};
 use messages::entry::Entry;
-use messages::event::Event;
+use messages::event::{Event, NodeInput};
 use messages::message::Message;
 use messages::version::Version;
 use model::call::CallId;
@@ -94,7 +94,7 @@ fn push_happening<'a>(
     entry: &'a Entry,
 ) -> Result<(), AllocError> {
     match entry.event() {
-        Event::Call { node, pid, op } if makes(entry, &story.call) => {
+        Event::AtNode(node, NodeInput::Call { pid, op }) if makes(entry, &story.call) => {
             push_calling(out, *pid, *node, op)
         }
         Event::Deliver(message) => {

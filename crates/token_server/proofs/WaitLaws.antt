@@ -10,6 +10,7 @@ use Rattle.model.specs.declared.mode.Mode.{Mode}
 use Rattle.model.specs.rule.Owners.{host_of_call}
 use Rattle.messages.specs.declared.refusal.StepError.{StepError}
 use Rattle.messages.specs.declared.refusal.StepError.TheVariants.{Stranger}
+use Rattle.messages.specs.declared.event.ServerInput.TheVariants.{Resend, Learn}
 use Rattle.messages.specs.declared.message.Message.{Message}
 use Rattle.messages.specs.declared.message.Message.TheVariants.{Request, Grant, Revoke, Taken, Released, Conflict, Deny, Freed, Hello, Report}
 use Rattle.messages.specs.declared.token_run.TokenRun.{TokenRun}
@@ -19,7 +20,7 @@ use Rattle.messages.specs.rule.Messages.{addressee, host_of, is_within, same_cal
 use Rattle.token_set.specs.rule.Tokens.{Token}
 use Rattle.token_set.specs.rule.Releases.{lowered}
 use Rattle.token_queue.specs.declared.token_request.TokenRequest.{TokenRequest}
-use Rattle.token_server.specs.declared.event.ServerEvent.TheVariants.{Deliver, Resend, Learn}
+use Rattle.token_server.specs.declared.event.ServerEvent.TheVariants.{Input, Deliver}
 use Rattle.token_queue.specs.rule.Requests.{is_of_call, is_up_to}
 use Rattle.known_nodes.specs.rule.Rows.{Row, is_grant, revoked_mode, asks_token}
 use Rattle.token_server.specs.rule.State.{ServerState, awaits, forgotten, requests, requeued}
@@ -349,5 +350,5 @@ learned-kept call s node incarnation new out false h is =
 pub what_waits-kept : KeepsWhatWaits
 what_waits-kept s (Deliver m) new out call is h =
     sorted-kept call s m new out (not (is_server s.file (addressee m) && is_within s.shape.nodes (host_of m).node)) (nat_le (host_of m).incarnation (s.dead (host_of m).node)) h is
-what_waits-kept s Resend new out call is h = serve-kept call (requeued s) (outstanding s) new out (requeued-kept call s (waiting-kept call s h)) is
-what_waits-kept s (Learn node incarnation) new out call is h = learned-kept call s node incarnation new out (not (is_within s.shape.nodes node)) h is
+what_waits-kept s (Input Resend) new out call is h = serve-kept call (requeued s) (outstanding s) new out (requeued-kept call s (waiting-kept call s h)) is
+what_waits-kept s (Input (Learn node incarnation)) new out call is h = learned-kept call s node incarnation new out (not (is_within s.shape.nodes node)) h is

@@ -36,6 +36,7 @@ use known_nodes::row_edit::RowEdit;
 use members::members::Members;
 use messages::actor::Actor;
 use messages::command_number::CommandNumber;
+use messages::event::ServerInput;
 use messages::file_number::FileNumber;
 use messages::items::Items;
 use messages::message::{Blocking, Message};
@@ -600,9 +601,11 @@ impl Server {
         ensures refused { (r : StepError) → r ≢ StepError.Spent → server_rule (server_state self.now) event.now ≡ Err r → result ≡ Err r }
     {
         match event {
+            ServerEvent::Input(ServerInput::Resend) => self.resend(alloc),
+            ServerEvent::Input(ServerInput::Learn { node, incarnation }) => {
+                self.learn(alloc, *node, *incarnation)
+            }
             ServerEvent::Deliver(message) => self.plan_delivery(alloc, message),
-            ServerEvent::Resend => self.resend(alloc),
-            ServerEvent::Learn { node, incarnation } => self.learn(alloc, *node, *incarnation),
         }
     }
 

@@ -9,7 +9,10 @@ use Rattle.lockscript.specs.declared.script_line.Command.TheVariants.{Call, Sett
 use Rattle.lockscript.specs.rule.Scripts.{LineFields}
 use Rattle.messages.specs.declared.entry.Entry.{Entry}
 use Rattle.messages.specs.declared.event.Event.{Event}
-use Rattle.messages.specs.declared.event.Event.TheVariants as event
+use Rattle.messages.specs.declared.event.Event.TheVariants.{AtNode, Member}
+use Rattle.messages.specs.declared.event.NodeInput.TheVariants as input
+use Rattle.messages.specs.declared.event.MemberEvent.{MemberEvent}
+use Rattle.messages.specs.declared.event.MemberEvent.TheVariants as change
 use Rattle.messages.specs.rule.Refusals as refusals
 use Rattle.messages.specs.declared.refusal.Refused.{Refused as Refusal}
 use Rattle.messages.specs.declared.refusal.Refused.TheVariants as refusal
@@ -113,13 +116,17 @@ ArePhases is_between lines =
 abbrev pub made_by : PlayedLine → Option Asked
 made_by l = option_map (λ at. record { index = at - 1; command = l.line.command }) (begins l.outcome)
 
+-- the command of a line that asks for this change of a member
+abbrev pub command_of : MemberEvent → Command
+command_of (change.Declare n) = Declare n
+command_of (change.Restart n) = Restart n
+command_of (change.FailServer f) = FailServer f
+command_of (change.StartServer f) = StartServer f
+
 -- the command of a line that asks for this event, if a line can ask for it
 abbrev pub asked_by : Event → Option Command
-asked_by (event.Call n pid op) = Some (Call n pid op)
-asked_by (event.Declare n) = Some (Declare n)
-asked_by (event.Restart n) = Some (Restart n)
-asked_by (event.FailServer f) = Some (FailServer f)
-asked_by (event.StartServer f) = Some (StartServer f)
+asked_by (AtNode n (input.Call pid op)) = Some (Call n pid op)
+asked_by (Member event) = Some (command_of event)
 asked_by _ = None
 
 -- the command that asks for the entry's event, with the entry's index

@@ -3,7 +3,8 @@ use Rattle.std.specs.Prelude.{◌≡◌, ◌<◌, ◌≤◌, ◌-◌, ℕ, List,
 use Rattle.model.specs.declared.call.CallId.{CallId}
 use Rattle.model.specs.declared.op.Op.{Op}
 use Rattle.messages.specs.declared.event.Event.{Event}
-use Rattle.messages.specs.declared.event.Event.TheVariants.{Call}
+use Rattle.messages.specs.declared.event.Event.TheVariants.{AtNode}
+use Rattle.messages.specs.declared.event.NodeInput.TheVariants.{Call}
 use Rattle.messages.specs.declared.entry.Entry.{Entry}
 use Rattle.cluster_core.specs.rule.Next.{entry}
 use Rattle.book.specs.rule.Fields.{StampFields, ReceiptFields}
@@ -14,7 +15,7 @@ named_call pid op None = None
 named_call pid op (Some id) = Some (id, pid, op)
 
 abbrev pub call_in : Event → Option CallId → Option (CallId × ℕ × Op)
-call_in (Call n pid op) call = named_call pid op call
+call_in (AtNode n (Call pid op)) call = named_call pid op call
 call_in _ call = None
 
 -- the stamp is of an entry of the journal with these entries

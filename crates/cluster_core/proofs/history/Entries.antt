@@ -4,7 +4,8 @@ use Rattle.std.proofs.lemmas.Option.{slice_get_within, none-some}
 use Rattle.model.specs.declared.call.CallId.{CallId}
 use Rattle.model.specs.declared.op.Op.{Op}
 use Rattle.model.specs.declared.reply.Reply.{Reply}
-use Rattle.messages.specs.declared.event.Event.TheVariants.{Call}
+use Rattle.messages.specs.declared.event.Event.TheVariants.{AtNode}
+use Rattle.messages.specs.declared.event.NodeInput.TheVariants.{Call}
 use Rattle.messages.specs.declared.entry.Entry.{Entry}
 use Rattle.cluster_core.specs.rule.Histories.{EntryAt, IsCalledAt, IsRepliedAt, OneCall, OneReply}
 use Rattle.cluster_core.proofs.common.Places.{slice_get-keeps, slice_get-last, slice_get-push}
@@ -36,7 +37,7 @@ entry_at-within es at e h = let place = h.1 in let lt = slice_get_within es h.0 
 pub called_at-keeps : (es fs : List Entry) (id : CallId) (pid : ℕ) (op : Op) (at : ℕ) → IsCalledAt es id pid op at → IsCalledAt (es ++ fs) id pid op at
 called_at-keeps es fs id pid op at c = record { calling = c.calling; there = entry_at-keeps es fs at c.calling c.there; is_call = c.is_call; named = c.named }
 
-pub called_at-last : (es : List Entry) (e : Entry) (id : CallId) (pid : ℕ) (op : Op) → e.event ≡ Call id.node pid op → e.call ≡ Some id → IsCalledAt (es ++ e ∷ []) id pid op (length es + 1)
+pub called_at-last : (es : List Entry) (e : Entry) (id : CallId) (pid : ℕ) (op : Op) → e.event ≡ AtNode id.node (Call pid op) → e.call ≡ Some id → IsCalledAt (es ++ e ∷ []) id pid op (length es + 1)
 called_at-last es e id pid op event named = record { calling = e; there = entry_at-last es e; is_call = event; named = named }
 
 pub called_at-push : (es : List Entry) (e : Entry) (id : CallId) (pid : ℕ) (op : Op) (at : ℕ) → IsCalledAt (es ++ e ∷ []) id pid op at → IsCalledAt es id pid op at ⊎ ((at ≡ length es + 1) × (e.call ≡ Some id))

@@ -8,7 +8,9 @@ use Rattle.messages.specs.declared.actor.Actor.{Actor}
 use Rattle.messages.specs.declared.actor.Actor.TheVariants.{Node as ANode, Server as AServer}
 use Rattle.messages.specs.declared.message.Message.{Message}
 use Rattle.messages.specs.declared.event.Event.{Event}
-use Rattle.messages.specs.declared.event.Event.TheVariants.{Call, Deliver, Interrupt, Retry, Resend, Declare, Restart, Learn, FailServer, StartServer}
+use Rattle.messages.specs.declared.event.Event.TheVariants.{AtNode, AtServer, Deliver, Member}
+use Rattle.messages.specs.declared.event.NodeInput.TheVariants.{Call, Interrupt, Retry}
+use Rattle.messages.specs.declared.event.MemberEvent.TheVariants.{Declare}
 use Rattle.messages.specs.declared.entry.Entry.{Entry}
 use Rattle.node_core.specs.declared.event.NodeEvent.TheVariants as node
 use Rattle.node_core.specs.rule.State.{NodeState, first_node, id_of}
@@ -25,7 +27,7 @@ use Rattle.cluster_core.proofs.steps.NodeSteps.{call_done}
 use Rattle.cluster_core.proofs.steps.NodeNumbers.{node_rule-steps}
 use Rattle.cluster_core.proofs.steps.ServerSteps.{server_rule-sending}
 use Rattle.cluster_core.proofs.history.Placing.{declared_node}
-use Rattle.cluster_core.proofs.steps.Steps.{next_taken, next_step, node_step, server_step, declare_step, restart_step, fail_step, start_step}
+use Rattle.cluster_core.proofs.steps.Steps.{next_taken, next_step, node_step, server_step, declare_step, member_step}
 
 -- no step lowers an incarnation
 incarnations_rise : (w : WorldState) (event : Event) (q : WorldState × Entry) → next w event ≡ Ok q → (n : ℕ) → (w.nodes n).incarnation ≤ (q.0.nodes n).incarnation
@@ -60,19 +62,26 @@ module _ (w : WorldState) (named : (n : ℕ) → (w.nodes n).node ≡ n) where
   message_names m (AServer file) q h = server_step w NamesLive (Deliver m) file (server_rule (w.servers file) (server.Deliver m)) q (λ done is id c. absurd (not_there done.1.call id (server_rule-sending (w.servers file) (server.Deliver m) done is).0 c)) h
 
   taken_names : (event : Event) (q : WorldState × Entry) → taken w event ≡ Ok q → NamesLive q
-  taken_names (Call n pid op) q h =
+  taken_names (AtNode n (Call pid op)) q h =
       let s = w.nodes n in
-      let P : NodeState × _ → Type 0 = λ d. NamesLive (recorded (with_node w n d.0) (Call n pid op) 0 d.1) in
-      node_step w NamesLive (Call n pid op) n (node_rule s (node.Call pid op)) q (λ done is. subst P (call_done s pid op done is) (called_live n (s.calls + 1))) h
+      let event = AtNode n (Call pid op) in
+      let P : NodeState × _ → Type 0 = λ d. NamesLive (recorded (with_node w n d.0) event 0 d.1) in
+      node_step w NamesLive event n (node_rule s (node.Input (Call pid op))) q (λ done is. subst P (call_done s pid op done is) (called_live n (s.calls + 1))) h
+  taken_names (AtNode n (Interrupt pid)) q h =
+      let step = node.Input (Interrupt pid) in
+      node_step w NamesLive (AtNode n (Interrupt pid)) n (node_rule (w.nodes n) step) q (λ done is id c. absurd (not_there done.1.call id (node_rule-steps (w.nodes n) step done is).named c)) h
+  taken_names (AtNode n (Retry pid)) q h =
+      let step = node.Input (Retry pid) in
+      node_step w NamesLive (AtNode n (Retry pid)) n (node_rule (w.nodes n) step) q (λ done is id c. absurd (not_there done.1.call id (node_rule-steps (w.nodes n) step done is).named c)) h
+  taken_names (AtServer file input) q h =
+      let step = server.Input input in
+      server_step w NamesLive (AtServer file input) file (server_rule (w.servers file) step) q (λ done is id c. absurd (not_there done.1.call id (server_rule-sending (w.servers file) step done is).0 c)) h
   taken_names (Deliver m) q h = message_names m (addressee m) q h
-  taken_names (Interrupt n pid) q h = node_step w NamesLive (Interrupt n pid) n (node_rule (w.nodes n) (node.Interrupt pid)) q (λ done is id c. absurd (not_there done.1.call id (node_rule-steps (w.nodes n) (node.Interrupt pid) done is).named c)) h
-  taken_names (Retry n pid) q h = node_step w NamesLive (Retry n pid) n (node_rule (w.nodes n) (node.Retry pid)) q (λ done is id c. absurd (not_there done.1.call id (node_rule-steps (w.nodes n) (node.Retry pid) done is).named c)) h
-  taken_names (Resend file) q h = server_step w NamesLive (Resend file) file (server_rule (w.servers file) server.Resend) q (λ done is id c. absurd (not_there done.1.call id (server_rule-sending (w.servers file) server.Resend done is).0 c)) h
-  taken_names (Learn file n i) q h = server_step w NamesLive (Learn file n i) file (server_rule (w.servers file) (server.Learn n i)) q (λ done is id c. absurd (not_there done.1.call id (server_rule-sending (w.servers file) (server.Learn n i) done is).0 c)) h
-  taken_names (Declare n) q h = declare_step w NamesLive n q (λ k is alive id c. absurd (none-some id c)) h
-  taken_names (Restart n) q h = restart_step w NamesLive n q (λ k is dead few id c. absurd (none-some id c)) h
-  taken_names (FailServer file) q h = fail_step w NamesLive file q (λ f is works id c. absurd (none-some id c)) h
-  taken_names (StartServer file) q h = start_step w NamesLive file q (λ f is stopped few id c. absurd (none-some id c)) h
+  taken_names (Member event) q h = member_step w NamesLive event q
+      (λ n is alive id c. absurd (none-some id c))
+      (λ n is dead few id c. absurd (none-some id c))
+      (λ f is works id c. absurd (none-some id c))
+      (λ f is stopped few id c. absurd (none-some id c)) h
 
 still_named : (w : WorldState) (event : Event) (q : WorldState × Entry) → next w event ≡ Ok q → ((n : ℕ) → (w.nodes n).node ≡ n) → (n : ℕ) → (q.0.nodes n).node ≡ n
 still_named w event q h named = next_step w (λ p. (n : ℕ) → (p.0.nodes n).node ≡ n) event q
@@ -96,15 +105,15 @@ past_silent (d ∷ ds) w v n i named older l (suc k) e id there c node is =
     past_silent ds l.0 v n i (still_named w d.event (l.0, d) l.1 named) (omega arith) l.2 k e id there c node is
 
 -- after the declaration of an incarnation its node is past it
-declared_past : (w : WorldState) (n i : ℕ) (e : Entry) (v : WorldState) → e.event ≡ Declare n → e.incarnation ≡ i → next w e.event ≡ Ok (v, e) → i < (v.nodes n).incarnation
+declared_past : (w : WorldState) (n i : ℕ) (e : Entry) (v : WorldState) → e.event ≡ Member (Declare n) → e.incarnation ≡ i → next w e.event ≡ Ok (v, e) → i < (v.nodes n).incarnation
 declared_past w n i e v is_declare of step =
-    let h : next w (Declare n) ≡ Ok (v, e) = subst (λ (x : Event). next w x ≡ Ok (v, e)) is_declare step in
+    let h : next w (Member (Declare n)) ≡ Ok (v, e) = subst (λ (x : Event). next w x ≡ Ok (v, e)) is_declare step in
     let P : WorldState × Entry → Type 0 = λ q. q.1.incarnation < (q.0.nodes n).incarnation in
     let now : e.incarnation < (v.nodes n).incarnation = declare_step w P n (v, e) (λ k is alive.
-    at_number n k (λ b. (w.nodes k).incarnation < (if b then first_node w.shape k ((w.nodes k).incarnation + 1) else w.nodes n).incarnation) (λ same. omega arith) (λ other. absurd (other (declared_node is)))) (next_taken w (Declare n) (v, e) h).1 in
+    at_number n k (λ b. (w.nodes k).incarnation < (if b then first_node w.shape k ((w.nodes k).incarnation + 1) else w.nodes n).incarnation) (λ same. omega arith) (λ other. absurd (other (declared_node is)))) (next_taken w (Member (Declare n)) (v, e) h).1 in
     omega arith
 
-declared_silent : (es : List Entry) (w v : WorldState) (n i : ℕ) → ((m : ℕ) → (w.nodes m).node ≡ m) → Leads w es v → (j k : ℕ) (d e : Entry) (id : CallId) → slice_get es j ≡ Some d → d.event ≡ Declare n → d.incarnation ≡ i → j < k → slice_get es k ≡ Some e → e.call ≡ Some id → id.node ≡ n → id.incarnation ≡ i → ⊥
+declared_silent : (es : List Entry) (w v : WorldState) (n i : ℕ) → ((m : ℕ) → (w.nodes m).node ≡ m) → Leads w es v → (j k : ℕ) (d e : Entry) (id : CallId) → slice_get es j ≡ Some d → d.event ≡ Member (Declare n) → d.incarnation ≡ i → j < k → slice_get es k ≡ Some e → e.call ≡ Some id → id.node ≡ n → id.incarnation ≡ i → ⊥
 declared_silent [] w v n i named l j k d e id there is_declare of lt here c node is = none-some d there
 declared_silent (x ∷ xs) w v n i named l zero zero d e id there is_declare of lt here c node is = absurd (omega arith)
 declared_silent (x ∷ xs) w v n i named l zero (suc k) d e id there is_declare of lt here c node is =

@@ -4,7 +4,8 @@ use Rattle.std.proofs.lemmas.Bool.{false≢true}
 use Rattle.model.specs.declared.call.CallId.{CallId}
 use Rattle.model.specs.declared.op.Op.{Op}
 use Rattle.messages.specs.declared.event.Event.{Event}
-use Rattle.messages.specs.declared.event.Event.TheVariants.{Call, Deliver, Interrupt, Retry, Resend, Declare, Restart, Learn, FailServer, StartServer}
+use Rattle.messages.specs.declared.event.Event.TheVariants.{AtNode, AtServer, Deliver, Member}
+use Rattle.messages.specs.declared.event.NodeInput.TheVariants.{Call, Interrupt, Retry}
 use Rattle.messages.specs.declared.entry.Entry.{Entry}
 use Rattle.messages.proofs.SameMessages.{call_exact, call_refl}
 use Rattle.cluster_core.specs.rule.Histories.{IsCalledAt}
@@ -20,16 +21,12 @@ is_named-itself id o h = rw h (call_refl id)
 
 -- a call that is found is found in each longer run
 go_on : (b : Bool) (event : Event) (x y : Option (ℕ × Op)) (c : ℕ × Op) → (x ≡ Some c → y ≡ Some c) → cond b (called_by event x) x ≡ Some c → cond b (called_by event y) y ≡ Some c
-go_on true (Call node pid op) x y c h e = e
+go_on true (AtNode node (Call pid op)) x y c h e = e
+go_on true (AtNode node (Interrupt pid)) x y c h e = h e
+go_on true (AtNode node (Retry pid)) x y c h e = h e
+go_on true (AtServer file input) x y c h e = h e
 go_on true (Deliver m) x y c h e = h e
-go_on true (Interrupt node pid) x y c h e = h e
-go_on true (Retry node pid) x y c h e = h e
-go_on true (Resend file) x y c h e = h e
-go_on true (Declare node) x y c h e = h e
-go_on true (Restart node) x y c h e = h e
-go_on true (Learn file node incarnation) x y c h e = h e
-go_on true (FailServer file) x y c h e = h e
-go_on true (StartServer file) x y c h e = h e
+go_on true (Member event) x y c h e = h e
 go_on false event x y c h e = h e
 
 pub find_call-keeps : (es fs : List Entry) (id : CallId) (c : ℕ × Op) → find_call es id ≡ Some c → find_call (es ++ fs) id ≡ Some c
@@ -55,7 +52,7 @@ pub record Called (es : List Entry) (id : CallId) (pid : ℕ) (op : Op) : Type 0
 pub called-keeps : (es fs : List Entry) (id : CallId) (pid : ℕ) (op : Op) → Called es id pid op → Called (es ++ fs) id pid op
 called-keeps es fs id pid op c = record { at = c.at; there = called_at-keeps es fs id pid op c.at c.there; found = find_call-keeps es fs id (pid, op) c.found }
 
-pub called-last : (es : List Entry) (e : Entry) (id : CallId) (pid : ℕ) (op : Op) → e.event ≡ Call id.node pid op → e.call ≡ Some id → (IsNamed es id → ⊥) → Called (es ++ e ∷ []) id pid op
+pub called-last : (es : List Entry) (e : Entry) (id : CallId) (pid : ℕ) (op : Op) → e.event ≡ AtNode id.node (Call pid op) → e.call ≡ Some id → (IsNamed es id → ⊥) → Called (es ++ e ∷ []) id pid op
 called-last es e id pid op event named fresh = record {
   at = length es + 1;
   there = called_at-last es e id pid op event named;

@@ -13,7 +13,8 @@ use Rattle.model.specs.rule.Table.{Table, LockTarget}
 use Rattle.model.specs.rule.Step.{Step}
 use Rattle.messages.specs.declared.message.Message.TheVariants.{Deny}
 use Rattle.messages.specs.declared.event.Event.{Event}
-use Rattle.messages.specs.declared.event.Event.TheVariants.{Deliver, Declare}
+use Rattle.messages.specs.declared.event.Event.TheVariants.{Deliver, Member}
+use Rattle.messages.specs.declared.event.MemberEvent.TheVariants.{Declare}
 use Rattle.messages.specs.declared.entry.Entry.{Entry}
 use Rattle.node_core.specs.declared.open_call.OpenCall.{OpenCall}
 use Rattle.node_core.specs.rule.State.{NodeState, process, id_of, target_of}
@@ -170,7 +171,7 @@ IsNoDenial _ = Unit {0}
 
 -- the event declares no node failed
 abbrev pub IsNoDeclaration : Event → Type 0
-IsNoDeclaration (Declare node) = ⊥
+IsNoDeclaration (Member (Declare node)) = ⊥
 IsNoDeclaration _ = Unit {0}
 
 -- the entry answers a call of this node in one of these ways

@@ -25,7 +25,11 @@ use Rattle.messages.specs.declared.refusal.StepError.{StepError}
 use Rattle.messages.specs.declared.message.Message.{Message}
 use Rattle.messages.specs.declared.message.Message.TheVariants.{Request, Grant, Revoke, Taken, Released, Conflict, Deny, Freed, Hello, Report}
 use Rattle.messages.specs.declared.event.Event.{Event}
-use Rattle.messages.specs.declared.event.Event.TheVariants.{Call, Deliver, Interrupt, Retry, Resend, Declare, Restart, Learn, FailServer, StartServer}
+use Rattle.messages.specs.declared.event.Event.TheVariants.{AtNode, AtServer, Deliver, Member}
+use Rattle.messages.specs.declared.event.NodeInput.TheVariants.{Call, Interrupt, Retry}
+use Rattle.messages.specs.declared.event.ServerInput.{ServerInput}
+use Rattle.messages.specs.declared.event.MemberEvent.{MemberEvent}
+use Rattle.messages.specs.declared.event.MemberEvent.TheVariants.{Declare, Restart}
 use Rattle.messages.specs.declared.entry.Entry.{Entry}
 use Rattle.messages.specs.declared.outcome.Outcome.{Outcome}
 use Rattle.node_core.specs.declared.event.NodeEvent.TheVariants as node
@@ -54,7 +58,7 @@ use Rattle.cluster_core.specs.rule.Plain.{IsPlainHistory}
 use Rattle.cluster_core.proofs.common.Choices.{at_number}
 use Rattle.cluster_core.proofs.history.Entries.{none_named, none_called, none_replied}
 use Rattle.cluster_core.proofs.steps.NodeSteps.{IsTo, call_done, call_free, deliver_done, interrupt_done, retry_done}
-use Rattle.cluster_core.proofs.steps.Steps.{next_taken, next_unfenced, node_step, server_step, declare_step, restart_step, fail_step, start_step}
+use Rattle.cluster_core.proofs.steps.Steps.{next_taken, next_unfenced, node_step, server_step, member_step}
 use Rattle.cluster_core.proofs.steps.ServerSteps.{IsSending, server_rule-sending}
 use Rattle.model.specs.rule.Anchors.{IsOwn}
 use Rattle.model.proofs.NodeTables.{own_empty}
@@ -66,12 +70,11 @@ use Rattle.cluster_core.proofs.steps.NodeTokens.{all_among, called_asks, tried_i
 use Rattle.cluster_core.proofs.tokens.Epochs.{EndsOf}
 use Rattle.cluster_core.proofs.tokens.Ending.{IsShort, asks_ends, delivered_ends}
 use Rattle.cluster_core.proofs.tokens.Unbarred.{safe_free}
-use Rattle.cluster_core.proofs.steps.Requested.{Comes, AnyNumber, Makes, Tells, mapped, delivered-steps, resend-steps, learn-steps}
+use Rattle.cluster_core.proofs.steps.Requested.{Comes, AnyNumber, Makes, Tells, mapped, delivered-steps, input-steps}
 use Rattle.cluster_core.proofs.steps.Sends.{IsFreely, AsksFor, EntersConflicts, called-sends, tried_if-sends, interrupted-sends, delivered-sends}
 use Rattle.cluster_core.proofs.history.Resting.{union_live, rests_after}
 use Rattle.cluster_core.proofs.history.Slots.{slotted_first, all_slotted_first, slots_fit, slots_legal, slots_at_their_places}
 use Rattle.cluster_core.proofs.history.Plain.{plain_slots, plain_legal, plain_items}
-use Rattle.cluster_core.proofs.history.Placing.{declared_node}
 use Rattle.cluster_core.proofs.history.Witnesses.{asked_ends, IsAskedBy, Denies, Backed, HeldFor, StaysOpen, backed-keeps, called_one, not_blocking}
 use Rattle.cluster_core.proofs.history.Denials.{denies_now}
 use Rattle.cluster_core.proofs.history.Worlds.{Good, replied_named, server_good, servers_good, put_comes, node_good, declared_good, restarted_good, stays, asks, leads_on, union_stays, others_stay}
@@ -84,15 +87,6 @@ message_in _ = None
 same_message_of : (m k : Message) → Deliver m ≡ Deliver k → m ≡ k
 unfolding message_in
 same_message_of m k h = same_Some m k (ap message_in h)
-
--- the node that is restarted
-node_in : Event → ℕ
-node_in (Restart n) = n
-node_in _ = 0
-
-restarted_node : {m n : ℕ} → Restart m ≡ Restart n → m ≡ n
-unfolding node_in
-restarted_node h = ap node_in h
 
 -- a message that passes the test is among them
 passing : (test : Message → Bool) (ms : List Message) → list_any test ms ≡ true → (m : Message) × (is_among ms m ≡ true) × (test m ≡ true)
@@ -171,7 +165,7 @@ module _ (shape : ShapeFields) (past : List Entry) (w : WorldState) (few : IsNum
   not-true-false false h = absurd (cc)
 
   -- a process that may call
-  process_in : (n pid : ℕ) (op : Op) → is_known w (Call n pid op) ≡ true → w.alive n ≡ true → IsProcess (process (w.nodes n) pid)
+  process_in : (n pid : ℕ) (op : Op) → is_known w (AtNode n (Call pid op)) ≡ true → w.alive n ≡ true → IsProcess (process (w.nodes n) pid)
   process_in n pid op known alive =
       let parts = and_parts (has_node w n) (is_pid pid && is_in_shape w.shape op) known in
       let node : IsNumber most_nodes n = within (w.shape.nodes) n few parts.0 in
@@ -216,21 +210,21 @@ module _ (shape : ShapeFields) (past : List Entry) (w : WorldState) (few : IsNum
       pub keeps : ((asks : AsksFor (Backed shape (past ++ made ∷ []) later) u) → All (Backed shape (past ++ made ∷ []) later) o.sends) → EndsOf u → IsSafe later → IsNumber most_nodes w.shape.nodes × Good shape (past ++ made ∷ []) later
       keeps sends ends_on safe = (few, node_good shape past w n u event incarnation o g made_so moves not_strange (free safe) denied (sends (asks shape past w n u event incarnation o g made_so moves not_strange)) undeclared ends_on)
 
-  call_good : (n pid : ℕ) (op : Op) → is_known w (Call n pid op) ≡ true → (is_in_shape (w.nodes n).shape op ≡ true) × (is_busy (w.nodes n) pid op ≡ false) → After (Call n pid op) (recorded (with_node w n (after_call (w.nodes n) pid op).0) (Call n pid op) 0 (after_call (w.nodes n) pid op).1)
+  call_good : (n pid : ℕ) (op : Op) → is_known w (AtNode n (Call pid op)) ≡ true → (is_in_shape (w.nodes n).shape op ≡ true) × (is_busy (w.nodes n) pid op ≡ false) → After (AtNode n (Call pid op)) (recorded (with_node w n (after_call (w.nodes n) pid op).0) (AtNode n (Call pid op)) 0 (after_call (w.nodes n) pid op).1)
   call_good n pid op known free made_so safe =
       let s = w.nodes n in
       let r = after_call s pid op in
-      let event = Call n pid op in
+      let event = AtNode n (Call pid op) in
       let moves = call_moves past s n pid op (g.holds n) (g.named n) (process_in n pid op known (not-true-false (w.alive n) (next_unfenced w event _ made_so))) (replied_named shape past w g) free.0 (not_busy s pid op free.1) in
       let there = (and_parts (has_node w n) (is_pid pid && is_in_shape w.shape op) known).0 in
       let run = past ++ entry event 0 r.1 ∷ [] in
       let v = (recorded (with_node w n r.0) event 0 r.1).0 in
       keeps n r.0 event 0 r.1 there moves (λ m h. absurd (cc)) tt made_so (called-sends (Backed shape run v) (freely run v) (record s { calls = s.calls + 1 }) (s.calls + 1) pid op) (asks_ends s (called (record s { calls = s.calls + 1 }) (s.calls + 1) pid op) (let a = called_asks (record s { calls = s.calls + 1 }) (s.calls + 1) pid op in record { node_is = a.node_is; incarnation_is = a.incarnation_is; files_are = a.files_are; sends = a.sends }) (g.ends n)) safe
 
-  retry_good : (n pid : ℕ) (done : NodeState × Outcome) → has_node w n ≡ true → retry_rule (w.nodes n) pid ≡ Ok done → After (Retry n pid) (recorded (with_node w n done.0) (Retry n pid) (w.nodes n).incarnation done.1)
+  retry_good : (n pid : ℕ) (done : NodeState × Outcome) → has_node w n ≡ true → retry_rule (w.nodes n) pid ≡ Ok done → After (AtNode n (Retry pid)) (recorded (with_node w n done.0) (AtNode n (Retry pid)) (w.nodes n).incarnation done.1)
   retry_good n pid done there h =
       let s = w.nodes n in
-      let event = Retry n pid in
+      let event = AtNode n (Retry pid) in
       let effect = tried_if s (open_call_of s pid) in
       let P : NodeState × Outcome → Type 0 = λ d. After event (recorded (with_node w n d.0) event s.incarnation d.1) in
       let received = retried_receives past s (g.holds n) event s.incarnation pid tt in
@@ -241,10 +235,10 @@ module _ (shape : ShapeFields) (past : List Entry) (w : WorldState) (few : IsNum
       let test : OpenCall → Bool = λ c. c.pid == pid in
       subst P is (λ made_so safe. keeps n effect.state event s.incarnation o there received.moves (λ m h. absurd (cc)) tt made_so (tried_if-sends (Backed shape run v) (freely run v) s (open_call_of s pid) (λ c f. (found_open test s.pending c f).0)) (asks_ends s effect (tried_if_asks s (open_call_of s pid)) (g.ends n)) safe)
 
-  interrupt_good : (n pid : ℕ) (done : NodeState × Outcome) → has_node w n ≡ true → interrupt_rule (w.nodes n) pid ≡ Ok done → After (Interrupt n pid) (recorded (with_node w n done.0) (Interrupt n pid) (w.nodes n).incarnation done.1)
+  interrupt_good : (n pid : ℕ) (done : NodeState × Outcome) → has_node w n ≡ true → interrupt_rule (w.nodes n) pid ≡ Ok done → After (AtNode n (Interrupt pid)) (recorded (with_node w n done.0) (AtNode n (Interrupt pid)) (w.nodes n).incarnation done.1)
   interrupt_good n pid done there h =
       let s = w.nodes n in
-      let event = Interrupt n pid in
+      let event = AtNode n (Interrupt pid) in
       let effect = interrupted s (open_call_of s pid) in
       let P : NodeState × Outcome → Type 0 = λ d. After event (recorded (with_node w n d.0) event s.incarnation d.1) in
       let received = interrupted_receives past s (g.holds n) event s.incarnation pid tt in
@@ -266,6 +260,9 @@ module _ (shape : ShapeFields) (past : List Entry) (w : WorldState) (few : IsNum
 
   -- a message for the node in its incarnation
   module _ (n : ℕ) (m : Message) (there : has_node w n ≡ true) (known : is_among w.sent m ≡ true) (to : IsTo (w.nodes n) m) where
+    abbrev coming : Event
+    coming = Deliver m
+
     abbrev s : NodeState
     s = w.nodes n
 
@@ -276,23 +273,23 @@ module _ (shape : ShapeFields) (past : List Entry) (w : WorldState) (few : IsNum
     told = (outcome None effect).1
 
     abbrev run : List Entry
-    run = past ++ entry (Deliver m) 0 told ∷ []
+    run = past ++ entry coming 0 told ∷ []
 
     abbrev v : WorldState
-    v = (recorded (with_node w n effect.state) (Deliver m) 0 told).0
+    v = (recorded (with_node w n effect.state) coming 0 told).0
 
-    its_moves : Moves past s effect.state (entry (Deliver m) 0 told)
+    its_moves : Moves past s effect.state (entry coming 0 told)
     its_moves = (delivered_receives past s (g.holds n) m to).moves
 
     not_strange_too : has_node w n ≡ false → (effect.state.pending ≡ []) × IsSilent s effect.state told.reply
     not_strange_too strange = absurd (both_ways (has_node w n) strange there)
 
-    module _ (made_so : next w (Deliver m) ≡ Ok (recorded (with_node w n effect.state) (Deliver m) 0 told)) where
+    module _ (made_so : next w coming ≡ Ok (recorded (with_node w n effect.state) coming 0 told)) where
       its_stays : (k : ℕ) → StaysOpen past (w.nodes k) (v.nodes k)
-      its_stays = stays shape past w n effect.state (Deliver m) 0 told g made_so its_moves not_strange_too
+      its_stays = stays shape past w n effect.state coming 0 told g made_so its_moves not_strange_too
 
       remembers : (file : ℕ) (k : Message) → (s.files file).answer ≡ Some k → Backed shape run v k
-      remembers file k h = backed-keeps shape past (entry (Deliver m) 0 told) w v its_stays k (known_backed k (heard.answers n file k there h))
+      remembers file k h = backed-keeps shape past (entry coming 0 told) w v its_stays k (known_backed k (heard.answers n file k there h))
 
       -- no conflict of that number was sent before
       unsaid : (file number : ℕ) → number ≡ max (s.files file).last (begin_of number) + 1 → (k : ℕ) (e : Entry) → EntryAt past k e → names_conflict file (host s) number e ≡ false
@@ -306,7 +303,7 @@ module _ (shape : ShapeFields) (past : List Entry) (w : WorldState) (few : IsNum
         | inr none ↦ none
       ])
 
-    conflict_there : (file number : ℕ) (holder : Host) (call : CallId) (mode : Mode) (wanted : Wants) → m ≡ Revoke file number holder call mode wanted → (made_so : next w (Deliver m) ≡ Ok (recorded (with_node w n effect.state) (Deliver m) 0 told)) (lock : LockInfo) → number ≡ ((in_epoch s file number).files file).last + 1 → lowest_in_way (s.table.locks file) s.node s.incarnation wanted.required mode ≡ Some lock → Denies shape run v file call (host s) number lock
+    conflict_there : (file number : ℕ) (holder : Host) (call : CallId) (mode : Mode) (wanted : Wants) → m ≡ Revoke file number holder call mode wanted → (made_so : next w coming ≡ Ok (recorded (with_node w n effect.state) coming 0 told)) (lock : LockInfo) → number ≡ ((in_epoch s file number).files file).last + 1 → lowest_in_way (s.table.locks file) s.node s.incarnation wanted.required mode ≡ Some lock → Denies shape run v file call (host s) number lock
     conflict_there file number holder call mode wanted is made_so lock entered_one in_way =
         let next_one : number ≡ max (s.files file).last (begin_of number) + 1 = entered_one ∙ ap (λ (k : ℕ). k + 1) (entered_last s file number) in
         let names : Names s file number call lock effect = subst (λ (x : Message). Names s file number call lock (delivered s x)) (sym is) (names_first s file number holder call mode wanted lock entered_one in_way) in
@@ -315,7 +312,7 @@ module _ (shape : ShapeFields) (past : List Entry) (w : WorldState) (few : IsNum
         let node_is = eqb-true holder.node s.node addressed.node in
         let incarnation_is = addressed.incarnation in
         let holder_is : holder ≡ host s = λ i. record { node = node_is i; incarnation = incarnation_is i } in
-        denies_now shape past w v (entry (Deliver m) 0 told) n file number call mode wanted lock (record {
+        denies_now shape past w v (entry coming 0 told) n file number call mode wanted lock (record {
           there = there;
           leads = g.leads;
           named = g.named;
@@ -328,16 +325,16 @@ module _ (shape : ShapeFields) (past : List Entry) (w : WorldState) (few : IsNum
           answer = names.answer;
           unsaid = unsaid made_so file number next_one;
           here = in_way;
-          leads_on = leads_on shape past w n effect.state (Deliver m) 0 told g made_so its_moves not_strange_too;
-          same = union_stays shape past w n effect.state (Deliver m) 0 told g made_so its_moves not_strange_too names.table;
-          others_stay = others_stay shape past w n effect.state (Deliver m) 0 told g made_so its_moves not_strange_too;
+          leads_on = leads_on shape past w n effect.state coming 0 told g made_so its_moves not_strange_too;
+          same = union_stays shape past w n effect.state coming 0 told g made_so its_moves not_strange_too names.table;
+          others_stay = others_stay shape past w n effect.state coming 0 told g made_so its_moves not_strange_too;
           one_call = g.one_call;
           waiting = λ k. (g.holds k).waiting;
           about = g.asked;
           strangers = g.strangers;
         })
 
-    conflicts : (made_so : next w (Deliver m) ≡ Ok (recorded (with_node w n effect.state) (Deliver m) 0 told)) (x : Message) → m ≡ x → EntersConflicts (Backed shape run v) (freely run v) s x
+    conflicts : (made_so : next w coming ≡ Ok (recorded (with_node w n effect.state) coming 0 told)) (x : Message) → m ≡ x → EntersConflicts (Backed shape run v) (freely run v) s x
     conflicts made_so (Revoke file number holder call mode wanted) is = λ lock next_one in_way. conflict_there file number holder call mode wanted is made_so lock next_one in_way
     conflicts made_so (Request f call blocking mode wanted) is = tt
     conflicts made_so (Grant f number call mode span) is = tt
@@ -361,9 +358,9 @@ module _ (shape : ShapeFields) (past : List Entry) (w : WorldState) (few : IsNum
     short (Hello f number holder) b = tt
     short (Report f number holder runs) b = tt
 
-    pub delivered_good : After (Deliver m) (recorded (with_node w n effect.state) (Deliver m) 0 told)
+    pub delivered_good : After coming (recorded (with_node w n effect.state) coming 0 told)
     delivered_good made_so safe =
-        keeps n effect.state (Deliver m) 0 told there its_moves (λ k h. subst (λ (x : Message). is_among w.sent x ≡ true) (same_message_of m k h) known) tt made_so
+        keeps n effect.state coming 0 told there its_moves (λ k h. subst (λ (x : Message). is_among w.sent x ≡ true) (same_message_of m k h) known) tt made_so
         (delivered-sends (Backed shape run v) (freely run v) s m (remembers made_so) (conflicts made_so m refl)) (delivered_ends s m to (short m (known_backed m known)) (g.ends n)) safe
 
   message_good : (n : ℕ) (m : Message) (done : NodeState × Outcome) → has_node w n ≡ true → is_among w.sent m ≡ true → deliver_rule (w.nodes n) m ≡ Ok done → After (Deliver m) (recorded (with_node w n done.0) (Deliver m) 0 done.1)
@@ -393,24 +390,21 @@ module _ (shape : ShapeFields) (past : List Entry) (w : WorldState) (few : IsNum
       let t = w.servers file in
       server_next (Deliver m) file (server_rule t (server.Deliver m)) p (λ done is. server_rule-sending t (server.Deliver m) done is) tt (delivered-steps file AnyNumber (HeldFor shape past file) (Backed shape past w) (makes file) t m tells (g.comes file)) h
 
-  resend_good : (file : ℕ) (p : WorldState × Entry) → after_server w (Resend file) file (server_rule (w.servers file) server.Resend) ≡ Ok p → After (Resend file) p
-  resend_good file p h =
+  input_good : (file : ℕ) (input : ServerInput) (p : WorldState × Entry) → after_server w (AtServer file input) file (server_rule (w.servers file) (server.Input input)) ≡ Ok p → After (AtServer file input) p
+  input_good file input p h =
       let t = w.servers file in
-      server_next (Resend file) file (server_rule t server.Resend) p (λ done is. server_rule-sending t server.Resend done is) tt (resend-steps file AnyNumber (HeldFor shape past file) (Backed shape past w) (makes file) t (g.comes file)) h
-
-  learn_good : (file n i : ℕ) (p : WorldState × Entry) → after_server w (Learn file n i) file (server_rule (w.servers file) (server.Learn n i)) ≡ Ok p → After (Learn file n i) p
-  learn_good file n i p h =
-      let t = w.servers file in
-      server_next (Learn file n i) file (server_rule t (server.Learn n i)) p (λ done is. server_rule-sending t (server.Learn n i) done is) tt (learn-steps file AnyNumber (HeldFor shape past file) (Backed shape past w) (makes file) t n i (g.comes file)) h
+      server_next (AtServer file input) file (server_rule t (server.Input input)) p (λ done is. server_rule-sending t (server.Input input) done is) tt (input-steps file AnyNumber (HeldFor shape past file) (Backed shape past w) (makes file) t input (g.comes file)) h
 
   node_told : (n : ℕ) (m : Message) (p : WorldState × Entry) → has_node w n ≡ true → is_among w.sent m ≡ true → after_node w (Deliver m) n (node_rule (w.nodes n) (node.Deliver m)) ≡ Ok p → After (Deliver m) p
   node_told n m p there known h = node_step w (After (Deliver m)) (Deliver m) n (node_rule (w.nodes n) (node.Deliver m)) p (λ done is. message_good n m done there known is) h
 
-  declare_good : (n k : ℕ) → is_known w (Declare n) ≡ true → Declare n ≡ Declare k → After (Declare n) (silent (declared w k) (Declare n) (w.nodes k).incarnation)
-  declare_good n k known is = subst (λ (j : ℕ). After (Declare n) (silent (declared w j) (Declare n) (w.nodes j).incarnation)) (declared_node is) (λ made_so safe. (few, declared_good shape past w n known g made_so))
+  declare_good : (event : MemberEvent) (n : ℕ) → is_known w (Member event) ≡ true → Member event ≡ Member (Declare n) → After (Member event) (silent (declared w n) (Member event) (w.nodes n).incarnation)
+  declare_good event n known is =
+      let there : has_node w n ≡ true = subst (λ (x : Event). is_known w x ≡ true) is known in
+      subst (λ (x : Event). After x (silent (declared w n) x (w.nodes n).incarnation)) (sym is) (λ made_so safe. (few, declared_good shape past w n there g made_so))
 
-  restart_good : (n k : ℕ) → Restart n ≡ Restart k → (w.nodes k).incarnation ≤ most_incarnations → After (Restart n) (silent (restarted w k) (Restart n) (w.nodes k).incarnation)
-  restart_good n k is = subst (λ (j : ℕ). (w.nodes j).incarnation ≤ most_incarnations → After (Restart n) (silent (restarted w j) (Restart n) (w.nodes j).incarnation)) (restarted_node is) (λ small made_so safe. (few, restarted_good shape past w n small g made_so))
+  restart_good : (event : MemberEvent) (n : ℕ) → Member event ≡ Member (Restart n) → (w.nodes n).incarnation ≤ most_incarnations → After (Member event) (silent (restarted w n) (Member event) (w.nodes n).incarnation)
+  restart_good event n is small = subst (λ (x : Event). After x (silent (restarted w n) x (w.nodes n).incarnation)) (sym is) (λ made_so safe. (few, restarted_good shape past w n small g made_so))
 
   -- a token server fails, or is rebuilt: it holds no request, and sends only questions
   fail_good : (event : Event) → IsNoDeclaration event → (file : ℕ) → After event (silent (failed w file) event (w.servers file).epoch)
@@ -441,11 +435,19 @@ module _ (shape : ShapeFields) (past : List Entry) (w : WorldState) (few : IsNum
       )
 
   taken_good : (event : Event) (p : WorldState × Entry) → is_known w event ≡ true → taken w event ≡ Ok p → After event p
-  taken_good (Call n pid op) p known h =
+  taken_good (AtNode n (Call pid op)) p known h =
       let s = w.nodes n in
-      let P : NodeState × Outcome → Type 0 = λ d. After (Call n pid op) (recorded (with_node w n d.0) (Call n pid op) 0 d.1) in
-      node_step w (After (Call n pid op)) (Call n pid op) n (node_rule s (node.Call pid op)) p
+      let event = AtNode n (Call pid op) in
+      let P : NodeState × Outcome → Type 0 = λ d. After event (recorded (with_node w n d.0) event 0 d.1) in
+      node_step w (After event) event n (node_rule s (node.Input (Call pid op))) p
       (λ done is. subst P (call_done s pid op done is) (call_good n pid op known (call_free s pid op done is))) h
+  taken_good (AtNode n (Interrupt pid)) p known h =
+      let event = AtNode n (Interrupt pid) in
+      node_step w (After event) event n (node_rule (w.nodes n) (node.Input (Interrupt pid))) p (λ done is. interrupt_good n pid done (and_parts (has_node w n) (is_pid pid) known).0 is) h
+  taken_good (AtNode n (Retry pid)) p known h =
+      let event = AtNode n (Retry pid) in
+      node_step w (After event) event n (node_rule (w.nodes n) (node.Input (Retry pid))) p (λ done is. retry_good n pid done (and_parts (has_node w n) (is_pid pid) known).0 is) h
+  taken_good (AtServer file input) p known h = input_good file input p h
   taken_good (Deliver (Grant file number call mode span)) p known h =
       let m = Grant file number call mode span in
       let both = and_parts (has_node w call.node) (is_among w.sent m) known in
@@ -473,14 +475,11 @@ module _ (shape : ShapeFields) (past : List Entry) (w : WorldState) (few : IsNum
       let m = Hello file number holder in
       let both = and_parts (has_node w holder.node) (is_among w.sent m) known in
       node_told holder.node m p both.0 both.1 h
-  taken_good (Interrupt n pid) p known h = node_step w (After (Interrupt n pid)) (Interrupt n pid) n (node_rule (w.nodes n) (node.Interrupt pid)) p (λ done is. interrupt_good n pid done (and_parts (has_node w n) (is_pid pid) known).0 is) h
-  taken_good (Retry n pid) p known h = node_step w (After (Retry n pid)) (Retry n pid) n (node_rule (w.nodes n) (node.Retry pid)) p (λ done is. retry_good n pid done (and_parts (has_node w n) (is_pid pid) known).0 is) h
-  taken_good (Resend file) p known h = resend_good file p h
-  taken_good (Learn file n i) p known h = learn_good file n i p h
-  taken_good (Declare n) p known h = declare_step w (After (Declare n)) n p (λ k is alive. declare_good n k known is) h
-  taken_good (Restart n) p known h = restart_step w (After (Restart n)) n p (λ k is dead small. restart_good n k is small) h
-  taken_good (FailServer file) p known h = fail_step w (After (FailServer file)) file p (λ f is works. fail_good (FailServer file) tt f) h
-  taken_good (StartServer file) p known h = start_step w (After (StartServer file)) file p (λ f is stopped small. start_good (StartServer file) tt f) h
+  taken_good (Member event) p known h = member_step w (After (Member event)) event p
+      (λ n is alive. declare_good event n known is)
+      (λ n is dead small. restart_good event n is small)
+      (λ file is works. fail_good (Member event) (subst IsNoDeclaration (sym is) tt) file)
+      (λ file is stopped small. start_good (Member event) (subst IsNoDeclaration (sym is) tt) file) h
 
   pub next_good : (event : Event) (p : WorldState × Entry) → next w event ≡ Ok p → IsSafe p.0 → IsNumber most_nodes p.0.shape.nodes × Good shape (past ++ p.1 ∷ []) p.0
   next_good event p h safe =

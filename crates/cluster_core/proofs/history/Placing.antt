@@ -14,7 +14,8 @@ use Rattle.messages.specs.rule.Shapes.{ShapeFields}
 use Rattle.messages.specs.declared.message.Message.{Message}
 use Rattle.messages.specs.declared.message.Message.TheVariants.{Conflict, Deny}
 use Rattle.messages.specs.declared.event.Event.{Event}
-use Rattle.messages.specs.declared.event.Event.TheVariants.{Deliver, Declare}
+use Rattle.messages.specs.declared.event.Event.TheVariants.{Deliver, Member}
+use Rattle.messages.specs.declared.event.MemberEvent.TheVariants.{Declare}
 use Rattle.messages.specs.declared.entry.Entry.{Entry}
 use Rattle.cluster_core.specs.declared.item.Item.{Item}
 use Rattle.cluster_core.specs.declared.item.Item.TheVariants.{Answered, Gone}
@@ -43,10 +44,10 @@ place_own es event at undenied = refl
 
 -- an event that declares nothing
 gone_none : (at incarnation : ℕ) (event : Event) → IsNoDeclaration event → gone_at at incarnation event ≡ None
-gone_none at incarnation (Declare node) undeclared = absurd undeclared
+gone_none at incarnation (Member (Declare node)) undeclared = absurd undeclared
 gone_none at incarnation event undeclared = refl
 
-declares_none : {A : Type 0} (event : Event) (node : ℕ) → IsNoDeclaration event → event ≡ Declare node → A
+declares_none : {A : Type 0} (event : Event) (node : ℕ) → IsNoDeclaration event → event ≡ Member (Declare node) → A
 declares_none event node undeclared is = absurd (subst IsNoDeclaration is undeclared)
 
 -- the call that a conflict names
@@ -58,15 +59,15 @@ one_call_named : (ms : List Message) (f k g l : ℕ) (h i : Host) (c d : CallId)
 unfolding named_by
 one_call_named ms f k g l h i c d a b x y = same_Some c d (ap named_by (sym x ∙ y))
 
-no_delivery : {m : Message} {n : ℕ} → Deliver m ≡ Declare n → ⊥
+no_delivery : {m : Message} {n : ℕ} → Deliver m ≡ Member (Declare n) → ⊥
 no_delivery h = cc
 
 -- the node that is declared
 node_in : Event → ℕ
-node_in (Declare node) = node
+node_in (Member (Declare node)) = node
 node_in _ = 0
 
-pub declared_node : {m n : ℕ} → Declare m ≡ Declare n → m ≡ n
+pub declared_node : {m n : ℕ} → Member (Declare m) ≡ Member (Declare n) → m ≡ n
 unfolding node_in
 declared_node h = ap node_in h
 
@@ -104,7 +105,7 @@ module _ (shape : ShapeFields) (past : List Entry) (w later : WorldState) (made 
       (all_slotted-push past old (old ++ None ∷ []) made all_stand (λ id reply s. has_slot-keeps old (None ∷ []) id reply s) (λ id reply h. absurd (not_there made.reply (id, reply) none h)))
 
   -- a node is declared failed: its processes exit
-  pub gone_placed : (node incarnation : ℕ) → made.event ≡ Declare node → made.incarnation ≡ incarnation → made.reply ≡ None → ItemStep (union w) (Gone (length past + 1) node incarnation) (union later) → Placed
+  pub gone_placed : (node incarnation : ℕ) → made.event ≡ Member (Declare node) → made.incarnation ≡ incarnation → made.reply ≡ None → ItemStep (union w) (Gone (length past + 1) node incarnation) (union later) → Placed
   gone_placed node incarnation is_declare of none step =
       let at = length past + 1 in
       let item = Gone at node incarnation in

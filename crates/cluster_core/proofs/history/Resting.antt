@@ -10,7 +10,7 @@ use Rattle.messages.specs.declared.actor.Actor.{Actor}
 use Rattle.messages.specs.declared.actor.Actor.TheVariants.{Node as ANode, Server as AServer}
 use Rattle.messages.specs.declared.message.Message.{Message}
 use Rattle.messages.specs.declared.event.Event.{Event}
-use Rattle.messages.specs.declared.event.Event.TheVariants.{Call, Deliver, Interrupt, Retry, Resend, Declare, Restart, Learn, FailServer, StartServer}
+use Rattle.messages.specs.declared.event.Event.TheVariants.{AtNode, AtServer, Deliver, Member}
 use Rattle.messages.specs.declared.entry.Entry.{Entry}
 use Rattle.node_core.specs.declared.event.NodeEvent.TheVariants as node
 use Rattle.node_core.specs.rule.State.{NodeState, first_node, first_file}
@@ -22,7 +22,7 @@ use Rattle.cluster_core.specs.rule.Next.{is_fenced, is_stopped, with_node, deliv
 use Rattle.cluster_core.specs.rule.Runs.{Leads}
 use Rattle.cluster_core.specs.rule.Union.{union, live_union}
 use Rattle.cluster_core.proofs.common.Choices.{at_number}
-use Rattle.cluster_core.proofs.steps.Steps.{next_taken, next_unfenced, node_step, server_step, declare_step, restart_step, fail_step, start_step}
+use Rattle.cluster_core.proofs.steps.Steps.{next_taken, next_unfenced, node_step, server_step, member_step}
 
 -- each node that is not alive is in the state in which it will begin
 abbrev pub Rests : WorldState → Type 0
@@ -44,24 +44,22 @@ module _ (w : WorldState) (rests : Rests w) where
   message_rests m (AServer file) q free h = server_step w (λ x. Rests x.0) (Deliver m) file (server_rule (w.servers file) (server.Deliver m)) q (λ done is. rests) h
 
   taken_rests : (event : Event) (q : WorldState × Entry) → is_fenced w event ≡ false → taken w event ≡ Ok q → Rests q.0
-  taken_rests (Call n pid op) q free h = node_step w (λ x. Rests x.0) (Call n pid op) n (node_rule (w.nodes n) (node.Call pid op)) q (λ done is. node_rests n done.0 free) h
+  taken_rests (AtNode n input) q free h = node_step w (λ x. Rests x.0) (AtNode n input) n (node_rule (w.nodes n) (node.Input input)) q (λ done is. node_rests n done.0 free) h
+  taken_rests (AtServer file input) q free h = server_step w (λ x. Rests x.0) (AtServer file input) file (server_rule (w.servers file) (server.Input input)) q (λ done is. rests) h
   taken_rests (Deliver m) q free h = message_rests m (addressee m) q free h
-  taken_rests (Interrupt n pid) q free h = node_step w (λ x. Rests x.0) (Interrupt n pid) n (node_rule (w.nodes n) (node.Interrupt pid)) q (λ done is. node_rests n done.0 free) h
-  taken_rests (Retry n pid) q free h = node_step w (λ x. Rests x.0) (Retry n pid) n (node_rule (w.nodes n) (node.Retry pid)) q (λ done is. node_rests n done.0 free) h
-  taken_rests (Resend file) q free h = server_step w (λ x. Rests x.0) (Resend file) file (server_rule (w.servers file) server.Resend) q (λ done is. rests) h
-  taken_rests (Learn file n i) q free h = server_step w (λ x. Rests x.0) (Learn file n i) file (server_rule (w.servers file) (server.Learn n i)) q (λ done is. rests) h
-  taken_rests (Declare n) q free h = declare_step w (λ x. Rests x.0) n q (λ k is alive m dead.
+  taken_rests (Member event) q free h = member_step w (λ x. Rests x.0) event q
+      (λ k is alive m dead.
       let i = (w.nodes k).incarnation in
       let fresh = first_node w.shape k (i + 1) in
       at_number m k (λ b. (if b then false else w.alive m) ≡ false → (if b then fresh else w.nodes m) ≡ first_node w.shape m (if b then fresh else w.nodes m).incarnation)
       (λ same now. ap (λ (j : ℕ). first_node w.shape j (i + 1)) (sym same))
-      (λ other now. rests m now) dead) h
-  taken_rests (Restart n) q free h = restart_step w (λ x. Rests x.0) n q (λ k is stopped few m dead.
+      (λ other now. rests m now) dead)
+      (λ k is stopped few m dead.
       at_number m k (λ b. (if b then true else w.alive m) ≡ false → w.nodes m ≡ first_node w.shape m (w.nodes m).incarnation)
       (λ same now. absurd (cc))
-      (λ other now. rests m now) dead) h
-  taken_rests (FailServer file) q free h = fail_step w (λ x. Rests x.0) file q (λ f is works. rests) h
-  taken_rests (StartServer file) q free h = start_step w (λ x. Rests x.0) file q (λ f is stopped few. rests) h
+      (λ other now. rests m now) dead)
+      (λ f is works. rests)
+      (λ f is stopped few. rests) h
 
   pub next_rests : (event : Event) (q : WorldState × Entry) → next w event ≡ Ok q → Rests q.0
   next_rests event q h = taken_rests event q (next_unfenced w event q h) (next_taken w event q h).1

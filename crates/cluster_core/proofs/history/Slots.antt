@@ -17,7 +17,8 @@ use Rattle.messages.specs.rule.Versions.{most_regions}
 use Rattle.messages.specs.rule.Shapes.{ShapeFields}
 use Rattle.messages.specs.declared.message.Message.TheVariants.{Conflict, Deny}
 use Rattle.messages.specs.declared.event.Event.{Event}
-use Rattle.messages.specs.declared.event.Event.TheVariants.{Deliver, Declare}
+use Rattle.messages.specs.declared.event.Event.TheVariants.{Deliver, Member}
+use Rattle.messages.specs.declared.event.MemberEvent.TheVariants.{Declare}
 use Rattle.messages.specs.declared.entry.Entry.{Entry}
 use Rattle.cluster_core.specs.declared.item.Item.{Item}
 use Rattle.cluster_core.specs.declared.item.Item.TheVariants.{Answered, Gone}
@@ -188,7 +189,7 @@ declared_at-keeps : (es : List Entry) (e : Entry) (node incarnation at : ℕ) �
 declared_at-keeps es e node incarnation at d = record { declaring = d.declaring; there = entry_at-keeps es (e ∷ []) at d.declaring d.there; is_declare = d.is_declare; of = d.of }
 
 -- a failure that is declared was declared before, or is declared now
-pub declared_at-push : (es : List Entry) (e : Entry) (node incarnation at : ℕ) → IsDeclaredAt (es ++ e ∷ []) node incarnation at → IsDeclaredAt es node incarnation at ⊎ ((at ≡ length es + 1) × (e.event ≡ Declare node) × (e.incarnation ≡ incarnation))
+pub declared_at-push : (es : List Entry) (e : Entry) (node incarnation at : ℕ) → IsDeclaredAt (es ++ e ∷ []) node incarnation at → IsDeclaredAt es node incarnation at ⊎ ((at ≡ length es + 1) × (e.event ≡ Member (Declare node)) × (e.incarnation ≡ incarnation))
 declared_at-push es e node incarnation at d = elim (entry_at-push es e d.declaring at d.there) [
   | inl old ↦ inl (record { declaring = d.declaring; there = old; is_declare = d.is_declare; of = d.of })
   | inr last ↦ inr (last.0, ap (λ (x : Entry). x.event) last.1 ∙ d.is_declare, ap (λ (x : Entry). x.incarnation) last.1 ∙ d.of)
@@ -221,7 +222,7 @@ step_between t u v w o first last step = subst (λ (x : Table). SlotStep x o w) 
 
 -- one more entry, with its slot
 module _ (shape : ShapeFields) (es : List Entry) (slots : Slots) (e : Entry) (o : Option Item) where
-  pub slotted-push : ((i : Item) → o ≡ Some i → Stands (es ++ e ∷ []) (length es) i) → SlotStep (table_at shape es (length es)) o (table_at shape (es ++ e ∷ []) (suc (length es))) → ((node : ℕ) → e.event ≡ Declare node → o ≡ Some (Gone (length es + 1) node e.incarnation)) → Slotted shape es slots → Slotted shape (es ++ e ∷ []) (slots ++ o ∷ [])
+  pub slotted-push : ((i : Item) → o ≡ Some i → Stands (es ++ e ∷ []) (length es) i) → SlotStep (table_at shape es (length es)) o (table_at shape (es ++ e ∷ []) (suc (length es))) → ((node : ℕ) → e.event ≡ Member (Declare node) → o ≡ Some (Gone (length es + 1) node e.incarnation)) → Slotted shape es slots → Slotted shape (es ++ e ∷ []) (slots ++ o ∷ [])
   slotted-push stand step declares s = record {
     failures = λ node incarnation at d. elim (declared_at-push es e node incarnation at d) [
       | inl old ↦ let there = s.failures node incarnation at old in (there.0, slice_get-keeps slots (o ∷ []) there.0 (Some (Gone at node incarnation)) there.1)

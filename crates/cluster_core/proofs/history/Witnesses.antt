@@ -23,7 +23,8 @@ use Rattle.messages.proofs.SameMessages.{call_exact}
 use Rattle.messages.specs.declared.message.Message.{Message}
 use Rattle.messages.specs.declared.message.Message.TheVariants.{Request, Grant, Revoke, Taken, Released, Conflict, Deny, Freed, Hello, Report}
 use Rattle.messages.specs.declared.event.Event.{Event}
-use Rattle.messages.specs.declared.event.Event.TheVariants.{Call}
+use Rattle.messages.specs.declared.event.Event.TheVariants.{AtNode}
+use Rattle.messages.specs.declared.event.NodeInput.TheVariants.{Call}
 use Rattle.messages.specs.declared.entry.Entry.{Entry}
 use Rattle.node_core.specs.declared.open_call.OpenCall.{OpenCall}
 use Rattle.node_core.specs.rule.State.{NodeState, id_of}
@@ -67,18 +68,18 @@ pub record SameCall (at to pid qid : ℕ) (op oq : Op) : Type 0 where
 
 -- the process that an event names, and what it asks for
 abbrev pid_in : Event → ℕ
-pid_in (Call node pid op) = pid
+pid_in (AtNode node (Call pid op)) = pid
 pid_in _ = 0
 
 abbrev op_in : Event → Op
-op_in (Call node pid op) = op
+op_in (AtNode node (Call pid op)) = op
 op_in _ = Exit
 
 pub called_one : (es : List Entry) (id : CallId) (pid qid : ℕ) (op oq : Op) (at to : ℕ) → OneCall es → IsCalledAt es id pid op at → IsCalledAt es id qid oq to → SameCall at to pid qid op oq
 called_one es id pid qid op oq at to one a b =
     let same = one id pid qid op oq at to a b in
     let entries : a.calling ≡ b.calling = entry_at-one es to a.calling b.calling (subst (λ (k : ℕ). EntryAt es k a.calling) same a.there) b.there in
-    let events : Call id.node pid op ≡ Call id.node qid oq = sym a.is_call ∙ (ap (λ (e : Entry). e.event) entries ∙ b.is_call) in
+    let events : AtNode id.node (Call pid op) ≡ AtNode id.node (Call qid oq) = sym a.is_call ∙ (ap (λ (e : Entry). e.event) entries ∙ b.is_call) in
     record { at_is = same; pid_is = ap pid_in events; op_is = ap op_in events }
 
 -- a call asks for one thing

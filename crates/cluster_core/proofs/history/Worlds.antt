@@ -14,7 +14,8 @@ use Rattle.messages.specs.rule.Versions.{most_regions}
 use Rattle.messages.specs.rule.Shapes.{ShapeFields}
 use Rattle.messages.specs.declared.message.Message.{Message}
 use Rattle.messages.specs.declared.event.Event.{Event}
-use Rattle.messages.specs.declared.event.Event.TheVariants.{Declare, Restart}
+use Rattle.messages.specs.declared.event.Event.TheVariants.{Member}
+use Rattle.messages.specs.declared.event.MemberEvent.TheVariants.{Declare, Restart}
 use Rattle.messages.specs.declared.entry.Entry.{Entry}
 use Rattle.messages.specs.declared.outcome.Outcome.{Outcome}
 use Rattle.node_core.specs.declared.open_call.OpenCall.{OpenCall}
@@ -399,7 +400,10 @@ module _ (shape : ShapeFields) (past : List Entry) (w v : WorldState) (event : E
   none_stays s n i = All-nil (λ (c : OpenCall). (Contains s.pending c × (id_of s c.number ≡ id_of (first_node w.shape n i) c.number)) ⊎ (IsNamed past (id_of (first_node w.shape n i) c.number) → ⊥))
 
 -- a node is declared failed
-module _ (shape : ShapeFields) (past : List Entry) (w : WorldState) (n : ℕ) (there : has_node w n ≡ true) (g : Good shape past w) (step : next w (Declare n) ≡ Ok (silent (declared w n) (Declare n) (w.nodes n).incarnation)) where
+module _ (shape : ShapeFields) (past : List Entry) (w : WorldState) (n : ℕ) (there : has_node w n ≡ true) (g : Good shape past w) (step : next w (Member (Declare n)) ≡ Ok (silent (declared w n) (Member (Declare n)) (w.nodes n).incarnation)) where
+  abbrev declares : Event
+  declares = Member (Declare n)
+
   abbrev now : ℕ
   now = (w.nodes n).incarnation
 
@@ -407,13 +411,13 @@ module _ (shape : ShapeFields) (past : List Entry) (w : WorldState) (n : ℕ) (t
   new = first_node w.shape n (now + 1)
 
   abbrev after_it : WorldState
-  after_it = quiet_world shape past w (declared w n) (Declare n) now g
+  after_it = quiet_world shape past w (declared w n) declares now g
 
   abbrev told_run : List Entry
-  told_run = quiet_run shape past w (declared w n) (Declare n) now g
+  told_run = quiet_run shape past w (declared w n) declares now g
 
   abbrev declaration : Entry
-  declaration = quiet_entry shape past w (declared w n) (Declare n) now g
+  declaration = quiet_entry shape past w (declared w n) declares now g
 
   each_node : (P : NodeState → ℕ → Type 0) → P new n → ((m : ℕ) → P (w.nodes m) m) → (m : ℕ) → P (after_it.nodes m) m
   each_node P here others m = at_number m n (λ b. P (if b then new else w.nodes m) m) (λ same. subst (P new) (sym same) here) (λ other. others m)
@@ -427,7 +431,7 @@ module _ (shape : ShapeFields) (past : List Entry) (w : WorldState) (n : ℕ) (t
   its_leads = leads_push (first_world shape) w after_it past declaration g.leads step
 
   open_before : (m : ℕ) → StaysOpen past (w.nodes m) (after_it.nodes m)
-  open_before m = at_number m n (λ b. StaysOpen past (w.nodes m) (if b then new else w.nodes m)) (λ same. none_stays shape past w (declared w n) (Declare n) now g (w.nodes m) n (now + 1)) (λ other. stays_same past (w.nodes m))
+  open_before m = at_number m n (λ b. StaysOpen past (w.nodes m) (if b then new else w.nodes m)) (λ same. none_stays shape past w (declared w n) declares now g (w.nodes m) n (now + 1)) (λ other. stays_same past (w.nodes m))
 
   anchored : IsAnchored (w.nodes n).table n now
   anchored = subst (λ (k : ℕ). IsAnchored (w.nodes n).table k now) (g.named n) (g.holds n).own.anchored
@@ -443,19 +447,19 @@ module _ (shape : ShapeFields) (past : List Entry) (w : WorldState) (n : ℕ) (t
         named = each_node (λ x m. x.node ≡ m) refl g.named;
         limits = each_node (λ x m. x.table.limit ≡ most_regions w.shape.version) refl g.limits;
         incarnations = λ m. at_number m n (λ b. IsGiven (if b then false else w.alive m) (if b then new else w.nodes m).incarnation) (λ same. (omega arith, λ h. absurd (cc))) (λ other. g.incarnations m);
-        holds = each_node (λ x m. Holds told_run x) (begins_holds shape past w (declared w n) (Declare n) now g n (now + 1) unnamed) (λ m. stays_held shape past w (declared w n) (Declare n) now g (w.nodes m) (g.holds m));
+        holds = each_node (λ x m. Holds told_run x) (begins_holds shape past w (declared w n) declares now g n (now + 1) unnamed) (λ m. stays_held shape past w (declared w n) declares now g (w.nodes m) (g.holds m));
         young = λ id named. elim (named-push past declaration id named) [
           | inl old ↦
               let before = g.young id old in
               at_number id.node n (λ b. id.incarnation ≤ (if b then new else w.nodes id.node).incarnation)
               (λ same. let is = ap (λ (k : ℕ). (w.nodes k).incarnation) same in omega arith) (λ other. before)
-          | inr new_one ↦ absurd (no_call_now shape past w (declared w n) (Declare n) now g id new_one)
+          | inr new_one ↦ absurd (no_call_now shape past w (declared w n) declares now g id new_one)
         ];
         strangers = each_node (λ x m. has_node w m ≡ false → x.pending ≡ []) (λ h. refl) g.strangers;
-        one_call = one_call-push past declaration g.one_call (λ id h named. no_call_now shape past w (declared w n) (Declare n) now g id h);
-        one_reply = one_reply-push past declaration g.one_reply (λ id reply h. absurd (no_reply_now shape past w (declared w n) (Declare n) now g id reply h));
+        one_call = one_call-push past declaration g.one_call (λ id h named. no_call_now shape past w (declared w n) declares now g id h);
+        one_reply = one_reply-push past declaration g.one_reply (λ id reply h. absurd (no_reply_now shape past w (declared w n) declares now g id reply h));
         told = told-push past w.sent declaration g.told;
-        asked = each_node (λ x m. All (IsAskedBy shape told_run x) x.pending) (none_asked shape past w (declared w n) (Declare n) now g n (now + 1)) (λ m. stays_asked shape past w (declared w n) (Declare n) now g (w.nodes m) (g.asked m));
+        asked = each_node (λ x m. All (IsAskedBy shape told_run x) x.pending) (none_asked shape past w (declared w n) declares now g n (now + 1)) (λ m. stays_asked shape past w (declared w n) declares now g (w.nodes m) (g.asked m));
         ends = each_node (λ x m. EndsOf x) (λ f b past_end. refl) g.ends;
         backed = All-append Q w.sent [] (All-weaker P Q keep w.sent g.backed) (All-nil Q);
         comes = λ f. comes-push shape past declaration w after_it f (w.servers f) open_before (g.comes f);
@@ -464,15 +468,18 @@ module _ (shape : ShapeFields) (past : List Entry) (w : WorldState) (n : ℕ) (t
       }
 
 -- a node restarts
-module _ (shape : ShapeFields) (past : List Entry) (w : WorldState) (n : ℕ) (few : (w.nodes n).incarnation ≤ most_incarnations) (g : Good shape past w) (step : next w (Restart n) ≡ Ok (silent (restarted w n) (Restart n) (w.nodes n).incarnation)) where
+module _ (shape : ShapeFields) (past : List Entry) (w : WorldState) (n : ℕ) (few : (w.nodes n).incarnation ≤ most_incarnations) (g : Good shape past w) (step : next w (Member (Restart n)) ≡ Ok (silent (restarted w n) (Member (Restart n)) (w.nodes n).incarnation)) where
+  abbrev restarts : Event
+  restarts = Member (Restart n)
+
   abbrev begun_world : WorldState
-  begun_world = quiet_world shape past w (restarted w n) (Restart n) (w.nodes n).incarnation g
+  begun_world = quiet_world shape past w (restarted w n) restarts (w.nodes n).incarnation g
 
   abbrev begun_run : List Entry
-  begun_run = quiet_run shape past w (restarted w n) (Restart n) (w.nodes n).incarnation g
+  begun_run = quiet_run shape past w (restarted w n) restarts (w.nodes n).incarnation g
 
   abbrev restart : Entry
-  restart = quiet_entry shape past w (restarted w n) (Restart n) (w.nodes n).incarnation g
+  restart = quiet_entry shape past w (restarted w n) restarts (w.nodes n).incarnation g
 
   pub restarted_good : Good shape begun_run begun_world
   restarted_good =
@@ -490,16 +497,16 @@ module _ (shape : ShapeFields) (past : List Entry) (w : WorldState) (n : ℕ) (f
         incarnations = λ m. at_number m n (λ b. IsGiven (if b then true else w.alive m) (w.nodes m).incarnation)
             (λ same. ((g.incarnations m).0, λ h. subst (λ (k : ℕ). (w.nodes k).incarnation ≤ most_incarnations) (sym same) few))
             (λ other. g.incarnations m);
-        holds = λ m. stays_held shape past w (restarted w n) (Restart n) i g (w.nodes m) (g.holds m);
+        holds = λ m. stays_held shape past w (restarted w n) restarts i g (w.nodes m) (g.holds m);
         young = λ id named. elim (named-push past restart id named) [
           | inl old ↦ g.young id old
-          | inr new ↦ absurd (no_call_now shape past w (restarted w n) (Restart n) i g id new)
+          | inr new ↦ absurd (no_call_now shape past w (restarted w n) restarts i g id new)
         ];
         strangers = g.strangers;
-        one_call = one_call-push past restart g.one_call (λ id h named. no_call_now shape past w (restarted w n) (Restart n) i g id h);
-        one_reply = one_reply-push past restart g.one_reply (λ id reply h. absurd (no_reply_now shape past w (restarted w n) (Restart n) i g id reply h));
+        one_call = one_call-push past restart g.one_call (λ id h named. no_call_now shape past w (restarted w n) restarts i g id h);
+        one_reply = one_reply-push past restart g.one_reply (λ id reply h. absurd (no_reply_now shape past w (restarted w n) restarts i g id reply h));
         told = told-push past w.sent restart g.told;
-        asked = λ m. stays_asked shape past w (restarted w n) (Restart n) i g (w.nodes m) (g.asked m);
+        asked = λ m. stays_asked shape past w (restarted w n) restarts i g (w.nodes m) (g.asked m);
         ends = g.ends;
         backed = All-append Q w.sent [] (All-weaker P Q keep w.sent g.backed) (All-nil Q);
         comes = λ f. comes-push shape past restart w begun_world f (w.servers f) open_before (g.comes f);

@@ -13,7 +13,9 @@ use Rattle.messages.specs.declared.actor.Actor.TheVariants.{Node as ANode, Serve
 use Rattle.messages.specs.declared.message.Message.{Message}
 use Rattle.messages.specs.declared.message.Message.TheVariants.{Request, Grant, Revoke, Taken, Released, Conflict, Deny, Freed, Hello, Report}
 use Rattle.messages.specs.declared.event.Event.{Event}
-use Rattle.messages.specs.declared.event.Event.TheVariants.{Call, Deliver, Interrupt, Retry, Resend, Declare, Restart, Learn, FailServer, StartServer}
+use Rattle.messages.specs.declared.event.Event.TheVariants.{AtNode, AtServer, Deliver, Member}
+use Rattle.messages.specs.declared.event.NodeInput.{NodeInput}
+use Rattle.messages.specs.declared.event.NodeInput.TheVariants.{Call, Interrupt, Retry}
 use Rattle.messages.specs.declared.entry.Entry.{Entry}
 use Rattle.messages.specs.declared.outcome.Outcome.{Outcome}
 use Rattle.node_core.specs.declared.event.NodeEvent.TheVariants as node
@@ -34,9 +36,9 @@ use Rattle.cluster_core.proofs.common.Choices.{at_number}
 use Rattle.cluster_core.proofs.steps.KnownMessages.{sent_either}
 use Rattle.cluster_core.proofs.steps.NodeSteps.{IsTo, call_done, deliver_done, interrupt_done, retry_done}
 use Rattle.cluster_core.proofs.steps.NodeTokens.{Only, only_none, only_all, all_among, IsAsking, AsksFrom, Does, Receives, quiet_asks, called_asks, tried_if_asks, denied_asks, interrupted_asks, grant_receives, revoke_receives}
-use Rattle.cluster_core.proofs.steps.Requested.{Comes, Makes, Tells, delivered-steps, resend-steps, learn-steps}
+use Rattle.cluster_core.proofs.steps.Requested.{Comes, Makes, Tells, delivered-steps, input-steps}
 use Rattle.cluster_core.proofs.steps.Sends.{Remembers, entered-remembers}
-use Rattle.cluster_core.proofs.steps.Steps.{next_taken, node_step, server_step, declare_step, restart_step}
+use Rattle.cluster_core.proofs.steps.Steps.{next_taken, node_step, server_step, member_step}
 use Rattle.cluster_core.proofs.tokens.Talks.{IsAnswerOf, owing_nothing}
 use Rattle.cluster_core.proofs.tokens.TalkMoves.{done_file, is_answer}
 
@@ -174,8 +176,8 @@ module _ (w : WorldState) (g : Early w) where
       server_step w Goes (Deliver m) file (server_rule t (server.Deliver m)) q
       (λ done is. server_early file (Deliver m) done (delivered-steps file IsFew AnyRequest IsEarly (makes_early file) t m (tells_early file m few) (g.servers file) done is)) h
 
-  declared_early : (n : ℕ) → Goes (silent (declared w n) (Declare n) (w.nodes n).incarnation)
-  declared_early n = (
+  declared_early : (n : ℕ) (event : Event) → Goes (silent (declared w n) event (w.nodes n).incarnation)
+  declared_early n event = (
     record {
       version = g.version;
       nodes = λ k. at_number k n (λ b. Remembers IsEarly (if b then first_node w.shape n ((w.nodes n).incarnation + 1) else w.nodes k)) (λ same f m none. absurd (none-some m none)) (λ other. g.nodes k);
@@ -185,47 +187,50 @@ module _ (w : WorldState) (g : Early w) where
     All-nil IsEarly,
   )
 
-  restarted_early : (n : ℕ) → Goes (silent (restarted w n) (Restart n) (w.nodes n).incarnation)
-  restarted_early n = (record { version = g.version; nodes = g.nodes; servers = g.servers; sent = sent_early [] (only_none IsEarly) }, All-nil IsEarly)
+  restarted_early : (n : ℕ) (event : Event) → Goes (silent (restarted w n) event (w.nodes n).incarnation)
+  restarted_early n event = (record { version = g.version; nodes = g.nodes; servers = g.servers; sent = sent_early [] (only_none IsEarly) }, All-nil IsEarly)
 
   -- no server fails
   never : (file : ℕ) → (may_rebuild w.shape.version && has_file w file) ≡ true → ⊥
   never file known = both_ways (may_rebuild w.shape.version) g.version (and_parts (may_rebuild w.shape.version) (has_file w file) known).0
 
-  taken_early : (event : Event) (q : WorldState × Entry) → is_known w event ≡ true → taken w event ≡ Ok q → Goes q
-  taken_early (Call n pid op) q known h =
+  -- a step of a node at what comes to it
+  input_early : (n : ℕ) (input : NodeInput) (done : NodeState × Outcome) → node_rule (w.nodes n) (node.Input input) ≡ Ok done → Goes (recorded (with_node w n done.0) (AtNode n input) 0 done.1)
+  input_early n (Call pid op) done is =
       let s = w.nodes n in
       let number = s.calls + 1 in
-      let P : NodeState × Outcome → Type 0 = λ d. Goes (recorded (with_node w n d.0) (Call n pid op) 0 d.1) in
+      let event = AtNode n (Call pid op) in
+      let P : NodeState × Outcome → Type 0 = λ d. Goes (recorded (with_node w n d.0) event 0 d.1) in
       let e = called (record s { calls = number }) number pid op in
-      node_step w Goes (Call n pid op) n (node_rule s (node.Call pid op)) q
-      (λ done is. subst P (call_done s pid op done is) (node_early n (Call n pid op) 0 (after_call s pid op).1.call e (asks_early (record s { calls = number }) e (called_asks (record s { calls = number }) number pid op) (g.nodes n)))) h
+      subst P (call_done s pid op done is) (node_early n event 0 (after_call s pid op).1.call e (asks_early (record s { calls = number }) e (called_asks (record s { calls = number }) number pid op) (g.nodes n)))
+  input_early n (Interrupt pid) done is =
+      let s = w.nodes n in
+      let event = AtNode n (Interrupt pid) in
+      let P : NodeState × Outcome → Type 0 = λ d. Goes (recorded (with_node w n d.0) event 0 d.1) in
+      let e = interrupted s (open_call_of s pid) in
+      subst P (interrupt_done s pid done is) (node_early n event 0 None e (asks_early s e (interrupted_asks s (open_call_of s pid)) (g.nodes n)))
+  input_early n (Retry pid) done is =
+      let s = w.nodes n in
+      let event = AtNode n (Retry pid) in
+      let P : NodeState × Outcome → Type 0 = λ d. Goes (recorded (with_node w n d.0) event 0 d.1) in
+      let e = tried_if s (open_call_of s pid) in
+      subst P (retry_done s pid done is) (node_early n event 0 None e (asks_early s e (tried_if_asks s (open_call_of s pid)) (g.nodes n)))
+
+  taken_early : (event : Event) (q : WorldState × Entry) → is_known w event ≡ true → taken w event ≡ Ok q → Goes q
+  taken_early (AtNode n input) q known h = node_step w Goes (AtNode n input) n (node_rule (w.nodes n) (node.Input input)) q (λ done is. input_early n input done is) h
+  taken_early (AtServer file input) q known h =
+      let t = w.servers file in
+      server_step w Goes (AtServer file input) file (server_rule t (server.Input input)) q
+      (λ done is. server_early file (AtServer file input) done (input-steps file IsFew AnyRequest IsEarly (makes_early file) t input (g.servers file) done is)) h
   taken_early (Deliver m) q known h =
       message_early m (addressee m) q (g.sent m (and_parts (has_actor w (addressee m)) (is_among w.sent m) known).1) h
-  taken_early (Interrupt n pid) q known h =
-      let s = w.nodes n in
-      let P : NodeState × Outcome → Type 0 = λ d. Goes (recorded (with_node w n d.0) (Interrupt n pid) s.incarnation d.1) in
-      let e = interrupted s (open_call_of s pid) in
-      node_step w Goes (Interrupt n pid) n (node_rule s (node.Interrupt pid)) q
-      (λ done is. subst P (interrupt_done s pid done is) (node_early n (Interrupt n pid) s.incarnation None e (asks_early s e (interrupted_asks s (open_call_of s pid)) (g.nodes n)))) h
-  taken_early (Retry n pid) q known h =
-      let s = w.nodes n in
-      let P : NodeState × Outcome → Type 0 = λ d. Goes (recorded (with_node w n d.0) (Retry n pid) s.incarnation d.1) in
-      let e = tried_if s (open_call_of s pid) in
-      node_step w Goes (Retry n pid) n (node_rule s (node.Retry pid)) q
-      (λ done is. subst P (retry_done s pid done is) (node_early n (Retry n pid) s.incarnation None e (asks_early s e (tried_if_asks s (open_call_of s pid)) (g.nodes n)))) h
-  taken_early (Resend file) q known h =
-      let t = w.servers file in
-      server_step w Goes (Resend file) file (server_rule t server.Resend) q
-      (λ done is. server_early file (Resend file) done (resend-steps file IsFew AnyRequest IsEarly (makes_early file) t (g.servers file) done is)) h
-  taken_early (Learn file n i) q known h =
-      let t = w.servers file in
-      server_step w Goes (Learn file n i) file (server_rule t (server.Learn n i)) q
-      (λ done is. server_early file (Learn file n i) done (learn-steps file IsFew AnyRequest IsEarly (makes_early file) t n i (g.servers file) done is)) h
-  taken_early (Declare n) q known h = declare_step w Goes n q (λ k is alive. subst (λ (x : Event). Goes (silent (declared w k) x (w.nodes k).incarnation)) (sym is) (declared_early k)) h
-  taken_early (Restart n) q known h = restart_step w Goes n q (λ k is dead few. subst (λ (x : Event). Goes (silent (restarted w k) x (w.nodes k).incarnation)) (sym is) (restarted_early k)) h
-  taken_early (FailServer file) q known h = absurd (never file known)
-  taken_early (StartServer file) q known h = absurd (never file known)
+  taken_early (Member event) q known h =
+      let P : Event → Type 0 = λ x. is_known w x ≡ true in
+      member_step w Goes event q
+      (λ n is alive. declared_early n (Member event))
+      (λ n is dead few. restarted_early n (Member event))
+      (λ file is works. absurd (never file (subst P is known)))
+      (λ file is stopped few. absurd (never file (subst P is known))) h
 
 early_first : (shape : ShapeFields) → may_rebuild shape.version ≡ false → Early (first_world shape)
 early_first shape version = record {

@@ -7,7 +7,10 @@ use Rattle.messages.specs.declared.actor.Actor.{Actor}
 use Rattle.messages.specs.declared.actor.Actor.TheVariants.{Node as ANode, Server as AServer}
 use Rattle.messages.specs.declared.message.Message.{Message}
 use Rattle.messages.specs.declared.event.Event.{Event}
-use Rattle.messages.specs.declared.event.Event.TheVariants.{Call, Deliver, Interrupt, Retry, Resend, Declare, Restart, Learn, FailServer, StartServer}
+use Rattle.messages.specs.declared.event.Event.TheVariants.{AtNode, AtServer, Deliver, Member}
+use Rattle.messages.specs.declared.event.NodeInput.{NodeInput}
+use Rattle.messages.specs.declared.event.ServerInput.{ServerInput}
+use Rattle.messages.specs.declared.event.MemberEvent.TheVariants.{Restart, StartServer}
 use Rattle.messages.specs.declared.entry.Entry.{Entry}
 use Rattle.messages.specs.declared.outcome.Outcome.{Outcome}
 use Rattle.messages.specs.declared.refusal.Refused.{Refused}
@@ -23,20 +26,14 @@ use Rattle.token_server.specs.rule.State.{ServerState}
 use Rattle.token_server.specs.rule.Server.{server_rule, is_server}
 use Rattle.cluster_core.specs.rule.World.{WorldState, has_node, has_file}
 use Rattle.cluster_core.specs.rule.Next.{is_known, is_stopped, is_fenced, after_node, after_server, delivered, taken, next, next_server, kept_next}
-use Rattle.cluster_core.specs.rule.Parts.{IsStepOf, IsServerStepOf}
+use Rattle.cluster_core.proofs.common.Choices.{one_event}
 use Rattle.cluster_core.proofs.steps.Steps.{next_taken, kept_taken, restart_step, start_step}
 use Rattle.cluster_core.specs.rule.Actors.{node_event, server_event, node_at, server_at, node_step, server_step, made_by_node, made_by_server}
 
--- an event that is given by a test is that one
-one_event : {A : Type 0} (b : Bool) (x y : A) → ◌≡◌ {A = Option A} (if b then Some x else None) (Some y) → (b ≡ true) × (y ≡ x)
-one_event true x y e = (refl, cc)
-one_event false x y e = absurd (cc)
-
 -- a node that takes an event takes it in the world
-pub record NodeTakes (w : WorldState) (event : Event) (n : ℕ) (step : NodeEvent) : Type 0 where
-  pub same : IsStepOf event n step
-  pub fenced : is_fenced w event ≡ not (w.alive n)
-  pub takes : taken w event ≡ after_node w event n (node_rule (w.nodes n) step)
+record NodeTakes (w : WorldState) (event : Event) (n : ℕ) (step : NodeEvent) : Type 0 where
+  fenced : is_fenced w event ≡ not (w.alive n)
+  takes : taken w event ≡ after_node w event n (node_rule (w.nodes n) step)
 
 to_node : (w : WorldState) (m : Message) (n : ℕ) (step : NodeEvent) (to : Actor) → is_node n to ≡ true → step ≡ node.Deliver m → (is_stopped w to ≡ not (w.alive n)) × (delivered w m to ≡ after_node w (Deliver m) n (node_rule (w.nodes n) step))
 to_node w m n step (ANode k) ours is =
@@ -44,35 +41,22 @@ to_node w m n step (ANode k) ours is =
     (ap (λ (j : ℕ). not (w.alive j)) same, λ i. after_node w (Deliver m) (same i) (node_rule (w.nodes (same i)) (sym is i)))
 to_node w m n step (AServer file) ours is = absurd (cc)
 
-pub node_takes : (w : WorldState) (event : Event) (n : ℕ) (step : NodeEvent) → node_event n event ≡ Some step → NodeTakes w event n step
-node_takes w (Call k pid op) n step e =
-    let one = one_event (k == n) (node.Call pid op) step e in
+node_takes : (w : WorldState) (event : Event) (n : ℕ) (step : NodeEvent) → node_event n event ≡ Some step → NodeTakes w event n step
+node_takes w (AtNode k input) n step e =
+    let one = one_event (k == n) (node.Input input) step e in
     let same : k ≡ n = eqb-true k n one.0 in
-    record { same = (same, one.1); fenced = ap (λ (j : ℕ). not (w.alive j)) same; takes = λ i. after_node w (Call k pid op) (same i) (node_rule (w.nodes (same i)) (sym one.1 i)) }
+    record { fenced = ap (λ (j : ℕ). not (w.alive j)) same; takes = λ i. after_node w (AtNode k input) (same i) (node_rule (w.nodes (same i)) (sym one.1 i)) }
+node_takes w (AtServer file input) n step e = absurd (cc)
 node_takes w (Deliver m) n step e =
     let one = one_event (is_node n (addressee m)) (node.Deliver m) step e in
     let to = to_node w m n step (addressee m) one.0 one.1 in
-    record { same = one.1; fenced = to.0; takes = to.1 }
-node_takes w (Interrupt k pid) n step e =
-    let one = one_event (k == n) (node.Interrupt pid) step e in
-    let same : k ≡ n = eqb-true k n one.0 in
-    record { same = (same, one.1); fenced = ap (λ (j : ℕ). not (w.alive j)) same; takes = λ i. after_node w (Interrupt k pid) (same i) (node_rule (w.nodes (same i)) (sym one.1 i)) }
-node_takes w (Retry k pid) n step e =
-    let one = one_event (k == n) (node.Retry pid) step e in
-    let same : k ≡ n = eqb-true k n one.0 in
-    record { same = (same, one.1); fenced = ap (λ (j : ℕ). not (w.alive j)) same; takes = λ i. after_node w (Retry k pid) (same i) (node_rule (w.nodes (same i)) (sym one.1 i)) }
-node_takes w (Resend file) n step e = absurd (cc)
-node_takes w (Declare k) n step e = absurd (cc)
-node_takes w (Restart k) n step e = absurd (cc)
-node_takes w (Learn file k incarnation) n step e = absurd (cc)
-node_takes w (FailServer file) n step e = absurd (cc)
-node_takes w (StartServer file) n step e = absurd (cc)
+    record { fenced = to.0; takes = to.1 }
+node_takes w (Member event) n step e = absurd (cc)
 
 -- a token server that takes an event takes it in the world
-pub record ServerTakes (w : WorldState) (event : Event) (f : ℕ) (step : ServerEvent) : Type 0 where
-  pub same : IsServerStepOf event step
-  pub fenced : is_fenced w event ≡ not (w.working f)
-  pub takes : taken w event ≡ after_server w event f (server_rule (w.servers f) step)
+record ServerTakes (w : WorldState) (event : Event) (f : ℕ) (step : ServerEvent) : Type 0 where
+  fenced : is_fenced w event ≡ not (w.working f)
+  takes : taken w event ≡ after_server w event f (server_rule (w.servers f) step)
 
 to_server : (w : WorldState) (m : Message) (f : ℕ) (step : ServerEvent) (to : Actor) → is_server f to ≡ true → step ≡ server.Deliver m → (is_stopped w to ≡ not (w.working f)) × (delivered w m to ≡ after_server w (Deliver m) f (server_rule (w.servers f) step))
 to_server w m f step (ANode n) ours is = absurd (cc)
@@ -80,26 +64,30 @@ to_server w m f step (AServer g) ours is =
     let same : g ≡ f = eqb-true g f ours in
     (ap (λ (j : ℕ). not (w.working j)) same, λ i. after_server w (Deliver m) (same i) (server_rule (w.servers (same i)) (sym is i)))
 
-pub server_takes : (w : WorldState) (event : Event) (f : ℕ) (step : ServerEvent) → server_event f event ≡ Some step → ServerTakes w event f step
-server_takes w (Call n pid op) f step e = absurd (cc)
+server_takes : (w : WorldState) (event : Event) (f : ℕ) (step : ServerEvent) → server_event f event ≡ Some step → ServerTakes w event f step
+server_takes w (AtNode n input) f step e = absurd (cc)
+server_takes w (AtServer g input) f step e =
+    let one = one_event (g == f) (server.Input input) step e in
+    let same : g ≡ f = eqb-true g f one.0 in
+    record { fenced = ap (λ (j : ℕ). not (w.working j)) same; takes = λ i. after_server w (AtServer g input) (same i) (server_rule (w.servers (same i)) (sym one.1 i)) }
 server_takes w (Deliver m) f step e =
     let one = one_event (is_server f (addressee m)) (server.Deliver m) step e in
     let to = to_server w m f step (addressee m) one.0 one.1 in
-    record { same = one.1; fenced = to.0; takes = to.1 }
-server_takes w (Interrupt n pid) f step e = absurd (cc)
-server_takes w (Retry n pid) f step e = absurd (cc)
-server_takes w (Resend g) f step e =
-    let one = one_event (g == f) server.Resend step e in
-    let same : g ≡ f = eqb-true g f one.0 in
-    record { same = one.1; fenced = ap (λ (j : ℕ). not (w.working j)) same; takes = λ i. after_server w (Resend g) (same i) (server_rule (w.servers (same i)) (sym one.1 i)) }
-server_takes w (Declare n) f step e = absurd (cc)
-server_takes w (Restart n) f step e = absurd (cc)
-server_takes w (Learn g n incarnation) f step e =
-    let one = one_event (g == f) (server.Learn n incarnation) step e in
-    let same : g ≡ f = eqb-true g f one.0 in
-    record { same = one.1; fenced = ap (λ (j : ℕ). not (w.working j)) same; takes = λ i. after_server w (Learn g n incarnation) (same i) (server_rule (w.servers (same i)) (sym one.1 i)) }
-server_takes w (FailServer g) f step e = absurd (cc)
-server_takes w (StartServer g) f step e = absurd (cc)
+    record { fenced = to.0; takes = to.1 }
+server_takes w (Member event) f step e = absurd (cc)
+
+-- an actor takes what comes to it
+pub own_node_input : (n : ℕ) (input : NodeInput) → node_event n (AtNode n input) ≡ Some (node.Input input)
+own_node_input n input = ap (λ (b : Bool). if b then Some (node.Input input) else None) (eq-eqb n n refl)
+
+pub own_server_input : (f : ℕ) (input : ServerInput) → server_event f (AtServer f input) ≡ Some (server.Input input)
+own_server_input f input = ap (λ (b : Bool). if b then Some (server.Input input) else None) (eq-eqb f f refl)
+
+pub own_node_delivery : (n : ℕ) (m : Message) → addressee m ≡ ANode n → node_event n (Deliver m) ≡ Some (node.Deliver m)
+own_node_delivery n m to = ap (λ (a : Actor). if is_node n a then Some (node.Deliver m) else None) to ∙ ap (λ (b : Bool). if b then Some (node.Deliver m) else None) (eq-eqb n n refl)
+
+pub own_server_delivery : (f : ℕ) (m : Message) → addressee m ≡ AServer f → server_event f (Deliver m) ≡ Some (server.Deliver m)
+own_server_delivery f m to = ap (λ (a : Actor). if is_server f a then Some (server.Deliver m) else None) to ∙ ap (λ (b : Bool). if b then Some (server.Deliver m) else None) (eq-eqb f f refl)
 
 -- a step that is done is of an event that the actor takes
 pub node_done_by : (s : NodeState) (event : Option NodeEvent) (done : NodeState × Outcome) → node_at s event ≡ Ok done → (step : NodeEvent) × (event ≡ Some step) × (node_rule s step ≡ Ok done)
@@ -139,12 +127,12 @@ server_next w event f s o known steps =
     goes w event _ known (takes.fenced ∙ ap not steps.working) (takes.takes ∙ ap (after_server w event f) by.2)
 
 -- a restart keeps the state of the node
-pub restart_keeps : (w : WorldState) (n : ℕ) (q : WorldState × Entry) → kept_next w (Restart n) ≡ Ok q → q.0.nodes n ≡ w.nodes n
-restart_keeps w n q h = restart_step w (λ p. p.0.nodes n ≡ w.nodes n) n q (λ m is dead few. refl) (next_taken w (Restart n) q (kept_taken w (Restart n) q h).1).1
+pub restart_keeps : (w : WorldState) (n : ℕ) (q : WorldState × Entry) → kept_next w (Member (Restart n)) ≡ Ok q → q.0.nodes n ≡ w.nodes n
+restart_keeps w n q h = restart_step w (λ p. p.0.nodes n ≡ w.nodes n) n q (λ m is dead few. refl) (next_taken w (Member (Restart n)) q (kept_taken w (Member (Restart n)) q h).1).1
 
 -- a start gives the token server that was to begin
-pub start_gives : (w : WorldState) (f : ℕ) (q : WorldState × Entry) → kept_next w (StartServer f) ≡ Ok q → q.0.servers f ≡ next_server w f
+pub start_gives : (w : WorldState) (f : ℕ) (q : WorldState × Entry) → kept_next w (Member (StartServer f)) ≡ Ok q → q.0.servers f ≡ next_server w f
 start_gives w f q h =
     start_step w (λ p. p.0.servers f ≡ next_server w f) f q (λ g is stopped few.
     let same : f ≡ g = cc in
-    ap (λ (b : Bool). if b then next_server w g else w.servers f) (eq-eqb f g same) ∙ ap (next_server w) (sym same)) (next_taken w (StartServer f) q (kept_taken w (StartServer f) q h).1).1
+    ap (λ (b : Bool). if b then next_server w g else w.servers f) (eq-eqb f g same) ∙ ap (next_server w) (sym same)) (next_taken w (Member (StartServer f)) q (kept_taken w (Member (StartServer f)) q h).1).1

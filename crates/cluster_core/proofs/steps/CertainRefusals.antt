@@ -4,7 +4,8 @@ use Rattle.std.proofs.Common.{◌≡◌, ℕ, refl, sym, ◌∙◌, ap, Result, 
 use Rattle.messages.specs.rule.Refusals.{refused_by}
 use Rattle.messages.specs.rule.Versions.{may_rebuild}
 use Rattle.messages.specs.declared.event.Event.{Event}
-use Rattle.messages.specs.declared.event.Event.TheVariants.{Declare, FailServer}
+use Rattle.messages.specs.declared.event.Event.TheVariants.{Member}
+use Rattle.messages.specs.declared.event.MemberEvent.TheVariants.{Declare, FailServer}
 use Rattle.messages.specs.declared.entry.Entry.{Entry}
 use Rattle.messages.specs.declared.outcome.Outcome.{Outcome}
 use Rattle.messages.specs.declared.refusal.Refused.{Refused}
@@ -46,9 +47,9 @@ unspent e false true true made h = λ spent. absurd (cc)
 unspent e false true false made h = λ spent. absurd (cc)
 
 -- a declaration is not refused for want of a number
-pub declare-unspent : (w : WorldState) (n : ℕ) (e : Refused) → kept_next w (Declare n) ≡ Err e → e ≢ Spent
+pub declare-unspent : (w : WorldState) (n : ℕ) (e : Refused) → kept_next w (Member (Declare n)) ≡ Err e → e ≢ Spent
 declare-unspent w n e h = unspent e (nat_le journal_limit w.length) (has_node w n) (w.alive n) _ h
 
 -- a failure of a token server is not refused for want of a number
-pub fail-unspent : (w : WorldState) (file : ℕ) (e : Refused) → kept_next w (FailServer file) ≡ Err e → e ≢ Spent
+pub fail-unspent : (w : WorldState) (file : ℕ) (e : Refused) → kept_next w (Member (FailServer file)) ≡ Err e → e ≢ Spent
 fail-unspent w file e h = unspent e (nat_le journal_limit w.length) (may_rebuild w.shape.version && has_file w file) (w.working file) _ h

@@ -6,7 +6,8 @@ use Rattle.std.proofs.lemmas.Bool.Decides.{nat_tests}
 use Rattle.std.proofs.lemmas.List.{length-set}
 use Rattle.messages.specs.rule.Messages.{is_within, sending}
 use Rattle.messages.specs.declared.message.Message.{Message}
-use Rattle.messages.specs.declared.event.Event.TheVariants.{FailServer, StartServer}
+use Rattle.messages.specs.declared.event.Event.TheVariants.{Member}
+use Rattle.messages.specs.declared.event.MemberEvent.TheVariants.{FailServer, StartServer}
 use Rattle.messages.specs.declared.outcome.Outcome.{Outcome}
 use Rattle.messages.specs.declared.entry.Entry.{Entry}
 use Rattle.messages.specs.declared.refusal.Refused.{Refused}
@@ -34,21 +35,21 @@ started_parts p f x members sends = record p { servers = slice_set p.servers (f 
 
 -- the world after the start of a member
 abbrev after_start : WorldState → ℕ → Result (MembersState × ℕ) Refused → Result (WorldState × Entry) Refused
-after_start w f (Ok r) = Ok (recorded (started w f) (StartServer f) r.1 (sending (outstanding (next_server w f))))
+after_start w f (Ok r) = Ok (recorded (started w f) (Member (StartServer f)) r.1 (sending (outstanding (next_server w f))))
 after_start w f (Err e) = Err e
 
-start_case : (w : WorldState) (f k : ℕ) (s : MembersState) (a b c : Bool) → a ≡ true → (if b then Err NotDead else (if c then Ok (recorded (started w f) (StartServer f) k (sending (outstanding (next_server w f)))) else Err TooManyRestarts)) ≡ after_start w f (if not a then Err Stranger else (if b then Err NotDead else (if c then Ok (s, k) else Err TooManyRestarts)))
+start_case : (w : WorldState) (f k : ℕ) (s : MembersState) (a b c : Bool) → a ≡ true → (if b then Err NotDead else (if c then Ok (recorded (started w f) (Member (StartServer f)) k (sending (outstanding (next_server w f)))) else Err TooManyRestarts)) ≡ after_start w f (if not a then Err Stranger else (if b then Err NotDead else (if c then Ok (s, k) else Err TooManyRestarts)))
 start_case w f k s true true c h = refl
 start_case w f k s true false true h = refl
 start_case w f k s true false false h = refl
 start_case w f k s false b c h = absurd (cc)
 
 -- a server that works is not started
-working_case : (w : WorldState) (f e k : ℕ) (b : Bool) → k ≡ incarnation_of b e → (if b then Err NotDead else (if nat_lt e most_incarnations then Ok (recorded (started w f) (StartServer f) (e + 1) (sending (outstanding (next_server w f)))) else Err TooManyRestarts)) ≡ (if b then Err NotDead else (if nat_le k most_incarnations then Ok (recorded (started w f) (StartServer f) k (sending (outstanding (next_server w f)))) else Err TooManyRestarts))
+working_case : (w : WorldState) (f e k : ℕ) (b : Bool) → k ≡ incarnation_of b e → (if b then Err NotDead else (if nat_lt e most_incarnations then Ok (recorded (started w f) (Member (StartServer f)) (e + 1) (sending (outstanding (next_server w f)))) else Err TooManyRestarts)) ≡ (if b then Err NotDead else (if nat_le k most_incarnations then Ok (recorded (started w f) (Member (StartServer f)) k (sending (outstanding (next_server w f)))) else Err TooManyRestarts))
 working_case w f e k true is = refl
 working_case w f e k false is =
     let test : nat_lt e most_incarnations ≡ nat_le k most_incarnations = more e ∙ ap (λ (i : ℕ). nat_le i most_incarnations) (sym is) in
-    λ i. if test i then Ok (recorded (started w f) (StartServer f) (sym is i) (sending (outstanding (next_server w f)))) else Err TooManyRestarts
+    λ i. if test i then Ok (recorded (started w f) (Member (StartServer f)) (sym is i) (sending (outstanding (next_server w f)))) else Err TooManyRestarts
   where
     more : (n : ℕ) → nat_lt n most_incarnations ≡ nat_le (n + 1) most_incarnations
     more n = grind (arith, nat_tests)
@@ -130,7 +131,7 @@ module _ (p : WorldParts) (world : IsWorld p) (f : ℕ) (number : is_within p.sh
       now_stopped : (g : ℕ) → alive_in ms.servers g ≡ (if g == f then false else works_at p g)
       now_stopped g = ap (λ (s : MembersState). s.alive g) (sym become)
 
-      failed_is : (i : ℕ) → (silent (failed (world_state p) f) (FailServer f) i).0 ≡ world_state (failed_parts p ms)
+      failed_is : (i : ℕ) → (silent (failed (world_state p) f) (Member (FailServer f)) i).0 ≡ world_state (failed_parts p ms)
       failed_is i = sym (λ j. record {
         shape = p.shape;
         nodes = λ m. nodes_kept m j;
@@ -156,11 +157,11 @@ module _ (p : WorldParts) (world : IsWorld p) (f : ℕ) (number : is_within p.sh
         within = omega arith;
       }
 
-      pub failed_done : (o : Outcome) (items : List Message) (e : Entry) → o ≡ sending items → items ≡ [] → e ≡ entry (FailServer f) k o → fail_rule (world_state p) f ≡ Ok (world_state (failed_parts p ms), e)
+      pub failed_done : (o : Outcome) (items : List Message) (e : Entry) → o ≡ sending items → items ≡ [] → e ≡ entry (Member (FailServer f)) k o → fail_rule (world_state p) f ≡ Ok (world_state (failed_parts p ms), e)
       failed_done o items e made none entry_is =
           let counted : epoch ≡ k = sym its_epoch ∙ ap (λ (r : MembersState × ℕ). r.1) known.2 in
-          let named : entry (FailServer f) epoch (sending []) ≡ e = (λ j. entry (FailServer f) (counted j) (sym (made ∙ ap sending none) j)) ∙ sym entry_is in
-          ap (λ (b : Bool). if b then Ok (silent (failed (world_state p) f) (FailServer f) epoch) else Err NotAlive) known.1
+          let named : entry (Member (FailServer f)) epoch (sending []) ≡ e = (λ j. entry (Member (FailServer f)) (counted j) (sym (made ∙ ap sending none) j)) ∙ sym entry_is in
+          ap (λ (b : Bool). if b then Ok (silent (failed (world_state p) f) (Member (FailServer f)) epoch) else Err NotAlive) known.1
           ∙ (λ j. Ok (failed_is epoch j, named j))
 
     -- the server begins again
@@ -182,7 +183,7 @@ module _ (p : WorldParts) (world : IsWorld p) (f : ℕ) (number : is_within p.sh
           put_at server_state (first_server p.shape) p.servers f x least in_servers g
           ∙ ap (λ (s : ServerState). if g == f then s else (world_state p).servers g) begins
 
-      started_is : (recorded (started (world_state p) f) (StartServer f) k (sending (outstanding (next_server (world_state p) f)))).0 ≡ world_state (started_parts p f x ms sends)
+      started_is : (recorded (started (world_state p) f) (Member (StartServer f)) k (sending (outstanding (next_server (world_state p) f)))).0 ≡ world_state (started_parts p f x ms sends)
       started_is = sym (λ j. record {
         shape = p.shape;
         nodes = λ m. nodes_kept m j;
@@ -208,9 +209,9 @@ module _ (p : WorldParts) (world : IsWorld p) (f : ℕ) (number : is_within p.sh
         within = omega arith;
       }
 
-      pub started_done : (o : Outcome) (e : Entry) → o ≡ sending sends → e ≡ entry (StartServer f) k o → start_rule (world_state p) f ≡ Ok (world_state (started_parts p f x ms sends), e)
+      pub started_done : (o : Outcome) (e : Entry) → o ≡ sending sends → e ≡ entry (Member (StartServer f)) k o → start_rule (world_state p) f ≡ Ok (world_state (started_parts p f x ms sends), e)
       started_done o e made entry_is =
-          let named : entry (StartServer f) k (sending (outstanding (next_server (world_state p) f))) ≡ e = (λ j. entry (StartServer f) k (sym (made ∙ ap sending asks) j)) ∙ sym entry_is in
+          let named : entry (Member (StartServer f)) k (sending (outstanding (next_server (world_state p) f))) ≡ e = (λ j. entry (Member (StartServer f)) k (sym (made ∙ ap sending asks) j)) ∙ sym entry_is in
           starts ∙ ap (after_start (world_state p) f) done ∙ (λ j. Ok (started_is j, named j))
 
   -- a start that is planned
@@ -219,7 +220,7 @@ module _ (p : WorldParts) (world : IsWorld p) (f : ℕ) (number : is_within p.sh
 
   pub start_goes : (s : MembersState) (k : ℕ) (e : Refused) → member.restarted (members_state p.members.servers) f ≡ Ok (s, k) → start_rule (world_state p) f ≡ Err e → ⊥
   start_goes s k e goes refused =
-      let both : ◌≡◌ {A = Result (WorldState × Entry) Refused} (Ok (recorded (started (world_state p) f) (StartServer f) k (sending (outstanding (next_server (world_state p) f))))) (Err e) = sym (starts ∙ ap (after_start (world_state p) f) goes) ∙ refused in
+      let both : ◌≡◌ {A = Result (WorldState × Entry) Refused} (Ok (recorded (started (world_state p) f) (Member (StartServer f)) k (sending (outstanding (next_server (world_state p) f))))) (Err e) = sym (starts ∙ ap (after_start (world_state p) f) goes) ∙ refused in
       absurd (cc)
 
   -- a start of a server that may begin again is not refused

@@ -10,7 +10,8 @@ use Rattle.model.specs.declared.owner.Owner.{Owner}
 use Rattle.messages.specs.rule.Messages.{is_within, sending}
 use Rattle.messages.specs.declared.message.Message.{Message}
 use Rattle.messages.specs.declared.event.Event.{Event}
-use Rattle.messages.specs.declared.event.Event.TheVariants.{Declare, Restart}
+use Rattle.messages.specs.declared.event.Event.TheVariants.{Member}
+use Rattle.messages.specs.declared.event.MemberEvent.TheVariants.{Declare, Restart}
 use Rattle.messages.specs.declared.outcome.Outcome.{Outcome}
 use Rattle.messages.specs.declared.entry.Entry.{Entry}
 use Rattle.messages.specs.declared.refusal.Refused.{Refused}
@@ -38,19 +39,19 @@ restarted_parts p n x members = record p { nodes = slice_set p.nodes (n - 1) x; 
 
 -- the world after the declaration or restart of a member
 abbrev after_declare : WorldState → ℕ → Result (MembersState × ℕ) Refused → Result (WorldState × Entry) Refused
-after_declare w n (Ok r) = Ok (silent (declared w n) (Declare n) r.1)
+after_declare w n (Ok r) = Ok (silent (declared w n) (Member (Declare n)) r.1)
 after_declare w n (Err e) = Err e
 
 abbrev after_restart : WorldState → ℕ → Result (MembersState × ℕ) Refused → Result (WorldState × Entry) Refused
-after_restart w n (Ok r) = Ok (silent (restarted w n) (Restart n) r.1)
+after_restart w n (Ok r) = Ok (silent (restarted w n) (Member (Restart n)) r.1)
 after_restart w n (Err e) = Err e
 
-declare_case : (w : WorldState) (n k : ℕ) (s : MembersState) (a b : Bool) → a ≡ true → (if b then Ok (silent (declared w n) (Declare n) k) else Err NotAlive) ≡ after_declare w n (if not a then Err Stranger else (if b then Ok (s, k) else Err NotAlive))
+declare_case : (w : WorldState) (n k : ℕ) (s : MembersState) (a b : Bool) → a ≡ true → (if b then Ok (silent (declared w n) (Member (Declare n)) k) else Err NotAlive) ≡ after_declare w n (if not a then Err Stranger else (if b then Ok (s, k) else Err NotAlive))
 declare_case w n k s true true h = refl
 declare_case w n k s true false h = refl
 declare_case w n k s false b h = absurd (cc)
 
-restart_case : (w : WorldState) (n k : ℕ) (s : MembersState) (a b c : Bool) → a ≡ true → (if b then Err NotDead else (if c then Ok (silent (restarted w n) (Restart n) k) else Err TooManyRestarts)) ≡ after_restart w n (if not a then Err Stranger else (if b then Err NotDead else (if c then Ok (s, k) else Err TooManyRestarts)))
+restart_case : (w : WorldState) (n k : ℕ) (s : MembersState) (a b c : Bool) → a ≡ true → (if b then Err NotDead else (if c then Ok (silent (restarted w n) (Member (Restart n)) k) else Err TooManyRestarts)) ≡ after_restart w n (if not a then Err Stranger else (if b then Err NotDead else (if c then Ok (s, k) else Err TooManyRestarts)))
 restart_case w n k s true true c h = refl
 restart_case w n k s true false true h = refl
 restart_case w n k s true false false h = refl
@@ -83,12 +84,12 @@ module _ (p : WorldParts) (world : IsWorld p) (n : ℕ) (number : is_within p.sh
 
   pub declares : declare_rule (world_state p) n ≡ after_declare (world_state p) n (declared_failed (members_state p.members.nodes) n)
   declares =
-      ap (λ (k : ℕ). if alive_at p n then Ok (silent (declared (world_state p) n) (Declare n) k) else Err NotAlive) (world.own_incarnation n)
+      ap (λ (k : ℕ). if alive_at p n then Ok (silent (declared (world_state p) n) (Member (Declare n)) k) else Err NotAlive) (world.own_incarnation n)
       ∙ declare_case (world_state p) n (incarnation_in p.members.nodes n) (with_declared (members_state p.members.nodes) n) (is_within (length p.members.nodes) n) (alive_at p n) is_one
 
   pub restarts : restart_rule (world_state p) n ≡ after_restart (world_state p) n (member.restarted (members_state p.members.nodes) n)
   restarts =
-      ap (λ (k : ℕ). if alive_at p n then Err NotDead else (if nat_le k most_incarnations then Ok (silent (restarted (world_state p) n) (Restart n) k) else Err TooManyRestarts)) (world.own_incarnation n)
+      ap (λ (k : ℕ). if alive_at p n then Err NotDead else (if nat_le k most_incarnations then Ok (silent (restarted (world_state p) n) (Member (Restart n)) k) else Err TooManyRestarts)) (world.own_incarnation n)
       ∙ restart_case (world_state p) n (incarnation_in p.members.nodes n) (with_restarted (members_state p.members.nodes) n) (is_within (length p.members.nodes) n) (alive_at p n) (nat_le (incarnation_in p.members.nodes n) most_incarnations) is_one
 
   pub fails_there : (e : Refused) → alive_at p n ≡ true → declared_failed (members_state p.members.nodes) n ≡ Err e → ⊥
@@ -135,7 +136,7 @@ module _ (p : WorldParts) (world : IsWorld p) (n : ℕ) (number : is_within p.sh
         (λ same. (λ j. first_node p.shape (same j) ((listed p (same j)).incarnation + 1)) ∙ ap (λ (i : ℕ). first_node p.shape n (i + 1)) (sym (ap (λ (b : Bool). (seated p.shape n b (listed p n)).incarnation) known.1)))
         (λ other. refl)
 
-    declared_is : (i : ℕ) → (silent (declared (world_state p) n) (Declare n) i).0 ≡ world_state (declared_parts p ms)
+    declared_is : (i : ℕ) → (silent (declared (world_state p) n) (Member (Declare n)) i).0 ≡ world_state (declared_parts p ms)
     declared_is i = sym (λ j. record {
       shape = p.shape;
       nodes = λ m. declared_seat m j;
@@ -163,9 +164,9 @@ module _ (p : WorldParts) (world : IsWorld p) (n : ℕ) (number : is_within p.sh
       within = omega arith;
     }
 
-    pub declared_done : (o : Outcome) (items : List Message) (e : Entry) → o ≡ sending items → items ≡ [] → e ≡ entry (Declare n) k o → declare_rule (world_state p) n ≡ Ok (world_state (declared_parts p ms), e)
+    pub declared_done : (o : Outcome) (items : List Message) (e : Entry) → o ≡ sending items → items ≡ [] → e ≡ entry (Member (Declare n)) k o → declare_rule (world_state p) n ≡ Ok (world_state (declared_parts p ms), e)
     declared_done o items e made none entry_is =
-        declares ∙ ap (after_declare (world_state p) n) done ∙ (λ j. Ok (declared_is k j, silent_is (Declare n) k k o items e refl made none entry_is j))
+        declares ∙ ap (after_declare (world_state p) n) done ∙ (λ j. Ok (declared_is k j, silent_is (Member (Declare n)) k k o items e refl made none entry_is j))
 
   -- the node restarts
   module _ (x : NodeParts) (ms : MembersParts) (others : ms.servers ≡ p.members.servers) (k : ℕ) (begins : node_state x ≡ first_node p.shape n (incarnation_in p.members.nodes n)) (done : member.restarted (members_state p.members.nodes) n ≡ Ok (members_state ms.nodes, k)) where
@@ -185,7 +186,7 @@ module _ (p : WorldParts) (world : IsWorld p) (n : ℕ) (number : is_within p.sh
         (λ same. begins ∙ (sym (dead_seat right.1) ∙ ap (λ (i : ℕ). (world_state p).nodes i) (sym same)))
         (λ other. refl)
 
-    restarted_is : (i : ℕ) → (silent (restarted (world_state p) n) (Restart n) i).0 ≡ world_state (restarted_parts p n x ms)
+    restarted_is : (i : ℕ) → (silent (restarted (world_state p) n) (Member (Restart n)) i).0 ≡ world_state (restarted_parts p n x ms)
     restarted_is i = sym (λ j. record {
       shape = p.shape;
       nodes = λ m. restarted_seat m j;
@@ -208,19 +209,19 @@ module _ (p : WorldParts) (world : IsWorld p) (n : ℕ) (number : is_within p.sh
       within = omega arith;
     }
 
-    pub restarted_done : (o : Outcome) (items : List Message) (e : Entry) → o ≡ sending items → items ≡ [] → e ≡ entry (Restart n) k o → restart_rule (world_state p) n ≡ Ok (world_state (restarted_parts p n x ms), e)
+    pub restarted_done : (o : Outcome) (items : List Message) (e : Entry) → o ≡ sending items → items ≡ [] → e ≡ entry (Member (Restart n)) k o → restart_rule (world_state p) n ≡ Ok (world_state (restarted_parts p n x ms), e)
     restarted_done o items e made none entry_is =
-        restarts ∙ ap (after_restart (world_state p) n) done ∙ (λ j. Ok (restarted_is k j, silent_is (Restart n) k k o items e refl made none entry_is j))
+        restarts ∙ ap (after_restart (world_state p) n) done ∙ (λ j. Ok (restarted_is k j, silent_is (Member (Restart n)) k k o items e refl made none entry_is j))
 
   -- a restart that is planned
   pub restart_refused : (e : Refused) → member.restarted (members_state p.members.nodes) n ≡ Err e → restart_rule (world_state p) n ≡ Err e
   restart_refused e refused = restarts ∙ ap (after_restart (world_state p) n) refused
 
   pub restart_goes : (s : MembersState) (k : ℕ) (e : Refused) → member.restarted (members_state p.members.nodes) n ≡ Ok (s, k) → restart_rule (world_state p) n ≡ Err e → ⊥
-  restart_goes s k e goes refused = let both : ◌≡◌ {A = Result (WorldState × Entry) Refused} (Ok (silent (restarted (world_state p) n) (Restart n) k)) (Err e) = sym (restarts ∙ ap (after_restart (world_state p) n) goes) ∙ refused in absurd (cc)
+  restart_goes s k e goes refused = let both : ◌≡◌ {A = Result (WorldState × Entry) Refused} (Ok (silent (restarted (world_state p) n) (Member (Restart n)) k)) (Err e) = sym (restarts ∙ ap (after_restart (world_state p) n) goes) ∙ refused in absurd (cc)
 
   pub restart_is : (s : MembersState) (k : ℕ) → member.restarted (members_state p.members.nodes) n ≡ Ok (s, k) → (made : WorldState × Entry) × (restart_rule (world_state p) n ≡ Ok made)
-  restart_is s k goes = (silent (restarted (world_state p) n) (Restart n) k, restarts ∙ ap (after_restart (world_state p) n) goes)
+  restart_is s k goes = (silent (restarted (world_state p) n) (Member (Restart n)) k, restarts ∙ ap (after_restart (world_state p) n) goes)
 
   few_is : (k : ℕ) → nat_le k 65535 ≡ true → k ≤ 65535
   few_is k h = grind (arith, nat_tests, h)

@@ -18,7 +18,8 @@ use Rattle.messages.specs.declared.message.Message.{Message}
 use Rattle.messages.specs.declared.message.Message.TheVariants.{Request, Grant, Revoke, Taken, Released, Conflict, Deny, Freed, Hello, Report}
 use Rattle.messages.specs.rule.Reports.{runs_of}
 use Rattle.messages.specs.declared.event.Event.{Event}
-use Rattle.messages.specs.declared.event.Event.TheVariants.{Call, Deliver}
+use Rattle.messages.specs.declared.event.Event.TheVariants.{AtNode, Deliver}
+use Rattle.messages.specs.declared.event.NodeInput.TheVariants.{Call}
 use Rattle.messages.specs.declared.entry.Entry.{Entry}
 use Rattle.node_core.specs.declared.open_call.OpenCall.{OpenCall}
 use Rattle.node_core.specs.rule.State.{NodeState, FileState, Effect, quiet, sent, host, answered, without_call, process, id_of, open_call_of, outcome}
@@ -291,16 +292,16 @@ module _ (past : List Entry) (s : NodeState) (node pid : ℕ) (op : Op) (holds :
   named_by : (u : NodeState) (c : OpenCall) → u.node ≡ s.node → u.incarnation ≡ s.incarnation → c.number ≡ s.calls + 1 → ◌≡◌ {A = Option CallId} (Some (id_of s (s.calls + 1))) (Some (id_of u c.number))
   named_by u c same_node same_incarnation number = λ i. Some (record { node = sym same_node i; incarnation = sym same_incarnation i; number = sym number i })
 
-  pub call_moves : Moves past s (after_call s pid op).0 (entry (Call node pid op) 0 (after_call s pid op).1)
+  pub call_moves : Moves past s (after_call s pid op).0 (entry (AtNode node (Call pid op)) 0 (after_call s pid op).1)
   call_moves =
       let number = s.calls + 1 in
       let counted = record s { calls = number } in
       let id = id_of s number in
-      let e = entry (Call node pid op) 0 (after_call s pid op).1 in
+      let e = entry (AtNode node (Call pid op)) 0 (after_call s pid op).1 in
       let u = (called counted number pid op).state in
       let t = called_ends counted number pid op is_process.pid_in of_shape idle holds.own in
       let g : Continues s u = record { node = t.continues.node; incarnation = t.continues.incarnation; own = t.continues.own; goes_on = t.continues.goes_on } in
-      let here : Called (past ++ e ∷ []) id pid op = called-last past e id pid op (ap (λ n. Call n pid op) (sym named)) refl not_named in
+      let here : Called (past ++ e ∷ []) id pid op = called-last past e id pid op (ap (λ n. AtNode n (Call pid op)) (sym named)) refl not_named in
       let fresh : Unanswered past id = λ reply at r. not_named (known id reply at r) in
       record {
         holds = record {

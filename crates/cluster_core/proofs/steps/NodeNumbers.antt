@@ -2,11 +2,12 @@
 use Rattle.std.proofs.Common.{◌≡◌, ℕ, ◌+◌, inl, inr, refl, ap, subst, Option, Some, None, Ok}
 use Rattle.model.specs.declared.call.CallId.{CallId}
 use Rattle.token_set.specs.rule.Tokens.{raised}
+use Rattle.messages.specs.declared.event.NodeInput.TheVariants.{Call, Interrupt, Retry}
 use Rattle.messages.specs.declared.message.Message.{Message}
 use Rattle.messages.specs.declared.message.Message.TheVariants.{Grant, Revoke, Taken, Deny, Hello}
 use Rattle.messages.specs.declared.outcome.Outcome.{Outcome}
 use Rattle.node_core.specs.declared.event.NodeEvent.{NodeEvent}
-use Rattle.node_core.specs.declared.event.NodeEvent.TheVariants.{Call, Deliver, Interrupt, Retry}
+use Rattle.node_core.specs.declared.event.NodeEvent.TheVariants.{Input, Deliver}
 use Rattle.node_core.specs.rule.State.{NodeState, Effect, open_call, open_call_of}
 use Rattle.node_core.specs.rule.Commands.{in_epoch, in_order, after_command, granted, revoked, delivered}
 use Rattle.node_core.specs.rule.Node.{node_rule}
@@ -36,11 +37,11 @@ delivered-host s m = (refl, refl)
 
 -- a call is named by its node, and nothing else is named
 abbrev pub NamesBy : ℕ → NodeEvent → Option CallId → Type 0
-NamesBy node (Call pid op) None = ⊥
-NamesBy node (Call pid op) (Some id) = id.node ≡ node
+NamesBy node (Input (Call pid op)) None = ⊥
+NamesBy node (Input (Call pid op)) (Some id) = id.node ≡ node
 NamesBy node (Deliver m) call = call ≡ None
-NamesBy node (Interrupt pid) call = call ≡ None
-NamesBy node (Retry pid) call = call ≡ None
+NamesBy node (Input (Interrupt pid)) call = call ≡ None
+NamesBy node (Input (Retry pid)) call = call ≡ None
 
 pub record Steps (s : NodeState) (event : NodeEvent) (done : NodeState × Outcome) : Type 0 where
   pub node : done.0.node ≡ s.node
@@ -48,15 +49,15 @@ pub record Steps (s : NodeState) (event : NodeEvent) (done : NodeState × Outcom
   pub named : NamesBy s.node event done.1.call
 
 pub node_rule-steps : (s : NodeState) (event : NodeEvent) (done : NodeState × Outcome) → node_rule s event ≡ Ok done → Steps s event done
-node_rule-steps s (Call pid op) done h =
+node_rule-steps s (Input (Call pid op)) done h =
     let counted = record s { calls = s.calls + 1 } in
-    subst (Steps s (Call pid op)) (call_done s pid op done h) (record { node = (called_asks counted (s.calls + 1) pid op).node_is; incarnation = (called_asks counted (s.calls + 1) pid op).incarnation_is; named = refl })
+    subst (Steps s (Input (Call pid op))) (call_done s pid op done h) (record { node = (called_asks counted (s.calls + 1) pid op).node_is; incarnation = (called_asks counted (s.calls + 1) pid op).incarnation_is; named = refl })
 node_rule-steps s (Deliver m) done h = elim (deliver_done s m done h) [
   | inl taken ↦ let same = delivered-host s m in subst (Steps s (Deliver m)) taken.1 (record { node = same.0; incarnation = same.1; named = refl })
   | inr passed ↦ subst (Steps s (Deliver m)) passed (record { node = refl; incarnation = refl; named = refl })
 ]
-node_rule-steps s (Interrupt pid) done h =
+node_rule-steps s (Input (Interrupt pid)) done h =
     let asks = interrupted_asks s (open_call_of s pid) in
-    subst (Steps s (Interrupt pid)) (interrupt_done s pid done h) (record { node = asks.node_is; incarnation = asks.incarnation_is; named = refl })
-node_rule-steps s (Retry pid) done h =
-    subst (Steps s (Retry pid)) (retry_done s pid done h) (record { node = (tried_if_asks s (open_call_of s pid)).node_is; incarnation = (tried_if_asks s (open_call_of s pid)).incarnation_is; named = refl })
+    subst (Steps s (Input (Interrupt pid))) (interrupt_done s pid done h) (record { node = asks.node_is; incarnation = asks.incarnation_is; named = refl })
+node_rule-steps s (Input (Retry pid)) done h =
+    subst (Steps s (Input (Retry pid))) (retry_done s pid done h) (record { node = (tried_if_asks s (open_call_of s pid)).node_is; incarnation = (tried_if_asks s (open_call_of s pid)).incarnation_is; named = refl })

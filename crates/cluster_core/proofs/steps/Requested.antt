@@ -15,6 +15,8 @@ use Rattle.model.specs.declared.mode.Mode.{Mode}
 use Rattle.model.specs.rule.Owners.{host_of_call}
 use Rattle.token_set.specs.rule.Tokens.{Token, raised}
 use Rattle.token_set.specs.rule.Releases.{lowered}
+use Rattle.messages.specs.declared.event.ServerInput.{ServerInput}
+use Rattle.messages.specs.declared.event.ServerInput.TheVariants.{Resend, Learn}
 use Rattle.messages.specs.rule.Wants.{Wants}
 use Rattle.messages.specs.declared.message.Blocking.TheVariants.{No}
 use Rattle.messages.specs.declared.message.Message.{Message}
@@ -26,7 +28,7 @@ use Rattle.messages.specs.declared.refusal.StepError.{StepError}
 use Rattle.messages.specs.declared.refusal.StepError.TheVariants.{Stranger, Spent}
 use Rattle.messages.specs.rule.Messages.{addressee, host_of, is_within, greatest_number, same_blocking, sending}
 use Rattle.token_queue.specs.declared.token_request.TokenRequest.{TokenRequest}
-use Rattle.token_server.specs.declared.event.ServerEvent.TheVariants.{Deliver, Resend, Learn}
+use Rattle.token_server.specs.declared.event.ServerEvent.TheVariants.{Input, Deliver}
 use Rattle.token_queue.specs.rule.Requests.{is_of_call}
 use Rattle.known_nodes.specs.rule.Rows.{Row, empty_row, row_above, row_conflicts, outstanding_of, is_grant, revoked_mode, asks_token}
 use Rattle.token_server.specs.rule.State.{ServerState, begin, awaits, with_row, forgotten, requests, requeued}
@@ -341,7 +343,7 @@ module _ (file : ℕ) (K : ℕ → Type 0) (H : TokenRequest → Type 0) (C : Me
   pub delivered-steps : (t : ServerState) (m : Message) → Tells file H C m → Comes file K H C t → Steps (server_rule t (Deliver m))
   delivered-steps t m told c = then_serve-steps t (change t m) c (change-changes t m told c)
 
-  pub resend-steps : (t : ServerState) → Comes file K H C t → Steps (server_rule t Resend)
+  resend-steps : (t : ServerState) → Comes file K H C t → Steps (server_rule t (Input Resend))
   resend-steps t c = sending_first-steps (outstanding t) (serve (requeued t)) (mapped C (λ node. outstanding_of (t.rows node)) (range_with_len 1 t.shape.nodes) each) (serve-serves (requeued t) (requeued-comes t c))
     where
       kept : (n : ℕ) (m : Message) (o : Option Row) → t.rows n ≡ o → outstanding_of o ≡ Some m → C m
@@ -351,7 +353,11 @@ module _ (file : ℕ) (K : ℕ → Type 0) (H : TokenRequest → Type 0) (C : Me
       each : (n : ℕ) (m : Message) → outstanding_of (t.rows n) ≡ Some m → C m
       each n m h = kept n m (t.rows n) refl h
 
-  pub learn-steps : (t : ServerState) (n i : ℕ) → Comes file K H C t → Steps (server_rule t (Learn n i))
+  learn-steps : (t : ServerState) (n i : ℕ) → Comes file K H C t → Steps (server_rule t (Input (Learn n i)))
   learn-steps t n i c =
       let young = requeued (forgotten t n i) in
       if_either Steps (not (is_within t.shape.nodes n)) _ _ (steps_none Stranger) (sending_first-steps [] (serve young) (All-nil C) (serve-serves young (requeued-comes (forgotten t n i) (forgotten-comes t n i c))))
+
+  pub input-steps : (t : ServerState) (input : ServerInput) → Comes file K H C t → Steps (server_rule t (Input input))
+  input-steps t Resend c = resend-steps t c
+  input-steps t (Learn n i) c = learn-steps t n i c

@@ -8,6 +8,7 @@ use Rattle.model.specs.declared.lock_info.LockInfo.{LockInfo}
 use Rattle.model.specs.declared.mode.Mode.{Mode}
 use Rattle.model.specs.rule.Owners.{host_of_call}
 use Rattle.token_set.specs.rule.Tokens.{Token}
+use Rattle.messages.specs.declared.event.ServerInput.TheVariants.{Resend, Learn}
 use Rattle.messages.specs.declared.refusal.StepError.{StepError}
 use Rattle.messages.specs.declared.refusal.StepError.TheVariants.{Stranger, Spent}
 use Rattle.messages.specs.rule.Messages.{addressee, host_of, greatest_number, is_within}
@@ -17,7 +18,7 @@ use Rattle.messages.specs.declared.message.Message.TheVariants.{Request, Taken, 
 use Rattle.messages.specs.declared.outcome.Outcome.{Outcome}
 use Rattle.token_queue.specs.declared.token_request.TokenRequest.{TokenRequest}
 use Rattle.token_server.specs.declared.event.ServerEvent.{ServerEvent}
-use Rattle.token_server.specs.declared.event.ServerEvent.TheVariants.{Deliver, Resend, Learn}
+use Rattle.token_server.specs.declared.event.ServerEvent.TheVariants.{Input, Deliver}
 use Rattle.known_nodes.specs.rule.Rows.{Row, is_grant, revoked_mode, asks_token}
 use Rattle.token_server.specs.rule.State.{ServerState, begin, awaits, with_row, forgotten, requeued}
 use Rattle.token_server.specs.rule.Serve.{conflicting_node, commanded, granted_to, revoked_from, served, with_more, and_then, each_served, ready, serve}
@@ -42,8 +43,8 @@ then_serve-sending s (Ok (Some changed)) p h = sending_first-sending changed.1 (
 
 pub server_rule-sending : (s : ServerState) (event : ServerEvent) (p : ServerState × Outcome) → server_rule s event ≡ Ok p → IsSending p
 server_rule-sending s (Deliver m) p h = then_serve-sending s (change s m) p h
-server_rule-sending s Resend p h = sending_first-sending (outstanding s) (serve (requeued s)) p h
-server_rule-sending s (Learn node incarnation) p h = sending_first-sending [] (serve (requeued (forgotten s node incarnation))) p (unless_refused (not (is_within s.shape.nodes node)) _ p Stranger h).1
+server_rule-sending s (Input Resend) p h = sending_first-sending (outstanding s) (serve (requeued s)) p h
+server_rule-sending s (Input (Learn node incarnation)) p h = sending_first-sending [] (serve (requeued (forgotten s node incarnation))) p (unless_refused (not (is_within s.shape.nodes node)) _ p Stranger h).1
 
 -- serving does not change the epoch
 abbrev Keeps : ℕ → Result (ServerState × List Message) StepError → Type 0
@@ -154,7 +155,7 @@ change-epoch s m =
 
 pub server_rule-epoch : (s : ServerState) (event : ServerEvent) (p : ServerState × Outcome) → server_rule s event ≡ Ok p → p.0.epoch ≡ s.epoch
 server_rule-epoch s (Deliver m) = change-epoch s m
-server_rule-epoch s Resend = sends-epoch s.epoch (outstanding s) (serve (requeued s)) (serve-epoch (requeued s))
-server_rule-epoch s (Learn node incarnation) =
+server_rule-epoch s (Input Resend) = sends-epoch s.epoch (outstanding s) (serve (requeued s)) (serve-epoch (requeued s))
+server_rule-epoch s (Input (Learn node incarnation)) =
     if_either (KeepsAll s.epoch) (not (is_within s.shape.nodes node)) _ _ (λ p h. absurd (cc))
     (sends-epoch s.epoch [] (serve (requeued (forgotten s node incarnation))) (serve-epoch (requeued (forgotten s node incarnation))))

@@ -7,7 +7,9 @@ use Rattle.messages.specs.declared.actor.Actor.{Actor}
 use Rattle.messages.specs.declared.actor.Actor.TheVariants.{Node as ANode, Server as AServer}
 use Rattle.messages.specs.declared.message.Message.{Message}
 use Rattle.messages.specs.declared.event.Event.{Event}
-use Rattle.messages.specs.declared.event.Event.TheVariants.{Call, Deliver, Interrupt, Retry, Resend, Declare, Restart, Learn, FailServer, StartServer}
+use Rattle.messages.specs.declared.event.Event.TheVariants.{AtNode, AtServer, Deliver, Member}
+use Rattle.messages.specs.declared.event.MemberEvent.{MemberEvent}
+use Rattle.messages.specs.declared.event.MemberEvent.TheVariants.{Declare, Restart, FailServer, StartServer}
 use Rattle.messages.specs.declared.entry.Entry.{Entry}
 use Rattle.messages.specs.declared.outcome.Outcome.{Outcome}
 use Rattle.messages.specs.declared.refusal.Refused.{Refused}
@@ -75,35 +77,35 @@ module _ (w : WorldState) (P : WorldState × Entry → Type 0) where
 
   -- P holds after a declaration or a restart of a node
   abbrev pub OnDeclare : Event → Type 0
-  OnDeclare event = (n : ℕ) → event ≡ Declare n → w.alive n ≡ true → P (silent (declared w n) event (w.nodes n).incarnation)
+  OnDeclare event = (n : ℕ) → event ≡ Member (Declare n) → w.alive n ≡ true → P (silent (declared w n) event (w.nodes n).incarnation)
 
   abbrev pub OnRestart : Event → Type 0
-  OnRestart event = (n : ℕ) → event ≡ Restart n → w.alive n ≡ false → (w.nodes n).incarnation ≤ most_incarnations → P (silent (restarted w n) event (w.nodes n).incarnation)
+  OnRestart event = (n : ℕ) → event ≡ Member (Restart n) → w.alive n ≡ false → (w.nodes n).incarnation ≤ most_incarnations → P (silent (restarted w n) event (w.nodes n).incarnation)
 
   -- P holds after a failure or a start of a token server
   abbrev pub OnFail : Event → Type 0
-  OnFail event = (file : ℕ) → event ≡ FailServer file → w.working file ≡ true → P (silent (failed w file) event (w.servers file).epoch)
+  OnFail event = (file : ℕ) → event ≡ Member (FailServer file) → w.working file ≡ true → P (silent (failed w file) event (w.servers file).epoch)
 
   abbrev pub OnStart : Event → Type 0
-  OnStart event = (file : ℕ) → event ≡ StartServer file → w.working file ≡ false → (w.servers file).epoch < most_incarnations → P (recorded (started w file) event ((w.servers file).epoch + 1) (sending (outstanding (next_server w file))))
+  OnStart event = (file : ℕ) → event ≡ Member (StartServer file) → w.working file ≡ false → (w.servers file).epoch < most_incarnations → P (recorded (started w file) event ((w.servers file).epoch + 1) (sending (outstanding (next_server w file))))
 
-  pub fail_step : (file : ℕ) (q : WorldState × Entry) → OnFail (FailServer file) → taken w (FailServer file) ≡ Ok q → P q
+  pub fail_step : (file : ℕ) (q : WorldState × Entry) → OnFail (Member (FailServer file)) → taken w (Member (FailServer file)) ≡ Ok q → P q
   fail_step file q on_fail h =
       let done = if_ok (w.working file) _ q NotAlive h in
       subst P done.1 (on_fail file refl done.0)
 
-  pub start_step : (file : ℕ) (q : WorldState × Entry) → OnStart (StartServer file) → taken w (StartServer file) ≡ Ok q → P q
+  pub start_step : (file : ℕ) (q : WorldState × Entry) → OnStart (Member (StartServer file)) → taken w (Member (StartServer file)) ≡ Ok q → P q
   start_step file q on_start h =
       let stopped = unless_refused (w.working file) _ q NotDead h in
       let done = if_ok (nat_lt (w.servers file).epoch most_incarnations) _ q TooManyRestarts stopped.1 in
       subst P done.1 (on_start file refl stopped.0 (ltb-true (w.servers file).epoch most_incarnations done.0))
 
-  pub declare_step : (n : ℕ) (q : WorldState × Entry) → OnDeclare (Declare n) → taken w (Declare n) ≡ Ok q → P q
+  pub declare_step : (n : ℕ) (q : WorldState × Entry) → OnDeclare (Member (Declare n)) → taken w (Member (Declare n)) ≡ Ok q → P q
   declare_step n q on_declare h =
       let done = if_ok (w.alive n) _ q NotAlive h in
       subst P done.1 (on_declare n refl done.0)
 
-  pub restart_step : (n : ℕ) (q : WorldState × Entry) → OnRestart (Restart n) → taken w (Restart n) ≡ Ok q → P q
+  pub restart_step : (n : ℕ) (q : WorldState × Entry) → OnRestart (Member (Restart n)) → taken w (Member (Restart n)) ≡ Ok q → P q
   restart_step n q on_restart h =
       let dead = unless_refused (w.alive n) _ q NotDead h in
       let done = if_ok (nat_le (w.nodes n).incarnation most_incarnations) _ q TooManyRestarts dead.1 in
@@ -113,17 +115,18 @@ module _ (w : WorldState) (P : WorldState × Entry → Type 0) where
   message_step m (ANode n) q on_node on_server h = node_step (Deliver m) n (node_rule (w.nodes n) (node.Deliver m)) q (on_node n (node.Deliver m)) h
   message_step m (AServer file) q on_node on_server h = server_step (Deliver m) file (server_rule (w.servers file) (server.Deliver m)) q (on_server file (server.Deliver m)) h
 
+  -- P holds after the change of a member
+  pub member_step : (event : MemberEvent) (q : WorldState × Entry) → OnDeclare (Member event) → OnRestart (Member event) → OnFail (Member event) → OnStart (Member event) → taken w (Member event) ≡ Ok q → P q
+  member_step (Declare n) q on_declare on_restart on_fail on_start h = declare_step n q on_declare h
+  member_step (Restart n) q on_declare on_restart on_fail on_start h = restart_step n q on_restart h
+  member_step (FailServer file) q on_declare on_restart on_fail on_start h = fail_step file q on_fail h
+  member_step (StartServer file) q on_declare on_restart on_fail on_start h = start_step file q on_start h
+
   taken_step : (event : Event) (q : WorldState × Entry) → OnNode event → OnServer event → OnDeclare event → OnRestart event → OnFail event → OnStart event → taken w event ≡ Ok q → P q
-  taken_step (Call n pid op) q on_node on_server on_declare on_restart on_fail on_start h = node_step (Call n pid op) n (node_rule (w.nodes n) (node.Call pid op)) q (on_node n (node.Call pid op)) h
+  taken_step (AtNode n input) q on_node on_server on_declare on_restart on_fail on_start h = node_step (AtNode n input) n (node_rule (w.nodes n) (node.Input input)) q (on_node n (node.Input input)) h
+  taken_step (AtServer file input) q on_node on_server on_declare on_restart on_fail on_start h = server_step (AtServer file input) file (server_rule (w.servers file) (server.Input input)) q (on_server file (server.Input input)) h
   taken_step (Deliver m) q on_node on_server on_declare on_restart on_fail on_start h = message_step m (addressee m) q on_node on_server h
-  taken_step (Interrupt n pid) q on_node on_server on_declare on_restart on_fail on_start h = node_step (Interrupt n pid) n (node_rule (w.nodes n) (node.Interrupt pid)) q (on_node n (node.Interrupt pid)) h
-  taken_step (Retry n pid) q on_node on_server on_declare on_restart on_fail on_start h = node_step (Retry n pid) n (node_rule (w.nodes n) (node.Retry pid)) q (on_node n (node.Retry pid)) h
-  taken_step (Resend file) q on_node on_server on_declare on_restart on_fail on_start h = server_step (Resend file) file (server_rule (w.servers file) server.Resend) q (on_server file server.Resend) h
-  taken_step (Declare n) q on_node on_server on_declare on_restart on_fail on_start h = declare_step n q on_declare h
-  taken_step (Restart n) q on_node on_server on_declare on_restart on_fail on_start h = restart_step n q on_restart h
-  taken_step (Learn file n incarnation) q on_node on_server on_declare on_restart on_fail on_start h = server_step (Learn file n incarnation) file (server_rule (w.servers file) (server.Learn n incarnation)) q (on_server file (server.Learn n incarnation)) h
-  taken_step (FailServer file) q on_node on_server on_declare on_restart on_fail on_start h = fail_step file q on_fail h
-  taken_step (StartServer file) q on_node on_server on_declare on_restart on_fail on_start h = start_step file q on_start h
+  taken_step (Member event) q on_node on_server on_declare on_restart on_fail on_start h = member_step event q on_declare on_restart on_fail on_start h
 
   pub next_step : (event : Event) (q : WorldState × Entry) → OnNode event → OnServer event → OnDeclare event → OnRestart event → OnFail event → OnStart event → next w event ≡ Ok q → P q
   next_step event q on_node on_server on_declare on_restart on_fail on_start h = taken_step event q on_node on_server on_declare on_restart on_fail on_start (next_taken w event q h).1

@@ -8,15 +8,19 @@ use Rattle.std.specs.declared.result.Result.{Result}
 use Rattle.std.specs.declared.result.Result.TheVariants.{Ok, Err}
 use Rattle.std.proofs.lemmas.List.{get_or_default, length-set}
 use Rattle.model.specs.declared.call.CallId.{CallId}
-use Rattle.messages.specs.rule.Messages.{is_within}
+use Rattle.std.proofs.lemmas.Bool.{eqb-true}
+use Rattle.messages.specs.rule.Messages.{addressee, is_within}
 use Rattle.messages.specs.code.Entries.{NamesItsCall, NamesItsIncarnation}
 use Rattle.messages.specs.declared.message.Message.{Message}
 use Rattle.messages.specs.declared.event.Event.{Event}
-use Rattle.messages.specs.declared.event.Event.TheVariants.{Call, Deliver, Interrupt, Retry, Resend, Declare, Restart, Learn, FailServer, StartServer}
+use Rattle.messages.specs.declared.event.Event.TheVariants.{AtNode, AtServer, Deliver, Member}
+use Rattle.messages.specs.declared.event.NodeInput.TheVariants.{Call, Interrupt, Retry}
 use Rattle.messages.specs.declared.outcome.Outcome.{Outcome}
 use Rattle.messages.specs.declared.entry.Entry.{Entry}
 use Rattle.messages.specs.declared.refusal.StepError.{StepError}
 use Rattle.node_core.specs.declared.event.NodeEvent.{NodeEvent}
+use Rattle.node_core.specs.declared.event.NodeEvent.TheVariants as node
+use Rattle.node_core.specs.rule.Commands.{is_node}
 use Rattle.node_core.specs.rule.Parts.{NodeParts, node_state}
 use Rattle.node_core.specs.declared.change.Change.{Change as NodeChange}
 use Rattle.node_core.specs.code.Plans.{Fits, planned}
@@ -30,8 +34,9 @@ use Rattle.token_server.specs.rule.State.{ServerState, first_server}
 use Rattle.token_server.specs.rule.Server.{server_rule}
 use Rattle.cluster_core.specs.rule.World.{first_world, journal_limit}
 use Rattle.cluster_core.specs.rule.Next.{with_node, with_server, recorded, entry, named_incarnation, after_node, after_server}
-use Rattle.cluster_core.specs.rule.Parts.{WorldParts, IsWorld, IsRest, IsStepOf, IsServerStepOf, IsTakenByNode, numbered, seated, listed, alive_at, works_at, world_state}
-use Rattle.cluster_core.proofs.common.Choices.{at_number}
+use Rattle.cluster_core.specs.rule.Parts.{WorldParts, IsWorld, IsRest, numbered, seated, listed, alive_at, works_at, world_state}
+use Rattle.cluster_core.specs.rule.Actors.{node_event, server_event}
+use Rattle.cluster_core.proofs.common.Choices.{at_number, one_event}
 use Rattle.members.specs.rule.Members.{MembersState, first_members}
 use Rattle.members.specs.rule.Parts.{incarnation_in, incarnation_of, members_state}
 use Rattle.cluster_core.proofs.common.Numbered.{within_is, put_at, read_number}
@@ -122,39 +127,30 @@ server_world p file step next o number room world done =
       within = omega arith;
     }
 
-names : (event : Event) (node : ℕ) (step : NodeEvent) (number : ℕ) (call : Option CallId) → IsStepOf event node step → number ≡ node → NamesBy number step call → NamesItsCall event call
-names (Call n pid op) node step number None is own by = let P : NodeEvent → Type 0 = λ e. NamesBy number e None in absurd (subst P is.1 by)
-names (Call n pid op) node step number (Some id) is own by = let P : NodeEvent → Type 0 = λ e. NamesBy number e (Some id) in subst P is.1 by ∙ (own ∙ sym is.0)
-names (Deliver m) node step number call is own by = let P : NodeEvent → Type 0 = λ e. NamesBy number e call in subst P is by
-names (Interrupt n pid) node step number call is own by = let P : NodeEvent → Type 0 = λ e. NamesBy number e call in subst P is.1 by
-names (Retry n pid) node step number call is own by = let P : NodeEvent → Type 0 = λ e. NamesBy number e call in subst P is.1 by
-names _ node step number call is own by = absurd is
-
--- a node's own step is of an event that a node takes
-pub taken_by : (event : Event) (node : ℕ) (step : NodeEvent) → IsStepOf event node step → IsTakenByNode event
-taken_by (Call n pid op) node step is = tt
-taken_by (Deliver m) node step is = tt
-taken_by (Interrupt n pid) node step is = tt
-taken_by (Retry n pid) node step is = tt
-taken_by _ node step is = absurd is
+names : (event : Event) (n : ℕ) (step : NodeEvent) (number : ℕ) (call : Option CallId) → node_event n event ≡ Some step → number ≡ n → NamesBy number step call → NamesItsCall event call
+names (AtNode k (Call pid op)) n step number None takes own by =
+    let one = one_event (k == n) (node.Input (Call pid op)) step takes in
+    absurd (subst (λ (e : NodeEvent). NamesBy number e None) one.1 by)
+names (AtNode k (Call pid op)) n step number (Some id) takes own by =
+    let one = one_event (k == n) (node.Input (Call pid op)) step takes in
+    subst (λ (e : NodeEvent). NamesBy number e (Some id)) one.1 by ∙ (own ∙ sym (eqb-true k n one.0))
+names (AtNode k (Interrupt pid)) n step number call takes own by = subst (λ (e : NodeEvent). NamesBy number e call) (one_event (k == n) (node.Input (Interrupt pid)) step takes).1 by
+names (AtNode k (Retry pid)) n step number call takes own by = subst (λ (e : NodeEvent). NamesBy number e call) (one_event (k == n) (node.Input (Retry pid)) step takes).1 by
+names (AtServer file input) n step number call takes own by = absurd (cc)
+names (Deliver m) n step number call takes own by = subst (λ (e : NodeEvent). NamesBy number e call) (one_event (is_node n (addressee m)) (node.Deliver m) step takes).1 by
+names (Member event) n step number call takes own by = absurd (cc)
 
 -- the entry of a node's step names the call by its node
-node_names : (p : WorldParts) (event : Event) (n : ℕ) (step : NodeEvent) (next : NodeState) (o : Outcome) → IsWorld p → IsStepOf event n step → node_rule ((world_state p).nodes n) step ≡ Ok (next, o) → NamesItsCall event o.call
-node_names p event n step next o world is done =
-    names event n step ((world_state p).nodes n).node o.call is (world.own_number n) (node_rule-steps ((world_state p).nodes n) step (next, o) done).named
+node_names : (p : WorldParts) (event : Event) (n : ℕ) (step : NodeEvent) (next : NodeState) (o : Outcome) → IsWorld p → node_event n event ≡ Some step → node_rule ((world_state p).nodes n) step ≡ Ok (next, o) → NamesItsCall event o.call
+node_names p event n step next o world takes done =
+    names event n step ((world_state p).nodes n).node o.call takes (world.own_number n) (node_rule-steps ((world_state p).nodes n) step (next, o) done).named
 
 -- the entry of a server's step names no call and no incarnation
-pub server_names : (event : Event) (step : ServerEvent) (s next : ServerState) (o : Outcome) → IsServerStepOf event step → server_rule s step ≡ Ok (next, o) → NamesItsCall event o.call × NamesItsIncarnation event 0
-server_names (Call n pid op) step s next o is done = absurd is
-server_names (Deliver m) step s next o is done = ((server_rule-sending s step (next, o) done).0, refl)
-server_names (Interrupt n pid) step s next o is done = absurd is
-server_names (Retry n pid) step s next o is done = absurd is
-server_names (Resend file) step s next o is done = ((server_rule-sending s step (next, o) done).0, refl)
-server_names (Learn file n incarnation) step s next o is done = ((server_rule-sending s step (next, o) done).0, refl)
-server_names (Declare n) step s next o is done = absurd is
-server_names (Restart n) step s next o is done = absurd is
-server_names (FailServer file) step s next o is done = absurd is
-server_names (StartServer file) step s next o is done = absurd is
+pub server_names : (event : Event) (file : ℕ) (step : ServerEvent) (s next : ServerState) (o : Outcome) → server_event file event ≡ Some step → server_rule s step ≡ Ok (next, o) → NamesItsCall event o.call × NamesItsIncarnation event 0
+server_names (AtNode n input) file step s next o takes done = absurd (cc)
+server_names (AtServer f input) file step s next o takes done = ((server_rule-sending s step (next, o) done).0, refl)
+server_names (Deliver m) file step s next o takes done = ((server_rule-sending s step (next, o) done).0, refl)
+server_names (Member event) file step s next o takes done = absurd (cc)
 
 -- the node and the token server at the places of their numbers
 pub read_node : (p : WorldParts) (n : ℕ) (x : NodeParts) → IsWorld p → is_within p.shape.nodes n ≡ true → alive_at p n ≡ true → x ≡ slice_index_or p.nodes (n - 1) x → (world_state p).nodes n ≡ node_state x
@@ -224,8 +220,8 @@ module _ (p now : WorldParts) (view : p ≡ now) (world : IsWorld p) (o : Outcom
         let space = subst (λ (q : WorldParts). q.length < journal_limit) (sym view) room in
         subst IsWorld (sym nodes_made) (node_world p n step next o bounds.0 bounds.1 space world alive_before done_before)
 
-    pub node_named : (event : Event) → IsStepOf event n step → NamesItsCall event o.call
-    node_named event is = node_names p event n step (node_state next) o world is done_before
+    pub node_named : (event : Event) → node_event n event ≡ Some step → NamesItsCall event o.call
+    node_named event takes = node_names p event n step (node_state next) o world takes done_before
 
     pub node_returns : (event : Event) (incarnation : ℕ) (e : Entry) → incarnation ≡ named_incarnation ((world_state now).nodes n) event → e ≡ entry event incarnation o → after_node (world_state now) event n (node_rule ((world_state now).nodes n) step) ≡ Ok (world_state (record { shape = p.shape; nodes = nodes; members = p.members; servers = p.servers; sent = sent; length = p.length + 1 }), e)
     node_returns event incarnation e incarnation_is e_is =

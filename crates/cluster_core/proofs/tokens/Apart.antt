@@ -18,7 +18,11 @@ use Rattle.messages.specs.declared.message.Message.TheVariants.{Grant, Revoke, D
 use Rattle.messages.specs.rule.Reports.{runs_of}
 use Rattle.messages.proofs.Reports.{Ends, tells_token}
 use Rattle.messages.specs.declared.event.Event.{Event}
-use Rattle.messages.specs.declared.event.Event.TheVariants.{Call, Deliver, Interrupt, Retry, Resend, Declare, Restart, Learn, FailServer, StartServer}
+use Rattle.messages.specs.declared.event.Event.TheVariants.{AtNode, AtServer, Deliver, Member}
+use Rattle.messages.specs.declared.event.NodeInput.{NodeInput}
+use Rattle.messages.specs.declared.event.NodeInput.TheVariants.{Call, Interrupt, Retry}
+use Rattle.messages.specs.declared.event.ServerInput.{ServerInput}
+use Rattle.messages.specs.declared.event.ServerInput.TheVariants.{Resend, Learn}
 use Rattle.messages.specs.declared.entry.Entry.{Entry}
 use Rattle.messages.specs.declared.outcome.Outcome.{Outcome}
 use Rattle.messages.specs.declared.refusal.StepError.{StepError}
@@ -47,7 +51,7 @@ use Rattle.cluster_core.proofs.common.Choices.{at_number}
 use Rattle.cluster_core.proofs.common.Refusals.{ok_is, unless_refused}
 use Rattle.cluster_core.proofs.steps.KnownMessages.{sent_before, sent_now, sent_either}
 use Rattle.cluster_core.proofs.steps.NodeSteps.{call_done, deliver_done, interrupt_done, retry_done, told_either}
-use Rattle.cluster_core.proofs.steps.Steps.{next_taken, next_unfenced, node_step, server_step, declare_step, restart_step, fail_step, start_step}
+use Rattle.cluster_core.proofs.steps.Steps.{next_taken, next_unfenced, node_step, server_step, member_step}
 use Rattle.cluster_core.proofs.tokens.Lowering.{IsWithin, within_itself, within_excludes}
 use Rattle.cluster_core.proofs.tokens.Talks.{Sent, IsHostOf, IsCommandTo, IsAnswerOf, same_answer_of, no_answer, command_host, answer_host, owing_nothing, IsLast, Talk, MayHold, counted_live}
 use Rattle.cluster_core.proofs.tokens.Epochs.{EndsOf, entered_ends, begin_of_upto}
@@ -456,7 +460,7 @@ module _ (w : WorldState) (p : Present w) (n file number : ℕ) (here : is_alive
   quietly = (outcome None (quiet entered)).1
 
   abbrev some_event : Event
-  some_event = Resend file
+  some_event = AtServer file Resend
 
   abbrev entered_world : WorldState
   entered_world = (recorded (with_node w n entered) some_event 0 quietly).0
@@ -527,11 +531,11 @@ module _ (w : WorldState) (p : Present w) where
   interrupt_present : (n : ℕ) (event : Event) (c : Option OpenCall) → is_alive w n ≡ true → Present (recorded (with_node w n (interrupted (w.nodes n) c).state) event 0 (outcome None (interrupted (w.nodes n) c)).1).0
   interrupt_present n event c here = asking_present n event None (interrupted (w.nodes n) c) here (interrupted_asks (w.nodes n) c)
 
-  call_present : (n pid : ℕ) (op : Op) → is_alive w n ≡ true → Present (recorded (with_node w n (after_call (w.nodes n) pid op).0) (Call n pid op) 0 (after_call (w.nodes n) pid op).1).0
+  call_present : (n pid : ℕ) (op : Op) → is_alive w n ≡ true → Present (recorded (with_node w n (after_call (w.nodes n) pid op).0) (AtNode n (Call pid op)) 0 (after_call (w.nodes n) pid op).1).0
   call_present n pid op here =
       let s = w.nodes n in
       let number = s.calls + 1 in
-      asking_present n (Call n pid op) (after_call s pid op).1.call (called (record s { calls = number }) number pid op) here (called_asks (record s { calls = number }) number pid op)
+      asking_present n (AtNode n (Call pid op)) (after_call s pid op).1.call (called (record s { calls = number }) number pid op) here (called_asks (record s { calls = number }) number pid op)
 
   -- the step of a command
   command_present : (n file number : ℕ) (command : Message) → is_alive w n ≡ true → Was w command → is_command command ≡ true → IsCommandTo file n (w.nodes n).incarnation number command → (event : Event) (e : Effect) → Receives (w.nodes n) file number command e → Present (recorded (with_node w n e.state) event 0 (outcome None e).1).0
@@ -623,28 +627,28 @@ module _ (w : WorldState) (p : Present w) (ends : (n : ℕ) → EndsOf (w.nodes 
       ]
 
   -- a server sends its commands again
-  resend_present : (file : ℕ) (r : Result (ServerState × List Message) StepError) (done : ServerState × Outcome) → serve (requeued (w.servers file)) ≡ r → sending_first (outstanding (w.servers file)) r ≡ Ok done → Present (recorded (with_server w file done.0) (Resend file) 0 done.1).0
+  resend_present : (file : ℕ) (r : Result (ServerState × List Message) StepError) (done : ServerState × Outcome) → serve (requeued (w.servers file)) ≡ r → sending_first (outstanding (w.servers file)) r ≡ Ok done → Present (recorded (with_server w file done.0) (AtServer file Resend) 0 done.1).0
   resend_present file (Err e) done served is = absurd (cc)
   resend_present file (Ok made) done served is =
       let t = w.servers file in
-      let P : ServerState × Outcome → Type 0 = λ d. Present (recorded (with_server w file d.0) (Resend file) 0 d.1).0 in
+      let P : ServerState × Outcome → Type 0 = λ d. Present (recorded (with_server w file d.0) (AtServer file Resend) 0 d.1).0 in
       let sent : (n : ℕ) (m : Message) → outstanding_of (t.rows n) ≡ Some m → Was w m = λ n m there. elim (t.rows n) as (λ x. t.rows n ≡ x → outstanding_of x ≡ Some m → Was w m) [
         | None ↦ λ row none. absurd (none-some m none)
         | Some row ↦ λ found waiting. outstanding_sent (Was w) w.nodes w.shape file t (p.serves file) n row m found waiting
       ] refl there in
       let old : Only (λ m. Was w m ⊎ IsDenial (IsBegun w) m) (outstanding t) = only_mapped (λ m. Was w m ⊎ IsDenial (IsBegun w) m) (λ n. outstanding_of (t.rows n)) (range_with_len 1 t.shape.nodes) (λ n m there. inl (sent n m there)) in
       let asked : Serves (Was w) w.nodes w.shape file (requeued t) = requeues (Was w) w.nodes w.shape file t (p.serves file) in
-      subst P (ok_is _ done is) (again_present w p file made.0 (Resend file) (sending (outstanding t ++ made.1)) (outstanding t) made.1 refl old (serve_serves (Was w) w.nodes w.shape file (requeued t) asked made.0 made.1 served))
+      subst P (ok_is _ done is) (again_present w p file made.0 (AtServer file Resend) (sending (outstanding t ++ made.1)) (outstanding t) made.1 refl old (serve_serves (Was w) w.nodes w.shape file (requeued t) asked made.0 made.1 served))
 
   -- a server learns of an incarnation that was declared: it is not the live one
-  learn_present : (file n i : ℕ) (r : Result (ServerState × List Message) StepError) (done : ServerState × Outcome) → i < (w.nodes n).incarnation → serve (requeued (forgotten (w.servers file) n i)) ≡ r → sending_first [] r ≡ Ok done → Present (recorded (with_server w file done.0) (Learn file n i) 0 done.1).0
+  learn_present : (file n i : ℕ) (r : Result (ServerState × List Message) StepError) (done : ServerState × Outcome) → i < (w.nodes n).incarnation → serve (requeued (forgotten (w.servers file) n i)) ≡ r → sending_first [] r ≡ Ok done → Present (recorded (with_server w file done.0) (AtServer file (Learn n i)) 0 done.1).0
   learn_present file n i (Err e) done older served is = absurd (cc)
   learn_present file n i (Ok made) done older served is =
       let t = w.servers file in
-      let P : ServerState × Outcome → Type 0 = λ d. Present (recorded (with_server w file d.0) (Learn file n i) 0 d.1).0 in
+      let P : ServerState × Outcome → Type 0 = λ d. Present (recorded (with_server w file d.0) (AtServer file (Learn n i)) 0 d.1).0 in
       let young : Serves (Was w) w.nodes w.shape file (forgotten t n i) = forgets (Was w) w.nodes w.shape file t (p.serves file) n i older in
       let asked : Serves (Was w) w.nodes w.shape file (requeued (forgotten t n i)) = requeues (Was w) w.nodes w.shape file (forgotten t n i) young in
-      subst P (ok_is _ done is) (again_present w p file made.0 (Learn file n i) (sending made.1) [] made.1 refl (only_none (λ m. Was w m ⊎ IsDenial (IsBegun w) m)) (serve_serves (Was w) w.nodes w.shape file (requeued (forgotten t n i)) asked made.0 made.1 served))
+      subst P (ok_is _ done is) (again_present w p file made.0 (AtServer file (Learn n i)) (sending made.1) [] made.1 refl (only_none (λ m. Was w m ⊎ IsDenial (IsBegun w) m)) (serve_serves (Was w) w.nodes w.shape file (requeued (forgotten t n i)) asked made.0 made.1 served))
 
   alive_here : (n : ℕ) → has_node w n ≡ true → not (w.alive n) ≡ false → is_alive w n ≡ true
   alive_here n there free = and_from (has_node w n) (w.alive n) there (not-false (w.alive n) free)
@@ -659,41 +663,40 @@ module _ (w : WorldState) (p : Present w) (ends : (n : ℕ) → EndsOf (w.nodes 
       let a = receives (Was w) (IsBegun w) p.no_future w.nodes w.shape file t (p.serves file) done.0 done.1 m sent to (p.no_future m sent).0 is in
       again_present w p file done.0 (Deliver m) done.1 a.denied a.fresh a.sent (λ x there. inr (a.denials x there)) a.served) h
 
-  taken_present : (event : Event) (q : WorldState × Entry) → is_known w event ≡ true → is_fenced w event ≡ false → taken w event ≡ Ok q → Present q.0
-  taken_present (Call n pid op) q known free h =
-      let s = w.nodes n in
-      let P : NodeState × Outcome → Type 0 = λ d. Present (recorded (with_node w n d.0) (Call n pid op) 0 d.1).0 in
-      let here = alive_here n (and_parts (has_node w n) _ known).0 free in
-      node_step w (λ x. Present x.0) (Call n pid op) n (node_rule s (node.Call pid op)) q
-      (λ done is. subst P (call_done s pid op done is) (call_present w p n pid op here)) h
-  taken_present (Deliver m) q known free h =
-      let parts = and_parts (has_actor w (addressee m)) (is_among w.sent m) known in
-      message_present m (addressee m) q parts.1 refl parts.0 free h
-  taken_present (Interrupt n pid) q known free h =
-      let s = w.nodes n in
-      let P : NodeState × Outcome → Type 0 = λ d. Present (recorded (with_node w n d.0) (Interrupt n pid) 0 d.1).0 in
-      let here = alive_here n (and_parts (has_node w n) _ known).0 free in
-      node_step w (λ x. Present x.0) (Interrupt n pid) n (node_rule s (node.Interrupt pid)) q
-      (λ done is. subst P (interrupt_done s pid done is) (interrupt_present w p n (Interrupt n pid) (open_call_of s pid) here)) h
-  taken_present (Retry n pid) q known free h =
-      let s = w.nodes n in
-      let P : NodeState × Outcome → Type 0 = λ d. Present (recorded (with_node w n d.0) (Retry n pid) 0 d.1).0 in
-      let here = alive_here n (and_parts (has_node w n) _ known).0 free in
-      node_step w (λ x. Present x.0) (Retry n pid) n (node_rule s (node.Retry pid)) q
-      (λ done is. subst P (retry_done s pid done is) (try_present w p n (Retry n pid) (open_call_of s pid) here)) h
-  taken_present (Resend file) q known free h =
-      let t = w.servers file in
-      server_step w (λ x. Present x.0) (Resend file) file (server_rule t server.Resend) q (λ done is. resend_present file (serve (requeued t)) done refl is) h
-  taken_present (Declare n) q known free h = declare_step w (λ x. Present x.0) n q (λ k is alive. silent_present (declared w k) (declared_present w p k) (Declare n) (w.nodes k).incarnation) h
-  taken_present (Restart n) q known free h = restart_step w (λ x. Present x.0) n q (λ k is dead few. silent_present (restarted w k) (restarted_present w p k) (Restart n) (w.nodes k).incarnation) h
-  taken_present (Learn file n i) q known free h =
+  -- a step at what comes to a node or to a token server
+  node_input_present : (n : ℕ) (input : NodeInput) (done : NodeState × Outcome) → is_alive w n ≡ true → node_rule (w.nodes n) (node.Input input) ≡ Ok done → Present (recorded (with_node w n done.0) (AtNode n input) 0 done.1).0
+  node_input_present n (Call pid op) done here is =
+      let P : NodeState × Outcome → Type 0 = λ d. Present (recorded (with_node w n d.0) (AtNode n (Call pid op)) 0 d.1).0 in
+      subst P (call_done (w.nodes n) pid op done is) (call_present w p n pid op here)
+  node_input_present n (Interrupt pid) done here is =
+      let P : NodeState × Outcome → Type 0 = λ d. Present (recorded (with_node w n d.0) (AtNode n (Interrupt pid)) 0 d.1).0 in
+      subst P (interrupt_done (w.nodes n) pid done is) (interrupt_present w p n (AtNode n (Interrupt pid)) (open_call_of (w.nodes n) pid) here)
+  node_input_present n (Retry pid) done here is =
+      let P : NodeState × Outcome → Type 0 = λ d. Present (recorded (with_node w n d.0) (AtNode n (Retry pid)) 0 d.1).0 in
+      subst P (retry_done (w.nodes n) pid done is) (try_present w p n (AtNode n (Retry pid)) (open_call_of (w.nodes n) pid) here)
+
+  server_input_present : (file : ℕ) (input : ServerInput) (done : ServerState × Outcome) → is_known w (AtServer file input) ≡ true → server_rule (w.servers file) (server.Input input) ≡ Ok done → Present (recorded (with_server w file done.0) (AtServer file input) 0 done.1).0
+  server_input_present file Resend done known is = resend_present file (serve (requeued (w.servers file))) done refl is
+  server_input_present file (Learn n i) done known is =
       let t = w.servers file in
       let parts = and_parts (has_node w n) (was_declared w n i) (and_parts (has_file w file) (has_node w n && was_declared w n i) known).1 in
       let older : i < (w.nodes n).incarnation = ltb-true i (w.nodes n).incarnation (and_parts (nat_le 1 i) (nat_lt i (w.nodes n).incarnation) parts.1).1 in
-      server_step w (λ x. Present x.0) (Learn file n i) file (server_rule t (server.Learn n i)) q
-      (λ done is. learn_present file n i (serve (requeued (forgotten t n i))) done older refl (unless_refused (not (is_within t.shape.nodes n)) _ done Stranger is).1) h
-  taken_present (FailServer file) q known free h = fail_step w (λ x. Present x.0) file q (λ f is works. silent_present (failed w f) (failed_present w p f) (FailServer file) (w.servers f).epoch) h
-  taken_present (StartServer file) q known free h = start_step w (λ x. Present x.0) file q (λ f is stopped few. started_present w p f (StartServer file) ((w.servers f).epoch + 1)) h
+      learn_present file n i (serve (requeued (forgotten t n i))) done older refl (unless_refused (not (is_within t.shape.nodes n)) _ done Stranger is).1
+
+  taken_present : (event : Event) (q : WorldState × Entry) → is_known w event ≡ true → is_fenced w event ≡ false → taken w event ≡ Ok q → Present q.0
+  taken_present (AtNode n input) q known free h =
+      let here = alive_here n (and_parts (has_node w n) _ known).0 free in
+      node_step w (λ x. Present x.0) (AtNode n input) n (node_rule (w.nodes n) (node.Input input)) q (λ done is. node_input_present n input done here is) h
+  taken_present (AtServer file input) q known free h =
+      server_step w (λ x. Present x.0) (AtServer file input) file (server_rule (w.servers file) (server.Input input)) q (λ done is. server_input_present file input done known is) h
+  taken_present (Deliver m) q known free h =
+      let parts = and_parts (has_actor w (addressee m)) (is_among w.sent m) known in
+      message_present m (addressee m) q parts.1 refl parts.0 free h
+  taken_present (Member event) q known free h = member_step w (λ x. Present x.0) event q
+      (λ n is alive. silent_present (declared w n) (declared_present w p n) (Member event) (w.nodes n).incarnation)
+      (λ n is dead few. silent_present (restarted w n) (restarted_present w p n) (Member event) (w.nodes n).incarnation)
+      (λ file is works. silent_present (failed w file) (failed_present w p file) (Member event) (w.servers file).epoch)
+      (λ file is stopped few. started_present w p file (Member event) ((w.servers file).epoch + 1)) h
 
   -- each step keeps the invariant
   pub next_present : (event : Event) (q : WorldState × Entry) → next w event ≡ Ok q → Present q.0

@@ -26,6 +26,7 @@ use Rattle.token_set.specs.declared.gave_up.GaveUp.{GaveUp}
 use Rattle.token_set.specs.declared.gave_up.GaveUp.TheVariants.{Released, Conflict}
 use Rattle.token_set.proofs.TokenLaws.{covers-each}
 use Rattle.token_set.proofs.ReleaseLaws.{lowering_keeps_locks}
+use Rattle.messages.specs.declared.event.NodeInput.TheVariants.{Call, Interrupt, Retry}
 use Rattle.messages.specs.rule.Shapes.{ShapeFields}
 use Rattle.messages.specs.rule.Wants.{Wants}
 use Rattle.messages.specs.declared.message.Message.{Message}
@@ -33,7 +34,7 @@ use Rattle.messages.specs.declared.message.Message.TheVariants.{Grant, Revoke, T
 use Rattle.messages.specs.rule.Epochs.{begin_of}
 use Rattle.messages.specs.declared.outcome.Outcome.{Outcome}
 use Rattle.node_core.specs.declared.event.NodeEvent.{NodeEvent}
-use Rattle.node_core.specs.declared.event.NodeEvent.TheVariants.{Call, Deliver, Interrupt, Retry}
+use Rattle.node_core.specs.declared.event.NodeEvent.TheVariants.{Input, Deliver}
 use Rattle.model.specs.declared.op.LockCommand.{LockCommand}
 use Rattle.model.specs.declared.op.LockCommand.TheVariants as lock_command
 use Rattle.node_core.specs.declared.open_call.OpenCall.{OpenCall}
@@ -272,9 +273,9 @@ delivered_covered s m own old = old
 
 -- each step of a node
 pub node_rule_covered : (s u : NodeState) (event : NodeEvent) (o : Outcome) → node_rule s event ≡ Ok (u, o) → OwnLocks s → Covered s → Covered u
-node_rule_covered s u (Call pid op) o h own old = subst (λ (x : NodeState × Outcome). Covered x.0) (call_done s pid op (u, o) h) (after_call_covered s pid op old)
+node_rule_covered s u (Input (Call pid op)) o h own old = subst (λ (x : NodeState × Outcome). Covered x.0) (call_done s pid op (u, o) h) (after_call_covered s pid op old)
 node_rule_covered s u (Deliver m) o h own old =
     let P : NodeState × Outcome → Type 0 = λ x. Covered x.0 in
     elim (deliver_done s m (u, o) h) [ inl taken ↦ subst P taken.1 (delivered_covered s m own old) | inr passed ↦ subst P passed old ]
-node_rule_covered s u (Interrupt pid) o h own old = subst (λ (x : NodeState × Outcome). Covered x.0) (interrupt_done s pid (u, o) h) (interrupted_covered s (open_call_of s pid) old)
-node_rule_covered s u (Retry pid) o h own old = subst (λ (x : NodeState × Outcome). Covered x.0) (retry_done s pid (u, o) h) (tried_if_covered s (open_call_of s pid) old)
+node_rule_covered s u (Input (Interrupt pid)) o h own old = subst (λ (x : NodeState × Outcome). Covered x.0) (interrupt_done s pid (u, o) h) (interrupted_covered s (open_call_of s pid) old)
+node_rule_covered s u (Input (Retry pid)) o h own old = subst (λ (x : NodeState × Outcome). Covered x.0) (retry_done s pid (u, o) h) (tried_if_covered s (open_call_of s pid) old)

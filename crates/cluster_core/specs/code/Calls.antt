@@ -4,7 +4,9 @@ use Rattle.model.specs.declared.call.CallId.{CallId}
 use Rattle.model.specs.declared.op.Op.{Op}
 use Rattle.model.specs.declared.reply.Reply.{Reply}
 use Rattle.messages.specs.declared.event.Event.{Event}
-use Rattle.messages.specs.declared.event.Event.TheVariants.{Call, Declare}
+use Rattle.messages.specs.declared.event.Event.TheVariants.{AtNode, Member}
+use Rattle.messages.specs.declared.event.NodeInput.TheVariants.{Call}
+use Rattle.messages.specs.declared.event.MemberEvent.TheVariants.{Declare}
 use Rattle.messages.specs.declared.entry.Entry.{Entry}
 use Rattle.messages.specs.rule.Messages.{same_call}
 use Rattle.cluster_core.specs.declared.item.Item.{Item}
@@ -17,7 +19,7 @@ is_named id (Some other) = same_call id other
 
 -- the process and its operation, if the event is a call
 abbrev pub called_by : Event → Option (ℕ × Op) → Option (ℕ × Op)
-called_by (Call node pid op) otherwise = Some (pid, op)
+called_by (AtNode node (Call pid op)) otherwise = Some (pid, op)
 called_by _ otherwise = otherwise
 
 -- the process and the operation of the first entry that makes a call of that name
@@ -32,5 +34,5 @@ item_of at id reply (Some c) = Some (Answered at id c.0 c.1 reply)
 
 -- the item of a failed node, if the event declares one
 abbrev pub gone_at : ℕ → ℕ → Event → Option Item
-gone_at at incarnation (Declare node) = Some (Gone at node incarnation)
+gone_at at incarnation (Member (Declare node)) = Some (Gone at node incarnation)
 gone_at at incarnation _ = None

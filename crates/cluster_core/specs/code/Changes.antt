@@ -1,5 +1,5 @@
 -- The change that an event makes in a world, as it is planned from the world's parts.
-use Rattle.std.specs.Prelude.{◌≡◌, ℕ, ◌-◌, ◌<◌, ◌≤◌, true, false, List, Result, Ok, slice_index_or}
+use Rattle.std.specs.Prelude.{◌≡◌, ℕ, ◌-◌, ◌<◌, ◌≤◌, true, false, List, Some, Result, Ok, slice_index_or}
 use Rattle.messages.specs.rule.Messages.{is_within}
 use Rattle.messages.specs.code.Entries.{NamesItsIncarnation}
 use Rattle.messages.specs.declared.refusal.Refused.{Refused}
@@ -23,14 +23,15 @@ use Rattle.cluster_core.specs.declared.world.change.Change.{Change}
 use Rattle.cluster_core.specs.declared.world.change.Change.TheVariants.{OfNode, OfServer, Declared, Restarted, Failed, Started}
 use Rattle.cluster_core.specs.rule.World.{WorldState, journal_limit, most_incarnations}
 use Rattle.cluster_core.specs.rule.Next.{named_incarnation, after_node, after_server, declare_rule, restart_rule, fail_rule, start_rule, next_server, next}
-use Rattle.cluster_core.specs.rule.Parts.{WorldParts, IsStepOf, IsServerStepOf, alive_at, works_at, world_state}
+use Rattle.cluster_core.specs.rule.Actors.{node_event, server_event}
+use Rattle.cluster_core.specs.rule.Parts.{WorldParts, alive_at, works_at, world_state}
 
 -- the change is the step of the node at the event, and r is what the step makes
 pub record IsNodeChange (p : WorldParts) (event : Event) (n incarnation : ℕ) (change : NodeChange) (r : Result (WorldState × Entry) Refused) : Type 0 where
   pub step : NodeEvent
   pub number : is_within p.shape.nodes n ≡ true
   pub alive : alive_at p n ≡ true
-  pub same_event : IsStepOf event n step
+  pub takes : node_event n event ≡ Some step
   pub node : NodeParts
   pub there : node ≡ slice_index_or p.nodes (n - 1) node
   pub fits : Fits node change.edit
@@ -43,7 +44,7 @@ pub record IsNodeChange (p : WorldParts) (event : Event) (n incarnation : ℕ) (
 pub record IsServerChange (p : WorldParts) (event : Event) (file : ℕ) (change : ServerChange) (r : Result (WorldState × Entry) Refused) : Type 0 where
   pub step : ServerEvent
   pub number : is_within p.shape.files file ≡ true
-  pub same_event : IsServerStepOf event step
+  pub takes : server_event file event ≡ Some step
   pub server : ServerParts
   pub there : server ≡ slice_index_or p.servers (file - 1) server
   pub fits : ServerFits server change.edit

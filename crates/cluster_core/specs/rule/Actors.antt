@@ -3,7 +3,11 @@ use Rattle.std.specs.Prelude.{◌≡◌, ℕ, ◌==◌, if◌then◌else◌, tru
 use Rattle.messages.specs.declared.refusal.StepError.{StepError}
 use Rattle.messages.specs.declared.refusal.StepError.TheVariants.{Stranger}
 use Rattle.messages.specs.declared.event.Event.{Event}
-use Rattle.messages.specs.declared.event.Event.TheVariants.{Call, Deliver, Interrupt, Retry, Resend, Learn}
+use Rattle.messages.specs.declared.event.Event.TheVariants.{AtNode, AtServer, Deliver}
+use Rattle.messages.specs.declared.event.MemberEvent.{MemberEvent}
+use Rattle.messages.specs.declared.event.MemberEvent.TheVariants.{Declare, Restart, FailServer, StartServer}
+use Rattle.messages.specs.declared.actor.Actor.{Actor}
+use Rattle.messages.specs.declared.actor.Actor.TheVariants.{Node as ANode, Server as AServer}
 use Rattle.messages.specs.declared.outcome.Outcome.{Outcome}
 use Rattle.messages.specs.declared.entry.Entry.{Entry}
 use Rattle.messages.specs.rule.Messages.{addressee}
@@ -21,19 +25,23 @@ use Rattle.cluster_core.specs.rule.Next.{named_incarnation, with_node, with_serv
 use Rattle.cluster_core.specs.rule.Parts.{world_state}
 use Rattle.cluster_core.specs.rule.Journals.{RunFields}
 
+-- the node or the token server that fails, or begins again
+abbrev pub member_of : MemberEvent → Actor
+member_of (Declare n) = ANode n
+member_of (Restart n) = ANode n
+member_of (FailServer file) = AServer file
+member_of (StartServer file) = AServer file
+
 -- the event as the node with that number takes it, or none
 abbrev pub node_event : ℕ → Event → Option NodeEvent
-node_event n (Call k pid op) = if k == n then Some (node.Call pid op) else None
+node_event n (AtNode k input) = if k == n then Some (node.Input input) else None
 node_event n (Deliver m) = if is_node n (addressee m) then Some (node.Deliver m) else None
-node_event n (Interrupt k pid) = if k == n then Some (node.Interrupt pid) else None
-node_event n (Retry k pid) = if k == n then Some (node.Retry pid) else None
 node_event n _ = None
 
 -- the event as the token server of the file takes it, or none
 abbrev pub server_event : ℕ → Event → Option ServerEvent
+server_event f (AtServer file input) = if file == f then Some (server.Input input) else None
 server_event f (Deliver m) = if is_server f (addressee m) then Some (server.Deliver m) else None
-server_event f (Resend file) = if file == f then Some server.Resend else None
-server_event f (Learn file n incarnation) = if file == f then Some (server.Learn n incarnation) else None
 server_event f _ = None
 
 abbrev pub node_at : NodeState → Option NodeEvent → Result (NodeState × Outcome) StepError

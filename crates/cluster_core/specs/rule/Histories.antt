@@ -17,7 +17,9 @@ use Rattle.messages.specs.rule.Shapes.{ShapeFields, IsShape}
 use Rattle.messages.specs.rule.Messages.{is_conflict}
 use Rattle.messages.specs.declared.message.Message.TheVariants.{Deny}
 use Rattle.messages.specs.declared.event.Event.{Event}
-use Rattle.messages.specs.declared.event.Event.TheVariants.{Call, Deliver, Declare}
+use Rattle.messages.specs.declared.event.Event.TheVariants.{AtNode, Deliver, Member}
+use Rattle.messages.specs.declared.event.NodeInput.TheVariants.{Call}
+use Rattle.messages.specs.declared.event.MemberEvent.TheVariants.{Declare}
 use Rattle.messages.specs.declared.entry.Entry.{Entry}
 use Rattle.cluster_core.specs.declared.item.Item.{Item}
 use Rattle.cluster_core.specs.declared.item.Item.TheVariants.{Answered, Gone}
@@ -84,7 +86,7 @@ EntryAt es at e = (k : ℕ) × (at ≡ k + 1) × (slice_get es k ≡ Some e)
 pub record IsCalledAt (es : List Entry) (id : CallId) (pid : ℕ) (op : Op) (at : ℕ) : Type 0 where
   pub calling : Entry
   pub there : EntryAt es at calling
-  pub is_call : calling.event ≡ Call id.node pid op
+  pub is_call : calling.event ≡ AtNode id.node (Call pid op)
   pub named : calling.call ≡ Some id
 
 -- the entry at that position answers the call
@@ -106,7 +108,7 @@ pub record IsOpenAt (es : List Entry) (id : CallId) (pid : ℕ) (op : Op) (reply
 pub record IsDeclaredAt (es : List Entry) (node incarnation at : ℕ) : Type 0 where
   pub declaring : Entry
   pub there : EntryAt es at declaring
-  pub is_declare : declaring.event ≡ Declare node
+  pub is_declare : declaring.event ≡ Member (Declare node)
   pub of : declaring.incarnation ≡ incarnation
 
 -- an item stands where it may: a call where `Place` allows it, a failed node at its declaration

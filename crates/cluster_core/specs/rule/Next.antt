@@ -3,11 +3,18 @@ use Rattle.std.specs.Prelude.{ℕ, ◌+◌, Bool, true, false, not, ◌&&◌, �
 use Rattle.messages.specs.declared.refusal.StepError.{StepError}
 use Rattle.messages.specs.declared.refusal.Refused.{Refused}
 use Rattle.messages.specs.declared.refusal.Refused.TheVariants.{Stranger, JournalFull, NotAlive, NotDead, TooManyRestarts, Fenced}
+use Rattle.messages.specs.rule.Shapes.{ShapeFields}
 use Rattle.messages.specs.rule.Versions.{may_rebuild}
 use Rattle.messages.specs.rule.Refusals.{refused_by}
 use Rattle.messages.specs.declared.message.Message.{Message}
 use Rattle.messages.specs.declared.event.Event.{Event}
-use Rattle.messages.specs.declared.event.Event.TheVariants.{Call, Deliver, Interrupt, Retry, Resend, Declare, Restart, Learn, FailServer, StartServer}
+use Rattle.messages.specs.declared.event.Event.TheVariants.{AtNode, AtServer, Deliver, Member}
+use Rattle.messages.specs.declared.event.NodeInput.{NodeInput}
+use Rattle.messages.specs.declared.event.NodeInput.TheVariants.{Call, Interrupt, Retry}
+use Rattle.messages.specs.declared.event.ServerInput.{ServerInput}
+use Rattle.messages.specs.declared.event.ServerInput.TheVariants.{Resend, Learn}
+use Rattle.messages.specs.declared.event.MemberEvent.{MemberEvent}
+use Rattle.messages.specs.declared.event.MemberEvent.TheVariants.{Declare, Restart, FailServer, StartServer}
 use Rattle.messages.specs.declared.outcome.Outcome.{Outcome}
 use Rattle.messages.specs.declared.entry.Entry.{Entry}
 use Rattle.messages.specs.declared.actor.Actor.{Actor}
@@ -28,18 +35,30 @@ abbrev pub has_actor : WorldState → Actor → Bool
 has_actor w (ANode n) = has_node w n
 has_actor w (AServer file) = has_file w file
 
+-- what comes to a node names processes and files of the shape
+abbrev pub fits_shape : ShapeFields → NodeInput → Bool
+fits_shape shape (Call pid op) = is_pid pid && is_in_shape shape op
+fits_shape shape (Interrupt pid) = is_pid pid
+fits_shape shape (Retry pid) = is_pid pid
+
+-- what comes to a token server tells, if anything, of an incarnation that was declared failed
+abbrev pub is_true : WorldState → ServerInput → Bool
+is_true w Resend = true
+is_true w (Learn n incarnation) = has_node w n && was_declared w n incarnation
+
+-- the event is of a node of the shape, or of a server of the shape that may fail in its version
+abbrev pub has_member : WorldState → MemberEvent → Bool
+has_member w (Declare n) = has_node w n
+has_member w (Restart n) = has_node w n
+has_member w (FailServer file) = may_rebuild w.shape.version && has_file w file
+has_member w (StartServer file) = may_rebuild w.shape.version && has_file w file
+
 -- the event names nodes, processes, files of the shape, a message sent to one of its actors, a declared incarnation, or a server that may fail in its version
 abbrev pub is_known : WorldState → Event → Bool
-is_known w (Call n pid op) = has_node w n && (is_pid pid && is_in_shape w.shape op)
+is_known w (AtNode n input) = has_node w n && fits_shape w.shape input
+is_known w (AtServer file input) = has_file w file && is_true w input
 is_known w (Deliver m) = has_actor w (addressee m) && is_among w.sent m
-is_known w (Interrupt n pid) = has_node w n && is_pid pid
-is_known w (Retry n pid) = has_node w n && is_pid pid
-is_known w (Resend file) = has_file w file
-is_known w (Declare n) = has_node w n
-is_known w (Restart n) = has_node w n
-is_known w (Learn file n incarnation) = has_file w file && (has_node w n && was_declared w n incarnation)
-is_known w (FailServer file) = may_rebuild w.shape.version && has_file w file
-is_known w (StartServer file) = may_rebuild w.shape.version && has_file w file
+is_known w (Member event) = has_member w event
 
 -- the actor is a node or a token server that was declared failed and is not started again
 abbrev pub is_stopped : WorldState → Actor → Bool
@@ -48,18 +67,15 @@ is_stopped w (AServer file) = not (w.working file)
 
 -- the event would be a step of an actor that was declared failed
 abbrev pub is_fenced : WorldState → Event → Bool
-is_fenced w (Call n pid op) = is_stopped w (ANode n)
+is_fenced w (AtNode n input) = is_stopped w (ANode n)
+is_fenced w (AtServer file input) = is_stopped w (AServer file)
 is_fenced w (Deliver m) = is_stopped w (addressee m)
-is_fenced w (Interrupt n pid) = is_stopped w (ANode n)
-is_fenced w (Retry n pid) = is_stopped w (ANode n)
-is_fenced w (Resend file) = is_stopped w (AServer file)
-is_fenced w (Learn file n incarnation) = is_stopped w (AServer file)
-is_fenced w _ = false
+is_fenced w (Member event) = false
 
 -- the incarnation that the entry of a node's event names, 0 for none: an interrupt and a retry name the live one
 abbrev pub named_incarnation : NodeState → Event → ℕ
-named_incarnation s (Interrupt n pid) = s.incarnation
-named_incarnation s (Retry n pid) = s.incarnation
+named_incarnation s (AtNode n (Interrupt pid)) = s.incarnation
+named_incarnation s (AtNode n (Retry pid)) = s.incarnation
 named_incarnation s _ = 0
 
 abbrev pub entry : Event → ℕ → Outcome → Entry
@@ -101,13 +117,13 @@ silent w event incarnation = recorded w event incarnation (sending [])
 
 -- Declare: a node that is alive is declared failed
 abbrev pub declare_rule : WorldState → ℕ → Result (WorldState × Entry) Refused
-declare_rule w n = if w.alive n then Ok (silent (declared w n) (Declare n) (w.nodes n).incarnation) else Err NotAlive
+declare_rule w n = if w.alive n then Ok (silent (declared w n) (Member (Declare n)) (w.nodes n).incarnation) else Err NotAlive
 
 -- Restart: a node that was declared failed begins again, unless no incarnation is left
 abbrev pub restart_rule : WorldState → ℕ → Result (WorldState × Entry) Refused
 restart_rule w n =
     if w.alive n then Err NotDead
-    else (if nat_le (w.nodes n).incarnation most_incarnations then Ok (silent (restarted w n) (Restart n) (w.nodes n).incarnation) else Err TooManyRestarts)
+    else (if nat_le (w.nodes n).incarnation most_incarnations then Ok (silent (restarted w n) (Member (Restart n)) (w.nodes n).incarnation) else Err TooManyRestarts)
 
 -- the token server takes no step from here on
 abbrev pub failed : WorldState → ℕ → WorldState
@@ -122,28 +138,29 @@ started w file = record (with_server w file (next_server w file)) { working = λ
 
 -- FailServer: a token server that works is declared failed
 abbrev pub fail_rule : WorldState → ℕ → Result (WorldState × Entry) Refused
-fail_rule w file = if w.working file then Ok (silent (failed w file) (FailServer file) (w.servers file).epoch) else Err NotAlive
+fail_rule w file = if w.working file then Ok (silent (failed w file) (Member (FailServer file)) (w.servers file).epoch) else Err NotAlive
 
 -- StartServer: a token server that was declared failed is rebuilt, and asks the live nodes for their tokens, unless no epoch is left
 abbrev pub start_rule : WorldState → ℕ → Result (WorldState × Entry) Refused
 start_rule w file =
     if w.working file then Err NotDead
     else (if nat_lt (w.servers file).epoch most_incarnations
-    then Ok (recorded (started w file) (StartServer file) ((w.servers file).epoch + 1) (sending (outstanding (next_server w file))))
+    then Ok (recorded (started w file) (Member (StartServer file)) ((w.servers file).epoch + 1) (sending (outstanding (next_server w file))))
     else Err TooManyRestarts)
 
--- the one actor that takes the event makes its step, or a node or a token server is declared failed or started again; all others stay
+-- a node or a token server is declared failed, or started again
+abbrev pub member_rule : WorldState → MemberEvent → Result (WorldState × Entry) Refused
+member_rule w (Declare n) = declare_rule w n
+member_rule w (Restart n) = restart_rule w n
+member_rule w (FailServer file) = fail_rule w file
+member_rule w (StartServer file) = start_rule w file
+
+-- the one actor that takes the event makes its step, or a member changes; all others stay
 abbrev pub taken : WorldState → Event → Result (WorldState × Entry) Refused
-taken w (Call n pid op) = after_node w (Call n pid op) n (node_rule (w.nodes n) (node.Call pid op))
+taken w (AtNode n input) = after_node w (AtNode n input) n (node_rule (w.nodes n) (node.Input input))
+taken w (AtServer file input) = after_server w (AtServer file input) file (server_rule (w.servers file) (server.Input input))
 taken w (Deliver m) = delivered w m (addressee m)
-taken w (Interrupt n pid) = after_node w (Interrupt n pid) n (node_rule (w.nodes n) (node.Interrupt pid))
-taken w (Retry n pid) = after_node w (Retry n pid) n (node_rule (w.nodes n) (node.Retry pid))
-taken w (Resend file) = after_server w (Resend file) file (server_rule (w.servers file) server.Resend)
-taken w (Declare n) = declare_rule w n
-taken w (Restart n) = restart_rule w n
-taken w (Learn file n incarnation) = after_server w (Learn file n incarnation) file (server_rule (w.servers file) (server.Learn n incarnation))
-taken w (FailServer file) = fail_rule w file
-taken w (StartServer file) = start_rule w file
+taken w (Member event) = member_rule w event
 
 -- the world after the event and the entry that it makes, or the first refusal: `Stranger`, then `Fenced`, and then that of the actor's step
 abbrev pub next : WorldState → Event → Result (WorldState × Entry) Refused

@@ -2,16 +2,10 @@
 use Rattle.std.specs.Prelude.{◌≡◌, ℕ, Bool, true, false, ◌+◌, ◌≤◌, List, length}
 use Rattle.messages.specs.rule.Shapes.{ShapeFields}
 use Rattle.messages.specs.declared.message.Message.{Message}
-use Rattle.messages.specs.declared.event.Event.{Event}
-use Rattle.messages.specs.declared.event.Event.TheVariants.{Call, Deliver, Interrupt, Retry, Resend, Learn}
 use Rattle.members.specs.rule.Parts.{MembersParts, alive_in, incarnation_in, incarnation_of}
 pub use Rattle.members.specs.rule.Numbered.{numbered, IsRest}
-use Rattle.node_core.specs.declared.event.NodeEvent.{NodeEvent}
-use Rattle.node_core.specs.declared.event.NodeEvent.TheVariants as own
 use Rattle.node_core.specs.rule.Parts.{NodeParts, node_state}
 use Rattle.node_core.specs.rule.State.{NodeState, first_node}
-use Rattle.token_server.specs.declared.event.ServerEvent.{ServerEvent}
-use Rattle.token_server.specs.declared.event.ServerEvent.TheVariants as served
 use Rattle.token_server.specs.rule.Parts.{ServerParts, server_state}
 use Rattle.token_server.specs.rule.State.{first_server}
 use Rattle.cluster_core.specs.rule.World.{WorldState, journal_limit}
@@ -60,26 +54,3 @@ pub record IsWorld (p : WorldParts) : Type 0 where
   pub own_incarnation : (n : ℕ) → ((world_state p).nodes n).incarnation ≡ incarnation_in p.members.nodes n
   pub own_epoch : (f : ℕ) → incarnation_in p.members.servers f ≡ incarnation_of (works_at p f) ((world_state p).servers f).epoch
   pub within : p.length ≤ journal_limit
-
--- a node may take the event
-abbrev pub IsTakenByNode : Event → Type 0
-IsTakenByNode (Call n pid op) = Unit {0}
-IsTakenByNode (Deliver m) = Unit {0}
-IsTakenByNode (Interrupt n pid) = Unit {0}
-IsTakenByNode (Retry n pid) = Unit {0}
-IsTakenByNode _ = ⊥
-
--- the step of the node is the one that it makes at the event
-abbrev pub IsStepOf : Event → ℕ → NodeEvent → Type 0
-IsStepOf (Call n pid op) node step = (n ≡ node) × (step ≡ own.Call pid op)
-IsStepOf (Deliver m) node step = step ≡ own.Deliver m
-IsStepOf (Interrupt n pid) node step = (n ≡ node) × (step ≡ own.Interrupt pid)
-IsStepOf (Retry n pid) node step = (n ≡ node) × (step ≡ own.Retry pid)
-IsStepOf _ node step = ⊥
-
--- the step of the token server is the one that it makes at the event
-abbrev pub IsServerStepOf : Event → ServerEvent → Type 0
-IsServerStepOf (Deliver m) step = step ≡ served.Deliver m
-IsServerStepOf (Resend file) step = step ≡ served.Resend
-IsServerStepOf (Learn file n incarnation) step = step ≡ served.Learn n incarnation
-IsServerStepOf _ step = ⊥

@@ -2,7 +2,8 @@
 ghost use Rattle.std.specs.Prelude.{◌≡◌, ◌≢◌, ◌<◌, true, Ok, Err, IfOk, IfErr, OnErr};
 ghost use Rattle.messages.specs.declared.refusal.Refused.{Refused};
 ghost use Rattle.messages.specs.declared.refusal.Refused.TheVariants.{NoMemory};
-ghost use Rattle.messages.specs.declared.event.Event.TheVariants as event;
+ghost use Rattle.messages.specs.declared.event.Event.TheVariants.{Member};
+ghost use Rattle.messages.specs.declared.event.MemberEvent.TheVariants.{FailServer, StartServer};
 ghost use Rattle.messages.specs.rule.Messages.{is_within};
 ghost use Rattle.cluster_core.specs.rule.World.{journal_limit};
 ghost use Rattle.cluster_core.specs.rule.Next.{fail_rule, start_rule};
@@ -12,7 +13,7 @@ ghost use Rattle.cluster_core.specs.code.Changes.{IsStart, Makes};
 use super::World;
 use super::change::Change;
 use messages::entry::Entry;
-use messages::event::Event;
+use messages::event::{Event, MemberEvent};
 use messages::items::Items;
 use messages::kept_outcome::KeptOutcome;
 use messages::kept_reply::KeptReply;
@@ -34,7 +35,7 @@ impl World {
     /// The change by which the token server of the file is declared failed, or the refusal.
     pub(super) fn plan_failure(&self, file: u16) -> Result<Change, Refused>
         requires { is_within self.now.shape.files file ≡ true }
-        ensures ok { IfOk result (λ change. Makes self.now (event.FailServer file) change (fail_rule (world_state self.now) file)) }
+        ensures ok { IfOk result (λ change. Makes self.now (Member (FailServer file)) change (fail_rule (world_state self.now) file)) }
         ensures err { IfErr result (λ e. fail_rule (world_state self.now) file ≡ Err e) }
     {
         if !self.works(file) {
@@ -64,7 +65,7 @@ impl World {
     /// The change by which the token server of the file starts again, or the refusal.
     pub(super) fn plan_start(&self, alloc: Global, file: u16) -> Result<Change, Refused>
         requires { is_within self.now.shape.files file ≡ true }
-        ensures ok { IfOk result (λ change. Makes self.now (event.StartServer file) change (start_rule (world_state self.now) file)) }
+        ensures ok { IfOk result (λ change. Makes self.now (Member (StartServer file)) change (start_rule (world_state self.now) file)) }
         ensures err { IfErr result (λ e. e ≢ NoMemory → start_rule (world_state self.now) file ≡ Err e) }
         ensures refused { (e : Refused) → start_rule (world_state self.now) file ≡ Err e → result ≡ Err e }
     {
@@ -85,7 +86,8 @@ impl World {
         self.length += 1;
         let outcome = Outcome::sending(Items::new(alloc));
         let kept = KeptOutcome::nothing();
-        Entry::at_node(Event::FailServer { file }, epoch, outcome, kept)
+        let event = Event::Member(MemberEvent::FailServer { file });
+        Entry::at_node(event, epoch, outcome, kept)
     }
 
     /// Starts the token server of the file again, in this state, with the messages in which it asks the nodes for
@@ -111,7 +113,7 @@ impl World {
         self.length += 1;
         let outcome = Outcome::sending(sends);
         Ok(Entry::at_node(
-            Event::StartServer { file },
+            Event::Member(MemberEvent::StartServer { file }),
             epoch,
             outcome,
             KeptOutcome {

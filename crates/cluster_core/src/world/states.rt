@@ -1,6 +1,7 @@
 //! The states of a world's actors: for reading, compared with others, and begun again.
 ghost use Rattle.std.specs.Prelude.{◌≡◌, ◌≢◌, ◌↔◌, ◌-◌, true, false, Ok, Err, ◌&&◌, IsTrue, IfOk, IfErr, OnOk, MatchOption};
-ghost use Rattle.messages.specs.declared.event.Event.TheVariants.{Restart, StartServer};
+ghost use Rattle.messages.specs.declared.event.Event.TheVariants.{Member};
+ghost use Rattle.messages.specs.declared.event.MemberEvent.TheVariants.{Restart, StartServer};
 ghost use Rattle.messages.specs.declared.entry.Entry.{Entry};
 ghost use Rattle.messages.specs.declared.refusal.Refused.{Refused};
 ghost use Rattle.messages.specs.declared.refusal.Refused.TheVariants.{NoMemory};
@@ -15,7 +16,7 @@ ghost use Rattle.cluster_core.specs.rule.Actors.{HasNode, HasServer};
 
 use super::{JOURNAL_LIMIT, World, is_number};
 use messages::entry::Entry;
-use messages::event::Event;
+use messages::event::{Event, MemberEvent};
 use messages::items::Items;
 use messages::message::Message;
 use messages::refusal::Refused;
@@ -127,8 +128,8 @@ impl World {
     /// In this order: `JournalFull`, `Stranger`, `NotDead`, `TooManyRestarts`, as `step` says.
     pub(crate) fn may_restart(&self, node: u8) -> Result<(), Refused>
         ensures ok { OnOk result ((is_within self.now.shape.nodes node ≡ true) × (made : WorldState × Entry) × (restart_rule (world_state self.now) node ≡ Ok made)) }
-        ensures goes { OnOk result ((e : Refused) → kept_next (world_state self.now) (Restart node) ≢ Err e) }
-        ensures err { IfErr result (λ e. kept_next (world_state self.now) (Restart node) ≡ Err e) }
+        ensures goes { OnOk result ((e : Refused) → kept_next (world_state self.now) (Member (Restart node)) ≢ Err e) }
+        ensures err { IfErr result (λ e. kept_next (world_state self.now) (Member (Restart node)) ≡ Err e) }
     {
         if self.length >= JOURNAL_LIMIT {
             return Err(Refused::JournalFull);
@@ -168,13 +169,13 @@ impl World {
     ) -> Result<(Box<Server>, Items<Message>), Refused>
         ensures begins { IfOk result (λ r. server_state r.0.value ≡ next_server (world_state self.now) file) }
         ensures asks { IfOk result (λ r. r.1 ≡ outstanding (next_server (world_state self.now) file)) }
-        ensures err { IfErr result (λ e. e ≢ NoMemory → kept_next (world_state self.now) (StartServer file) ≡ Err e) }
-        ensures refused { (e : Refused) → kept_next (world_state self.now) (StartServer file) ≡ Err e → result ≡ Err e }
+        ensures err { IfErr result (λ e. e ≢ NoMemory → kept_next (world_state self.now) (Member (StartServer file)) ≡ Err e) }
+        ensures refused { (e : Refused) → kept_next (world_state self.now) (Member (StartServer file)) ≡ Err e → result ≡ Err e }
     {
         if self.length >= JOURNAL_LIMIT {
             return Err(Refused::JournalFull);
         }
-        if !self.is_known(&Event::StartServer { file }) {
+        if !self.has_member(&MemberEvent::StartServer { file }) {
             return Err(Refused::Stranger);
         }
         self.next_server(alloc, file)

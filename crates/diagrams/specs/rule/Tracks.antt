@@ -5,10 +5,12 @@ use Rattle.model.specs.declared.call.CallId.{CallId}
 use Rattle.messages.specs.declared.actor.Actor.{Actor}
 use Rattle.messages.specs.declared.actor.Actor.TheVariants.{Node as ANode, Server as AServer}
 use Rattle.messages.specs.declared.event.Event.{Event}
-use Rattle.messages.specs.declared.event.Event.TheVariants.{Call, Deliver, Interrupt, Retry, Resend, Declare, Restart, Learn, FailServer, StartServer}
-use Rattle.messages.specs.declared.message.Message.{Message}
+use Rattle.messages.specs.declared.event.Event.TheVariants.{AtNode, AtServer, Deliver, Member}
+use Rattle.messages.specs.declared.event.NodeInput.{NodeInput}
+use Rattle.messages.specs.declared.event.NodeInput.TheVariants.{Call, Interrupt, Retry}
 use Rattle.messages.specs.code.Entries.{EntryFields}
 use Rattle.messages.specs.rule.Messages.{addressee, host_of}
+use Rattle.cluster_core.specs.rule.Actors.{member_of}
 use Rattle.indexmap.specs.IndexSet.{insert_all}
 use Rattle.pictures.specs.declared.bar.Bar.{Bar}
 use Rattle.pictures.specs.rule.Stretches.{PlacedFields}
@@ -39,23 +41,23 @@ track_of_bar b = track_of_call b.made.call b.made.pid
 abbrev pub incarnation_of : EntryFields → ℕ
 incarnation_of e = option_map_or (λ c. c.incarnation) e.call e.incarnation
 
--- the row of the actor to which a message comes; a node is taken in the incarnation that the message names
-abbrev pub track_to : Message → Actor → Track
-track_to m (ANode node) = Node node ((host_of m).incarnation)
-track_to m (AServer file) = Server file
+-- the process that it is of
+abbrev pub pid_of : NodeInput → ℕ
+pid_of (Call pid op) = pid
+pid_of (Interrupt pid) = pid
+pid_of (Retry pid) = pid
 
--- the row on which an event stands, of an entry that names this incarnation
+-- the row of the actor itself, a node in this incarnation
+abbrev pub track_at : ℕ → Actor → Track
+track_at incarnation (ANode node) = Node node incarnation
+track_at incarnation (AServer file) = Server file
+
+-- the row on which an event stands, of an entry that names this incarnation; a node to which a message comes is taken in the incarnation that the message names
 abbrev pub track_in : ℕ → Event → Track
-track_in incarnation (Call node pid op) = Process node incarnation pid
-track_in incarnation (Deliver message) = track_to message (addressee message)
-track_in incarnation (Interrupt node pid) = Process node incarnation pid
-track_in incarnation (Retry node pid) = Process node incarnation pid
-track_in incarnation (Resend file) = Server file
-track_in incarnation (Declare node) = Node node incarnation
-track_in incarnation (Restart node) = Node node incarnation
-track_in incarnation (Learn file node known) = Server file
-track_in incarnation (FailServer file) = Server file
-track_in incarnation (StartServer file) = Server file
+track_in incarnation (AtNode node input) = Process node incarnation (pid_of input)
+track_in incarnation (AtServer file input) = Server file
+track_in incarnation (Deliver message) = track_at (host_of message).incarnation (addressee message)
+track_in incarnation (Member event) = track_at incarnation (member_of event)
 
 abbrev pub track_of : EntryFields → Track
 track_of e = track_in (incarnation_of e) e.event

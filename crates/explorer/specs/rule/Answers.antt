@@ -3,7 +3,8 @@ use Rattle.std.specs.Prelude.{ℕ, ◌==◌, ◌&&◌, Bool, true, false, if◌t
 use Rattle.model.specs.declared.call.CallId.{CallId}
 use Rattle.model.specs.declared.reply.Reply.{Reply}
 use Rattle.messages.specs.declared.event.Event.{Event}
-use Rattle.messages.specs.declared.event.Event.TheVariants as event
+use Rattle.messages.specs.declared.event.Event.TheVariants.{AtNode}
+use Rattle.messages.specs.declared.event.NodeInput.TheVariants as input
 use Rattle.messages.specs.code.Entries.{EntryFields}
 use Rattle.messages.specs.rule.Messages.{same_call}
 use Rattle.lockscript.specs.declared.refused_line.RefusedLine.{RefusedLine}
@@ -28,7 +29,7 @@ refusal_of refused number = option_map (λ r. r.code) (find (λ r. r.line == num
 
 -- whether the event is a call of this process
 abbrev pub is_call_by : ℕ → ℕ → Event → Bool
-is_call_by node pid (event.Call n p op) = (n == node) && (p == pid)
+is_call_by node pid (AtNode n (input.Call p op)) = (n == node) && (p == pid)
 is_call_by node pid _ = false
 
 -- the same of a line

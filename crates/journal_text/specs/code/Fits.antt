@@ -9,7 +9,9 @@ use Rattle.model.specs.declared.reply.Reply.{Reply}
 use Rattle.model.specs.rule.Limits.{IsCall}
 use Rattle.messages.specs.code.Entries.{EntryFields, NamesItsCall, NamesItsIncarnation}
 use Rattle.messages.specs.declared.event.Event.{Event}
-use Rattle.messages.specs.declared.event.Event.TheVariants.{Call, Deliver, Learn}
+use Rattle.messages.specs.declared.event.Event.TheVariants.{AtNode, AtServer, Deliver}
+use Rattle.messages.specs.declared.event.NodeInput.TheVariants.{Call}
+use Rattle.messages.specs.declared.event.ServerInput.TheVariants.{Learn}
 use Rattle.messages.specs.declared.message.Message.{Message}
 use Rattle.messages.specs.declared.version.Version.TheVariants.{Second}
 use Rattle.lockscript.specs.rule.Served.{IsDescriptor}
@@ -33,9 +35,9 @@ abbrev pub FitsMessage : Message → Type 0
 FitsMessage = IsServedMessage Second
 
 abbrev pub FitsEvent : Event → Type 0
-FitsEvent (Call node pid op) = FitsOp op
+FitsEvent (AtNode node (Call pid op)) = FitsOp op
+FitsEvent (AtServer file (Learn node incarnation)) = FitsIncarnation incarnation
 FitsEvent (Deliver message) = FitsMessage message
-FitsEvent (Learn file node incarnation) = FitsIncarnation incarnation
 FitsEvent _ = ⊤
 
 -- the name of a call and the reply to it are within their limits

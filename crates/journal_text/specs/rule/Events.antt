@@ -6,7 +6,11 @@ use Rattle.messages.specs.rule.Epochs.{IsEpoch}
 use Rattle.messages.specs.rule.Versions.{may_rebuild}
 use Rattle.messages.specs.declared.version.Version.{Version}
 use Rattle.messages.specs.declared.event.Event.{Event}
+use Rattle.messages.specs.declared.event.Event.TheVariants.{AtNode, AtServer, Member}
 use Rattle.messages.specs.declared.event.Event.TheVariants as event
+use Rattle.messages.specs.declared.event.NodeInput.TheVariants as input
+use Rattle.messages.specs.declared.event.ServerInput.TheVariants as order
+use Rattle.messages.specs.declared.event.MemberEvent.TheVariants as change
 use Rattle.lockscript.specs.rule.Served.{IsServedOp}
 use Rattle.journal_text.specs.declared.named_event.NamedEvent.{NamedEvent}
 use Rattle.journal_text.specs.declared.named_event.NamedEvent.TheVariants.{Call, Deliver, Interrupt, Retry, Resend, Declare, Restart, Learn, FailServer, StartServer}
@@ -14,16 +18,16 @@ use Rattle.message_text.specs.rule.Served.{IsFile, IsHolder, IsServedMessage}
 use Rattle.journal_text.specs.rule.Texts.{event_text}
 
 abbrev pub event_of : NamedEvent → Event
-event_of (Call call pid op) = event.Call call.node pid op
+event_of (Call call pid op) = AtNode call.node (input.Call pid op)
 event_of (Deliver message) = event.Deliver message
-event_of (Interrupt host pid) = event.Interrupt host.node pid
-event_of (Retry host pid) = event.Retry host.node pid
-event_of (Resend file) = event.Resend file
-event_of (Declare host) = event.Declare host.node
-event_of (Restart host) = event.Restart host.node
-event_of (Learn file host) = event.Learn file host.node host.incarnation
-event_of (FailServer file epoch) = event.FailServer file
-event_of (StartServer file epoch) = event.StartServer file
+event_of (Interrupt host pid) = AtNode host.node (input.Interrupt pid)
+event_of (Retry host pid) = AtNode host.node (input.Retry pid)
+event_of (Resend file) = AtServer file order.Resend
+event_of (Declare host) = Member (change.Declare host.node)
+event_of (Restart host) = Member (change.Restart host.node)
+event_of (Learn file host) = AtServer file (order.Learn host.node host.incarnation)
+event_of (FailServer file epoch) = Member (change.FailServer file)
+event_of (StartServer file epoch) = Member (change.StartServer file)
 
 -- the incarnation, or the epoch of a server, that an entry of the event names; 0 for none
 abbrev pub incarnation_of : NamedEvent → ℕ

@@ -6,7 +6,8 @@ use Rattle.model.specs.rule.Limits.{IsCall}
 use Rattle.messages.specs.declared.message.Message.{Message}
 use Rattle.messages.specs.declared.outcome.Outcome.{Outcome}
 use Rattle.messages.specs.declared.event.Event.{Event}
-use Rattle.messages.specs.declared.event.Event.TheVariants.{Call, Interrupt, Retry, Declare, Restart, FailServer, StartServer}
+use Rattle.messages.specs.declared.event.Event.TheVariants.{AtNode, Member}
+use Rattle.messages.specs.declared.event.NodeInput.TheVariants.{Call, Interrupt, Retry}
 
 pub record EntryFields : Type 0 where
   pub event : Event
@@ -17,29 +18,26 @@ pub record EntryFields : Type 0 where
 
 -- a call has a name, which is of its node; any other event has none
 abbrev pub NamesItsCall : Event → Option CallId → Type 0
-NamesItsCall (Call node pid op) None = ⊥
-NamesItsCall (Call node pid op) (Some id) = id.node ≡ node
+NamesItsCall (AtNode node (Call pid op)) None = ⊥
+NamesItsCall (AtNode node (Call pid op)) (Some id) = id.node ≡ node
 NamesItsCall _ call = call ≡ None
 
 -- the incarnation or epoch of an event, from 1: live (interrupt, retry), declared failed (declaration, failure) or beginning (restart, start); else 0
 abbrev pub NamesItsIncarnation : Event → ℕ → Type 0
-NamesItsIncarnation (Interrupt node pid) incarnation = 1 ≤ incarnation
-NamesItsIncarnation (Retry node pid) incarnation = 1 ≤ incarnation
-NamesItsIncarnation (Declare node) incarnation = 1 ≤ incarnation
-NamesItsIncarnation (Restart node) incarnation = 1 ≤ incarnation
-NamesItsIncarnation (FailServer file) incarnation = 1 ≤ incarnation
-NamesItsIncarnation (StartServer file) incarnation = 1 ≤ incarnation
+NamesItsIncarnation (AtNode node (Interrupt pid)) incarnation = 1 ≤ incarnation
+NamesItsIncarnation (AtNode node (Retry pid)) incarnation = 1 ≤ incarnation
+NamesItsIncarnation (Member event) incarnation = 1 ≤ incarnation
 NamesItsIncarnation _ incarnation = incarnation ≡ 0
 
 -- the entry as it is stored: one number for the incarnation of a call's name and for the one that another event names
 abbrev pub kept : Event → ℕ → ℕ → Option (CallId × Reply) → List Message → EntryFields
-kept (Call node pid op) incarnation number reply sends =
-    record { event = Call node pid op; incarnation = 0; call = Some (record { node = node; incarnation = incarnation; number = number }); reply = reply; sends = sends }
+kept (AtNode node (Call pid op)) incarnation number reply sends =
+    record { event = AtNode node (Call pid op); incarnation = 0; call = Some (record { node = node; incarnation = incarnation; number = number }); reply = reply; sends = sends }
 kept event incarnation number reply sends = record { event = event; incarnation = incarnation; call = None; reply = reply; sends = sends }
 
 -- the two numbers stored with an event: incarnation and number of a call's name; else the incarnation that the event names, if any
 abbrev pub IsKept : Event → ℕ → ℕ → Type 0
-IsKept (Call node pid op) incarnation number = IsCall (record { node = node; incarnation = incarnation; number = number })
+IsKept (AtNode node (Call pid op)) incarnation number = IsCall (record { node = node; incarnation = incarnation; number = number })
 IsKept event incarnation number = NamesItsIncarnation event incarnation
 
 -- the incarnation and the number that are stored: the ones of the call's name if there is one, else the incarnation that the event names

@@ -16,7 +16,8 @@ use Rattle.messages.specs.rule.Messages.{greatest_number}
 use Rattle.messages.specs.rule.Wants.{Wants}
 use Rattle.messages.specs.declared.message.Message.TheVariants.{Revoke, Released}
 use Rattle.messages.specs.declared.outcome.Outcome.{Outcome}
-use Rattle.node_core.specs.declared.event.NodeEvent.TheVariants.{Call, Deliver, Interrupt}
+use Rattle.messages.specs.declared.event.NodeInput.TheVariants.{Call, Interrupt}
+use Rattle.node_core.specs.declared.event.NodeEvent.TheVariants.{Input, Deliver}
 use Rattle.node_core.specs.rule.State.{NodeState, host, process, id_of, open_call_of}
 use Rattle.node_core.specs.rule.Commands.{renewed}
 use Rattle.node_core.specs.rule.Node.{node_rule}
@@ -38,7 +39,7 @@ CoveredLockIsDone =
     → IsFree (s.table.locks t.file) t.owner t.span call.mode
     → covers (s.files t.file).token t.span call.mode ≡ true
     → regions_with s.table t (Some call.mode) ≤ s.table.limit
-    → IsOkAnd (node_rule s (Call pid (Lock call))) (λ r. r.1.reply ≡ Some (id_of s (s.calls + 1), Done))
+    → IsOkAnd (node_rule s (Input (Call pid (Lock call)))) (λ r. r.1.reply ≡ Some (id_of s (s.calls + 1), Done))
 
 -- the step leaves processes, locks and tokens as they were, and sends nothing
 pub record IsUntouched (s : NodeState) (r : NodeState × Outcome) : Type 0 where
@@ -48,7 +49,7 @@ pub record IsUntouched (s : NodeState) (r : NodeState × Outcome) : Type 0 where
 
 -- an interrupt changes only which calls are open
 abbrev pub InterruptChangesNothing : Type 0
-InterruptChangesNothing = (s : NodeState) (pid : ℕ) → IsNumber most_processes pid → IsOkAnd (node_rule s (Interrupt pid)) (IsUntouched s)
+InterruptChangesNothing = (s : NodeState) (pid : ℕ) → IsNumber most_processes pid → IsOkAnd (node_rule s (Input (Interrupt pid))) (IsUntouched s)
 
 -- the one answer gives up a span around the required bytes, none of which then conflicts with the mode in the node's token
 pub record GivesUp (s : NodeState) (file number : ℕ) (call : CallId) (mode : Mode) (required : Range) (r : NodeState × Outcome) : Type 0 where

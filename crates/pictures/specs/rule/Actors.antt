@@ -4,24 +4,19 @@ use Rattle.std.specs.List.{list_any}
 use Rattle.messages.specs.declared.actor.Actor.{Actor}
 use Rattle.messages.specs.declared.actor.Actor.TheVariants.{Node, Server}
 use Rattle.messages.specs.declared.event.Event.{Event}
-use Rattle.messages.specs.declared.event.Event.TheVariants.{Call, Deliver, Interrupt, Retry, Resend, Declare, Restart, Learn, FailServer, StartServer}
+use Rattle.messages.specs.declared.event.Event.TheVariants.{AtNode, AtServer, Deliver, Member}
 use Rattle.messages.specs.declared.message.Message.{Message}
 use Rattle.messages.specs.code.Entries.{EntryFields}
 use Rattle.messages.specs.rule.Messages.{addressee, file_of, host_of}
+use Rattle.cluster_core.specs.rule.Actors.{member_of}
 use Rattle.stories.specs.rule.About.{delivers}
 
 -- who takes the event
 abbrev pub actor_of : Event → Actor
-actor_of (Call node pid op) = Node node
+actor_of (AtNode node input) = Node node
+actor_of (AtServer file input) = Server file
 actor_of (Deliver message) = addressee message
-actor_of (Interrupt node pid) = Node node
-actor_of (Retry node pid) = Node node
-actor_of (Resend file) = Server file
-actor_of (Declare node) = Node node
-actor_of (Restart node) = Node node
-actor_of (Learn file node incarnation) = Server file
-actor_of (FailServer file) = Server file
-actor_of (StartServer file) = Server file
+actor_of (Member event) = member_of event
 
 -- who sends a message that this actor takes
 abbrev pub sender_to : Actor → Message → Actor

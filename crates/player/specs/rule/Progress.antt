@@ -4,6 +4,9 @@ use Rattle.messages.specs.declared.refusal.Refused.{Refused}
 use Rattle.messages.specs.declared.refusal.Refused.TheVariants.{NoMemory, Stranger, JournalFull, Fenced}
 use Rattle.messages.specs.declared.event.Event.{Event}
 use Rattle.messages.specs.declared.event.Event.TheVariants as event
+use Rattle.messages.specs.declared.event.NodeInput.TheVariants as input
+use Rattle.messages.specs.declared.event.ServerInput.TheVariants as order
+use Rattle.messages.specs.declared.event.MemberEvent.TheVariants as change
 use Rattle.messages.specs.declared.message.Message.{Message}
 use Rattle.messages.specs.declared.entry.Entry.{Entry}
 use Rattle.messages.specs.rule.Refusals.{number_of}
@@ -111,18 +114,18 @@ lost line index p = if nat_lt index (length p.world.sent) then settling index p 
 
 -- what the command of a line does
 abbrev pub Does : ℕ → Command → Progress → End → Type 0
-Does line (Call node pid op) p end = Happens line (event.Call node pid op) p end
+Does line (Call node pid op) p end = Happens line (event.AtNode node (input.Call pid op)) p end
 Does line (Deliver number) p end = Comes line (index_of number) p (delivery p.world (slice_get p.world.sent (index_of number))) end
 Does line (Lose number) p end = end ≡ Some (lost line (index_of number) p)
 Does line Settle p end = Settles line p end
-Does line (Interrupt node pid) p end = Happens line (event.Interrupt node pid) p end
-Does line (Retry node pid) p end = Happens line (event.Retry node pid) p end
-Does line (Resend file) p end = Happens line (event.Resend file) p end
-Does line (Declare node) p end = Happens line (event.Declare node) p end
-Does line (Restart node) p end = Happens line (event.Restart node) p end
-Does line (Learn file node incarnation) p end = Happens line (event.Learn file node incarnation) p end
-Does line (FailServer file) p end = Happens line (event.FailServer file) p end
-Does line (StartServer file) p end = Happens line (event.StartServer file) p end
+Does line (Interrupt node pid) p end = Happens line (event.AtNode node (input.Interrupt pid)) p end
+Does line (Retry node pid) p end = Happens line (event.AtNode node (input.Retry pid)) p end
+Does line (Resend file) p end = Happens line (event.AtServer file order.Resend) p end
+Does line (Declare node) p end = Happens line (event.Member (change.Declare node)) p end
+Does line (Restart node) p end = Happens line (event.Member (change.Restart node)) p end
+Does line (Learn file node incarnation) p end = Happens line (event.AtServer file (order.Learn node incarnation)) p end
+Does line (FailServer file) p end = Happens line (event.Member (change.FailServer file)) p end
+Does line (StartServer file) p end = Happens line (event.Member (change.StartServer file)) p end
 
 -- the lines are run in order
 abbrev pub RunsTo : Progress → List LineFields → End → Type 0

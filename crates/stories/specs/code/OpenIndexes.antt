@@ -11,7 +11,9 @@ use Rattle.model.specs.declared.call.CallId.{CallId}
 use Rattle.model.specs.declared.op.Op.TheVariants.{Exit}
 use Rattle.model.specs.contracts.call.CallIdPartialEq.TheImpl as derived_of_calls
 use Rattle.messages.specs.declared.event.Event.{Event}
-use Rattle.messages.specs.declared.event.Event.TheVariants.{Call, Declare, Deliver}
+use Rattle.messages.specs.declared.event.Event.TheVariants.{AtNode, Deliver, Member}
+use Rattle.messages.specs.declared.event.NodeInput.TheVariants.{Call}
+use Rattle.messages.specs.declared.event.MemberEvent.TheVariants.{Declare}
 use Rattle.messages.specs.code.Entries.{EntryFields}
 use Rattle.stories.specs.contracts.ending.EndingPartialEq.TheImpl as derived
 use Rattle.stories.specs.declared.ending.Ending.{Ending}
@@ -39,8 +41,8 @@ failure_of call = record { pid = None; node = call.node; incarnation = call.inca
 
 -- the ending that an entry is
 abbrev pub ending_by : EntryFields → Event → Option Ending
-ending_by e (Call node pid Exit) = option_map (λ call. exit_on call pid) e.call
-ending_by e (Declare node) = Some (record { pid = None; node = node; incarnation = e.incarnation })
+ending_by e (AtNode node (Call pid Exit)) = option_map (λ call. exit_on call pid) e.call
+ending_by e (Member (Declare node)) = Some (record { pid = None; node = node; incarnation = e.incarnation })
 ending_by e _ = None
 
 -- the entry is this ending

@@ -7,7 +7,9 @@ use Rattle.model.specs.declared.host.Host.{Host}
 use Rattle.model.specs.declared.op.Op.TheVariants.{Exit}
 use Rattle.model.specs.rule.Owners.{host_of_call, same_host}
 use Rattle.messages.specs.declared.event.Event.{Event}
-use Rattle.messages.specs.declared.event.Event.TheVariants.{Call, Declare}
+use Rattle.messages.specs.declared.event.Event.TheVariants.{AtNode, Member}
+use Rattle.messages.specs.declared.event.NodeInput.TheVariants.{Call}
+use Rattle.messages.specs.declared.event.MemberEvent.TheVariants.{Declare}
 use Rattle.messages.specs.code.Entries.{EntryFields}
 use Rattle.messages.specs.rule.Messages.{same_call}
 use Rattle.stories.specs.declared.made_call.MadeCall.{MadeCall}
@@ -16,7 +18,7 @@ use Rattle.stories.specs.rule.Pending.{under_way}
 
 -- the call that an event makes, which takes this name, at an entry at this position
 abbrev pub made_by : ℕ → Event → Option CallId → Option MadeCall
-made_by position (Call node pid op) (Some call) = Some (record { position = position; call = call; pid = pid; op = op })
+made_by position (AtNode node (Call pid op)) (Some call) = Some (record { position = position; call = call; pid = pid; op = op })
 made_by position _ _ = None
 
 -- the calls that entries make
@@ -37,8 +39,8 @@ is_of host call = option_map_or (λ c. same_host (host_of_call c) host) call fal
 
 -- the process of the call exits, or its node is declared failed
 abbrev pub ends : MadeCall → EntryFields → Event → Bool
-ends made e (Call node pid Exit) = (pid == made.pid) && is_of (host_of_call made.call) e.call
-ends made e (Declare node) = (node == made.call.node) && (e.incarnation == made.call.incarnation)
+ends made e (AtNode node (Call pid Exit)) = (pid == made.pid) && is_of (host_of_call made.call) e.call
+ends made e (Member (Declare node)) = (node == made.call.node) && (e.incarnation == made.call.incarnation)
 ends made e _ = false
 
 -- the first entry behind the call that ends it, with its position

@@ -20,8 +20,9 @@ use Rattle.messages.specs.declared.actor.Actor.{Actor}
 use Rattle.messages.specs.declared.actor.Actor.TheVariants.{Node as ANode, Server as AServer}
 use Rattle.messages.specs.rule.Messages.{addressee, host_of, is_within, same_blocking, sending}
 use Rattle.token_queue.specs.declared.token_request.TokenRequest.{TokenRequest}
+use Rattle.messages.specs.declared.event.ServerInput.TheVariants.{Resend, Learn}
 use Rattle.token_server.specs.declared.event.ServerEvent.{ServerEvent}
-use Rattle.token_server.specs.declared.event.ServerEvent.TheVariants.{Deliver, Resend, Learn}
+use Rattle.token_server.specs.declared.event.ServerEvent.TheVariants.{Input, Deliver}
 use Rattle.token_queue.specs.rule.Requests.{is_of_call}
 use Rattle.known_nodes.specs.rule.Rows.{Row, empty_row, is_grant, revoked_mode, asks_token, row_of_incarnation}
 use Rattle.token_server.specs.rule.State.{ServerState, begin, with_row, forgotten, requeued}
@@ -140,6 +141,6 @@ learn_rule s node incarnation = if not (is_within s.shape.nodes node) then Err S
 
 -- what a token server does at an event, or why it refuses the event
 abbrev pub server_rule : ServerState → ServerEvent → Result (ServerState × Outcome) StepError
+server_rule s (Input Resend) = resend_rule s
+server_rule s (Input (Learn node incarnation)) = learn_rule s node incarnation
 server_rule s (Deliver m) = then_serve s (change s m)
-server_rule s Resend = resend_rule s
-server_rule s (Learn node incarnation) = learn_rule s node incarnation

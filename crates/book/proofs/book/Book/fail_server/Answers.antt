@@ -1,7 +1,7 @@
 use Rattle.std.proofs.Common.{◌≡◌, sym, ap, ◌∙◌, subst, Err}
 use Rattle.std.proofs.lemmas.Result.{err_from_is_err_and}
-use Rattle.messages.specs.declared.actor.Actor.TheVariants.{Server as AServer}
-use Rattle.messages.specs.declared.event.Event.TheVariants.{FailServer}
+use Rattle.messages.specs.declared.event.Event.TheVariants.{Member}
+use Rattle.messages.specs.declared.event.MemberEvent.TheVariants.{FailServer}
 use Rattle.messages.specs.declared.refusal.Refused.{Refused}
 use Rattle.cluster_core.specs.rule.Next.{kept_next}
 use Rattle.cluster_core.specs.rule.Parts.{world_state}
@@ -10,7 +10,6 @@ use Rattle.messages.specs.rule.Messages.{sending}
 use Rattle.cluster_core.specs.rule.Journals.{RunFields}
 use Rattle.book.specs.rule.Fields.{StampFields}
 use Rattle.book.specs.code.Turns.{Failed}
-use Rattle.book.proofs.Turns.{failed_others}
 use Rattle.book.proofs.Committed.{failed, turned_reached}
 use Rattle.book.proofs.book.Book.fail_server.Goals as goal
 
@@ -28,10 +27,10 @@ returns-clause-ok g c =
 
 pub returns-in_err-take-clause-refused : goal.returns-in_err-take-clause-refused
 returns-in_err-take-clause-refused g c = λ e refused.
-    let before : kept_next (world_state c.self.inside.run.world) (FailServer c.args.file) ≡ Err e = subst (λ (r : RunFields). kept_next (world_state r.world) (FailServer c.args.file) ≡ Err e) (sym c.self.view_is) refused in
+    let before : kept_next (world_state c.self.inside.run.world) (Member (FailServer c.args.file)) ≡ Err e = subst (λ (r : RunFields). kept_next (world_state r.world) (Member (FailServer c.args.file)) ≡ Err e) (sym c.self.view_is) refused in
     let told = err_from_is_err_and c.from_residual.result c.from_residual.ensures.1 in
     let same = c.in_err-take.ensures.refused e (fail-unspent (world_state c.self.inside.run.world) c.args.file e before) before in
     told.1 ∙ ap (λ (r : Refused). Err r) (told.2 ∙ err_is _ _ same)
 
 pub invariant_of-self-2 : goal.invariant_of-self-2
-invariant_of-self-2 g c = turned_reached c.self.inside.run c.take.new.self (FailServer c.args.file) (AServer c.args.file) c.self.inside.spots c.forget.new.self c.in_ok-take.ensures.ok c.self.invariant c.forget.ensures (failed_others (world_state c.self.inside.run.world) c.args.file)
+invariant_of-self-2 g c = turned_reached c.self.inside.run c.take.new.self (FailServer c.args.file) c.self.inside.spots c.forget.new.self c.in_ok-take.ensures.ok c.self.invariant c.forget.ensures

@@ -1,6 +1,6 @@
 use Rattle.std.proofs.Common.{refl, sym, subst}
-use Rattle.messages.specs.declared.actor.Actor.TheVariants.{Node as ANode}
-use Rattle.messages.specs.declared.event.Event.TheVariants.{Restart}
+use Rattle.messages.specs.declared.event.Event.TheVariants.{Member}
+use Rattle.messages.specs.declared.event.MemberEvent.TheVariants.{Restart}
 use Rattle.messages.specs.declared.entry.Entry.{Entry}
 use Rattle.node_core.specs.rule.Parts.{node_state}
 use Rattle.cluster_core.specs.rule.World.{WorldState}
@@ -10,7 +10,7 @@ use Rattle.cluster_core.proofs.steps.Steps.{kept_taken}
 use Rattle.book.specs.declared.state.State.TheVariants.{OfNode}
 use Rattle.book.specs.rule.Fields.{SeatFields}
 use Rattle.book.specs.code.Turns.{Restarted}
-use Rattle.book.proofs.Turns.{restarted_mine, restarted_others}
+use Rattle.book.proofs.Turns.{restarted_mine}
 use Rattle.book.proofs.Committed.{restarted, turned_reached}
 use Rattle.book.proofs.book.Book.restart.Goals as goal
 
@@ -22,10 +22,10 @@ returns-clause-ok g c =
     let went = c.in_ok-begun.ensures.ok in
     let q : WorldState × Entry = (world_state d.world, went.0) in
     let seat : SeatFields = record { state = OfNode n c.in_ok-begun.begun; commits = 0 } in
-    let stands = restarted_mine (world_state b.world) n q (node_state c.in_ok-begun.begun.value) (kept_taken (world_state b.world) (Restart n) q went.1).1 c.in_ok-begun.ensures.begun in
+    let stands = restarted_mine (world_state b.world) n q (node_state c.in_ok-begun.begun.value) (kept_taken (world_state b.world) (Member (Restart n)) q went.1).1 c.in_ok-begun.ensures.begun in
     let made : Restarted b n d seat = restarted b d n seat went refl refl stands in
     let same : Restarted b n d c.new.result = subst (λ (x : SeatFields). Restarted b n d x) (sym c.new.ensures) made in
     subst (λ (x : RunFields). Restarted x n d c.new.result) c.self.view_is same
 
 pub invariant_of-self-2 : goal.invariant_of-self-2
-invariant_of-self-2 g c = turned_reached c.self.inside.run c.restart.new.self (Restart c.args.node) (ANode c.args.node) c.self.inside.spots c.forget.new.self c.in_ok-begun.ensures.ok c.self.invariant c.forget.ensures (restarted_others (world_state c.self.inside.run.world) c.args.node)
+invariant_of-self-2 g c = turned_reached c.self.inside.run c.restart.new.self (Restart c.args.node) c.self.inside.spots c.forget.new.self c.in_ok-begun.ensures.ok c.self.invariant c.forget.ensures

@@ -1,6 +1,6 @@
 use Rattle.std.proofs.Common.{refl, sym, ap, ◌∙◌, subst}
-use Rattle.messages.specs.declared.actor.Actor.TheVariants.{Server as AServer}
-use Rattle.messages.specs.declared.event.Event.TheVariants.{StartServer}
+use Rattle.messages.specs.declared.event.Event.TheVariants.{Member}
+use Rattle.messages.specs.declared.event.MemberEvent.TheVariants.{StartServer}
 use Rattle.messages.specs.declared.entry.Entry.{Entry}
 use Rattle.token_server.specs.rule.Parts.{server_state}
 use Rattle.cluster_core.specs.rule.World.{WorldState}
@@ -10,7 +10,7 @@ use Rattle.cluster_core.proofs.steps.Steps.{kept_taken}
 use Rattle.book.specs.declared.state.State.TheVariants.{OfServer}
 use Rattle.book.specs.rule.Fields.{SeatFields, StampFields}
 use Rattle.book.specs.code.Turns.{Started}
-use Rattle.book.proofs.Turns.{started_mine, started_others}
+use Rattle.book.proofs.Turns.{started_mine}
 use Rattle.book.proofs.Committed.{started, turned_reached}
 use Rattle.book.proofs.book.Book.start_server.Goals as goal
 
@@ -24,7 +24,7 @@ returns-clause-ok g c =
     let went = c.in_ok-begun.ensures.ok in
     let q : WorldState × Entry = (world_state d.world, went.0) in
     let seat : SeatFields = record { state = OfServer f c.in_ok-begun.begun; commits = 0 } in
-    let stands = started_mine (world_state b.world) f q (server_state c.in_ok-begun.begun.value) (kept_taken (world_state b.world) (StartServer f) q went.1).1 c.in_ok-begun.ensures.begun in
+    let stands = started_mine (world_state b.world) f q (server_state c.in_ok-begun.begun.value) (kept_taken (world_state b.world) (Member (StartServer f)) q went.1).1 c.in_ok-begun.ensures.begun in
     let position = ap (λ (x : StampFields). x.position) is ∙ c.len-position.ensures.value in
     let gave = ap (λ (x : StampFields). x.outcome) is ∙ c.in_ok-begun.ensures.asks in
     let made : Started b f d seat t = started b d f seat t went refl refl stands position (ap (λ (x : StampFields). x.event) is) gave (ap (λ (x : StampFields). x.seen) is) in
@@ -32,4 +32,4 @@ returns-clause-ok g c =
     subst (λ (x : RunFields). Started x f d c.new.result t) c.self.view_is same
 
 pub invariant_of-self-2 : goal.invariant_of-self-2
-invariant_of-self-2 g c = turned_reached c.self.inside.run c.start.new.self (StartServer c.args.file) (AServer c.args.file) c.self.inside.spots c.forget.new.self c.in_ok-begun.ensures.ok c.self.invariant c.forget.ensures (started_others (world_state c.self.inside.run.world) c.args.file)
+invariant_of-self-2 g c = turned_reached c.self.inside.run c.start.new.self (StartServer c.args.file) c.self.inside.spots c.forget.new.self c.in_ok-begun.ensures.ok c.self.invariant c.forget.ensures

@@ -29,7 +29,7 @@ sends c = search rules
 pub at_node-requires-clause-named : goal.at_node-requires-clause-named
 at_node-requires-clause-named c =
     let plan = c.requires.made in
-    node_named _ _ c.self.view_is c.self.invariant c.apply-outcome.result _ _ (sends c) refl c.args.node plan.step c.apply-outcome.new.self _ refl plan.number plan.alive (does c) c.args.event plan.same_event
+    node_named _ _ c.self.view_is c.self.invariant c.apply-outcome.result _ _ (sends c) refl c.args.node plan.step c.apply-outcome.new.self _ refl plan.number plan.alive (does c) c.args.event plan.takes
 
 pub at_node-requires-clause-incarnated : goal.at_node-requires-clause-incarnated
 at_node-requires-clause-incarnated c = c.requires.made.incarnated

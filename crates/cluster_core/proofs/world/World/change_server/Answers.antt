@@ -29,7 +29,7 @@ sends c = search rules
 pub new-requires-clause-named : goal.new-requires-clause-named
 new-requires-clause-named c =
     let plan = c.requires.made in
-    (server_names c.args.event plan.step ((world_state c.args.self.now).servers c.args.file) (server_state c.apply-outcome.new.self) c.apply-outcome.result plan.same_event (does c)).0
+    (server_names c.args.event c.args.file plan.step ((world_state c.args.self.now).servers c.args.file) (server_state c.apply-outcome.new.self) c.apply-outcome.result plan.takes (does c)).0
 
 pub returns-clause-ok : goal.returns-clause-ok
 returns-clause-ok c =

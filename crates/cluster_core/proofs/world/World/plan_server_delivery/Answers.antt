@@ -1,11 +1,28 @@
-use Rattle.std.proofs.Common.{◌∙◌, ap, sym, Err}
+use Rattle.std.proofs.Common.{◌∙◌, ap, refl, sym, Err}
 use Rattle.std.proofs.lemmas.Result.{err_from_is_err_and}
 use Rattle.messages.specs.rule.Refusals.{refused_by}
 use Rattle.messages.specs.declared.refusal.Refused.{Refused}
 use Rattle.messages.specs.declared.event.Event.TheVariants.{Deliver}
+use Rattle.token_server.specs.declared.event.ServerEvent.TheVariants as served
 use Rattle.cluster_core.specs.rule.Parts.{world_state}
+use Rattle.cluster_core.proofs.steps.Actors.{own_server_delivery}
 use Rattle.cluster_core.proofs.steps.CertainRefusals.{err_is, server_refused}
 use Rattle.cluster_core.proofs.world.World.plan_server_delivery.Goals as goal
+
+pub returns-clause-ok : goal.returns-clause-ok
+returns-clause-ok c =
+    let m = c.args.message.now in
+    let found = c.in_ok-change.ensures.ok in
+    record {
+      step = served.Deliver m;
+      number = c.requires.file;
+      takes = own_server_delivery c.args.file m c.requires.to;
+      server = found.0;
+      there = found.1;
+      fits = found.2;
+      done = found.3;
+      gives = refl;
+    }
 
 pub returns-in_err-change-clause-refused : goal.returns-in_err-change-clause-refused
 returns-in_err-change-clause-refused c = λ e unspent refused.
