@@ -80,10 +80,20 @@ try_text 'a stop with a value' 2 err '--stop-when-stuck' threads first.lock --st
 try_text 'no join in the help on threads' 0 out '--no-join' help threads
 try_text 'no join with a value' 2 err '--no-join' threads first.lock --no-join=yes
 try_text 'no join of a run' 2 err "'--no-join'" run first.lock --no-join
+try_text 'a calm run with a value' 2 err '--calm' run first.lock --calm=yes
+try_text 'a calm run, asked for twice' 2 err "'--calm' cannot be used multiple times" run first.lock --calm --calm
+try_text 'a calm run on threads' 2 err 'Usage: lockreplay threads' threads first.lock --calm
+try_text 'a calm run in the help on run' 0 out '--calm' help run
+try_text 'no listing and no journal of a calm run' 2 err "the argument '--quiet' needs '--journal <FILE>' or '--expect'" run first.lock --calm --quiet
+try_text 'reasons of an audit with a value' 2 err '--why' audit new.journal --why=yes
+try_text 'reasons of an audit, asked for twice' 2 err "'--why' cannot be used multiple times" audit --why new.journal --why
+try_text 'reasons of an audit without its journal' 2 err 'Usage: lockreplay audit' audit --why
+try_text 'reasons of a history' 2 err 'Usage: lockreplay history' history new.journal --why
+try_text 'reasons in the help on audit' 0 out '--why' help audit
 try_text 'no call for explain' 2 err 'Usage: lockreplay explain' explain new.journal
 try_text 'two calls for explain' 2 err 'Usage: lockreplay explain' explain new.journal 1.1.1 1.1.2
 try_text 'a journal for explain left out' 2 err 'Usage: lockreplay explain' explain
-for command in open picture; do
+for command in open picture state stats; do
     try_text "no file for $command" 2 err "Usage: lockreplay $command" "$command"
     try_text "two files for $command" 2 err "Usage: lockreplay $command" "$command" first.lock first.lock
     try_text "an option for $command" 2 err "Usage: lockreplay $command" "$command" first.lock --journal=new.journal
@@ -106,6 +116,24 @@ try_text 'a journal in the help on check' 0 out 'journal yes' help check
 try_text 'the help on explain' 0 out 'no call CALL' help explain
 try_text 'the help on open' 0 out 'JOURNAL' help open
 try_text 'the help on check' 0 out 'threads no L' help check
+try_text 'runs in the help on check' 0 out 'run no K' help check
+try_text 'the help on state' 0 out 'no entry K, the last is L' help state
+try_text 'the help on stats' 0 out 'Usage: lockreplay stats <JOURNAL>' help stats
+for number in -1 4294967296 many ''; do
+    try_text "an entry that is none: $number" 2 err '--at' state new.journal --at="$number"
+done
+for number in 0 65 -1 4294967296 many ''; do
+    try_text "a node that is none: $number" 2 err '--node' state new.journal --node="$number"
+done
+for number in 0 257 -1 4294967296 many ''; do
+    try_text "a file that is none: $number" 2 err '--file' state new.journal --file="$number"
+done
+for option in at:K node:N file:F; do
+    try_text "--${option%:*} without its number" 2 err "a value is required for '--${option%:*} <${option#*:}>'" state new.journal --${option%:*}
+    try_text "--${option%:*} given twice" 2 err "'--${option%:*} <${option#*:}>' cannot be used multiple times" \
+        state new.journal --${option%:*} 1 --${option%:*}=1
+    try_text "--${option%:*} for stats" 2 err 'Usage: lockreplay stats' stats new.journal --${option%:*} 1
+done
 try_text 'the help on picture' 0 out 'the first 400' help picture
 try_text 'a call to draw left out' 2 err "a value is required for '--around <CALL>'" picture new.journal --around
 try_text 'two calls to draw' 2 err "'--around <CALL>' cannot be used multiple times" picture new.journal --around 1.1.1 --around 1.1.2
@@ -410,6 +438,46 @@ awk 'BEGIN {
 }' >restarts.listing
 try 'more restarts than there may be' 0 restarts.listing none run restarts.lock
 
+# Runs that go on until they are calm. In the second script a message is lost, and nothing tries the call again; a third process waits
+# behind a lock that stays.
+try 'a run that is calm' 0 first.listing none run first.lock --calm
+try 'a run of nothing that is calm' 0 empty.listing none run --calm empty.lock
+{
+    cat empty.lock
+    printf 'call 1 1 spawn\ncall 1 1 open 1 rw\ncall 1 1 set 0 proc write 0 10\n# expect done\nlose 1\nsettle\n'
+} >lost.lock
+try_any 'a run in which a message is lost' lost.listing run lost.lock --open --journal lost.journal
+grep -q '^open 1\.1\.3 since entry 3: ' lost.listing
+judge 'that its call is open' 0 $? none none none none
+try_any 'the same run until it is calm' calm.listing run lost.lock --calm --open --journal calm.journal
+grep -q '^ *[0-9]* 1\.1\.3  *done$' calm.listing && [ "$(tail -n 1 calm.listing)" = open ]
+judge 'that its call has a reply' 0 $? none none none none
+try 'an audit of its journal' 0 yes none audit calm.journal
+head -n -1 lost.journal | cmp -s -n "$(head -n -1 lost.journal | wc -c)" - calm.journal
+judge 'that the journal begins with that of the lines' 0 $? none none none none
+[ "$(wc -l <calm.journal)" -gt "$(wc -l <lost.journal)" ]
+judge 'that it has more entries' 0 $? none none none none
+try 'its replies as they are expected' 0 none none run lost.lock --expect --quiet --calm
+echo '  line 4: 1 1 set 0 proc write 0 10 -> open, expected done' >not-expected
+try 'its replies, where the run is not calm' 1 none not-expected run lost.lock --expect --quiet
+try 'the journal alone of a run until it is calm' 0 none none run lost.lock --calm --quiet --journal again.journal
+cmp -s calm.journal again.journal
+judge 'that it is the same' 0 $? none none none none
+try 'nothing behind it, until that is calm' 0 none none run empty.lock --after lost.journal --calm --quiet --journal again.journal
+try 'an audit of that' 0 yes none audit again.journal
+try_any 'its replies' again.listing run empty.lock --after lost.journal --calm
+grep -q '^ *[0-9]* 1\.1\.3  *done$' again.listing
+judge 'that the call has a reply there' 0 $? none none none none
+{
+    cat empty.lock
+    printf 'call 1 1 spawn\ncall 1 1 open 1 rw\ncall 1 1 set 0 proc write 0 10\nsettle\n'
+    printf 'call 1 2 spawn\ncall 1 2 open 1 rw\ncall 1 2 wait 0 proc write 0 10\n'
+} >stays.lock
+try_any 'a run that is calm with an open call' stays.listing run stays.lock --calm --open
+grep -q '^open 1\.1\.6 since entry ' stays.listing
+judge 'that the call is open' 0 $? none none none none
+rm again.journal
+
 # Journals that are written.
 try 'a run with its journal' 0 first.listing none run first.lock --journal written.journal
 cmp -s first.journal written.journal
@@ -461,6 +529,34 @@ for call in 1.1.9 2.1.1 1.2.1 1.1 1.1.1.1 1.1.01 '' x '1.1.1 '; do
     try "no story: $call" 1 no-call none explain written.journal "$call"
     try "no picture: $call" 1 no-call none picture written.journal --around "$call"
 done
+# What its cluster of one node and one file holds, before its seven entries, behind each of them, and behind none of those that it has not.
+printf 'state after entry 0\nnode 1 live 1.1\nserver 1 works in epoch 1\n' >first.state
+try 'the state before its first entry' 0 first.state none state written.journal --at 0
+try_any 'the state at its end' last.state state written.journal
+try 'the state behind its last entry, behind --' 0 last.state none state --at=7 -- written.journal
+try 'the state at its end, of its node and its file' 0 last.state none state --file 1 written.journal --node 1
+grep -q '^lock file 1 write 60 99 p1@1\.1$' last.state
+judge 'that it tells of a lock' 0 $? none none none none
+try_any 'the state behind its third entry' third.state state written.journal --at 3
+grep -q '^open 1\.1\.3 ' third.state
+judge 'that a call is open there' 0 $? none none none none
+for number in 8 1048576 4294967295; do
+    echo "no entry $number, the last is 7" >no-entry
+    try "the state behind entry $number" 1 no-entry none state written.journal --at $number
+    try "the state behind entry $number, of a node that there is not" 1 no-entry none state written.journal --at $number --node 2 --file 2
+done
+for number in 2 64; do
+    echo "no node $number, the last is 1" >no-node
+    try "the state of node $number" 1 no-node none state written.journal --node $number --file 2
+done
+for number in 2 256; do
+    echo "no file $number, the last is 1" >no-file-number
+    try "the state of file $number" 1 no-file-number none state written.journal --file $number --at 0
+done
+timeout 120 "$program" state - <written.journal >came.out 2>came.err
+judge 'the state of a journal from standard input' 0 $? last.state came.out none came.err
+try_any 'its counts' first.stats stats written.journal
+try 'its counts behind --' 0 first.stats none stats -- written.journal
 try_any 'a picture of it' first.svg picture written.journal
 try 'the picture around its first call, behind --' 0 first.svg none picture --around=1.1.1 -- written.journal
 try 'the picture of all its entries' 0 first.svg none picture written.journal --from 1 --to 7
@@ -508,15 +604,47 @@ try 'a story by a journal that is none of a run' 1 no-first none explain wrong.j
 try 'a picture of a journal that is none of a run' 1 no-first none picture wrong.journal
 try 'what clients saw by a journal that is none of a run' 1 no-first none history --as-clients wrong.journal
 try 'open calls by a journal that is none of a run' 1 no-first none open wrong.journal
+try 'a state by a journal that is none of a run' 1 no-first none state wrong.journal
+try 'a state before it, by a journal that is none of a run' 1 no-first none state wrong.journal --at 0
+try 'counts of a journal that is none of a run' 1 no-first none stats wrong.journal
+try 'an audit of it, without reasons' 1 no-first none audit wrong.journal
+cat >reasons <<'END'
+line 2: entry 1 call 1.1.1 1 spawn
+first difference: line 3, reply
+  made:  reply 1.1.1 done
+  found: reply 1.1.1 exists
+made
+entry 1 call 1.1.1 1 spawn
+reply 1.1.1 done
+found
+entry 1 call 1.1.1 1 spawn
+reply 1.1.1 exists
+END
+cat no-first reasons >audit-reasons
+try 'an audit of it, with reasons' 1 audit-reasons none audit wrong.journal --why
+try 'the option before it' 1 audit-reasons none audit --why -- wrong.journal
+timeout 120 "$program" audit --why - <wrong.journal >came.out 2>came.err
+judge 'an audit with reasons from standard input' 1 $? audit-reasons came.out none came.err
+{ printf 'journal yes\nrun no 1\n' && cat reasons; } >check-reasons
+try 'a check of it' 0 check-reasons none check wrong.journal
+try 'an audit with reasons of a journal that is one of a run' 0 yes none audit first.journal --why
 head -n 4 first.journal >cut.journal
 echo 'bad line 5' >no-end
 try 'a story by a journal that was cut' 3 none no-end explain cut.journal 1.1.1
 try 'a picture of a journal that was cut' 3 none no-end picture cut.journal
 try 'open calls by a journal that was cut' 3 none no-end open cut.journal
+try 'a state by a journal that was cut' 3 none no-end state cut.journal --at 1
+try 'counts of a journal that was cut' 3 none no-end stats cut.journal
+try 'an audit with reasons of a journal that was cut' 3 none no-end audit cut.journal --why
 echo 'cannot read missing.journal: no such file' >no-journal
 try 'a story by a missing journal' 3 none no-journal explain missing.journal 1.1.1
 try 'a picture of a missing journal' 3 none no-journal picture missing.journal
 try 'open calls by a missing journal' 3 none no-journal open missing.journal
+try 'a state by a missing journal' 3 none no-journal state missing.journal
+try 'counts of a missing journal' 3 none no-journal stats missing.journal
+try 'an audit with reasons of a missing journal' 3 none no-journal audit missing.journal --why
+echo 'cannot read missing.journal' >no-reason
+try 'an audit of a missing journal' 3 none no-reason audit missing.journal
 echo 'cannot read missing.lock: no such file' >no-lock
 for command in from-strace explore schedule; do
     try "$command of a missing file" 3 none no-lock $command missing.lock

@@ -73,7 +73,7 @@ fi
 # Several files. Each is looked at, and what is wrong with any is told in their order.
 printf 'first.lock: script yes\nfirst.lock: threads yes\nempty.lock: script yes\nempty.lock: threads yes\n' >wanted
 try 'two scripts' 0 wanted none check first.lock empty.lock
-printf 'first.journal: journal yes\nfirst.lock: script yes\nfirst.lock: threads yes\n' >wanted
+printf 'first.journal: journal yes\nfirst.journal: run yes\nfirst.lock: script yes\nfirst.lock: threads yes\n' >wanted
 try 'a journal and a script' 0 wanted none check first.journal first.lock
 printf 'first.lock: script yes\nfirst.lock: threads yes\nfirst.lock: script yes\nfirst.lock: threads yes\n' >wanted
 try 'one script twice' 0 wanted none check first.lock first.lock

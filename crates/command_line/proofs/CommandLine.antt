@@ -10,8 +10,8 @@ use Rattle.clap.specs.declared.error.kind.ErrorKind.{ErrorKind}
 use Rattle.clap.specs.declared.error.kind.ErrorKind.TheVariants.{OutOfMemory, ValueValidation}
 use Rattle.command_line.specs.rule.Kinds.{IsKindOf, IsOfKind}
 use Rattle.command_line.specs.rule.JudgeTasks.{JudgeTask, rule_text}
-use Rattle.command_line.specs.rule.Program.{program_app, flag_text, judge_values_in, IsMet, IsNumber}
-use Rattle.command_line.specs.rule.Tasks.{Task, run, threads, audit, history, explain, open_calls, check, picture, from_strace, recorded_history, explore, schedule, judge, format_text, greatest_seed, most_nodes}
+use Rattle.command_line.specs.rule.Program.{program_app, flag_text, judge_values_in, IsMet, IsNumber, MayBeNumber}
+use Rattle.command_line.specs.rule.Tasks.{Task, run, threads, audit, history, explain, open_calls, state, check, picture, stats, from_strace, recorded_history, explore, schedule, judge, format_text, greatest_seed, most_files, most_nodes}
 use Rattle.command_line.specs.rule.Words.{AsksFor, IsRefusal, IsShown}
 use Rattle.command_line.specs.declared.format.Format.{Format}
 use Rattle.command_line.specs.declared.format.Format.TheVariants.{Svg, Mermaid, Trace}
@@ -106,14 +106,16 @@ abbrev pub beside_histories : Option Judged → Option Values
 beside_histories met = option_map (λ (values : Judged). (values.0, values.3)) met
 
 abbrev pub name_of : Task → Text
-name_of (run s a j x o q) = codes "run"
+name_of (run s a j x o q k) = codes "run"
 name_of (threads s n h k j) = codes "threads"
-name_of (audit j) = codes "audit"
+name_of (audit j w) = codes "audit"
 name_of (history j c) = codes "history"
 name_of (explain j c) = codes "explain"
 name_of (open_calls j) = codes "open"
+name_of (state j k n f) = codes "state"
 name_of (check ss j) = codes "check"
 name_of (picture j c a b f) = codes "picture"
+name_of (stats j) = codes "stats"
 name_of (from_strace r n w) = codes "from-strace"
 name_of (recorded_history rs) = codes "from-strace"
 name_of (explore s k n f) = codes "explore"
@@ -121,14 +123,16 @@ name_of (schedule s n f) = codes "schedule"
 name_of (judge t) = codes "judge"
 
 name_is : (p : Text × List Row) (task : Task) → IsMet (Some p) task → p.0 ≡ name_of task
-name_is p (run s a j x o q) met = ap name_in met.0
+name_is p (run s a j x o q k) met = ap name_in met.0
 name_is p (threads s n h k j) met = ap name_in met.1
-name_is p (audit j) met = ap name_in met
+name_is p (audit j w) met = ap name_in met
 name_is p (history j c) met = ap name_in met
 name_is p (explain j c) met = ap name_in met
 name_is p (open_calls j) met = ap name_in met
+name_is p (state j k n f) met = ap name_in met.3
 name_is p (check ss j) met = ap checked_name met.0
 name_is p (picture j c a b f) met = ap name_in met.2
+name_is p (stats j) met = ap name_in met
 name_is p (from_strace r n w) met = ap name_in (ap beside_recordings met.1)
 name_is p (recorded_history rs) met = ap name_in (ap beside_recordings met.3)
 name_is p (explore s k n f) met = ap name_in met.2
@@ -138,6 +142,10 @@ name_is p (judge t) met = ap name_in (ap beside_histories met.1)
 -- the text of a number, that of a flag, and that of a format
 abbrev pub number_of : Text → ℕ
 number_of text = digits_value 10 (without_leading_plus text)
+
+-- that of a number that may be left out
+abbrev pub number_given : Option Text → Option ℕ
+number_given text = option_map number_of text
 
 abbrev pub is_given : Text → Bool
 is_given text = bytes_eq text (codes "true")
@@ -182,6 +190,10 @@ number_in id rows = number_of (unwrap_or (one_of id rows) [])
 abbrev pub flag_in : Text → List Row → Bool
 flag_in id rows = is_given (unwrap_or (one_of id rows) [])
 
+-- the state that is asked for
+abbrev state_of : List Row → Task
+state_of rows = state (path_in (codes "JOURNAL") rows) (number_given (one_of (codes "K") rows)) (number_given (one_of (codes "N") rows)) (number_given (one_of (codes "F") rows))
+
 abbrev threads_of : List Row → Task
 threads_of rows = threads (path_in (codes "SCRIPT") rows) (number_in (codes "N") rows) (flag_in (codes "stop-when-stuck") rows) (flag_in (codes "no-join") rows) (first_of (codes "FILE") rows)
 
@@ -189,7 +201,7 @@ abbrev picture_of : List Row → Task
 picture_of rows = picture (path_in (codes "JOURNAL") rows) (first_of (codes "CALL") rows) (number_in (codes "K") rows) (number_in (codes "L") rows) (format_named (path_in (codes "FORMAT") rows))
 
 abbrev run_of : List Row → Task
-run_of rows = run (path_in (codes "SCRIPT") rows) (first_of (codes "JOURNAL") rows) (first_of (codes "FILE") rows) (flag_in (codes "expect") rows) (flag_in (codes "open") rows) (flag_in (codes "quiet") rows)
+run_of rows = run (path_in (codes "SCRIPT") rows) (first_of (codes "JOURNAL") rows) (first_of (codes "FILE") rows) (flag_in (codes "expect") rows) (flag_in (codes "open") rows) (flag_in (codes "quiet") rows) (flag_in (codes "calm") rows)
 
 abbrev check_of : List Row → Task
 check_of rows = check (paths_in (codes "SCRIPT") rows) (first_of (codes "FILE") rows)
@@ -223,16 +235,18 @@ abbrev pub task_named : Text → List Row → Task
 task_named name rows =
     cond (bytes_eq name (codes "run")) (run_of rows)
     (cond (bytes_eq name (codes "threads")) (threads_of rows)
-    (cond (bytes_eq name (codes "audit")) (audit (path_in (codes "JOURNAL") rows))
+    (cond (bytes_eq name (codes "audit")) (audit (path_in (codes "JOURNAL") rows) (flag_in (codes "why") rows))
     (cond (bytes_eq name (codes "history")) (history (path_in (codes "JOURNAL") rows) (flag_in (codes "as-clients") rows))
     (cond (bytes_eq name (codes "explain")) (explain (path_in (codes "JOURNAL") rows) (path_in (codes "CALL") rows))
     (cond (bytes_eq name (codes "open")) (open_calls (path_in (codes "JOURNAL") rows))
+    (cond (bytes_eq name (codes "state")) (state_of rows)
     (cond (bytes_eq name (codes "check")) (check_of rows)
     (cond (bytes_eq name (codes "picture")) (picture_of rows)
+    (cond (bytes_eq name (codes "stats")) (stats (path_in (codes "JOURNAL") rows))
     (cond (bytes_eq name (codes "from-strace")) (strace_of rows)
     (cond (bytes_eq name (codes "explore")) (explore_of rows)
     (cond (bytes_eq name (codes "schedule")) (schedule (path_in (codes "SCRIPT") rows) (number_in (codes "N") rows) (flag_in (codes "failures") rows))
-    (judge (asked_of rows))))))))))))
+    (judge (asked_of rows))))))))))))))
 
 named : (p : Text × List Row) (task : Task) → IsMet (Some p) task → task_named p.0 p.1 ≡ task_named (name_of task) p.1
 named p task met = ap (λ (name : Text). task_named name p.1) (name_is p task met)
@@ -243,6 +257,17 @@ number_there place v w least greatest text number same there writes = ap (λ (u 
 
 pub flag_there : (place : ℕ) (v w : Option Values) (flag : Bool) → v ≡ w → text_at place w ≡ flag_text flag → is_given (text_at place v) ≡ flag
 flag_there place v w flag same there = ap (λ (u : Option Values). is_given (text_at place u)) same ∙ (ap is_given there ∙ given_is flag)
+
+-- the number that is given there, if one is
+is_number_given : (least greatest : ℕ) (text : Option Text) (number : Option ℕ) → MayBeNumber least greatest text number → number_given text ≡ number
+is_number_given least greatest None None writes = refl
+is_number_given least greatest (Some text) (Some number) writes = ap (λ (n : ℕ). Some n) (sym writes.value)
+is_number_given least greatest None (Some number) writes = absurd writes
+is_number_given least greatest (Some text) None writes = absurd writes
+
+given_there : (place : ℕ) (v w : Option Values) (least greatest : ℕ) (text : Option Text) (number : Option ℕ) → v ≡ w → value_at place w ≡ text → MayBeNumber least greatest text number
+    → number_given (value_at place v) ≡ number
+given_there place v w least greatest text number same there writes = ap (λ (u : Option Values). number_given (value_at place u)) same ∙ (ap number_given there ∙ is_number_given least greatest text number writes)
 
 -- the values of a judgement tell what is asked of it
 pub asked_is : (p : Text × List Row) (t : JudgeTask) (text : Text)
@@ -278,14 +303,15 @@ asked_is p t text values number =
 
 -- the command and its values tell the task
 pub met_is : (p : Text × List Row) (task : Task) → IsMet (Some p) task → task_named p.0 p.1 ≡ task
-met_is p (run s a j x o q) met =
+met_is p (run s a j x o q k) met =
     let script = ap (text_at 0) met.0 in
     let after = ap (value_at 1) met.0 in
     let file = ap (value_at 2) met.0 in
     let expect_flag = flag_there 3 _ _ x met.0 refl in
     let open_flag = flag_there 4 _ _ o met.0 refl in
     let quiet_flag = flag_there 5 _ _ q met.0 refl in
-    named p (run s a j x o q) met ∙ (λ i. run (script i) (after i) (file i) (expect_flag i) (open_flag i) (quiet_flag i))
+    let calm_flag = flag_there 6 _ _ k met.0 refl in
+    named p (run s a j x o q k) met ∙ (λ i. run (script i) (after i) (file i) (expect_flag i) (open_flag i) (quiet_flag i) (calm_flag i))
 met_is p (threads s n h k j) met =
     let script = ap (text_at 0) met.1 in
     let number = number_there 1 _ _ 0 greatest_seed met.0 n met.1 refl met.2 in
@@ -293,13 +319,22 @@ met_is p (threads s n h k j) met =
     let no_join = flag_there 3 _ _ k met.1 refl in
     let file = ap (value_at 4) met.1 in
     named p (threads s n h k j) met ∙ (λ i. threads (script i) (number i) (flag i) (no_join i) (file i))
-met_is p (audit j) met = named p (audit j) met ∙ ap (λ (v : Option Values). audit (text_at 0 v)) met
+met_is p (audit j w) met =
+    let journal = ap (text_at 0) met in
+    let flag = flag_there 1 _ _ w met refl in
+    named p (audit j w) met ∙ (λ i. audit (journal i) (flag i))
 met_is p (history j c) met =
     let journal = ap (text_at 0) met in
     let flag = flag_there 1 _ _ c met refl in
     named p (history j c) met ∙ (λ i. history (journal i) (flag i))
 met_is p (explain j c) met = named p (explain j c) met ∙ ap (λ (v : Option Values). explain (text_at 0 v) (text_at 1 v)) met
 met_is p (open_calls j) met = named p (open_calls j) met ∙ ap (λ (v : Option Values). open_calls (text_at 0 v)) met
+met_is p (state j k n f) met =
+    let journal = ap (text_at 0) met.3 in
+    let at = given_there 1 _ _ 0 greatest_seed met.0 k met.3 refl met.4 in
+    let node = given_there 2 _ _ 1 most_nodes met.1 n met.3 refl met.5 in
+    let file = given_there 3 _ _ 1 most_files met.2 f met.3 refl met.6 in
+    named p (state j k n f) met ∙ (λ i. state (journal i) (at i) (node i) (file i))
 met_is p (check ss j) met = named p (check ss j) met ∙ ap (λ (v : Option Checked). check (scripts_in v) (file_in v)) met.0
 met_is p (picture j c a b f) met =
     let journal = ap (text_at 0) met.2 in
@@ -308,6 +343,7 @@ met_is p (picture j c a b f) met =
     let last = number_there 3 _ _ 1 greatest_seed met.1 b met.2 refl met.4 in
     let format = ap (λ (v : Option Values). format_named (text_at 4 v)) met.2 ∙ format_is f in
     named p (picture j c a b f) met ∙ (λ i. picture (journal i) (call i) (first i) (last i) (format i))
+met_is p (stats j) met = named p (stats j) met ∙ ap (λ (v : Option Values). stats (text_at 0 v)) met
 met_is p (from_strace r n w) met =
     let recordings = ap (λ (v : Option Recorded). unwrap_or (recordings_at v) []) met.1 in
     let others = ap beside_recordings met.1 in
@@ -337,14 +373,16 @@ unmet values is = cc
 
 -- where nothing is met, or a name that no task has, or a name without one of its values
 nothing_met : (task : Task) → IsMet None task → ⊥
-nothing_met (run s a j x o q) is = unmet _ is.0
+nothing_met (run s a j x o q k) is = unmet _ is.0
 nothing_met (threads s n h k j) is = unmet _ is.1
-nothing_met (audit j) is = cc
+nothing_met (audit j w) is = cc
 nothing_met (history j c) is = cc
 nothing_met (explain j c) is = cc
 nothing_met (open_calls j) is = cc
+nothing_met (state j k n f) is = unmet _ is.3
 nothing_met (check ss j) is = unmet _ is.0
 nothing_met (picture j c a b f) is = unmet _ is.2
+nothing_met (stats j) is = cc
 nothing_met (from_strace r n w) is = unmet _ is.1
 nothing_met (recorded_history rs) is = unmet _ is.3
 nothing_met (explore s k n f) is = unmet _ is.2

@@ -6,6 +6,7 @@ pub mod BuiltCommands
 pub mod Flags
 pub mod Formats
 pub mod Numbers
+pub mod GivenNumbers
 pub mod Rules
 pub mod CheckWords
 pub mod ExploreWords
@@ -14,6 +15,7 @@ pub mod JudgeWords
 pub mod PictureWords
 pub mod RunWords
 pub mod ScheduleWords
+pub mod StateWords
 pub mod StraceWords
 pub mod ThreadsWords
 pub mod MetLine

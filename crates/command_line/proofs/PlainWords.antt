@@ -6,9 +6,9 @@ use Rattle.std.proofs.lemmas.List.{append-nil}
 use Rattle.std.proofs.lemmas.List.Elements.{All-head, All-tail}
 use Rattle.clap.specs.Words.{Text, is_simple, is_simple_and_free}
 use Rattle.clap.proofs.OnLiterals.{clap_on_literals}
-use Rattle.command_line.specs.rule.Program.{audit_app, explain_app, explore_app, history_app, judge_app, open_app, picture_app, program_app, schedule_app, strace_app, threads_app}
+use Rattle.command_line.specs.rule.Program.{audit_app, explain_app, explore_app, history_app, judge_app, open_app, picture_app, program_app, schedule_app, stats_app, strace_app, threads_app}
 use Rattle.command_line.specs.rule.JudgeTasks.{plain_judgement}
-use Rattle.command_line.specs.rule.Tasks.{Task, run, threads, audit, history, explain, open_calls, check, picture, from_strace, recorded_history, explore, schedule, judge, flag_words, given, greatest_seed, most_nodes, HasPlainWords, paths_of, plain_words_of}
+use Rattle.command_line.specs.rule.Tasks.{Task, run, threads, audit, history, explain, open_calls, state, check, picture, stats, from_strace, recorded_history, explore, schedule, judge, flag_words, given, greatest_seed, most_nodes, HasPlainWords, paths_of, plain_words_of}
 use Rattle.command_line.specs.rule.Words.{AsksFor, IsPlain}
 use Rattle.command_line.specs.declared.format.Format.TheVariants.{Svg}
 use Rattle.command_line.proofs.BuiltCommands.{commands}
@@ -20,6 +20,7 @@ use Rattle.command_line.proofs.Numbers.{greatest_writes, hundred_writes, number_
 use Rattle.command_line.proofs.PictureWords.{around_asks, picture_asks}
 use Rattle.command_line.proofs.RunWords.{run_asks}
 use Rattle.command_line.proofs.ScheduleWords.{schedule_asks}
+use Rattle.command_line.proofs.StateWords.{state_asks}
 use Rattle.command_line.proofs.StraceWords.{recorded_asks, strace_asks}
 use Rattle.command_line.proofs.ThreadsWords.{threads_asks}
 
@@ -33,9 +34,10 @@ is_free_program = refl
 
 -- the commands with one path
 module _ (program path : Text) (p : IsPath path) where
-  audit_asks : AsksFor (program ∷ codes "audit" ∷ path ∷ []) (audit path)
+  audit_asks : (why : Bool) → AsksFor (program ∷ codes "audit" ∷ path ∷ flag_words (codes "--why") why) (audit path why)
   unfolding clap_on_literals
-  audit_asks = asks_by audit_app commands.audit program (path ∷ []) (audit path) (rw (p.no_dashes, p.no_minus, p.no_minus) refl) (rw (p.no_dashes, p.no_minus, p.no_minus) refl)
+  audit_asks false = asks_by audit_app commands.audit program (path ∷ []) (audit path false) (rw (p.no_dashes, p.no_minus, p.no_minus) refl) (rw (p.no_dashes, p.no_minus, p.no_minus) refl)
+  audit_asks true = asks_by audit_app commands.audit program (path ∷ codes "--why" ∷ []) (audit path true) (rw (p.no_dashes, p.no_minus, p.no_minus) refl) (rw (p.no_dashes, p.no_minus, p.no_minus) refl)
 
   history_asks : (as_clients : Bool) → AsksFor (program ∷ codes "history" ∷ path ∷ flag_words (codes "--as-clients") as_clients) (history path as_clients)
   unfolding clap_on_literals
@@ -46,6 +48,10 @@ module _ (program path : Text) (p : IsPath path) where
   open_asks : AsksFor (program ∷ codes "open" ∷ path ∷ []) (open_calls path)
   unfolding clap_on_literals
   open_asks = asks_by open_app commands.open_calls program (path ∷ []) (open_calls path) (rw (p.no_dashes, p.no_minus, p.no_minus) refl) (rw (p.no_dashes, p.no_minus, p.no_minus) refl)
+
+  stats_asks : AsksFor (program ∷ codes "stats" ∷ path ∷ []) (stats path)
+  unfolding clap_on_literals
+  stats_asks = asks_by stats_app commands.stats program (path ∷ []) (stats path) (rw (p.no_dashes, p.no_minus, p.no_minus) refl) (rw (p.no_dashes, p.no_minus, p.no_minus) refl)
 
   -- what is left out
   left_threads : AsksFor (program ∷ codes "threads" ∷ path ∷ []) (threads path 1 false false None)
@@ -98,6 +104,12 @@ module _ (program path : Text) (plain : slice_get path 0 ≢ Some 45) where
   pub bare_history_asks : AsksFor (program ∷ codes "history" ∷ path ∷ []) (history path false)
   bare_history_asks = history_asks program path (is_path path plain) false
 
+  pub bare_audit_asks : AsksFor (program ∷ codes "audit" ∷ path ∷ []) (audit path false)
+  bare_audit_asks = audit_asks program path (is_path path plain) false
+
+  pub bare_state_asks : AsksFor (program ∷ codes "state" ∷ path ∷ []) (state path None None None)
+  bare_state_asks = state_asks program path (is_path path plain) None tt None tt None tt
+
   pub bare_judge_asks : AsksFor (program ∷ codes "judge" ∷ path ∷ []) (judge (plain_judgement path))
   bare_judge_asks = left_judge program path (is_path path plain)
 
@@ -128,22 +140,23 @@ abbrev words_of : Text → Task → List Text
 words_of program task = program ∷ plain_words_of task
 
 plain_task : (program : Text) (task : Task) → All (λ path. slice_get path 0 ≢ Some 45) (paths_of task) → HasPlainWords task → AsksFor (words_of program task) task
-plain_task program (run script None None expected listed quiet) plain within = run_asks program script (is_path script (plain 0 [] (omega arith))) None tt None tt expected listed quiet within
-plain_task program (run script None (Some file) expected listed quiet) plain within =
-    run_asks program script (is_path script (plain 0 [] (omega arith))) None tt (Some file) (is_path file (plain 1 [] (omega arith))) expected listed quiet within
-plain_task program (run script (Some after) None expected listed quiet) plain within =
-    run_asks program script (is_path script (plain 0 [] (omega arith))) (Some after) (is_path after (plain 1 [] (omega arith))) None tt expected listed quiet within
-plain_task program (run script (Some after) (Some file) expected listed quiet) plain within =
-    run_asks program script (is_path script (plain 0 [] (omega arith))) (Some after) (is_path after (plain 1 [] (omega arith))) (Some file) (is_path file (plain 2 [] (omega arith))) expected listed quiet within
+plain_task program (run script None None expected listed quiet calm) plain within = run_asks program script (is_path script (plain 0 [] (omega arith))) None tt None tt expected listed quiet calm within
+plain_task program (run script None (Some file) expected listed quiet calm) plain within =
+    run_asks program script (is_path script (plain 0 [] (omega arith))) None tt (Some file) (is_path file (plain 1 [] (omega arith))) expected listed quiet calm within
+plain_task program (run script (Some after) None expected listed quiet calm) plain within =
+    run_asks program script (is_path script (plain 0 [] (omega arith))) (Some after) (is_path after (plain 1 [] (omega arith))) None tt expected listed quiet calm within
+plain_task program (run script (Some after) (Some file) expected listed quiet calm) plain within =
+    run_asks program script (is_path script (plain 0 [] (omega arith))) (Some after) (is_path after (plain 1 [] (omega arith))) (Some file) (is_path file (plain 2 [] (omega arith))) expected listed quiet calm within
 plain_task program (threads script seed stop no_join None) plain within =
     threads_asks program script (decimal seed) seed (is_path script (plain 0 [] (omega arith))) (number_text 0 greatest_seed seed (omega arith) (omega arith) within) None tt stop no_join
 plain_task program (threads script seed stop no_join (Some file)) plain within =
     threads_asks program script (decimal seed) seed (is_path script (plain 0 [] (omega arith))) (number_text 0 greatest_seed seed (omega arith) (omega arith) within) (Some file)
     (is_path file (plain 1 [] (omega arith))) stop no_join
-plain_task program (audit journal) plain within = audit_asks program journal (is_path journal (plain 0 [] (omega arith)))
+plain_task program (audit journal why) plain within = audit_asks program journal (is_path journal (plain 0 [] (omega arith))) why
 plain_task program (history journal as_clients) plain within = history_asks program journal (is_path journal (plain 0 [] (omega arith))) as_clients
 plain_task program (explain journal call) plain within = explain_asks program journal call (is_path journal (plain 0 [] (omega arith))) (is_path call (plain 1 [] (omega arith)))
 plain_task program (open_calls journal) plain within = open_asks program journal (is_path journal (plain 0 [] (omega arith)))
+plain_task program (state journal at of_node of_file) plain within = state_asks program journal (is_path journal (plain 0 [] (omega arith))) at within.0 of_node within.1 of_file within.2
 plain_task program (check scripts journal) plain within = check_asks program scripts journal within (are_paths scripts (given journal) plain) (may_be_path scripts journal plain)
 plain_task program (picture journal None first last format) plain within =
     picture_asks program journal (decimal first) (decimal last) first last format (is_path journal (plain 0 [] (omega arith)))
@@ -151,6 +164,7 @@ plain_task program (picture journal None first last format) plain within =
 plain_task program (picture journal (Some call) first last format) plain within =
     around_asks program journal (decimal first) (decimal last) first last format (is_path journal (plain 0 [] (omega arith)))
     (number_text 1 greatest_seed first (omega arith) within.0 within.1) (number_text 1 greatest_seed last (omega arith) within.2 within.3) call (is_path call (plain 1 [] (omega arith)))
+plain_task program (stats journal) plain within = stats_asks program journal (is_path journal (plain 0 [] (omega arith)))
 plain_task program (from_strace recording nodes None) plain within =
     strace_asks program recording (decimal nodes) nodes (is_path recording (plain 0 [] (omega arith))) (number_text 1 most_nodes nodes (omega arith) within.0 within.1) None tt
 plain_task program (from_strace recording nodes (Some places)) plain within =

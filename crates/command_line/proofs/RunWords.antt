@@ -36,8 +36,8 @@ abbrev with_flags : Text → Option Text → Option Text → List Row → Walk
 with_flags script after file [] = named script after file
 with_flags script after file (flag ∷ flags) = has_flag (rows script after file ++ flag ∷ flags)
 
-abbrev flagged : Text → Option Text → Option Text → Bool → Bool → Bool → Walk
-flagged script after file expected listed quiet = with_flags script after file (flag_rows (codes "expect") expected ++ (flag_rows (codes "open") listed ++ flag_rows (codes "quiet") quiet))
+abbrev flagged : Text → Option Text → Option Text → Bool → Bool → Bool → Bool → Walk
+flagged script after file expected listed quiet calm = with_flags script after file (flag_rows (codes "expect") expected ++ (flag_rows (codes "open") listed ++ (flag_rows (codes "quiet") quiet ++ flag_rows (codes "calm") calm)))
 
 script_read : (script : Text) → IsPath script → Reads run_app begin script (named script None None)
 unfolding clap_on_literals
@@ -62,14 +62,14 @@ unfolding clap_on_literals
 file_read seen path p = record { step = rw (p.no_dashes, p.no_minus, p.no_minus) refl; fine = rw (p.no_dashes, p.no_minus, p.no_minus) refl }
 
 -- each flag behind those before it
-expect_read : (script : Text) (after file : Option Text) → Reads run_app (flagged script after file false false false) (codes "--expect") (flagged script after file true false false)
+expect_read : (script : Text) (after file : Option Text) → Reads run_app (flagged script after file false false false false) (codes "--expect") (flagged script after file true false false false)
 unfolding clap_on_literals
 expect_read script None None = record { step = refl; fine = refl }
 expect_read script (Some after) None = record { step = refl; fine = refl }
 expect_read script None (Some file) = record { step = refl; fine = refl }
 expect_read script (Some after) (Some file) = record { step = refl; fine = refl }
 
-open_read : (script : Text) (after file : Option Text) (expected : Bool) → Reads run_app (flagged script after file expected false false) (codes "--open") (flagged script after file expected true false)
+open_read : (script : Text) (after file : Option Text) (expected : Bool) → Reads run_app (flagged script after file expected false false false) (codes "--open") (flagged script after file expected true false false)
 unfolding clap_on_literals
 open_read script None None false = record { step = refl; fine = refl }
 open_read script None None true = record { step = refl; fine = refl }
@@ -80,7 +80,7 @@ open_read script None (Some file) true = record { step = refl; fine = refl }
 open_read script (Some after) (Some file) false = record { step = refl; fine = refl }
 open_read script (Some after) (Some file) true = record { step = refl; fine = refl }
 
-quiet_read : (script : Text) (after file : Option Text) (expected listed : Bool) → Reads run_app (flagged script after file expected listed false) (codes "--quiet") (flagged script after file expected listed true)
+quiet_read : (script : Text) (after file : Option Text) (expected listed : Bool) → Reads run_app (flagged script after file expected listed false false) (codes "--quiet") (flagged script after file expected listed true false)
 unfolding clap_on_literals
 quiet_read script None None false false = record { step = refl; fine = refl }
 quiet_read script None None false true = record { step = refl; fine = refl }
@@ -99,19 +99,60 @@ quiet_read script (Some after) (Some file) false true = record { step = refl; fi
 quiet_read script (Some after) (Some file) true false = record { step = refl; fine = refl }
 quiet_read script (Some after) (Some file) true true = record { step = refl; fine = refl }
 
-quiet_words_read : (script : Text) (after file : Option Text) (expected listed quiet : Bool) → ReadsAll run_app (flagged script after file expected listed false) (flag_words (codes "--quiet") quiet) (flagged script after file expected listed quiet)
-quiet_words_read script after file expected listed false = none_read _ (flagged script after file expected listed false)
-quiet_words_read script after file expected listed true = read_then _ (quiet_read script after file expected listed) (none_read _ (flagged script after file expected listed true))
+calm_read : (script : Text) (after file : Option Text) (expected listed quiet : Bool) → Reads run_app (flagged script after file expected listed quiet false) (codes "--calm") (flagged script after file expected listed quiet true)
+unfolding clap_on_literals
+calm_read script None None false false false = record { step = refl; fine = refl }
+calm_read script None None false false true = record { step = refl; fine = refl }
+calm_read script None None false true false = record { step = refl; fine = refl }
+calm_read script None None false true true = record { step = refl; fine = refl }
+calm_read script None None true false false = record { step = refl; fine = refl }
+calm_read script None None true false true = record { step = refl; fine = refl }
+calm_read script None None true true false = record { step = refl; fine = refl }
+calm_read script None None true true true = record { step = refl; fine = refl }
+calm_read script (Some after) None false false false = record { step = refl; fine = refl }
+calm_read script (Some after) None false false true = record { step = refl; fine = refl }
+calm_read script (Some after) None false true false = record { step = refl; fine = refl }
+calm_read script (Some after) None false true true = record { step = refl; fine = refl }
+calm_read script (Some after) None true false false = record { step = refl; fine = refl }
+calm_read script (Some after) None true false true = record { step = refl; fine = refl }
+calm_read script (Some after) None true true false = record { step = refl; fine = refl }
+calm_read script (Some after) None true true true = record { step = refl; fine = refl }
+calm_read script None (Some file) false false false = record { step = refl; fine = refl }
+calm_read script None (Some file) false false true = record { step = refl; fine = refl }
+calm_read script None (Some file) false true false = record { step = refl; fine = refl }
+calm_read script None (Some file) false true true = record { step = refl; fine = refl }
+calm_read script None (Some file) true false false = record { step = refl; fine = refl }
+calm_read script None (Some file) true false true = record { step = refl; fine = refl }
+calm_read script None (Some file) true true false = record { step = refl; fine = refl }
+calm_read script None (Some file) true true true = record { step = refl; fine = refl }
+calm_read script (Some after) (Some file) false false false = record { step = refl; fine = refl }
+calm_read script (Some after) (Some file) false false true = record { step = refl; fine = refl }
+calm_read script (Some after) (Some file) false true false = record { step = refl; fine = refl }
+calm_read script (Some after) (Some file) false true true = record { step = refl; fine = refl }
+calm_read script (Some after) (Some file) true false false = record { step = refl; fine = refl }
+calm_read script (Some after) (Some file) true false true = record { step = refl; fine = refl }
+calm_read script (Some after) (Some file) true true false = record { step = refl; fine = refl }
+calm_read script (Some after) (Some file) true true true = record { step = refl; fine = refl }
 
-open_words_read : (script : Text) (after file : Option Text) (expected listed quiet : Bool)
-    → ReadsAll run_app (flagged script after file expected false false) (flag_words (codes "--open") listed ++ flag_words (codes "--quiet") quiet) (flagged script after file expected listed quiet)
-open_words_read script after file expected false quiet = quiet_words_read script after file expected false quiet
-open_words_read script after file expected true quiet = read_then _ (open_read script after file expected) (quiet_words_read script after file expected true quiet)
+calm_words_read : (script : Text) (after file : Option Text) (expected listed quiet calm : Bool) → ReadsAll run_app (flagged script after file expected listed quiet false) (flag_words (codes "--calm") calm) (flagged script after file expected listed quiet calm)
+calm_words_read script after file expected listed quiet false = none_read _ (flagged script after file expected listed quiet false)
+calm_words_read script after file expected listed quiet true = read_then _ (calm_read script after file expected listed quiet) (none_read _ (flagged script after file expected listed quiet true))
 
-flags_read : (script : Text) (after file : Option Text) (expected listed quiet : Bool)
-    → ReadsAll run_app (named script after file) (flag_words (codes "--expect") expected ++ flag_words (codes "--open") listed ++ flag_words (codes "--quiet") quiet) (flagged script after file expected listed quiet)
-flags_read script after file false listed quiet = open_words_read script after file false listed quiet
-flags_read script after file true listed quiet = read_then _ (expect_read script after file) (open_words_read script after file true listed quiet)
+quiet_words_read : (script : Text) (after file : Option Text) (expected listed quiet calm : Bool)
+    → ReadsAll run_app (flagged script after file expected listed false false) (flag_words (codes "--quiet") quiet ++ flag_words (codes "--calm") calm) (flagged script after file expected listed quiet calm)
+quiet_words_read script after file expected listed false calm = calm_words_read script after file expected listed false calm
+quiet_words_read script after file expected listed true calm = read_then _ (quiet_read script after file expected listed) (calm_words_read script after file expected listed true calm)
+
+open_words_read : (script : Text) (after file : Option Text) (expected listed quiet calm : Bool)
+    → ReadsAll run_app (flagged script after file expected false false false) (flag_words (codes "--open") listed ++ flag_words (codes "--quiet") quiet ++ flag_words (codes "--calm") calm) (flagged script after file expected listed quiet calm)
+open_words_read script after file expected false quiet calm = quiet_words_read script after file expected false quiet calm
+open_words_read script after file expected true quiet calm = read_then _ (open_read script after file expected) (quiet_words_read script after file expected true quiet calm)
+
+flags_read : (script : Text) (after file : Option Text) (expected listed quiet calm : Bool)
+    → ReadsAll run_app (named script after file) (flag_words (codes "--expect") expected ++ flag_words (codes "--open") listed ++ flag_words (codes "--quiet") quiet ++ flag_words (codes "--calm") calm)
+    (flagged script after file expected listed quiet calm)
+flags_read script after file false listed quiet calm = open_words_read script after file false listed quiet calm
+flags_read script after file true listed quiet calm = read_then _ (expect_read script after file) (open_words_read script after file true listed quiet calm)
 
 file_words_read : (script : Text) (after file : Option Text) → MayBePath file → (words : List Text) (last : Walk) → ReadsAll run_app (named script after file) words last
     → ReadsAll run_app (named script after None) (option_words (codes "--journal") file ++ words) last
@@ -125,49 +166,83 @@ after_words_read script None a words last more = more
 after_words_read script (Some after) a words last more = read_then _ (after_read script) (read_then _ (path_read (rows script None None) after a) more)
 
 -- nothing is wrong at the end, where all is met
-last_tells : (script : Text) (after file : Option Text) (expected listed quiet : Bool)
-    → (fault_after run_app (flagged script after file expected listed quiet) ≡ [])
-    × (values_after (flagged script after file expected listed quiet) ≡ Some (codes "run", Some script ∷ after ∷ file ∷ Some (flag_text expected) ∷ Some (flag_text listed) ∷ Some (flag_text quiet) ∷ []))
+last_tells : (script : Text) (after file : Option Text) (expected listed quiet calm : Bool)
+    → (fault_after run_app (flagged script after file expected listed quiet calm) ≡ [])
+    × (values_after (flagged script after file expected listed quiet calm)
+    ≡ Some (codes "run", Some script ∷ after ∷ file ∷ Some (flag_text expected) ∷ Some (flag_text listed) ∷ Some (flag_text quiet) ∷ Some (flag_text calm) ∷ []))
 unfolding clap_on_literals
-last_tells script None None false false false = (refl, refl)
-last_tells script None None false false true = (refl, refl)
-last_tells script None None false true false = (refl, refl)
-last_tells script None None false true true = (refl, refl)
-last_tells script None None true false false = (refl, refl)
-last_tells script None None true false true = (refl, refl)
-last_tells script None None true true false = (refl, refl)
-last_tells script None None true true true = (refl, refl)
-last_tells script (Some after) None false false false = (refl, refl)
-last_tells script (Some after) None false false true = (refl, refl)
-last_tells script (Some after) None false true false = (refl, refl)
-last_tells script (Some after) None false true true = (refl, refl)
-last_tells script (Some after) None true false false = (refl, refl)
-last_tells script (Some after) None true false true = (refl, refl)
-last_tells script (Some after) None true true false = (refl, refl)
-last_tells script (Some after) None true true true = (refl, refl)
-last_tells script None (Some file) false false false = (refl, refl)
-last_tells script None (Some file) false false true = (refl, refl)
-last_tells script None (Some file) false true false = (refl, refl)
-last_tells script None (Some file) false true true = (refl, refl)
-last_tells script None (Some file) true false false = (refl, refl)
-last_tells script None (Some file) true false true = (refl, refl)
-last_tells script None (Some file) true true false = (refl, refl)
-last_tells script None (Some file) true true true = (refl, refl)
-last_tells script (Some after) (Some file) false false false = (refl, refl)
-last_tells script (Some after) (Some file) false false true = (refl, refl)
-last_tells script (Some after) (Some file) false true false = (refl, refl)
-last_tells script (Some after) (Some file) false true true = (refl, refl)
-last_tells script (Some after) (Some file) true false false = (refl, refl)
-last_tells script (Some after) (Some file) true false true = (refl, refl)
-last_tells script (Some after) (Some file) true true false = (refl, refl)
-last_tells script (Some after) (Some file) true true true = (refl, refl)
+last_tells script None None false false false false = (refl, refl)
+last_tells script None None false false false true = (refl, refl)
+last_tells script None None false false true false = (refl, refl)
+last_tells script None None false false true true = (refl, refl)
+last_tells script None None false true false false = (refl, refl)
+last_tells script None None false true false true = (refl, refl)
+last_tells script None None false true true false = (refl, refl)
+last_tells script None None false true true true = (refl, refl)
+last_tells script None None true false false false = (refl, refl)
+last_tells script None None true false false true = (refl, refl)
+last_tells script None None true false true false = (refl, refl)
+last_tells script None None true false true true = (refl, refl)
+last_tells script None None true true false false = (refl, refl)
+last_tells script None None true true false true = (refl, refl)
+last_tells script None None true true true false = (refl, refl)
+last_tells script None None true true true true = (refl, refl)
+last_tells script (Some after) None false false false false = (refl, refl)
+last_tells script (Some after) None false false false true = (refl, refl)
+last_tells script (Some after) None false false true false = (refl, refl)
+last_tells script (Some after) None false false true true = (refl, refl)
+last_tells script (Some after) None false true false false = (refl, refl)
+last_tells script (Some after) None false true false true = (refl, refl)
+last_tells script (Some after) None false true true false = (refl, refl)
+last_tells script (Some after) None false true true true = (refl, refl)
+last_tells script (Some after) None true false false false = (refl, refl)
+last_tells script (Some after) None true false false true = (refl, refl)
+last_tells script (Some after) None true false true false = (refl, refl)
+last_tells script (Some after) None true false true true = (refl, refl)
+last_tells script (Some after) None true true false false = (refl, refl)
+last_tells script (Some after) None true true false true = (refl, refl)
+last_tells script (Some after) None true true true false = (refl, refl)
+last_tells script (Some after) None true true true true = (refl, refl)
+last_tells script None (Some file) false false false false = (refl, refl)
+last_tells script None (Some file) false false false true = (refl, refl)
+last_tells script None (Some file) false false true false = (refl, refl)
+last_tells script None (Some file) false false true true = (refl, refl)
+last_tells script None (Some file) false true false false = (refl, refl)
+last_tells script None (Some file) false true false true = (refl, refl)
+last_tells script None (Some file) false true true false = (refl, refl)
+last_tells script None (Some file) false true true true = (refl, refl)
+last_tells script None (Some file) true false false false = (refl, refl)
+last_tells script None (Some file) true false false true = (refl, refl)
+last_tells script None (Some file) true false true false = (refl, refl)
+last_tells script None (Some file) true false true true = (refl, refl)
+last_tells script None (Some file) true true false false = (refl, refl)
+last_tells script None (Some file) true true false true = (refl, refl)
+last_tells script None (Some file) true true true false = (refl, refl)
+last_tells script None (Some file) true true true true = (refl, refl)
+last_tells script (Some after) (Some file) false false false false = (refl, refl)
+last_tells script (Some after) (Some file) false false false true = (refl, refl)
+last_tells script (Some after) (Some file) false false true false = (refl, refl)
+last_tells script (Some after) (Some file) false false true true = (refl, refl)
+last_tells script (Some after) (Some file) false true false false = (refl, refl)
+last_tells script (Some after) (Some file) false true false true = (refl, refl)
+last_tells script (Some after) (Some file) false true true false = (refl, refl)
+last_tells script (Some after) (Some file) false true true true = (refl, refl)
+last_tells script (Some after) (Some file) true false false false = (refl, refl)
+last_tells script (Some after) (Some file) true false false true = (refl, refl)
+last_tells script (Some after) (Some file) true false true false = (refl, refl)
+last_tells script (Some after) (Some file) true false true true = (refl, refl)
+last_tells script (Some after) (Some file) true true false false = (refl, refl)
+last_tells script (Some after) (Some file) true true false true = (refl, refl)
+last_tells script (Some after) (Some file) true true true false = (refl, refl)
+last_tells script (Some after) (Some file) true true true true = (refl, refl)
 
-pub run_asks : (program script : Text) → IsPath script → (after : Option Text) → MayBePath after → (file : Option Text) → MayBePath file → (expected listed quiet : Bool) → MayBeQuiet file expected quiet
-    → AsksFor (program ∷ codes "run" ∷ script ∷ (option_words (codes "--after") after ++ (option_words (codes "--journal") file ++ (flag_words (codes "--expect") expected ++ flag_words (codes "--open") listed ++ flag_words (codes "--quiet") quiet))))
-    (run script after file expected listed quiet)
-run_asks program script p after a file f expected listed quiet may =
-    let last = flagged script after file expected listed quiet in
-    let flags = flags_read script after file expected listed quiet in
+pub run_asks : (program script : Text) → IsPath script → (after : Option Text) → MayBePath after → (file : Option Text) → MayBePath file → (expected listed quiet calm : Bool) → MayBeQuiet file expected quiet
+    → AsksFor (program ∷ codes "run" ∷ script ∷ (option_words (codes "--after") after ++ (option_words (codes "--journal") file
+    ++ (flag_words (codes "--expect") expected ++ flag_words (codes "--open") listed ++ flag_words (codes "--quiet") quiet ++ flag_words (codes "--calm") calm))))
+    (run script after file expected listed quiet calm)
+run_asks program script p after a file f expected listed quiet calm may =
+    let last = flagged script after file expected listed quiet calm in
+    let flags = flags_read script after file expected listed quiet calm in
     let paths = after_words_read script after a _ last (file_words_read script after file f _ last flags) in
-    let tells = last_tells script after file expected listed quiet in
-    asks_after run_app commands.run program _ last (run script after file expected listed quiet) (read_then _ (script_read script p) paths) tells.0 (tells.1, may)
+    let tells = last_tells script after file expected listed quiet calm in
+    asks_after run_app commands.run program _ last (run script after file expected listed quiet calm) (read_then _ (script_read script p) paths) tells.0 (tells.1, may)

@@ -11,7 +11,7 @@ use Rattle.clap.specs.declared.builder.command.Command.TheViews.{out-Command}
 use Rattle.clap.proofs.WalkLemmas.{both, first_value-rows, raw_values-rows}
 use Rattle.command_line.specs.code.Table.{app_given, rule_given}
 use Rattle.command_line.specs.declared.argument.Argument.{Argument}
-use Rattle.command_line.specs.declared.argument.Argument.TheVariants.{Word, Words, Value, Values, Default, Number, Flag}
+use Rattle.command_line.specs.declared.argument.Argument.TheVariants.{Word, Words, Value, Values, Default, Number, Bounded, Flag}
 use Rattle.command_line.specs.declared.subcommand.Subcommand.{Subcommand}
 
 is_not : (b : Bool) → not b ≡ true → b ≡ false
@@ -81,6 +81,7 @@ is_simple (Value id long help) = refl
 is_simple (Values id long help) = refl
 is_simple (Default id long default help) = refl
 is_simple (Number id long default least greatest help) = refl
+is_simple (Bounded id long least greatest help) = refl
 is_simple (Flag name help) = refl
 
 -- so each command with such arguments is a plain one

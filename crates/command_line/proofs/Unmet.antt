@@ -3,8 +3,8 @@ use Rattle.std.specs.Prelude.{unwrap_or}
 use Rattle.std.proofs.Common.{ℕ, Bool, true, false, cond, length, map, refl, sym, subst, ap, codes, List, Option, Some, None, [], ◌∷◌, ◌≡◌, ◌∙◌}
 use Rattle.clap.specs.Words.{Row, Text, all_of, first_of, one_of}
 use Rattle.command_line.specs.rule.JudgeTasks.{JudgeTask, MayJudge, rule_text}
-use Rattle.command_line.specs.rule.Program.{flag_text, judge_values_in, strace_values_in, IsMet, IsNumber}
-use Rattle.command_line.specs.rule.Tasks.{Task, from_strace, recorded_history, format_text, greatest_seed, most_nodes, MayBeQuiet, MayRecord}
+use Rattle.command_line.specs.rule.Program.{flag_text, judge_values_in, strace_values_in, IsMet, IsNumber, MayBeNumber}
+use Rattle.command_line.specs.rule.Tasks.{Task, from_strace, recorded_history, format_text, greatest_seed, most_files, most_nodes, MayBeQuiet, MayRecord}
 use Rattle.command_line.specs.declared.format.Format.{Format}
 use Rattle.command_line.specs.declared.rule.Rule.{Rule}
 use Rattle.command_line.proofs.CommandLine.{asked_is, beside_histories, beside_recordings, flag_in, flag_there, given_is, histories_at, is_given, met_is, number_of, number_there, recordings_at, rule_words, task_named, unmet, value_at}
@@ -23,6 +23,9 @@ Unmet name rows = (task : Task) → IsMet (Some (name, rows)) task → ⊥
 abbrev NoNumber : ℕ → ℕ → Text → List Row → Type 0
 NoNumber least greatest id rows = (text : Text) (number : ℕ) → one_of id rows ≡ Some text → IsNumber least greatest text number → ⊥
 
+abbrev NoGivenNumber : ℕ → ℕ → Text → List Row → Type 0
+NoGivenNumber least greatest id rows = (number : Option ℕ) → MayBeNumber least greatest (one_of id rows) number → ⊥
+
 abbrev NoFlag : Text → List Row → Type 0
 NoFlag id rows = (flag : Bool) → one_of id rows ≡ Some (flag_text flag) → ⊥
 
@@ -37,6 +40,9 @@ no_run_flag rows none task met = none _ (ap (value_at 4) (as_named (codes "run")
 
 pub no_quiet_flag : (rows : List Row) → NoFlag (codes "quiet") rows → Unmet (codes "run") rows
 no_quiet_flag rows none task met = none _ (ap (value_at 5) (as_named (codes "run") rows task met).0)
+
+pub no_calm_flag : (rows : List Row) → NoFlag (codes "calm") rows → Unmet (codes "run") rows
+no_calm_flag rows none task met = none _ (ap (value_at 6) (as_named (codes "run") rows task met).0)
 
 -- nor where the listing may not be left away
 pub no_quiet : (rows : List Row) (journal : Option Text) (expected quiet : Bool) → first_of (codes "FILE") rows ≡ journal → one_of (codes "expect") rows ≡ Some (flag_text expected)
@@ -65,6 +71,9 @@ no_join_flag rows none task met = none _ (ap (value_at 3) (as_named (codes "thre
 pub no_audit : (rows : List Row) → first_of (codes "JOURNAL") rows ≡ None → Unmet (codes "audit") rows
 no_audit rows none task met = nowhere _ _ none (ap (value_at 0) (as_named (codes "audit") rows task met))
 
+pub no_why_flag : (rows : List Row) → NoFlag (codes "why") rows → Unmet (codes "audit") rows
+no_why_flag rows none task met = none _ (ap (value_at 1) (as_named (codes "audit") rows task met))
+
 pub no_history : (rows : List Row) → first_of (codes "JOURNAL") rows ≡ None → Unmet (codes "history") rows
 no_history rows none task met = nowhere _ _ none (ap (value_at 0) (as_named (codes "history") rows task met))
 
@@ -79,6 +88,28 @@ no_call rows none task met = nowhere _ _ none (ap (value_at 1) (as_named (codes 
 
 pub no_open : (rows : List Row) → first_of (codes "JOURNAL") rows ≡ None → Unmet (codes "open") rows
 no_open rows none task met = nowhere _ _ none (ap (value_at 0) (as_named (codes "open") rows task met))
+
+pub no_state : (rows : List Row) → first_of (codes "JOURNAL") rows ≡ None → Unmet (codes "state") rows
+no_state rows none task met = nowhere _ _ none (ap (value_at 0) (as_named (codes "state") rows task met).3)
+
+-- nor where a number that is given is none, or past its bounds
+refuses : (least greatest : ℕ) (id : Text) (rows : List Row) (text : Option Text) (number : Option ℕ) → NoGivenNumber least greatest id rows → one_of id rows ≡ text → MayBeNumber least greatest text number → ⊥
+refuses least greatest id rows text number none is writes = none number (subst (λ (t : Option Text). MayBeNumber least greatest t number) (sym is) writes)
+
+pub no_at : (rows : List Row) → NoGivenNumber 0 greatest_seed (codes "K") rows → Unmet (codes "state") rows
+no_at rows none task met =
+    let is = as_named (codes "state") rows task met in
+    refuses 0 greatest_seed (codes "K") rows is.0 _ none (ap (value_at 1) is.3) is.4
+
+pub no_node : (rows : List Row) → NoGivenNumber 1 most_nodes (codes "N") rows → Unmet (codes "state") rows
+no_node rows none task met =
+    let is = as_named (codes "state") rows task met in
+    refuses 1 most_nodes (codes "N") rows is.1 _ none (ap (value_at 2) is.3) is.5
+
+pub no_lock_file : (rows : List Row) → NoGivenNumber 1 most_files (codes "F") rows → Unmet (codes "state") rows
+no_lock_file rows none task met =
+    let is = as_named (codes "state") rows task met in
+    refuses 1 most_files (codes "F") rows is.2 _ none (ap (value_at 3) is.3) is.6
 
 pub no_check : (rows : List Row) → unwrap_or (all_of (codes "SCRIPT") rows) [] ≡ [] → Unmet (codes "check") rows
 no_check rows none task met = (as_named (codes "check") rows task met).1 none
@@ -98,6 +129,9 @@ no_last rows none task met =
 
 pub no_format : (rows : List Row) → ((format : Format) → first_of (codes "FORMAT") rows ≡ Some (format_text format) → ⊥) → Unmet (codes "picture") rows
 no_format rows none task met = none _ (ap (value_at 4) (as_named (codes "picture") rows task met).2)
+
+pub no_stats : (rows : List Row) → first_of (codes "JOURNAL") rows ≡ None → Unmet (codes "stats") rows
+no_stats rows none task met = nowhere _ _ none (ap (value_at 0) (as_named (codes "stats") rows task met))
 
 -- what recordings are to be turned into, and the values that say so
 abbrev MayBecome : Bool → List Text → ℕ → Option Text → Type 0

@@ -1,7 +1,7 @@
 //! Arguments of commands.
 ghost use Rattle.std.specs.Prelude.{◌≡◌};
 ghost use Rattle.clap.specs.Words.{Text, rule_of};
-ghost use Rattle.command_line.specs.rule.Program.{flag_rule, number_rule, option_rule, path_rule, paths_rule, values_rule};
+ghost use Rattle.command_line.specs.rule.Program.{bounded_rule, flag_rule, number_rule, option_rule, path_rule, paths_rule, values_rule};
 ghost use Rattle.command_line.specs.code.Table.{rule_given};
 
 use clap::builder::ValueParser;
@@ -48,6 +48,14 @@ pub(crate) enum Argument<'a> {
         greatest: u32,
         help: &'a str,
     },
+    /// An option with such a number as its value, which may be left out.
+    Bounded {
+        id: &'a str,
+        long: &'a str,
+        least: u32,
+        greatest: u32,
+        help: &'a str,
+    },
     /// A flag, which may be left out.
     Flag {
         name: &'a str,
@@ -81,6 +89,16 @@ impl<'a> Argument<'a> {
             } => {
                 let option = option_argument(alloc, *id, *long, *help);
                 with_number(option, *default, *least, *greatest)
+            }
+            Argument::Bounded {
+                id,
+                long,
+                least,
+                greatest,
+                help,
+            } => {
+                let bounded = option_argument(alloc, *id, *long, *help);
+                bounded_argument(bounded, *least, *greatest)
             }
             Argument::Flag { name, help } => flag_argument(alloc, *name, *help),
         }
@@ -122,6 +140,13 @@ fn with_number<'a>(option: Arg<'a>, default: &'a str, least: u32, greatest: u32)
     option
         .default_value(default)
         .value_parser(ValueParser::signed(i64::from(least), i64::from(greatest)))
+}
+
+// An option with a number from the least to the greatest as its value, which may be left out.
+fn bounded_argument<'a>(option: Arg<'a>, least: u32, greatest: u32) -> Arg<'a>
+    ensures { (id long : Text) → rule_of option.entry ≡ option_rule id long → rule_of result ≡ bounded_rule id long least greatest }
+{
+    option.value_parser(ValueParser::signed(i64::from(least), i64::from(greatest)))
 }
 
 // A flag, which may be left out.

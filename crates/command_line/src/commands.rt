@@ -1,13 +1,17 @@
 //! The commands of the program.
 ghost use Rattle.std.specs.Prelude.{◌≡◌, fold, IfOk};
 ghost use Rattle.clap.specs.Words.{app_of};
-ghost use Rattle.command_line.specs.rule.Program.{audit_app, bare_app, check_app, explain_app, explore_app, history_app, judge_app, open_app, picture_app, program_app, run_app, schedule_app, strace_app, threads_app};
+ghost use Rattle.command_line.specs.rule.Program.{bare_app, check_app, explore_app, judge_app, program_app, run_app, schedule_app, strace_app, threads_app};
 ghost use Rattle.command_line.specs.code.Table.{app_given, with_given};
 
 use crate::argument::Argument;
+use crate::journal_commands::{
+    audit_command, explain_command, history_command, open_command, picture_command, state_command,
+    stats_command,
+};
 use crate::notes::{
-    AUDIT_NOTES, CHECK_NOTES, EXPLAIN_NOTES, EXPLORE_NOTES, HISTORY_NOTES, JUDGE_NOTES, OPEN_NOTES,
-    PICTURE_NOTES, PROGRAM_NOTES, RUN_NOTES, SCHEDULE_NOTES, STRACE_NOTES, THREADS_NOTES, VERSION,
+    CHECK_NOTES, EXPLORE_NOTES, JUDGE_NOTES, PROGRAM_NOTES, RUN_NOTES, SCHEDULE_NOTES,
+    STRACE_NOTES, THREADS_NOTES, VERSION,
 };
 use crate::subcommand::{Subcommand, bare_command};
 use crate::values::{GREATEST_SEED, MOST_NODES};
@@ -17,11 +21,6 @@ use std::alloc::{AllocError, Global};
 const SCRIPT: Argument<'static> = Argument::Word {
     id: "SCRIPT",
     help: "The script: a file of lines, or - for standard input",
-};
-
-const JOURNAL: Argument<'static> = Argument::Word {
-    id: "JOURNAL",
-    help: "The journal: a file of lines, or - for standard input",
 };
 
 const FILE: Argument<'static> = Argument::Value {
@@ -34,17 +33,6 @@ const FAILURES: Argument<'static> = Argument::Flag {
     name: "failures",
     help: "Let nodes and servers fail",
 };
-
-const HISTORY: &[Argument<'static>] = &[
-    JOURNAL,
-    Argument::Flag {
-        name: "as-clients",
-        help: "Print what the clients saw, for 'lockreplay judge'",
-    },
-];
-
-// What commands have that read a journal alone.
-const OF_JOURNAL: &[Argument<'static>] = &[JOURNAL];
 
 const CHECK: &[Argument<'static>] = &[
     Argument::Words {
@@ -78,6 +66,10 @@ const RUN: &[Argument<'static>] = &[
         name: "quiet",
         help: "Make no listing, which needs --journal or --expect",
     },
+    Argument::Flag {
+        name: "calm",
+        help: "Go on behind SCRIPT until the run is calm",
+    },
 ];
 
 const THREADS: &[Argument<'static>] = &[
@@ -99,45 +91,6 @@ const THREADS: &[Argument<'static>] = &[
         help: "Make failures and starts while calls are open",
     },
     FILE,
-];
-
-const EXPLAIN: &[Argument<'static>] = &[
-    JOURNAL,
-    Argument::Word {
-        id: "CALL",
-        help: "The call, by its name in replies and history, as 2.1.3",
-    },
-];
-
-const PICTURE: &[Argument<'static>] = &[
-    JOURNAL,
-    Argument::Value {
-        id: "CALL",
-        long: "around",
-        help: "Draw the entries around the call, by its name, as 2.1.3",
-    },
-    Argument::Number {
-        id: "K",
-        long: "from",
-        default: "1",
-        least: 1,
-        greatest: GREATEST_SEED,
-        help: "Draw no entry before entry K, counted from 1",
-    },
-    Argument::Number {
-        id: "L",
-        long: "to",
-        default: "4294967295",
-        least: 1,
-        greatest: GREATEST_SEED,
-        help: "Draw no entry behind entry L, counted from 1",
-    },
-    Argument::Default {
-        id: "FORMAT",
-        long: "format",
-        default: "svg",
-        help: "Draw it as svg, mermaid or trace",
-    },
 ];
 
 const STRACE: &[Argument<'static>] = &[
@@ -254,8 +207,10 @@ pub(crate) fn program<'a>(alloc: Global) -> Result<Command<'a>, AllocError>
         history_command(),
         explain_command(),
         open_command(),
+        state_command(),
         check_command(),
         picture_command(),
+        stats_command(),
         strace_command(),
         explore_command(),
         schedule_command(),
@@ -327,50 +282,6 @@ fn threads_command<'a>() -> Subcommand<'a>
     }
 }
 
-fn audit_command<'a>() -> Subcommand<'a>
-    ensures { app_given result ≡ audit_app }
-{
-    Subcommand {
-        name: "audit",
-        about: "Say whether a journal is one of a run",
-        notes: AUDIT_NOTES,
-        arguments: OF_JOURNAL,
-    }
-}
-
-fn history_command<'a>() -> Subcommand<'a>
-    ensures { app_given result ≡ history_app }
-{
-    Subcommand {
-        name: "history",
-        about: "Print the history of a journal",
-        notes: HISTORY_NOTES,
-        arguments: HISTORY,
-    }
-}
-
-fn explain_command<'a>() -> Subcommand<'a>
-    ensures { app_given result ≡ explain_app }
-{
-    Subcommand {
-        name: "explain",
-        about: "Tell the story of a call of a journal",
-        notes: EXPLAIN_NOTES,
-        arguments: EXPLAIN,
-    }
-}
-
-fn open_command<'a>() -> Subcommand<'a>
-    ensures { app_given result ≡ open_app }
-{
-    Subcommand {
-        name: "open",
-        about: "List the calls of a journal that have no reply",
-        notes: OPEN_NOTES,
-        arguments: OF_JOURNAL,
-    }
-}
-
 fn check_command<'a>() -> Subcommand<'a>
     ensures { app_given result ≡ check_app }
 {
@@ -379,17 +290,6 @@ fn check_command<'a>() -> Subcommand<'a>
         about: "Say what is wrong in scripts and journals",
         notes: CHECK_NOTES,
         arguments: CHECK,
-    }
-}
-
-fn picture_command<'a>() -> Subcommand<'a>
-    ensures { app_given result ≡ picture_app }
-{
-    Subcommand {
-        name: "picture",
-        about: "Draw a journal, as SVG, Mermaid or a trace",
-        notes: PICTURE_NOTES,
-        arguments: PICTURE,
     }
 }
 

@@ -2,14 +2,15 @@
 ghost use Rattle.std.specs.Prelude.{◌≡◌, ◌≢◌, List, ℕ, false, [], ◌∷◌, None, Some, codes, slice_get};
 ghost use Rattle.command_line.specs.declared.format.Format.TheVariants.{Svg};
 ghost use Rattle.command_line.specs.rule.JudgeTasks.{plain_judgement};
-ghost use Rattle.command_line.specs.rule.Tasks.{Task, explore, from_strace, greatest_seed, history, judge, picture, schedule, threads};
+ghost use Rattle.command_line.specs.rule.Tasks.{Task, audit, explore, from_strace, greatest_seed, history, judge, picture, schedule, state, threads};
 ghost use Rattle.command_line.specs.rule.Words.{AsksFor, IsPlain};
 
-/// The words `PROGRAM run SCRIPT`, with `--after JOURNAL`, `--journal FILE`, `--expect`, `--open` and `--quiet`
-/// behind it, or some of them in this order, `--quiet` where `--journal FILE` or `--expect` is one,
+/// The words `PROGRAM run SCRIPT`, with `--after JOURNAL`, `--journal FILE`, `--expect`, `--open`, `--quiet` and
+/// `--calm` behind it, or some of them in this order, `--quiet` where `--journal FILE` or `--expect` is one,
 /// `PROGRAM threads SCRIPT --seed N`, with `--stop-when-stuck`, `--no-join` and `--journal FILE`, or some of them in
-/// this order, behind it, `PROGRAM audit JOURNAL`, `PROGRAM history JOURNAL`, with `--as-clients` or without,
-/// `PROGRAM explain JOURNAL CALL`, `PROGRAM open JOURNAL`, `PROGRAM check SCRIPT..`, of one script or more, with
+/// this order, behind it, `PROGRAM audit JOURNAL`, with `--why` or without, `PROGRAM history JOURNAL`, with `--as-clients` or without,
+/// `PROGRAM explain JOURNAL CALL`, `PROGRAM open JOURNAL`, `PROGRAM state JOURNAL`, with `--at K`, `--node N` and
+/// `--file F` behind it, or some of them in this order, `PROGRAM stats JOURNAL`, `PROGRAM check SCRIPT..`, of one script or more, with
 /// `--journal FILE` or without,
 /// `PROGRAM picture JOURNAL`, with `--around CALL` or without, and `--from K --to L --format FORMAT` behind it,
 /// `PROGRAM from-strace RECORDING --nodes N`, with `--place PLACES` or without,
@@ -33,8 +34,9 @@ pub fn a_seed_left_out_is_1()
 /// The words `PROGRAM picture JOURNAL` ask for a picture as SVG, of the entries from 1 to 4294967295, around no
 /// call; `PROGRAM from-strace RECORDING` for one node, with no process placed by words; `PROGRAM explore SCRIPT` for 100 seeds, from 1 on,
 /// without failures; `PROGRAM schedule SCRIPT` for the seed 1, without failures; `PROGRAM judge HISTORY` for a
-/// search among 10000000 tables of a file at most, with no rule allowed, and for nothing else; and
-/// `PROGRAM history JOURNAL` for the history, and not for what clients saw.
+/// search among 10000000 tables of a file at most, with no rule allowed, and for nothing else;
+/// `PROGRAM history JOURNAL` for the history, and not for what clients saw; `PROGRAM audit JOURNAL` for no reasons;
+/// and `PROGRAM state JOURNAL` for the state behind the last entry, of all nodes and all files.
 pub fn what_is_left_out_has_its_default()
     ensures picture { (program journal : List ℕ) → slice_get journal 0 ≢ Some 45 → AsksFor (program ∷ codes "picture" ∷ journal ∷ []) (picture journal None 1 greatest_seed Svg) }
     ensures strace { (program recording : List ℕ) → slice_get recording 0 ≢ Some 45 → AsksFor (program ∷ codes "from-strace" ∷ recording ∷ []) (from_strace recording 1 None) }
@@ -42,6 +44,8 @@ pub fn what_is_left_out_has_its_default()
     ensures schedule { (program script : List ℕ) → slice_get script 0 ≢ Some 45 → AsksFor (program ∷ codes "schedule" ∷ script ∷ []) (schedule script 1 false) }
     ensures judge { (program path : List ℕ) → slice_get path 0 ≢ Some 45 → AsksFor (program ∷ codes "judge" ∷ path ∷ []) (judge (plain_judgement path)) }
     ensures history { (program journal : List ℕ) → slice_get journal 0 ≢ Some 45 → AsksFor (program ∷ codes "history" ∷ journal ∷ []) (history journal false) }
+    ensures audit { (program journal : List ℕ) → slice_get journal 0 ≢ Some 45 → AsksFor (program ∷ codes "audit" ∷ journal ∷ []) (audit journal false) }
+    ensures state { (program journal : List ℕ) → slice_get journal 0 ≢ Some 45 → AsksFor (program ∷ codes "state" ∷ journal ∷ []) (state journal None None None) }
 {}
 
 /// No words ask for two things.

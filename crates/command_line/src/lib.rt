@@ -4,6 +4,9 @@
 mod argument;
 mod commands;
 pub mod format;
+mod journal_commands;
+mod journal_lines;
+mod journal_notes;
 pub mod judge_line;
 mod judge_words;
 pub mod laws;
@@ -13,6 +16,7 @@ pub mod picture_line;
 pub mod refusal;
 pub mod rule;
 pub mod run_line;
+pub mod state_line;
 mod strace_words;
 mod subcommand;
 mod values;

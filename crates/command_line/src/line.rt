@@ -9,12 +9,15 @@ ghost use Rattle.command_line.specs.rule.Tasks.{task_of, MayBeQuiet};
 ghost use Rattle.command_line.specs.rule.Words.{AsksFor, IsRefusal};
 
 use crate::commands::program;
-use crate::format::format_in;
+use crate::journal_lines::{
+    audit_in, explain_in, history_in, open_in, picture_in, state_in, stats_in,
+};
 use crate::judge_line::JudgeLine;
 use crate::judge_words::{judge_complaint, judge_in};
 use crate::picture_line::PictureLine;
 use crate::refusal::Refusal;
 use crate::run_line::{RunLine, ThreadsLine};
+use crate::state_line::StateLine;
 use crate::strace_words::strace_in;
 use crate::values::{GREATEST_SEED, flag_in, number_in};
 use clap::error::ErrorKind;
@@ -29,9 +32,10 @@ pub enum Line<'a> {
     Run(RunLine<'a>),
     /// `threads SCRIPT`, with what else is asked of a run on threads: to run the script on threads.
     Threads(ThreadsLine<'a>),
-    /// `audit JOURNAL`: to say whether the journal is one of a run.
+    /// `audit JOURNAL [--why]`: to say whether the journal is one of a run, and why it is none, if that is asked for.
     Audit {
         journal: &'a str,
+        why: bool,
     },
     /// `history JOURNAL [--as-clients]`: to print the history of the journal, or what its clients saw, if that is asked for.
     History {
@@ -47,6 +51,8 @@ pub enum Line<'a> {
     Open {
         journal: &'a str,
     },
+    /// `state JOURNAL`, with what else is asked of a state: to show what the cluster of the journal holds.
+    State(StateLine<'a>),
     /// `check SCRIPT.. [--journal FILE]`: to say what is wrong in each script, of which there is at least one,
     /// and whether it can be run on threads, and why a journal can't be written to the file, if there is one.
     Check {
@@ -55,6 +61,10 @@ pub enum Line<'a> {
     },
     /// `picture JOURNAL`, with what else is asked of a picture: to draw entries of the journal.
     Picture(PictureLine<'a>),
+    /// `stats JOURNAL`: to count what the journal has.
+    Stats {
+        journal: &'a str,
+    },
     /// `from-strace RECORDING [--nodes N] [--place PLACES]`: to turn the recording of the calls of processes
     /// into a script of a cluster of N nodes, from 1 to 64, or of 1, with processes at the places that these
     /// words name, if there are any. What these words say is not read here.
@@ -169,8 +179,10 @@ fn line_of<'a>(alloc: Global, matches: &ArgMatches<'a>) -> Result<Option<Line<'a
         "history" => Ok(history_in(values)),
         "explain" => Ok(explain_in(values)),
         "open" => Ok(open_in(values)),
+        "state" => Ok(state_in(values)),
         "check" => check_in(alloc, values),
         "picture" => Ok(picture_in(values)),
+        "stats" => Ok(stats_in(values)),
         "from-strace" => strace_in(alloc, values),
         "explore" => Ok(explore_in(values)),
         "schedule" => Ok(schedule_in(values)),
@@ -188,6 +200,7 @@ fn run_in<'a>(values: &ArgMatches<'a>) -> Option<Line<'a>>
     let expect = flag_in(values, "expect")?;
     let open = flag_in(values, "open")?;
     let quiet = flag_in(values, "quiet")?;
+    let calm = flag_in(values, "calm")?;
     if !may_be_quiet(journal, expect, quiet) {
         return None;
     }
@@ -198,6 +211,7 @@ fn run_in<'a>(values: &ArgMatches<'a>) -> Option<Line<'a>>
         expect,
         open,
         quiet,
+        calm,
     }))
 }
 
@@ -226,39 +240,6 @@ fn threads_in<'a>(values: &ArgMatches<'a>) -> Option<Line<'a>>
     }))
 }
 
-fn audit_in<'a>(values: &ArgMatches<'a>) -> Option<Line<'a>>
-    ensures { IsLineOf (Some (codes "audit", rows_of (found_of values.now))) result }
-{
-    let journal = values.get_str("JOURNAL")?;
-    Some(Line::Audit { journal })
-}
-
-fn history_in<'a>(values: &ArgMatches<'a>) -> Option<Line<'a>>
-    ensures { IsLineOf (Some (codes "history", rows_of (found_of values.now))) result }
-{
-    let journal = values.get_str("JOURNAL")?;
-    let as_clients = flag_in(values, "as-clients")?;
-    Some(Line::History {
-        journal,
-        as_clients,
-    })
-}
-
-fn explain_in<'a>(values: &ArgMatches<'a>) -> Option<Line<'a>>
-    ensures { IsLineOf (Some (codes "explain", rows_of (found_of values.now))) result }
-{
-    let journal = values.get_str("JOURNAL")?;
-    let call = values.get_str("CALL")?;
-    Some(Line::Explain { journal, call })
-}
-
-fn open_in<'a>(values: &ArgMatches<'a>) -> Option<Line<'a>>
-    ensures { IsLineOf (Some (codes "open", rows_of (found_of values.now))) result }
-{
-    let journal = values.get_str("JOURNAL")?;
-    Some(Line::Open { journal })
-}
-
 fn check_in<'a>(alloc: Global, values: &ArgMatches<'a>) -> Result<Option<Line<'a>>, AllocError>
     ensures { IfOk result (IsLineOf (Some (codes "check", rows_of (found_of values.now)))) }
 {
@@ -272,23 +253,6 @@ fn check_in<'a>(alloc: Global, values: &ArgMatches<'a>) -> Result<Option<Line<'a
     scripts.extend_from_slice(paths)?;
     let journal = values.get_str("FILE");
     Ok(Some(Line::Check { scripts, journal }))
-}
-
-fn picture_in<'a>(values: &ArgMatches<'a>) -> Option<Line<'a>>
-    ensures { IsLineOf (Some (codes "picture", rows_of (found_of values.now))) result }
-{
-    let journal = values.get_str("JOURNAL")?;
-    let around = values.get_str("CALL");
-    let from = number_in(values, "K", 1, GREATEST_SEED)?;
-    let to = number_in(values, "L", 1, GREATEST_SEED)?;
-    let format = format_in(values)?;
-    Some(Line::Picture(PictureLine {
-        journal,
-        around,
-        from,
-        to,
-        format,
-    }))
 }
 
 fn explore_in<'a>(values: &ArgMatches<'a>) -> Option<Line<'a>>

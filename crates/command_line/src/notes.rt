@@ -6,10 +6,11 @@ pub(crate) const VERSION: &str = "0.2.0";
 /// What stands under the options of the program.
 pub(crate) const PROGRAM_NOTES: &str = "\
 Exit status:
-  0  done; of audit, history, explain, open and picture: the journal is one of a run
-  1  audit, history, explain, open, picture or --after: the journal is not one of a run;
-     explain, picture: it has no such call; picture: entries that were asked for are
-     not drawn; threads: it lacks a receipt, or the run was stopped as stuck; explore and
+  0  done; of a command that reads a journal, but check: it is one of a run
+  1  a command that reads a journal, but check, and --after: it is not one of a run;
+     explain, picture: it has no such call; state: no such entry, node or file; picture:
+     entries that were asked for are not drawn; threads: the journal lacks a receipt, or
+     the run was stopped as stuck; explore and
      run --expect: an outcome is not as expected; from-strace: a part of the recording is
      not served; judge: a history, or an order of one, is contradicted
   2  the words of the command line are refused
@@ -34,9 +35,14 @@ entries are a run, and to print their history:
   lockreplay history FILE
 To go on behind it:
   lockreplay run SCRIPT --after FILE
-To see which of its calls have no reply, and what became of a call, by its name:
+To see why its entries are none, and how much it has of what:
+  lockreplay audit FILE --why
+  lockreplay stats FILE
+To see which of its calls have no reply, what became of a call, by its name, and what nodes
+and servers hold behind entry 12:
   lockreplay open FILE
   lockreplay explain FILE 2.1.3
+  lockreplay state FILE --at 12
 To see it as a picture, as a sequence diagram or as a trace:
   lockreplay picture FILE > run.svg
   lockreplay picture FILE --format mermaid > run.mmd
@@ -126,6 +132,12 @@ With --quiet, which needs --journal FILE or --expect, no listing is made, and th
 the memory for it are spared: nothing is printed, or with --open those calls alone. Which
 lines were refused is not told then.
 
+With --calm the run goes on behind the lines of SCRIPT. What is under way is delivered,
+and then rounds follow until no call is open, or a round answers none. In a round each
+server learns which incarnation of each node failed last, each open call is tried again,
+each server sends again what has no answer, and all that is sent in the round is delivered.
+Where an entry of a round is refused, as where the journal is full, the run ends there.
+
 With --after JOURNAL the script goes on behind the run of JOURNAL, a file that --journal
 wrote. Its first line has to name the same cluster. Messages are counted on, 'settle'
 passes over those of JOURNAL, and the listing and FILE hold the whole run; 'refused' is
@@ -163,71 +175,6 @@ server depends on the seed and on its place alone, nodes first.
 
 With --journal FILE the journal of the run is written to FILE, in the place of what was
 there, before the listing is printed. A run that fails before that leaves FILE as it was.";
-
-/// What stands under the options of `audit`.
-pub(crate) const AUDIT_NOTES: &str = "\
-The entries are taken as a run of the cluster of the first line, one step after the
-other. The text is one of these:
-  audit yes      the entries are a run (exit status 0)
-  audit no K     entry K, counted from 1, is the first that is not the next step
-                 of a run (exit status 1)
-Every run has a history, in which one table of locks gives each reply of the run.
-'lockreplay history' prints it. Where the text is no journal ('bad line L'), 'lockreplay
-check JOURNAL' tells why.";
-
-/// What stands under the options of `history`.
-pub(crate) const HISTORY_NOTES: &str = "\
-The journal is audited first. Where its entries are a run, the section 'history' of the
-listing of the run is printed (exit status 0): every call at its place in one table of
-locks. Else the text is 'audit no K', as of 'lockreplay audit' (exit status 1).
-
-With --as-clients the text is a history of clients in its place, as 'lockreplay judge'
-reads it: what each owner was told of its calls about files. The times of a call are the
-entries, counted from 1, at which it was made and answered.";
-
-/// What stands under the options of `explain`.
-pub(crate) const EXPLAIN_NOTES: &str = "\
-The journal is audited first. Where its entries are no run, the text is 'audit no K', as
-of 'lockreplay audit' (exit status 1).
-
-CALL is the name of a call as replies and history show it: its node, the incarnation of
-the node and the number of the call there, as 2.1.3. The text tells each entry that has
-to do with the call: who made it; each message about it with its number, as 'deliver K'
-of a script counts, from whom it goes to whom; which lock was in the way; its reply and
-where the history places it, or else which entry ended it (exit status 0). Where the
-journal has no call of that name, the text is 'no call CALL' (exit status 1).";
-
-/// What stands under the options of `open`.
-pub(crate) const OPEN_NOTES: &str = "\
-The journal is audited first. Where its entries are no run, the text is 'audit no K', as
-of 'lockreplay audit' (exit status 1).
-
-The text has a part for each call that has no reply, as it is at the journal's end: since
-which entry it is open, of which process it is and what it asks; each lock in its way, or
-else where its request is; and which messages about it were not delivered. Behind them
-stand cycles of waits. Where every call has a reply, nothing is printed. The exit status
-is 0 in both cases. 'lockreplay explain' tells more of one call.";
-
-/// What stands under the options of `picture`.
-pub(crate) const PICTURE_NOTES: &str = "\
-The journal is audited first. Where its entries are no run, the text is 'audit no K', as
-of 'lockreplay audit' (exit status 1).
-
-Else the text is a picture in this format (exit status 0, if it lacks nothing):
-  svg        SVG, which browsers show
-  mermaid    a sequence diagram in Mermaid, which many wikis show
-  trace      JSON of trace events, which Perfetto and Chrome open
-In SVG, time is entries, from left to right. It has a row for each node, server and
-process that takes part, a bar for each call from its entry to its reply, an arrow for
-each message that comes, a short line for each that is lost, a diamond where the history
-places a call, and a line across where a node or a server fails or begins again. Below
-the rows it shows who held which bytes.
-
-With --from K and --to L the entries from K to L are drawn, with --around CALL those
-from ten before the first that has to do with the call to ten behind the last; with
-both, those in both. Of these the first 400 are drawn. Where there are more, or none
-though the journal has some, standard error tells so (exit status 1). Where the journal
-has no call of that name, the text is 'no call CALL' (exit status 1).";
 
 /// What stands under the options of `from-strace`.
 pub(crate) const STRACE_NOTES: &str = "\
@@ -287,8 +234,12 @@ Where all lines are good, the text is 'script yes' and one of these (exit status
   threads no L    line L, counted from 1, is the first that it doesn't take
 
 SCRIPT may be a journal too, whose first line begins with 'journal '. Where it reads as
-one, the text is 'journal yes' (exit status 0). Else it is told on standard error where
-its text goes wrong, as that it was cut off (exit status 3).
+one, the text is 'journal yes' and one of these (exit status 0):
+  run yes         its entries are a run
+  run no K        entry K, counted from 1, is the first that is not the next step; behind
+                  it stands why, as of 'lockreplay audit --why'
+Else it is told on standard error where its text goes wrong, as that it was cut off (exit
+status 3).
 
 Of several files each line of the text begins with 'SCRIPT: '. Where one can't be read, or
 with --journal FILE no journal could be written to FILE, standard error says why (exit

@@ -1,7 +1,7 @@
 //! What a line asks of a run.
 
-/// `run SCRIPT [--after JOURNAL] [--journal FILE] [--expect] [--open] [--quiet]`: to run each line of the script in order, and to
-/// print the listing.
+/// `run SCRIPT [--after JOURNAL] [--journal FILE] [--expect] [--open] [--quiet] [--calm]`: to run each line of the script in order,
+/// and to print the listing.
 #[derive(Clone, Copy)]
 pub struct RunLine<'a> {
     pub script: &'a str,
@@ -15,6 +15,8 @@ pub struct RunLine<'a> {
     pub open: bool,
     /// Whether the listing is left away, which may be where there is a file for the journal, or the replies are compared.
     pub quiet: bool,
+    /// Whether the run goes on behind the script's lines until it is calm.
+    pub calm: bool,
 }
 
 /// `threads SCRIPT [--seed N] [--stop-when-stuck] [--no-join] [--journal FILE]`: to run the script on threads, and to print the

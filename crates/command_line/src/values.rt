@@ -1,6 +1,6 @@
 //! The numbers and the flags among the values of a command line.
 ghost use Rattle.clap.specs.Words.{found_of, one_of, rows_of};
-ghost use Rattle.command_line.specs.rule.Kinds.{IsFlagOf, IsNumberOf};
+ghost use Rattle.command_line.specs.rule.Kinds.{IsFlagOf, IsNumberOf, MayBeNumberOf};
 
 use clap::ArgMatches;
 
@@ -13,6 +13,9 @@ pub(crate) const DEFAULT_STEPS: u32 = 10_000_000;
 /// The most nodes of a cluster.
 pub(crate) const MOST_NODES: u32 = 64;
 
+/// The most files of a cluster.
+pub(crate) const MOST_FILES: u32 = 256;
+
 // The number from the least to the greatest that the argument has; none where it has no such number.
 pub(crate) fn number_in(values: &ArgMatches<'_>, id: &str, least: u32, greatest: u32) -> Option<u32>
     ensures { IsNumberOf least greatest (one_of id.now (rows_of (found_of values.now))) result }
@@ -22,6 +25,24 @@ pub(crate) fn number_in(values: &ArgMatches<'_>, id: &str, least: u32, greatest:
         Some(number)
     } else {
         None
+    }
+}
+
+// The number from the least to the greatest that the argument has, if it has a value; none where its value is no such number.
+pub(crate) fn number_if_given(
+    values: &ArgMatches<'_>,
+    id: &str,
+    least: u32,
+    greatest: u32,
+) -> Option<Option<u32>>
+    ensures { MayBeNumberOf least greatest (one_of id.now (rows_of (found_of values.now))) result }
+{
+    match values.get_str(id) {
+        None => Some(None),
+        Some(_) => {
+            let number = number_in(values, id, least, greatest)?;
+            Some(Some(number))
+        }
     }
 }
 

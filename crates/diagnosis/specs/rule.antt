@@ -1,3 +1,4 @@
 pub mod BadLines
 pub mod Reports
 pub mod JournalReports
+pub mod WrongEntries

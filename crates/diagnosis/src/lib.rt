@@ -1,9 +1,10 @@
-//! What is wrong in a text that is no script, line by line, and what is said of a text that is one; and where the
-//! text of a journal goes wrong.
+//! What is wrong in a text that is no script, line by line, and what is said of a text that is one; where the text of a
+//! journal goes wrong; and why the entries of one are no run.
 #![tactic(auto)]
 
 mod bad_line;
 mod blanks;
+pub mod difference;
 pub mod expected;
 mod explanation;
 pub mod faults;
@@ -17,7 +18,10 @@ mod nearest;
 mod place;
 mod reader;
 pub mod reason;
+mod refusal_words;
 pub mod report;
 pub mod script_fault;
 mod synonyms;
 pub mod verdict;
+pub mod why_text;
+pub mod wrong_entry;

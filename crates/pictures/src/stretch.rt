@@ -38,15 +38,15 @@ pub fn holdings(
 }
 
 /// The entries up to this position.
-pub(crate) fn up_to(entries: &[Entry], to: u64) -> &[Entry]
+pub fn up_to(entries: &[Entry], to: u64) -> &[Entry]
     ensures { result.now ≡ take to entries.now }
 {
     let count = to.min(entries.len() as u64) as usize;
     &entries[..count]
 }
 
-// The entry of a run happens again: only memory can be refused.
-fn repeat(world: &mut World, alloc: Global, entry: &Entry) -> Result<(), AllocError>
+/// The entry of a run, the next step of the world, happens again: only memory can be refused.
+pub fn repeat(world: &mut World, alloc: Global, entry: &Entry) -> Result<(), AllocError>
     requires room { world.old.length < journal_limit }
     requires made { (v : WorldState) × (next (world_state world.old) entry.now.event ≡ Ok (v, entry.now)) }
     ensures { OnOk result (next (world_state world.old) entry.now.event ≡ Ok (world_state world.new, entry.now)) }

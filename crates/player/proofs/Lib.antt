@@ -1,3 +1,9 @@
+pub mod Arrivals
+pub mod Deliveries
+pub mod DueLists
 pub mod Marks
 pub mod OneOutcome
 pub mod Progresses
+pub mod QuietRuns
+pub mod RoundEnds
+pub mod Takes

@@ -1,3 +1,5 @@
 pub mod Settled
 pub mod Laws
 pub mod Parts
+pub mod Due
+pub mod Rounds

@@ -3,9 +3,12 @@
 //! are printed, of time, or of threads.
 #![tactic(auto)]
 
+pub mod calm;
+mod due;
 pub mod laws;
 pub mod play;
 pub mod played;
 pub mod player;
+mod rounds;
 mod settled;
 pub mod watcher;

@@ -1,5 +1,5 @@
 //! Runs whole scripts, from the beginning or behind a journal.
-ghost use Rattle.std.specs.Prelude.{◌≡◌, None, IfErr, IfOk};
+ghost use Rattle.std.specs.Prelude.{◌≡◌, None, Some, IfErr, IfOk, OnOk};
 ghost use Rattle.cluster_core.specs.rule.Histories.{HasOneHistory};
 ghost use Rattle.cluster_core.specs.rule.Parts.{world_state};
 ghost use Rattle.cluster_core.specs.rule.Runs.{Leads};
@@ -8,9 +8,11 @@ ghost use Rattle.cluster_core.specs.rule.World.{first_world};
 ghost use Rattle.messages.specs.declared.version.Version.TheVariants.{Second};
 ghost use Rattle.lockscript.specs.declared.play_error.PlayError.TheVariants.{JournalFull};
 ghost use Rattle.player.specs.code.Parts.{progress, state_of};
-ghost use Rattle.player.specs.rule.Played.{ComesFrom, ComesTo, FillsBehind, FillsJournal, GoesOnTo};
+ghost use Rattle.player.specs.rule.Played.{ComesFrom, ComesTo, FillsBehind, FillsJournal, GoesOnTo, PlayedState};
 ghost use Rattle.player.specs.rule.Progress.{RunsTo};
+ghost use Rattle.player.specs.rule.Rounds.{EndsCalm};
 
+use crate::calm::Calm;
 use crate::played::Played;
 use crate::player::Player;
 use crate::watcher::Watcher;
@@ -72,6 +74,49 @@ pub fn play_after<W: Watcher>(
     play_lines(alloc, shape, player, script.into_lines(), watcher)
 }
 
+/// Runs a script as `play` does. Behind its lines what is under way is delivered, and rounds follow until no open call is
+/// answered any more. Gives also how they end: where the journal is full in a round, that is the end.
+///
+/// # Errors
+/// The errors of `play`, in the same cases: `JournalFull` where the lines need more entries than a journal may have.
+pub fn play_calm<W: Watcher>(
+    alloc: Global,
+    script: Script,
+    watcher: &mut W,
+) -> Result<(Played, Calm), PlayError>
+    // The result is what the lines come to, in order, and rounds behind them.
+    ensures calm { IfOk result (λ r. (from : PlayedState) × ComesTo script.shape script.lines from × EndsCalm from r.1 (state_of r.0)) }
+    ensures history { IfOk result (λ r. HasOneHistory script.shape r.0.journal.entries) }
+    ensures safe { IfOk result (λ r. IsSafe (world_state r.0.world)) }
+    ensures full { IfErr result (λ error. error ≡ JournalFull → FillsJournal script.shape script.lines) }
+{
+    let shape = script.shape();
+    let player = Player::new(alloc, shape)?;
+    play_lines_calm(alloc, shape, player, script.into_lines(), watcher)
+}
+
+/// Runs a script as `play_after` does, and rounds behind its lines as `play_calm` does.
+///
+/// # Errors
+/// The errors of `play_calm`, in the same cases.
+pub fn play_calm_after<W: Watcher>(
+    alloc: Global,
+    script: Script,
+    journal: Journal,
+    watcher: &mut W,
+) -> Result<(Played, Calm), PlayError>
+    requires same_shape { script.shape ≡ journal.shape }
+    requires new { journal.shape.version ≡ Second }
+    ensures calm { IfOk result (λ r. (from : PlayedState) × GoesOnTo journal script.lines from × EndsCalm from r.1 (state_of r.0)) }
+    ensures history { IfOk result (λ r. HasOneHistory journal.shape r.0.journal.entries) }
+    ensures safe { IfOk result (λ r. IsSafe (world_state r.0.world)) }
+    ensures full { IfErr result (λ error. error ≡ JournalFull → FillsBehind journal script.lines) }
+{
+    let player = Player::after(alloc, journal)?;
+    let shape = script.shape();
+    play_lines_calm(alloc, shape, player, script.into_lines(), watcher)
+}
+
 // The memory of the lines is given back each time that many of them are done.
 const LINES_AT_ONCE: usize = 16_384;
 
@@ -81,7 +126,7 @@ fn play_lines<W: Watcher>(
     alloc: Global,
     shape: Shape,
     mut player: Player,
-    mut lines: Vec<ScriptLine>,
+    lines: Vec<ScriptLine>,
     watcher: &mut W,
 ) -> Result<Played, PlayError>
     requires { Leads (first_world shape) (progress player).entries (progress player).world }
@@ -89,6 +134,39 @@ fn play_lines<W: Watcher>(
     ensures history { IfOk result (λ played. HasOneHistory shape played.journal.entries) }
     ensures safe { IfOk result (λ played. IsSafe (world_state played.world)) }
     ensures full { IfErr result (λ error. error ≡ JournalFull → RunsTo (progress player) lines.items None) }
+{
+    run_lines(alloc, &mut player, lines, watcher)?;
+    Ok(player.finish(shape))
+}
+
+// The same, and rounds behind the lines.
+fn play_lines_calm<W: Watcher>(
+    alloc: Global,
+    shape: Shape,
+    mut player: Player,
+    lines: Vec<ScriptLine>,
+    watcher: &mut W,
+) -> Result<(Played, Calm), PlayError>
+    requires { Leads (first_world shape) (progress player).entries (progress player).world }
+    ensures calm { IfOk result (λ r. (from : PlayedState) × ComesFrom shape (progress player) lines.items from × EndsCalm from r.1 (state_of r.0)) }
+    ensures history { IfOk result (λ r. HasOneHistory shape r.0.journal.entries) }
+    ensures safe { IfOk result (λ r. IsSafe (world_state r.0.world)) }
+    ensures full { IfErr result (λ error. error ≡ JournalFull → RunsTo (progress player) lines.items None) }
+{
+    run_lines(alloc, &mut player, lines, watcher)?;
+    let calm = player.calm(alloc, shape)?;
+    Ok((player.finish(shape), calm))
+}
+
+// Runs the lines in order, from where the player stands. Lines that are done are dropped.
+fn run_lines<W: Watcher>(
+    alloc: Global,
+    player: &mut Player,
+    mut lines: Vec<ScriptLine>,
+    watcher: &mut W,
+) -> Result<(), PlayError>
+    ensures ok { OnOk result (RunsTo (progress player.old) lines.items (Some (progress player.new))) }
+    ensures full { IfErr result (λ error. error ≡ JournalFull → RunsTo (progress player.old) lines.items None) }
 {
     watcher.begin("lines", Some(lines.len() as u64));
     lines.reverse();
@@ -99,5 +177,5 @@ fn play_lines<W: Watcher>(
             lines.shrink_to_fit();
         }
     }
-    Ok(player.finish(shape))
+    Ok(())
 }

@@ -24,6 +24,8 @@ use messages::shape::Shape;
 use std::alloc::Global;
 use std::marker::Model;
 
+mod calming;
+
 /// A script that is run so far: the world, the entries that led to it, the messages that are
 /// settled (delivered, lost or passed over), and the lines that were refused.
 #[derive(Drop)]
@@ -235,6 +237,8 @@ impl Player {
     #[tactic(auto, using(crate::proofs::Progresses::next_there))]
     fn has_next(&mut self) -> bool
         ensures same { progress self.new ≡ progress self.old }
+        ensures run { self.new.run ≡ self.old.run }
+        ensures refused { self.new.refused ≡ self.old.refused }
         ensures next { result ≡ true → (m : Message) × IsNextMessage (progress self.new) self.new.settled.cursor m }
         ensures settled { result ≡ false → IsSettled (progress self.new) }
         ensures room { result ≡ true → self.new.settled.cursor < usize.MAX }

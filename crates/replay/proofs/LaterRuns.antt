@@ -1,5 +1,5 @@
 -- Lemmas on scripts that go on behind a journal.
-use Rattle.std.proofs.Common.{◌≡◌, ℕ, List, Option, Some, inl, inr, refl, subst}
+use Rattle.std.proofs.Common.{◌≡◌, ℕ, true, false, List, Option, Some, inl, inr, refl, subst}
 use Rattle.std.specs.Prelude.{Bool, IsUtf8}
 use Rattle.cluster_core.specs.rule.Journals.{JournalFields}
 use Rattle.messages.specs.declared.version.Version.{Version}
@@ -49,12 +49,14 @@ old-fault Holds RanShort path bytes JournalFull holds text not_old is = (is.0, (
 old-fault Holds RanShort path bytes OldJournal holds text not_old is = absurd is
 old-fault Holds RanShort path bytes (Faulty report) holds text not_old is = absurd is
 
--- a run that is compared is a run
-pub uncompared : (Holds : Option (List ℕ) → Type 0) (compares breaking : Bool) (played : PlayedState) → HasComparedRun Holds compares played breaking → HasRun Holds played
-uncompared Holds compares breaking played has = (has.0, (has.1.0, has.1.1, has.1.2, has.1.3.0), has.2)
+-- a run that is compared is a run, and so is what it was before rounds made it calm
+pub uncompared : (Holds : Option (List ℕ) → Type 0) (compares calm breaking : Bool) (played : PlayedState) → HasComparedRun Holds compares calm played breaking → (came : PlayedState) × HasRun Holds came
+uncompared Holds compares false breaking played has = (played, (has.0, (has.1.0, has.1.1, has.1.2, has.1.3.0), has.2))
+uncompared Holds compares true breaking played has = (has.2.0, (has.0, (has.1.0, has.1.1, has.1.2, has.1.3.0), has.2.2))
 
-pub uncompared-behind : (Holds : Option (List ℕ) → Type 0) (j : JournalFields) (compares breaking : Bool) (played : PlayedState) → HasComparedRunBehind Holds j compares played breaking → HasRunBehind Holds j played
-uncompared-behind Holds j compares breaking played has = (has.0, (has.1.0, has.1.1, has.1.2, has.1.3.0), has.2)
+pub uncompared-behind : (Holds : Option (List ℕ) → Type 0) (j : JournalFields) (compares calm breaking : Bool) (played : PlayedState) → HasComparedRunBehind Holds j compares calm played breaking → (came : PlayedState) × HasRunBehind Holds j came
+uncompared-behind Holds j compares false breaking played has = (played, (has.0, (has.1.0, has.1.1, has.1.2, has.1.3.0), has.2))
+uncompared-behind Holds j compares true breaking played has = (has.2.0, (has.0, (has.1.0, has.1.1, has.1.2, has.1.3.0), has.2.2))
 
 pub had-fault : (old new : Files) (RanShort : Type 0) (path : List ℕ) (j : JournalFields) (fault : Fault) → SameFiles old new → IsBehindFault j (new path) RanShort path fault → IsBehindFault j (old path) RanShort path fault
 had-fault old new RanShort path j (BadLine line) same is = had-text old new path _ same is
@@ -74,11 +76,11 @@ going-fault old new RanShort script after journal j fault has same run files is 
     inr (j, has, run, had-fault old new RanShort script j fault files (subst (λ (k : JournalFields). IsBehindFault k (new script) RanShort script fault) same is))
 
 -- what is shown of the whole run
-pub goes-on : (old new : Files) (script : List ℕ) (j : JournalFields) (to : Option (List ℕ)) (compares with_open quiet : Bool) (shown : Shown) → IsRun j.shape j.entries → WentOn old script j to compares with_open quiet new shown → GoesOn old script j to compares with_open quiet new shown
-goes-on old new script j to compares with_open quiet (Text text) run went = (run, went)
-goes-on old new script j to compares with_open quiet (Partial text told) run went = (run, went)
-goes-on old new script j to compares with_open quiet (Wanting text) run went = absurd went.3
-goes-on old new script j to compares with_open quiet (Noted text told) run went = absurd went.3
-goes-on old new script j to compares with_open quiet (Undecided text) run went = absurd went.3
-goes-on old new script j to compares with_open quiet Yes run went = absurd went.3
-goes-on old new script j to compares with_open quiet (No position) run went = absurd went.3
+pub goes-on : (old new : Files) (script : List ℕ) (j : JournalFields) (to : Option (List ℕ)) (compares with_open quiet calm : Bool) (shown : Shown) → IsRun j.shape j.entries → WentOn old script j to compares with_open quiet calm new shown → GoesOn old script j to compares with_open quiet calm new shown
+goes-on old new script j to compares with_open quiet calm (Text text) run went = (run, went)
+goes-on old new script j to compares with_open quiet calm (Partial text told) run went = (run, went)
+goes-on old new script j to compares with_open quiet calm (Wanting text) run went = absurd went.3
+goes-on old new script j to compares with_open quiet calm (Noted text told) run went = absurd went.3
+goes-on old new script j to compares with_open quiet calm (Undecided text) run went = absurd went.3
+goes-on old new script j to compares with_open quiet calm Yes run went = absurd went.3
+goes-on old new script j to compares with_open quiet calm (No position) run went = absurd went.3

@@ -10,6 +10,7 @@ pub mod LaterRuns
 pub mod Outputs
 pub mod Refused
 pub mod Tellings
+pub mod Begins
 pub mod Explorations
 pub mod LeftFiles
 pub mod Checks

@@ -37,11 +37,11 @@ pub(crate) fn run_behind<'a, S: Store, V: Watcher>(
     wanted: Wanted,
     watcher: &mut V,
 ) -> Result<Shown, Fault<'a>>
-    ensures done { IfOk result (Does (S.holds store.old) (run path.now (Some after.now) None wanted.expect wanted.open wanted.quiet) (S.holds store.new)) }
+    ensures done { IfOk result (Does (S.holds store.old) (run path.now (Some after.now) None wanted.expect wanted.open wanted.quiet wanted.calm) (S.holds store.new)) }
     ensures fault { IfErr result (λ fault. (fault ≢ CannotWriteOutput)
-        × IsFault (S.holds store.old) (S.ran_short store.new) (S.refuses store.new) (run path.now (Some after.now) None wanted.expect wanted.open wanted.quiet) (S.holds store.new) fault) }
+        × IsFault (S.holds store.old) (S.ran_short store.new) (S.refuses store.new) (run path.now (Some after.now) None wanted.expect wanted.open wanted.quiet wanted.calm) (S.holds store.new) fault) }
 {
-    match played_behind(alloc, store, path, after, wanted.expect, watcher)? {
+    match played_behind(alloc, store, path, after, wanted, watcher)? {
         Behind::Run(Ran { played, told }) => {
             Ok(shown_beside(run_text(alloc, played, wanted)?, told))
         }
@@ -59,18 +59,11 @@ pub(crate) fn run_behind_with_journal<'a, S: Store, V: Watcher>(
     wanted: Wanted,
     watcher: &mut V,
 ) -> Result<Shown, Fault<'a>>
-    ensures done { IfOk result (Does (S.holds store.old) (run path.now (Some after.now) (Some file.now) wanted.expect wanted.open wanted.quiet) (S.holds store.new)) }
+    ensures done { IfOk result (Does (S.holds store.old) (run path.now (Some after.now) (Some file.now) wanted.expect wanted.open wanted.quiet wanted.calm) (S.holds store.new)) }
     ensures fault { IfErr result (λ fault. (fault ≢ CannotWriteOutput)
-        × IsFault (S.holds store.old) (S.ran_short store.new) (S.refuses store.new) (run path.now (Some after.now) (Some file.now) wanted.expect wanted.open wanted.quiet) (S.holds store.new) fault) }
+        × IsFault (S.holds store.old) (S.ran_short store.new) (S.refuses store.new) (run path.now (Some after.now) (Some file.now) wanted.expect wanted.open wanted.quiet wanted.calm) (S.holds store.new) fault) }
 {
-    let Ran { played, told } = match played_behind(
-        alloc,
-        store,
-        path,
-        after,
-        wanted.expect,
-        watcher,
-    )? {
+    let Ran { played, told } = match played_behind(alloc, store, path, after, wanted, watcher)? {
         Behind::Run(ran) => ran,
         Behind::Wrong(position) => return Ok(Shown::No(position)),
     };
@@ -85,16 +78,22 @@ fn played_behind<'a, S: Store, V: Watcher>(
     store: &mut S,
     path: &'a str,
     after: &'a str,
-    compares: bool,
+    wanted: Wanted,
     watcher: &mut V,
 ) -> Result<Behind, Fault<'a>>
-    ensures behind { IfOk result (λ behind. (j : JournalFields) × HasNewJournal (S.holds store.old after.now) j × IsBehind (S.holds store.old path.now) j compares behind) }
+    ensures behind { IfOk result (λ behind. (j : JournalFields) × HasNewJournal (S.holds store.old after.now) j × IsBehind (S.holds store.old path.now) j wanted.expect wanted.calm behind) }
     ensures fault { IfErr result (IsGoingFault (S.holds store.old) (S.ran_short store.new) path.now after.now) }
     ensures files { SameFiles (S.holds store.old) (S.holds store.new) }
 {
     match checked_new(alloc, store, after)? {
         Audited::Run(journal) => Ok(Behind::Run(run_behind_of(
-            alloc, store, path, journal, compares, watcher,
+            alloc,
+            store,
+            path,
+            journal,
+            wanted.expect,
+            wanted.calm,
+            watcher,
         )?)),
         Audited::Wrong(position) => Ok(Behind::Wrong(position)),
     }

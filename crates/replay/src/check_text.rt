@@ -8,6 +8,7 @@ ghost use Rattle.replay.specs.rule.ToolFaults.{IsReportOf, IsToolFault};
 
 use crate::fault::Fault;
 use crate::input::text_of;
+use crate::reasoned::run_verdict;
 use crate::shown::Shown;
 use crate::store::Store;
 use crate::warnings::warnings_of;
@@ -61,8 +62,9 @@ fn journal_checked<'a>(alloc: Global, path: &'a str, text: &str) -> Result<Shown
     if let Some(report) = journal_report(alloc, path, text)? {
         return Err(Fault::Faulty(report));
     }
-    let yes = String::from_str(alloc, "journal yes\n")?;
-    Ok(Shown::Text(yes))
+    let mut told = String::from_str(alloc, "journal yes\n")?;
+    told.push_str(&run_verdict(alloc, text)?)?;
+    Ok(Shown::Text(told))
 }
 
 // The same of a text that does not.

@@ -25,7 +25,8 @@ use std::time::Clock;
 /// left out (see below), 3 where the input or the output is at fault, 4 where memory or the journal was too small, 5 where
 /// it is not known whether histories are contradicted.
 ///
-/// It is 1 where the journal that the line names is none of a run, or has no call of the name. So it is where a run on
+/// It is 1 where the journal that the line names is none of a run, or has no call of the name, or not the entry, the node
+/// or the file that is asked for. So it is where a run on
 /// threads lacks a receipt in its journal or was ended as stuck, where an outcome, or a run that is compared with it,
 /// breaks what is expected, where a part of a recording, or of the picture that is asked for, is left out, and where a
 /// history is contradicted, or is not explained by the orders that are given. The second
@@ -36,7 +37,7 @@ use std::time::Clock;
 /// shown where it failed. Of a check there are more lines: for each of the first hundred bad lines of a script one, and
 /// one for how many more there are; and of several files, or where a journal's is tried, each with which something is
 /// wrong is told. Behind the path of a file that can't be read or written stands the reason, but of commands whose
-/// lines are fixed: runs, also on threads, audits and histories. Of a `Write` of std no clause says that it was flushed,
+/// lines are fixed: runs, also on threads, audits that are asked for no reasons, and histories. Of a `Write` of std no clause says that it was flushed,
 /// or that it failed where the status says so, since std says neither. Faults are looked for in this order: the file is
 /// read, its bytes are UTF-8, its lines are good, the run or the audit has room, the journal is written, what is shown
 /// is written. No file is changed but that of the journal that a run is asked for, once it comes to that. Of the lines
@@ -105,11 +106,14 @@ fn says_why(line: &Line<'_>) -> bool
     ensures { result ≡ says_why (task_of line.now) }
 {
     match line {
-        Line::Run(_) | Line::Threads(_) | Line::Audit { .. } | Line::History { .. } => false,
+        Line::Run(_) | Line::Threads(_) | Line::History { .. } => false,
+        Line::Audit { why, .. } => *why,
         Line::Explain { .. }
         | Line::Open { .. }
+        | Line::State(_)
         | Line::Check { .. }
         | Line::Picture(_)
+        | Line::Stats { .. }
         | Line::FromStrace { .. }
         | Line::RecordedHistory { .. }
         | Line::Explore { .. }

@@ -11,6 +11,7 @@ ghost use Rattle.replay.specs.code.Comparing.{HasRan, IsExpecting, WentBehind};
 ghost use Rattle.replay.specs.rule.Faults.{IsBehindFault, IsScriptFault};
 ghost use Rattle.replay.specs.rule.Stores.{SameFiles};
 
+use crate::calmed::{play_behind, play_in};
 use crate::fault::Fault;
 use crate::input::text_of;
 use crate::shown::Shown;
@@ -20,7 +21,6 @@ use explorer::compared::compared;
 use lockscript::script::Script;
 use lockscript::script_line::ScriptLine;
 use messages::entry::Entry;
-use player::play::{play, play_after};
 use player::played::Played;
 use player::watcher::Watcher;
 use std::alloc::{AllocError, Global};
@@ -39,16 +39,17 @@ pub(crate) fn run_of<'a, S: Store, V: Watcher>(
     store: &mut S,
     path: &'a str,
     compares: bool,
+    calm: bool,
     watcher: &mut V,
 ) -> Result<Ran, Fault<'a>>
-    ensures run { IfOk result (HasRan (S.holds store.old path.now) compares) }
+    ensures run { IfOk result (HasRan (S.holds store.old path.now) compares calm) }
     ensures fault { IfErr result (IsScriptFault (S.holds store.old path.now) (S.ran_short store.new) path.now) }
     ensures files { SameFiles (S.holds store.old) (S.holds store.new) }
 {
     let text = text_of(alloc, store, path)?;
     let script = Script::parse(alloc, text.as_str())?;
     let expecting = kept_to_compare(alloc, text, &script, compares)?;
-    let played = play(alloc, script, watcher)?;
+    let played = play_in(alloc, script, calm, watcher)?;
     let told = told_of(alloc, &expecting, &played, 0)?;
     Ok(Ran { played, told })
 }
@@ -61,10 +62,11 @@ pub(crate) fn run_behind_of<'a, S: Store, V: Watcher>(
     path: &'a str,
     journal: Journal,
     compares: bool,
+    calm: bool,
     watcher: &mut V,
 ) -> Result<Ran, Fault<'a>>
     requires { journal.shape.version ≡ Second }
-    ensures run { IfOk result (WentBehind (S.holds store.old path.now) journal compares) }
+    ensures run { IfOk result (WentBehind (S.holds store.old path.now) journal compares calm) }
     ensures fault { IfErr result (IsBehindFault journal (S.holds store.old path.now) (S.ran_short store.new) path.now) }
     ensures files { SameFiles (S.holds store.old) (S.holds store.new) }
 {
@@ -72,7 +74,7 @@ pub(crate) fn run_behind_of<'a, S: Store, V: Watcher>(
     let script = Script::parse_for_shape(alloc, &journal.shape(), text.as_str())?;
     let expecting = kept_to_compare(alloc, text, &script, compares)?;
     let earlier = journal.entries().len();
-    let played = play_after(alloc, script, journal, watcher)?;
+    let played = play_behind(alloc, script, journal, calm, watcher)?;
     let told = told_of(alloc, &expecting, &played, earlier)?;
     Ok(Ran { played, told })
 }

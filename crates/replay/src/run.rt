@@ -34,11 +34,11 @@ pub(crate) fn run_script<'a, S: Store, V: Watcher>(
     wanted: Wanted,
     watcher: &mut V,
 ) -> Result<Shown, Fault<'a>>
-    ensures done { IfOk result (Does (S.holds store.old) (run path.now None None wanted.expect wanted.open wanted.quiet) (S.holds store.new)) }
+    ensures done { IfOk result (Does (S.holds store.old) (run path.now None None wanted.expect wanted.open wanted.quiet wanted.calm) (S.holds store.new)) }
     ensures fault { IfErr result (λ fault. (fault ≢ CannotWriteOutput)
-        × IsFault (S.holds store.old) (S.ran_short store.new) (S.refuses store.new) (run path.now None None wanted.expect wanted.open wanted.quiet) (S.holds store.new) fault) }
+        × IsFault (S.holds store.old) (S.ran_short store.new) (S.refuses store.new) (run path.now None None wanted.expect wanted.open wanted.quiet wanted.calm) (S.holds store.new) fault) }
 {
-    let Ran { played, told } = run_of(alloc, store, path, wanted.expect, watcher)?;
+    let Ran { played, told } = run_of(alloc, store, path, wanted.expect, wanted.calm, watcher)?;
     Ok(shown_beside(run_text(alloc, played, wanted)?, told))
 }
 
@@ -52,11 +52,11 @@ pub(crate) fn run_with_journal<'a, S: Store, V: Watcher>(
     wanted: Wanted,
     watcher: &mut V,
 ) -> Result<Shown, Fault<'a>>
-    ensures done { IfOk result (Does (S.holds store.old) (run path.now None (Some file.now) wanted.expect wanted.open wanted.quiet) (S.holds store.new)) }
+    ensures done { IfOk result (Does (S.holds store.old) (run path.now None (Some file.now) wanted.expect wanted.open wanted.quiet wanted.calm) (S.holds store.new)) }
     ensures fault { IfErr result (λ fault. (fault ≢ CannotWriteOutput)
-        × IsFault (S.holds store.old) (S.ran_short store.new) (S.refuses store.new) (run path.now None (Some file.now) wanted.expect wanted.open wanted.quiet) (S.holds store.new) fault) }
+        × IsFault (S.holds store.old) (S.ran_short store.new) (S.refuses store.new) (run path.now None (Some file.now) wanted.expect wanted.open wanted.quiet wanted.calm) (S.holds store.new) fault) }
 {
-    let Ran { played, told } = run_of(alloc, store, path, wanted.expect, watcher)?;
+    let Ran { played, told } = run_of(alloc, store, path, wanted.expect, wanted.calm, watcher)?;
     let mut draft = store.begin(file);
     let made = text_and_journal(&mut draft, alloc, played, wanted);
     Ok(shown_beside(committed(store, file, draft, made)?, told))

@@ -5,18 +5,21 @@ ghost use Rattle.command_line.specs.rule.Tasks.{run, run_task_of, task_of, threa
 ghost use Rattle.replay.specs.declared.fault.Fault.TheVariants.{CannotWriteOutput};
 ghost use Rattle.replay.specs.rule.Commands.{Does, IsFault};
 
-use crate::audit::{audit, history};
+use crate::audit::history;
 use crate::behind::{run_behind, run_behind_with_journal};
 use crate::check::check;
+use crate::counted::counted;
 use crate::draw::draw;
 use crate::explain::{explain, open_calls};
 use crate::explored::{explored, scheduled};
 use crate::fault::Fault;
 use crate::judge::judge;
+use crate::reasoned::audit_shown;
 use crate::recorded::recorded;
 use crate::recorded_history::recorded_history;
 use crate::run::{run_script, run_with_journal};
 use crate::shown::Shown;
+use crate::state::state;
 use crate::store::Store;
 use crate::threads::play_on_threads;
 use crate::wanted::Wanted;
@@ -48,18 +51,20 @@ pub(crate) fn shown_of<'a, R: Threads + Wait + Clock + Sync, S: Store, V: Watche
     match *line {
         Line::Run(asked) => run_shown(alloc, store, asked, watcher),
         Line::Threads(asked) => threads_shown(rt, alloc, store, asked, watcher),
-        Line::Audit { journal } => audit(alloc, store, journal, watcher),
+        Line::Audit { journal, why } => audit_shown(alloc, store, journal, why, watcher),
         Line::History {
             journal,
             as_clients,
         } => history(alloc, store, journal, as_clients),
         Line::Explain { journal, call } => explain(alloc, store, journal, call),
         Line::Open { journal } => open_calls(alloc, store, journal),
+        Line::State(asked) => state(alloc, store, asked),
         Line::Check {
             ref scripts,
             journal,
         } => check(alloc, store, scripts.as_slice(), journal, watcher),
         Line::Picture(asked) => draw(alloc, store, asked),
+        Line::Stats { journal } => counted(alloc, store, journal),
         Line::FromStrace {
             recording,
             nodes,
@@ -99,6 +104,7 @@ fn run_shown<'a, S: Store, V: Watcher>(
         expect: asked.expect,
         open: asked.open,
         quiet: asked.quiet,
+        calm: asked.calm,
     };
     let (script, journal) = (asked.script, asked.journal);
     match asked.after {
@@ -116,9 +122,9 @@ fn run_alone_shown<'a, S: Store, V: Watcher>(
     wanted: Wanted,
     watcher: &mut V,
 ) -> Result<Shown, Fault<'a>>
-    ensures done { IfOk result (Does (S.holds store.old) (run script.now None (option_map (λ file. file.now) journal.entry) wanted.expect wanted.open wanted.quiet) (S.holds store.new)) }
+    ensures done { IfOk result (Does (S.holds store.old) (run script.now None (option_map (λ file. file.now) journal.entry) wanted.expect wanted.open wanted.quiet wanted.calm) (S.holds store.new)) }
     ensures fault { IfErr result (λ fault. (fault ≢ CannotWriteOutput)
-        × IsFault (S.holds store.old) (S.ran_short store.new) (S.refuses store.new) (run script.now None (option_map (λ file. file.now) journal.entry) wanted.expect wanted.open wanted.quiet) (S.holds store.new) fault) }
+        × IsFault (S.holds store.old) (S.ran_short store.new) (S.refuses store.new) (run script.now None (option_map (λ file. file.now) journal.entry) wanted.expect wanted.open wanted.quiet wanted.calm) (S.holds store.new) fault) }
 {
     match journal {
         None => run_script(alloc, store, script, wanted, watcher),
@@ -136,9 +142,9 @@ fn run_behind_shown<'a, S: Store, V: Watcher>(
     wanted: Wanted,
     watcher: &mut V,
 ) -> Result<Shown, Fault<'a>>
-    ensures done { IfOk result (Does (S.holds store.old) (run script.now (Some after.now) (option_map (λ file. file.now) journal.entry) wanted.expect wanted.open wanted.quiet) (S.holds store.new)) }
+    ensures done { IfOk result (Does (S.holds store.old) (run script.now (Some after.now) (option_map (λ file. file.now) journal.entry) wanted.expect wanted.open wanted.quiet wanted.calm) (S.holds store.new)) }
     ensures fault { IfErr result (λ fault. (fault ≢ CannotWriteOutput)
-        × IsFault (S.holds store.old) (S.ran_short store.new) (S.refuses store.new) (run script.now (Some after.now) (option_map (λ file. file.now) journal.entry) wanted.expect wanted.open wanted.quiet) (S.holds store.new) fault) }
+        × IsFault (S.holds store.old) (S.ran_short store.new) (S.refuses store.new) (run script.now (Some after.now) (option_map (λ file. file.now) journal.entry) wanted.expect wanted.open wanted.quiet wanted.calm) (S.holds store.new) fault) }
 {
     match journal {
         None => run_behind(alloc, store, script, after, wanted, watcher),

@@ -5,7 +5,7 @@ ghost use Rattle.journal_text.specs.rule.Journals.{journal_text};
 ghost use Rattle.player.specs.rule.Played.{EndsIn};
 ghost use Rattle.replay.specs.rule.Threads.{ShowsThreads, Tells, ThreadedFields, open_line};
 
-use crate::counts::held_in;
+use crate::held_receipts::held_in;
 use crate::listing::listing_of_journal;
 use crate::shown::Shown;
 use actors::thread_run::ThreadRun;

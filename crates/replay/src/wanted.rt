@@ -1,7 +1,7 @@
 //! What is to be shown of a run.
 
 /// What is to be shown of a run: its listing, and the calls without a reply behind it, or one of the two, or
-/// nothing; and whether its replies are compared with what the script expects.
+/// nothing; whether its replies are compared with what the script expects; and whether rounds follow behind the script.
 #[derive(Clone, Copy)]
 pub(crate) struct Wanted {
     /// Whether replies are compared with what the script expects, and each other one is told.
@@ -10,4 +10,6 @@ pub(crate) struct Wanted {
     pub(crate) open: bool,
     /// Whether the listing is left away.
     pub(crate) quiet: bool,
+    /// Whether the run goes on behind the script until it is calm.
+    pub(crate) calm: bool,
 }

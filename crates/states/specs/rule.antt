@@ -1,3 +1,5 @@
+pub mod Choices
+pub mod States
 pub mod Places
 pub mod OpenCalls
 pub mod Cycles

@@ -1,12 +1,19 @@
-//! Why the open calls of a cluster are open, at a moment.
+//! What holds in a cluster's world at a moment: of its nodes, its token servers, its tokens, its locks, and the calls
+//! that are open, and why these are.
 //!
 //! # Errors
 //! All are `AllocError`, where a request for memory was refused.
 #![tactic(auto)]
 
 mod blockers;
+pub mod chosen;
+pub mod cluster_state;
 pub mod cycle;
 pub mod open_call;
 pub mod open_words;
 pub mod place;
+mod server_lines;
+pub mod state_text;
+pub mod told_node;
+pub mod told_server;
 pub mod waits;

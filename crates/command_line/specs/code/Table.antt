@@ -1,9 +1,9 @@
 -- The table of the commands.
 use Rattle.std.specs.Prelude.{[], ◌∷◌, fold, map}
 use Rattle.clap.specs.Words.{App, Rule, Text, new_app, with_rule, with_subcommand}
-use Rattle.command_line.specs.rule.Program.{flag_rule, number_rule, option_rule, path_rule, paths_rule, values_rule}
+use Rattle.command_line.specs.rule.Program.{bounded_rule, flag_rule, number_rule, option_rule, path_rule, paths_rule, values_rule}
 use Rattle.command_line.specs.declared.argument.Argument.{Argument}
-use Rattle.command_line.specs.declared.argument.Argument.TheVariants.{Word, Words, Value, Values, Default, Number, Flag}
+use Rattle.command_line.specs.declared.argument.Argument.TheVariants.{Word, Words, Value, Values, Default, Number, Bounded, Flag}
 use Rattle.command_line.specs.declared.subcommand.Subcommand.{Subcommand}
 
 -- an option with the text of its default
@@ -18,6 +18,7 @@ rule_given (Value id long help) = option_rule id.now long.now
 rule_given (Values id long help) = values_rule id.now long.now
 rule_given (Default id long default help) = default_rule id.now long.now default.now
 rule_given (Number id long default least greatest help) = number_rule id.now long.now default.now least greatest
+rule_given (Bounded id long least greatest help) = bounded_rule id.now long.now least greatest
 rule_given (Flag name help) = flag_rule name.now
 
 -- a command with these arguments

@@ -4,7 +4,7 @@ use Rattle.std.specs.Global.{Global}
 use Rattle.clap.specs.Words.{IsAmong, Row, Text, fault_of}
 use Rattle.clap.specs.declared.error.kind.ErrorKind.{ErrorKind}
 use Rattle.clap.specs.declared.error.kind.ErrorKind.TheVariants.{OutOfMemory}
-use Rattle.command_line.specs.rule.Program.{program_app, flag_text, IsMet, IsNumber}
+use Rattle.command_line.specs.rule.Program.{program_app, flag_text, IsMet, IsNumber, MayBeNumber}
 use Rattle.command_line.specs.rule.JudgeTasks.{rule_text}
 use Rattle.command_line.specs.rule.Tasks.{Task, format_text, task_of}
 use Rattle.command_line.specs.rule.Words.{AsksForNothing, IsShown}
@@ -33,6 +33,10 @@ IsLineOf met result = MatchOption result ((task : Task) → IsMet met task → �
 abbrev pub IsNumberOf : ℕ → ℕ → Option Text → Option ℕ → Type 0
 IsNumberOf least greatest value result =
     MatchOption result ((text : Text) (number : ℕ) → value ≡ Some text → IsNumber least greatest text number → ⊥) (λ number. (text : Text) × (value ≡ Some text) × IsNumber least greatest text number)
+
+-- the number that the argument has, if it has a value; none where its value writes none
+abbrev pub MayBeNumberOf : ℕ → ℕ → Option Text → Option (Option ℕ) → Type 0
+MayBeNumberOf least greatest value result = MatchOption result ((number : Option ℕ) → MayBeNumber least greatest value number → ⊥) (λ number. MayBeNumber least greatest value number)
 
 -- the flag whose text the argument has
 abbrev pub IsFlagOf : Option Text → Option Bool → Type 0

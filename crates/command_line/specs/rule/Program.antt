@@ -1,12 +1,12 @@
 -- The command line as clap reads it.
-use Rattle.std.specs.Prelude.{◌≡◌, ◌≢◌, ◌≤◌, ℕ, pos, Bool, true, false, codes, List, [], ◌∷◌, map, option_map, unwrap_or, Option, Some}
+use Rattle.std.specs.Prelude.{◌≡◌, ◌≢◌, ◌≤◌, ⊤, ℕ, pos, Bool, true, false, codes, List, [], ◌∷◌, map, option_map, unwrap_or, Option, Some, None}
 use Rattle.std.specs.Str.Parse.{IsNumeral, digits_value, without_leading_plus}
 use Rattle.clap.specs.Words.{App, Row, Rule, Text, all_of, first_of, one_of, new_app, new_rule, with_rule, with_subcommand}
 use Rattle.clap.specs.Simple.{on_top}
 use Rattle.clap.specs.declared.builder.action.ArgAction.TheVariants.{Append, SetTrue}
 use Rattle.clap.specs.declared.builder.value_parser.ValueParser.TheVariants.{Signed}
 use Rattle.command_line.specs.rule.JudgeTasks.{MayJudge, rule_text}
-use Rattle.command_line.specs.rule.Tasks.{Task, run, threads, audit, history, explain, open_calls, check, picture, from_strace, recorded_history, explore, schedule, judge, format_text, greatest_seed, most_nodes, MayBeQuiet, MayRecord}
+use Rattle.command_line.specs.rule.Tasks.{Task, run, threads, audit, history, explain, open_calls, state, check, picture, stats, from_strace, recorded_history, explore, schedule, judge, format_text, greatest_seed, most_files, most_nodes, MayBeQuiet, MayRecord}
 
 -- a word that must be there: a path, or the name of a call
 abbrev pub path_rule : Text → Rule
@@ -27,6 +27,10 @@ values_rule id long = record (option_rule id long) { action = Some Append }
 -- one whose value is a number from the least to the greatest, with the text of the number that it is where it is left out
 abbrev pub number_rule : Text → Text → Text → ℕ → ℕ → Rule
 number_rule id long default least greatest = record (option_rule id long) { defaults = default ∷ []; parser = Some (Signed (pos least) (pos greatest)) }
+
+-- one whose value is a number from the least to the greatest, which may be left out
+abbrev pub bounded_rule : Text → Text → ℕ → ℕ → Rule
+bounded_rule id long least greatest = record (option_rule id long) { parser = Some (Signed (pos least) (pos greatest)) }
 
 -- a flag, which may be left out
 abbrev pub flag_rule : Text → Rule
@@ -67,6 +71,16 @@ from_rule = number_rule (codes "K") (codes "from") (codes "1") 1 greatest_seed
 abbrev pub to_rule : Rule
 to_rule = number_rule (codes "L") (codes "to") (codes "4294967295") 1 greatest_seed
 
+-- `--at K`, from 0 on, `--node N` and `--file F`, from 1 on, which may be left out
+abbrev pub at_rule : Rule
+at_rule = bounded_rule (codes "K") (codes "at") 0 greatest_seed
+
+abbrev pub node_rule : Rule
+node_rule = bounded_rule (codes "N") (codes "node") 1 most_nodes
+
+abbrev pub lock_file_rule : Rule
+lock_file_rule = bounded_rule (codes "F") (codes "file") 1 most_files
+
 -- `--steps N`, from 1 on, and 10000000 if it is left out
 abbrev pub steps_rule : Rule
 steps_rule = number_rule (codes "N") (codes "steps") (codes "10000000") 1 greatest_seed
@@ -84,13 +98,13 @@ abbrev pub nodes_rule : Rule
 nodes_rule = number_rule (codes "N") (codes "nodes") (codes "1") 1 most_nodes
 
 abbrev pub run_app : App
-run_app = with_rule (with_rule (with_rule (with_rule (with_rule (with_rule (new_app (codes "run")) (path_rule (codes "SCRIPT"))) after_rule) file_rule) (flag_rule (codes "expect"))) (flag_rule (codes "open"))) (flag_rule (codes "quiet"))
+run_app = with_rule (with_rule (with_rule (with_rule (with_rule (with_rule (with_rule (new_app (codes "run")) (path_rule (codes "SCRIPT"))) after_rule) file_rule) (flag_rule (codes "expect"))) (flag_rule (codes "open"))) (flag_rule (codes "quiet"))) (flag_rule (codes "calm"))
 
 abbrev pub threads_app : App
 threads_app = with_rule (with_rule (with_rule (with_rule (with_rule (new_app (codes "threads")) (path_rule (codes "SCRIPT"))) (seed_rule (codes "seed"))) (flag_rule (codes "stop-when-stuck"))) (flag_rule (codes "no-join"))) file_rule
 
 abbrev pub audit_app : App
-audit_app = with_rule (new_app (codes "audit")) (path_rule (codes "JOURNAL"))
+audit_app = with_rule (with_rule (new_app (codes "audit")) (path_rule (codes "JOURNAL"))) (flag_rule (codes "why"))
 
 abbrev pub history_app : App
 history_app = with_rule (with_rule (new_app (codes "history")) (path_rule (codes "JOURNAL"))) (flag_rule (codes "as-clients"))
@@ -101,11 +115,17 @@ explain_app = with_rule (with_rule (new_app (codes "explain")) (path_rule (codes
 abbrev pub open_app : App
 open_app = with_rule (new_app (codes "open")) (path_rule (codes "JOURNAL"))
 
+abbrev pub state_app : App
+state_app = with_rule (with_rule (with_rule (with_rule (new_app (codes "state")) (path_rule (codes "JOURNAL"))) at_rule) node_rule) lock_file_rule
+
 abbrev pub check_app : App
 check_app = with_rule (with_rule (new_app (codes "check")) (paths_rule (codes "SCRIPT"))) file_rule
 
 abbrev pub picture_app : App
 picture_app = with_rule (with_rule (with_rule (with_rule (with_rule (new_app (codes "picture")) (path_rule (codes "JOURNAL"))) around_rule) from_rule) to_rule) format_rule
+
+abbrev pub stats_app : App
+stats_app = with_rule (new_app (codes "stats")) (path_rule (codes "JOURNAL"))
 
 abbrev pub strace_app : App
 strace_app = with_rule (with_rule (with_rule (with_rule (new_app (codes "from-strace")) (paths_rule (codes "RECORDING"))) nodes_rule) places_rule) (flag_rule (codes "history"))
@@ -127,7 +147,7 @@ bare_app = on_top (λ s. record s { has_version = true; subcommand_required = tr
 -- the commands that read a script or a journal and change neither, behind those that run a script
 abbrev pub readers_app : App
 readers_app =
-    with_subcommand (with_subcommand (with_subcommand (with_subcommand (with_subcommand (with_subcommand (with_subcommand (with_subcommand bare_app run_app.top) threads_app.top) audit_app.top) history_app.top) explain_app.top) open_app.top) check_app.top) picture_app.top
+    with_subcommand (with_subcommand (with_subcommand (with_subcommand (with_subcommand (with_subcommand (with_subcommand (with_subcommand (with_subcommand (with_subcommand bare_app run_app.top) threads_app.top) audit_app.top) history_app.top) explain_app.top) open_app.top) state_app.top) check_app.top) picture_app.top) stats_app.top
 
 abbrev pub program_app : App
 program_app = with_subcommand (with_subcommand (with_subcommand (with_subcommand readers_app strace_app.top) explore_app.top) schedule_app.top) judge_app.top
@@ -147,6 +167,12 @@ pub record IsNumber (least greatest : ℕ) (text : Text) (number : ℕ) : Type 0
   pub from_least : least ≤ number
   pub within : number ≤ greatest
 
+-- the text writes the number that is given, and there is none where none is
+abbrev pub MayBeNumber : ℕ → ℕ → Option Text → Option ℕ → Type 0
+MayBeNumber least greatest None None = ⊤
+MayBeNumber least greatest (Some text) (Some number) = IsNumber least greatest text number
+MayBeNumber least greatest text number = ⊥
+
 -- the text that stands for a flag that is given, and for one that is left out
 abbrev pub flag_text : Bool → Text
 flag_text true = codes "true"
@@ -154,13 +180,19 @@ flag_text false = codes "false"
 
 -- the paths, numbers and flags of the commands that have more than paths
 abbrev pub run_values_in : Option (Text × List Row) → Option (Text × List (Option Text))
-run_values_in = read_in (first_of (codes "SCRIPT") ∷ first_of (codes "JOURNAL") ∷ first_of (codes "FILE") ∷ one_of (codes "expect") ∷ one_of (codes "open") ∷ one_of (codes "quiet") ∷ [])
+run_values_in = read_in (first_of (codes "SCRIPT") ∷ first_of (codes "JOURNAL") ∷ first_of (codes "FILE") ∷ one_of (codes "expect") ∷ one_of (codes "open") ∷ one_of (codes "quiet") ∷ one_of (codes "calm") ∷ [])
 
 abbrev pub threads_values_in : Option (Text × List Row) → Option (Text × List (Option Text))
 threads_values_in = read_in (first_of (codes "SCRIPT") ∷ one_of (codes "N") ∷ one_of (codes "stop-when-stuck") ∷ one_of (codes "no-join") ∷ first_of (codes "FILE") ∷ [])
 
 abbrev pub picture_values_in : Option (Text × List Row) → Option (Text × List (Option Text))
 picture_values_in = read_in (first_of (codes "JOURNAL") ∷ first_of (codes "CALL") ∷ one_of (codes "K") ∷ one_of (codes "L") ∷ first_of (codes "FORMAT") ∷ [])
+
+abbrev pub audit_values_in : Option (Text × List Row) → Option (Text × List (Option Text))
+audit_values_in = read_in (first_of (codes "JOURNAL") ∷ one_of (codes "why") ∷ [])
+
+abbrev pub state_values_in : Option (Text × List Row) → Option (Text × List (Option Text))
+state_values_in = read_in (first_of (codes "JOURNAL") ∷ one_of (codes "K") ∷ one_of (codes "N") ∷ one_of (codes "F") ∷ [])
 
 abbrev pub history_values_in : Option (Text × List Row) → Option (Text × List (Option Text))
 history_values_in = read_in (first_of (codes "JOURNAL") ∷ one_of (codes "as-clients") ∷ [])
@@ -191,18 +223,22 @@ judge_values_in =
 
 -- it is the command of the task, with its paths, its numbers, its flags, its format, the name of its call and the words that place processes
 abbrev pub IsMet : Option (Text × List Row) → Task → Type 0
-IsMet met (run script after journal expected listed quiet) =
-    (run_values_in met ≡ Some (codes "run", Some script ∷ after ∷ journal ∷ Some (flag_text expected) ∷ Some (flag_text listed) ∷ Some (flag_text quiet) ∷ [])) × MayBeQuiet journal expected quiet
+IsMet met (run script after journal expected listed quiet calm) =
+    (run_values_in met ≡ Some (codes "run", Some script ∷ after ∷ journal ∷ Some (flag_text expected) ∷ Some (flag_text listed) ∷ Some (flag_text quiet) ∷ Some (flag_text calm) ∷ [])) × MayBeQuiet journal expected quiet
 IsMet met (threads script seed stop no_join journal) =
     (text : Text) × (threads_values_in met ≡ Some (codes "threads", Some script ∷ Some text ∷ Some (flag_text stop) ∷ Some (flag_text no_join) ∷ journal ∷ [])) × IsNumber 0 greatest_seed text seed
-IsMet met (audit journal) = values_in (codes "JOURNAL" ∷ []) met ≡ Some (codes "audit", Some journal ∷ [])
+IsMet met (audit journal why) = audit_values_in met ≡ Some (codes "audit", Some journal ∷ Some (flag_text why) ∷ [])
 IsMet met (history journal as_clients) = history_values_in met ≡ Some (codes "history", Some journal ∷ Some (flag_text as_clients) ∷ [])
 IsMet met (explain journal call) = values_in (codes "JOURNAL" ∷ codes "CALL" ∷ []) met ≡ Some (codes "explain", Some journal ∷ Some call ∷ [])
 IsMet met (open_calls journal) = values_in (codes "JOURNAL" ∷ []) met ≡ Some (codes "open", Some journal ∷ [])
+IsMet met (state journal at of_node of_file) =
+    (k : Option Text) × (n : Option Text) × (f : Option Text) × (state_values_in met ≡ Some (codes "state", Some journal ∷ k ∷ n ∷ f ∷ []))
+    × MayBeNumber 0 greatest_seed k at × MayBeNumber 1 most_nodes n of_node × MayBeNumber 1 most_files f of_file
 IsMet met (check scripts journal) = (check_values_in met ≡ Some (codes "check", Some scripts, journal)) × (scripts ≢ [])
 IsMet met (picture journal call first last format) =
     (from : Text) × (to : Text) × (picture_values_in met ≡ Some (codes "picture", Some journal ∷ call ∷ Some from ∷ Some to ∷ Some (format_text format) ∷ []))
     × IsNumber 1 greatest_seed from first × IsNumber 1 greatest_seed to last
+IsMet met (stats journal) = values_in (codes "JOURNAL" ∷ []) met ≡ Some (codes "stats", Some journal ∷ [])
 IsMet met (from_strace recording nodes places) =
     (text : Text) × (strace_values_in met ≡ Some (codes "from-strace", Some (recording ∷ []), Some text ∷ places ∷ Some (flag_text false) ∷ [])) × IsNumber 1 most_nodes text nodes
 IsMet met (recorded_history recordings) =

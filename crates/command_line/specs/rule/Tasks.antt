@@ -8,26 +8,31 @@ use Rattle.command_line.specs.declared.line.Line.{Line}
 use Rattle.command_line.specs.declared.picture_line.PictureLine.{PictureLine}
 use Rattle.command_line.specs.declared.run_line.RunLine.{RunLine}
 use Rattle.command_line.specs.declared.run_line.ThreadsLine.{ThreadsLine}
-use Rattle.command_line.specs.declared.line.Line.TheVariants.{Run, Threads, Audit, History, Explain, Open, Check, Picture, FromStrace, RecordedHistory, Explore, Schedule, Judge}
+use Rattle.command_line.specs.declared.state_line.StateLine.{StateLine}
+use Rattle.command_line.specs.declared.line.Line.TheVariants.{Run, Threads, Audit, History, Explain, Open, State, Check, Picture, Stats, FromStrace, RecordedHistory, Explore, Schedule, Judge}
 
 -- what is to be done, with the paths of the files that are named, the name of a call, and the words that place processes
 pub data Task : Type 0 where
-  -- to run the script of the first path, behind the journal of the second, if there is one, to write the journal to the third, if there is one, to compare the replies with what the script expects, if that is asked for, to list the calls without a reply, if that is, and to leave the listing away, if that is
-  run : Text → Option Text → Option Text → Bool → Bool → Bool → Task
+  -- to run the script of the first path, behind the journal of the second, if there is one, to write the journal to the third, if there is one, to compare the replies with what the script expects, if that is asked for, to list the calls without a reply, if that is, to leave the listing away, if that is, and to go on behind the script until the run is calm, if that is
+  run : Text → Option Text → Option Text → Bool → Bool → Bool → Bool → Task
   -- to run the script of the first path on threads, with this seed, to end the run where it is stuck and to make lines of failures and starts beside open calls, if that is asked for, and to write the journal to the second, if there is one
   threads : Text → ℕ → Bool → Bool → Option Text → Task
-  -- to say whether the journal is one of a run
-  audit : Text → Task
+  -- to say whether the journal is one of a run, and why it is none, if that is asked for
+  audit : Text → Bool → Task
   -- to print the history of the journal, or what its clients saw, if that is asked for
   history : Text → Bool → Task
   -- to tell the story of the call of this name, the second text, in the journal
   explain : Text → Text → Task
   -- to list the calls of the journal that have no reply
   open_calls : Text → Task
+  -- to show what the cluster of the journal holds behind this entry, or behind the last, of this node alone and of this file alone, if they are given
+  state : Text → Option ℕ → Option ℕ → Option ℕ → Task
   -- to say what is wrong in each script of these paths, and why a journal can't be written to the other, if there is one
   check : List Text → Option Text → Task
   -- to draw the journal, around the call of this name, if there is one, from one entry to another, in this format
   picture : Text → Option Text → ℕ → ℕ → Format → Task
+  -- to count what the journal has
+  stats : Text → Task
   -- to turn the recording of calls into a script of a cluster of so many nodes, with processes at the places that the words name, if there are any
   from_strace : Text → ℕ → Option Text → Task
   -- to turn recordings of calls into a history of clients: that of the one path, or those of several machines, each of which is named before its path
@@ -39,12 +44,15 @@ pub data Task : Type 0 where
   -- to judge histories
   judge : JudgeTask → Task
 
--- of a run, also on threads, and of a picture
+-- of a run, also on threads, of a state, and of a picture
 abbrev pub run_task_of : RunLine → Task
-run_task_of line = run line.script.now (option_map (λ file. file.now) line.after) (option_map (λ file. file.now) line.journal) line.expect line.«open» line.quiet
+run_task_of line = run line.script.now (option_map (λ file. file.now) line.after) (option_map (λ file. file.now) line.journal) line.expect line.«open» line.quiet line.calm
 
 abbrev pub threads_task_of : ThreadsLine → Task
 threads_task_of line = threads line.script.now line.seed line.stop_when_stuck line.no_join (option_map (λ file. file.now) line.journal)
+
+abbrev pub state_task_of : StateLine → Task
+state_task_of line = state line.journal.now line.at line.node line.file
 
 abbrev pub picture_task_of : PictureLine → Task
 picture_task_of line = picture line.journal.now (option_map (λ name. name.now) line.around) line.from line.to line.format
@@ -52,12 +60,14 @@ picture_task_of line = picture line.journal.now (option_map (λ name. name.now) 
 abbrev pub task_of : Line → Task
 task_of (Run line) = run_task_of line
 task_of (Threads line) = threads_task_of line
-task_of (Audit journal) = audit journal.now
+task_of (Audit journal why) = audit journal.now why
 task_of (History journal as_clients) = history journal.now as_clients
 task_of (Explain journal call) = explain journal.now call.now
 task_of (Open journal) = open_calls journal.now
+task_of (State line) = state_task_of line
 task_of (Check scripts journal) = check (map (λ script. script.now) scripts.items) (option_map (λ file. file.now) journal)
 task_of (Picture line) = picture_task_of line
+task_of (Stats journal) = stats journal.now
 task_of (FromStrace recording nodes places) = from_strace recording.now nodes (option_map (λ words. words.now) places)
 task_of (RecordedHistory recordings) = recorded_history (map (λ recording. recording.now) recordings.items)
 task_of (Explore script seeds first failures) = explore script.now seeds first failures
@@ -70,14 +80,16 @@ given (Some text) = text ∷ []
 
 -- the paths, also with the name of a machine before it, the name of a call, and the words that place processes
 abbrev pub paths_of : Task → List Text
-paths_of (run script after journal expected listed quiet) = script ∷ given after ++ given journal
+paths_of (run script after journal expected listed quiet calm) = script ∷ given after ++ given journal
 paths_of (threads script seed stop no_join journal) = script ∷ given journal
-paths_of (audit journal) = journal ∷ []
+paths_of (audit journal why) = journal ∷ []
 paths_of (history journal as_clients) = journal ∷ []
 paths_of (explain journal call) = journal ∷ call ∷ []
 paths_of (open_calls journal) = journal ∷ []
+paths_of (state journal at of_node of_file) = journal ∷ []
 paths_of (check scripts journal) = scripts ++ given journal
 paths_of (picture journal call first last format) = journal ∷ given call
+paths_of (stats journal) = journal ∷ []
 paths_of (from_strace recording nodes places) = recording ∷ given places
 paths_of (recorded_history recordings) = recordings
 paths_of (explore script seeds first failures) = script ∷ []
@@ -86,14 +98,16 @@ paths_of (judge t) = t.histories ++ given t.explains
 
 -- the path of the file to which the journal of a run is written; of a check none is
 abbrev pub journal_path : Task → Option Text
-journal_path (run script after to expected listed quiet) = to
+journal_path (run script after to expected listed quiet calm) = to
 journal_path (threads script seed stop no_join to) = to
-journal_path (audit journal) = None
+journal_path (audit journal why) = None
 journal_path (history journal as_clients) = None
 journal_path (explain journal call) = None
 journal_path (open_calls journal) = None
+journal_path (state journal at of_node of_file) = None
 journal_path (check scripts journal) = None
 journal_path (picture journal call first last format) = None
+journal_path (stats journal) = None
 journal_path (from_strace recording nodes places) = None
 journal_path (recorded_history recordings) = None
 journal_path (explore script seeds first failures) = None
@@ -107,6 +121,11 @@ option_words name (Some value) = name ∷ value ∷ []
 
 abbrev pub number_words : Text → ℕ → List Text
 number_words name number = name ∷ decimal number ∷ []
+
+-- a number that may be left out
+abbrev pub given_number_words : Text → Option ℕ → List Text
+given_number_words name None = []
+given_number_words name (Some number) = number_words name number
 
 abbrev pub flag_words : Text → Bool → List Text
 flag_words name false = []
@@ -125,17 +144,19 @@ format_text Trace = codes "trace"
 
 -- the words that ask for it, in their usual order
 abbrev pub plain_words_of : Task → List Text
-plain_words_of (run script after journal expected listed quiet) =
-    codes "run" ∷ script ∷ option_words (codes "--after") after ++ option_words (codes "--journal") journal ++ flag_words (codes "--expect") expected ++ flag_words (codes "--open") listed ++ flag_words (codes "--quiet") quiet
+plain_words_of (run script after journal expected listed quiet calm) =
+    codes "run" ∷ script ∷ option_words (codes "--after") after ++ option_words (codes "--journal") journal ++ flag_words (codes "--expect") expected ++ flag_words (codes "--open") listed ++ flag_words (codes "--quiet") quiet ++ flag_words (codes "--calm") calm
 plain_words_of (threads script seed stop no_join journal) =
     codes "threads" ∷ script ∷ number_words (codes "--seed") seed ++ flag_words (codes "--stop-when-stuck") stop ++ flag_words (codes "--no-join") no_join ++ option_words (codes "--journal") journal
-plain_words_of (audit journal) = codes "audit" ∷ journal ∷ []
+plain_words_of (audit journal why) = codes "audit" ∷ journal ∷ flag_words (codes "--why") why
 plain_words_of (history journal as_clients) = codes "history" ∷ journal ∷ flag_words (codes "--as-clients") as_clients
 plain_words_of (explain journal call) = codes "explain" ∷ journal ∷ call ∷ []
 plain_words_of (open_calls journal) = codes "open" ∷ journal ∷ []
+plain_words_of (state journal at of_node of_file) = codes "state" ∷ journal ∷ (given_number_words (codes "--at") at ++ (given_number_words (codes "--node") of_node ++ given_number_words (codes "--file") of_file))
 plain_words_of (check scripts journal) = codes "check" ∷ scripts ++ option_words (codes "--journal") journal
 plain_words_of (picture journal call first last format) =
     codes "picture" ∷ journal ∷ option_words (codes "--around") call ++ number_words (codes "--from") first ++ number_words (codes "--to") last ++ codes "--format" ∷ format_text format ∷ []
+plain_words_of (stats journal) = codes "stats" ∷ journal ∷ []
 plain_words_of (from_strace recording nodes places) = codes "from-strace" ∷ recording ∷ number_words (codes "--nodes") nodes ++ option_words (codes "--place") places
 plain_words_of (recorded_history recordings) = codes "from-strace" ∷ recordings ++ codes "--history" ∷ []
 plain_words_of (explore script seeds first failures) = codes "explore" ∷ script ∷ number_words (codes "--seeds") seeds ++ number_words (codes "--first") first ++ flag_words (codes "--failures") failures
@@ -148,9 +169,17 @@ plain_words_of (judge t) =
 abbrev pub greatest_seed : ℕ
 greatest_seed = 4294967295
 
--- the most nodes of a cluster
+-- the most nodes of a cluster, and its most files
 abbrev pub most_nodes : ℕ
 most_nodes = 64
+
+abbrev pub most_files : ℕ
+most_files = 256
+
+-- a number that is given lies between the bounds
+abbrev pub IsWithin : ℕ → ℕ → Option ℕ → Type 0
+IsWithin least greatest None = ⊤
+IsWithin least greatest (Some number) = (least ≤ number) × (number ≤ greatest)
 
 -- the listing of a run may be left away where its journal is kept, or its replies are compared with what is expected
 abbrev pub MayBeQuiet : Option Text → Bool → Bool → Type 0
@@ -165,14 +194,16 @@ MayRecord recordings nodes places = (recordings ≢ []) × (nodes ≡ 1) × (pla
 
 -- the words are those of numbers in their range, a run that leaves its listing away keeps its journal or compares its replies, a check has a script, and a history of clients a recording; and what a judgement is asked for goes together
 abbrev pub HasPlainWords : Task → Type 0
-HasPlainWords (run script after journal expected listed quiet) = MayBeQuiet journal expected quiet
+HasPlainWords (run script after journal expected listed quiet calm) = MayBeQuiet journal expected quiet
 HasPlainWords (threads script seed stop no_join journal) = seed ≤ greatest_seed
-HasPlainWords (audit journal) = ⊤
+HasPlainWords (audit journal why) = ⊤
 HasPlainWords (history journal as_clients) = ⊤
 HasPlainWords (explain journal call) = ⊤
 HasPlainWords (open_calls journal) = ⊤
+HasPlainWords (state journal at of_node of_file) = IsWithin 0 greatest_seed at × IsWithin 1 most_nodes of_node × IsWithin 1 most_files of_file
 HasPlainWords (check scripts journal) = scripts ≢ []
 HasPlainWords (picture journal call first last format) = (1 ≤ first) × (first ≤ greatest_seed) × (1 ≤ last) × (last ≤ greatest_seed)
+HasPlainWords (stats journal) = ⊤
 HasPlainWords (from_strace recording nodes places) = (1 ≤ nodes) × (nodes ≤ most_nodes)
 HasPlainWords (recorded_history recordings) = recordings ≢ []
 HasPlainWords (explore script seeds first failures) = (1 ≤ seeds) × (seeds ≤ greatest_seed) × (first ≤ greatest_seed)

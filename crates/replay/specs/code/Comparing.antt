@@ -14,12 +14,12 @@ abbrev pub TellsOf : Bool → Ran → Type 0
 TellsOf breaking ran = IsCompared breaking (option_map (λ told. string_bytes told) ran.told)
 
 -- the script of the file came to this
-abbrev pub HasRan : (Option (List ℕ) → Type 0) → Bool → Ran → Type 0
-HasRan Holds compares ran = (breaking : Bool) × HasComparedRun Holds compares (state_of ran.played) breaking × TellsOf breaking ran
+abbrev pub HasRan : (Option (List ℕ) → Type 0) → Bool → Bool → Ran → Type 0
+HasRan Holds compares calm ran = (breaking : Bool) × HasComparedRun Holds compares calm (state_of ran.played) breaking × TellsOf breaking ran
 
 -- it did so behind the run of a journal
-abbrev pub WentBehind : (Option (List ℕ) → Type 0) → JournalFields → Bool → Ran → Type 0
-WentBehind Holds j compares ran = (breaking : Bool) × HasComparedRunBehind Holds j compares (state_of ran.played) breaking × TellsOf breaking ran
+abbrev pub WentBehind : (Option (List ℕ) → Type 0) → JournalFields → Bool → Bool → Ran → Type 0
+WentBehind Holds j compares calm ran = (breaking : Bool) × HasComparedRunBehind Holds j compares calm (state_of ran.played) breaking × TellsOf breaking ran
 
 -- the text and the lines of the script are kept where replies are to be compared, and nothing else
 abbrev pub IsExpecting : Bool → List ℕ → List LineFields → Option Expecting → Type 0

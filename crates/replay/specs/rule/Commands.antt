@@ -3,14 +3,14 @@ use Rattle.std.specs.Prelude.{◌≡◌, ℕ, ⊤, ◌⊎◌, Bool, true, false,
 use Rattle.std.specs.Io.KnownBytes.{Appends}
 use Rattle.cluster_core.specs.rule.Journals.{JournalFields, IsFirstWrong}
 use Rattle.cluster_core.specs.rule.Runs.{IsRun}
-use Rattle.command_line.specs.rule.Tasks.{Task, run, threads, audit, history, explain, open_calls, check, picture, from_strace, recorded_history, explore, schedule, judge, journal_path}
+use Rattle.command_line.specs.rule.Tasks.{Task, run, threads, audit, history, explain, open_calls, state, check, picture, stats, from_strace, recorded_history, explore, schedule, judge, journal_path}
 use Rattle.journal_text.specs.rule.Journals.{journal_text}
 use Rattle.journal_text.specs.rule.Readings.{WritesJournal}
 use Rattle.replay.specs.declared.fault.Fault.{Fault}
 use Rattle.replay.specs.declared.fault.Fault.TheVariants.{CannotWrite, CannotWriteOutput, NoMemory}
 use Rattle.replay.specs.declared.shown.Shown.{Shown}
 use Rattle.replay.specs.declared.shown.Shown.TheVariants.{Text, Partial, No}
-use Rattle.replay.specs.rule.Audits.{HasJournal, HasNewJournal, IsAudit, IsHistory}
+use Rattle.replay.specs.rule.Audits.{HasJournal, HasNewJournal, IsAudit, IsHistory, IsReasoned}
 use Rattle.replay.specs.rule.Checks.{AreChecked, IsAtFault}
 use Rattle.replay.specs.rule.Faults.{IsBehindFault, IsJournalFault, IsOldFault, IsScriptFault, IsThreadsFault}
 use Rattle.replay.specs.rule.Explorations.{IsExploreFault, IsExplored, IsScheduled}
@@ -23,7 +23,7 @@ use Rattle.replay.specs.rule.Scripts.{HasComparedRun, HasComparedRunBehind, HasR
 use Rattle.replay.specs.rule.Showing.{shown_status, shown_text}
 use Rattle.replay.specs.rule.Statuses.{status_of}
 use Rattle.replay.specs.rule.Threads.{IsTaken, IsTold, ShowsThreads, ThreadedFields}
-use Rattle.replay.specs.rule.Tellings.{IsDrawn, IsExplained, IsOpenTold}
+use Rattle.replay.specs.rule.Tellings.{IsCounted, IsDrawn, IsExplained, IsOpenTold, IsStateTold}
 use Rattle.replay.specs.rule.ToolFaults.{IsToolFault}
 use Rattle.replay.specs.rule.Stores.{Files, HasText, HasTextAt, SameFiles, SameOthers}
 
@@ -49,26 +49,29 @@ ShowsRun played breaking with_open quiet (Partial text told) = (breaking ≡ tru
 ShowsRun played breaking with_open quiet shown = ⊥
 
 -- the run of a journal went on by the script: what is shown is of the whole, whose journal is kept
-abbrev pub WentOn : Files → List ℕ → JournalFields → Option (List ℕ) → Bool → Bool → Bool → Files → Shown → Type 0
-WentOn old script j to compares with_open quiet new shown =
-    (played : PlayedState) × (breaking : Bool) × HasComparedRunBehind (old script) j compares played breaking × ShowsRun played breaking with_open quiet shown × KeepsJournal old to (journal_text played.journal.shape played.journal.entries) new × IsReadFrom to played.journal
+abbrev pub WentOn : Files → List ℕ → JournalFields → Option (List ℕ) → Bool → Bool → Bool → Bool → Files → Shown → Type 0
+WentOn old script j to compares with_open quiet calm new shown =
+    (played : PlayedState) × (breaking : Bool) × HasComparedRunBehind (old script) j compares calm played breaking × ShowsRun played breaking with_open quiet shown × KeepsJournal old to (journal_text played.journal.shape played.journal.entries) new × IsReadFrom to played.journal
 
 -- what is shown where a script goes on behind a journal: the first wrong entry of one that is no run, and no file changes, else what it came to
-abbrev pub GoesOn : Files → List ℕ → JournalFields → Option (List ℕ) → Bool → Bool → Bool → Files → Shown → Type 0
-GoesOn old script j to compares with_open quiet new (No position) = IsFirstWrong j.shape j.entries position × SameFiles old new
-GoesOn old script j to compares with_open quiet new shown = IsRun j.shape j.entries × WentOn old script j to compares with_open quiet new shown
+abbrev pub GoesOn : Files → List ℕ → JournalFields → Option (List ℕ) → Bool → Bool → Bool → Bool → Files → Shown → Type 0
+GoesOn old script j to compares with_open quiet calm new (No position) = IsFirstWrong j.shape j.entries position × SameFiles old new
+GoesOn old script j to compares with_open quiet calm new shown = IsRun j.shape j.entries × WentOn old script j to compares with_open quiet calm new shown
 
 -- what is shown of a task that is done, by the file that it reads, and the files that it leaves
 abbrev pub Does : Files → Task → Files → Shown → Type 0
-Does old (run script None to compares with_open quiet) new shown = (played : PlayedState) × (breaking : Bool) × HasComparedRun (old script) compares played breaking × ShowsRun played breaking with_open quiet shown × KeepsJournal old to (journal_text played.journal.shape played.journal.entries) new × IsReadFrom to played.journal
-Does old (run script (Some after) to compares with_open quiet) new shown = (j : JournalFields) × HasNewJournal (old after) j × GoesOn old script j to compares with_open quiet new shown
+Does old (run script None to compares with_open quiet calm) new shown = (played : PlayedState) × (breaking : Bool) × HasComparedRun (old script) compares calm played breaking × ShowsRun played breaking with_open quiet shown × KeepsJournal old to (journal_text played.journal.shape played.journal.entries) new × IsReadFrom to played.journal
+Does old (run script (Some after) to compares with_open quiet calm) new shown = (j : JournalFields) × HasNewJournal (old after) j × GoesOn old script j to compares with_open quiet calm new shown
 Does old (threads script seed may_stop no_join to) new shown = (t : ThreadedFields) × IsTold (old script) no_join may_stop t × ShowsThreads t shown × KeepsJournal old to t.journal new
-Does old (audit path) new shown = (j : JournalFields) × HasJournal (old path) j × IsAudit j shown × SameFiles old new
+Does old (audit path false) new shown = (j : JournalFields) × HasJournal (old path) j × IsAudit j shown × SameFiles old new
+Does old (audit path true) new shown = (j : JournalFields) × HasJournal (old path) j × IsReasoned j shown × SameFiles old new
 Does old (history path as_clients) new shown = (j : JournalFields) × HasJournal (old path) j × IsHistory as_clients j shown × SameFiles old new
 Does old (explain path name) new shown = (j : JournalFields) × HasJournal (old path) j × IsExplained j name shown × SameFiles old new
 Does old (open_calls path) new shown = (j : JournalFields) × HasJournal (old path) j × IsOpenTold j shown × SameFiles old new
+Does old (state path at of_node of_file) new shown = (j : JournalFields) × HasJournal (old path) j × IsStateTold j at of_node of_file shown × SameFiles old new
 Does old (check scripts journal) new shown = AreChecked old scripts shown × SameFiles old new
 Does old (picture path name from to format) new shown = (j : JournalFields) × HasJournal (old path) j × IsDrawn j name shown × SameFiles old new
+Does old (stats path) new shown = (j : JournalFields) × HasJournal (old path) j × IsCounted j shown × SameFiles old new
 Does old (from_strace path nodes places) new shown = HasTextAt old path × IsRecorded nodes places shown × SameFiles old new
 Does old (recorded_history words) new shown = AreRecorded old words × IsRecordedShown shown × SameFiles old new
 Does old (explore path seeds first failures) new shown = HasText (old path) (λ text. IsExplored failures first seeds text shown) × SameFiles old new
@@ -91,15 +94,17 @@ IsGoingFault old RanShort script after fault =
 
 -- the fault is in a file that the task reads, or memory is short where `RanShort` says it or for what the file holds; of tools that report it is looser (`IsToolFault`), and of a check it may be that a journal's file refuses to be written
 abbrev pub IsInputFault : Files → Type 0 → (List ℕ → Type 0) → Task → Fault → Type 0
-IsInputFault old RanShort Refuses (run script None to compares with_open quiet) fault = IsScriptFault (old script) RanShort script fault
-IsInputFault old RanShort Refuses (run script (Some after) to compares with_open quiet) fault = IsGoingFault old RanShort script after fault
+IsInputFault old RanShort Refuses (run script None to compares with_open quiet calm) fault = IsScriptFault (old script) RanShort script fault
+IsInputFault old RanShort Refuses (run script (Some after) to compares with_open quiet calm) fault = IsGoingFault old RanShort script after fault
 IsInputFault old RanShort Refuses (threads script seed may_stop no_join to) fault = IsThreadsFault (old script) RanShort script fault
-IsInputFault old RanShort Refuses (audit path) fault = IsJournalFault (old path) RanShort path fault
+IsInputFault old RanShort Refuses (audit path why) fault = IsJournalFault (old path) RanShort path fault
 IsInputFault old RanShort Refuses (history path as_clients) fault = IsJournalFault (old path) RanShort path fault
 IsInputFault old RanShort Refuses (explain path name) fault = IsJournalFault (old path) RanShort path fault
 IsInputFault old RanShort Refuses (open_calls path) fault = IsJournalFault (old path) RanShort path fault
+IsInputFault old RanShort Refuses (state path at of_node of_file) fault = IsJournalFault (old path) RanShort path fault
 IsInputFault old RanShort Refuses (check scripts journal) fault = IsToolFault old (Contains scripts) (Any (IsAtFault old) scripts ⊎ IsSomeAnd journal Refuses) fault
 IsInputFault old RanShort Refuses (picture path name from to format) fault = IsJournalFault (old path) RanShort path fault
+IsInputFault old RanShort Refuses (stats path) fault = IsJournalFault (old path) RanShort path fault
 IsInputFault old RanShort Refuses (from_strace path nodes places) fault = IsToolFault old (λ file. file ≡ path) ⊤ fault
 IsInputFault old RanShort Refuses (recorded_history words) fault = IsToolFault old (IsRecordingOf words) ⊤ fault
 IsInputFault old RanShort Refuses (explore path seeds first failures) fault = IsExploreFault failures (old path) RanShort path fault
@@ -108,8 +113,8 @@ IsInputFault old RanShort Refuses (judge t) fault = IsToolFault old (IsJudgedWit
 
 -- there is a run of the task
 abbrev pub HasRunOf : Files → Task → Type 0
-HasRunOf old (run script None to compares with_open quiet) = (played : PlayedState) × HasRun (old script) played
-HasRunOf old (run script (Some after) to compares with_open quiet) = (j : JournalFields) × HasNewJournal (old after) j × ((played : PlayedState) × HasRunBehind (old script) j played)
+HasRunOf old (run script None to compares with_open quiet calm) = (played : PlayedState) × HasRun (old script) played
+HasRunOf old (run script (Some after) to compares with_open quiet calm) = (j : JournalFields) × HasNewJournal (old after) j × ((played : PlayedState) × HasRunBehind (old script) j played)
 HasRunOf old (threads script seed may_stop no_join to) = IsTaken (old script)
 HasRunOf old task = ⊥
 
@@ -134,9 +139,9 @@ TellsFault IsThere LeavesThis IsTold status = (fault : Fault) × IsThere fault �
 
 -- the lines that tell of faults are fixed, but for commands that say reasons; what those say is not said
 abbrev pub says_why : Task → Bool
-says_why (run script after to compares with_open quiet) = false
+says_why (run script after to compares with_open quiet calm) = false
 says_why (threads script seed may_stop no_join to) = false
-says_why (audit path) = false
+says_why (audit path why) = why
 says_why (history path as_clients) = false
 says_why task = true
 

@@ -1,11 +1,15 @@
 -- What tools show of the journal of a run. Their words and pictures are only shown, and nothing is said of them.
-use Rattle.std.specs.Prelude.{◌≡◌, ℕ, false, true, ⊤, List, Option, Some, None}
+use Rattle.std.specs.Prelude.{◌≡◌, ◌≤◌, ◌<◌, ◌⊎◌, ℕ, false, true, ⊤, List, length, take, Option, Some, None, unwrap_or}
 use Rattle.model.specs.declared.call.CallId.{CallId}
 use Rattle.model.specs.rule.Limits.{IsCall}
 use Rattle.cluster_core.specs.rule.Journals.{JournalFields, IsFirstWrong}
-use Rattle.cluster_core.specs.rule.Runs.{IsRun}
+use Rattle.cluster_core.specs.rule.Runs.{IsRun, Leads}
+use Rattle.cluster_core.specs.rule.World.{WorldState, first_world}
 use Rattle.message_text.specs.rule.Names.{call_text}
 use Rattle.pictures.specs.rule.Around.{around}
+use Rattle.states.specs.declared.chosen.Chosen.{Chosen}
+use Rattle.states.specs.declared.cluster_state.ClusterState.{ClusterState}
+use Rattle.states.specs.rule.States.{IsStateOf}
 use Rattle.stories.specs.rule.Stories.{is_made}
 use Rattle.replay.specs.declared.shown.Shown.{Shown}
 use Rattle.replay.specs.declared.shown.Shown.TheVariants.{Text, Wanting, Partial, No}
@@ -42,6 +46,35 @@ IsExplained j name = ShowsOf j (HasCall j name) (HasNoCall j name) ⊥
 -- the calls without a reply
 abbrev pub IsOpenTold : JournalFields → Shown → Type 0
 IsOpenTold j = ShowsOf j ⊤ ⊥ ⊥
+
+-- the position behind which a state is told: that of the last entry, where none is given
+abbrev pub position_of : JournalFields → Option ℕ → ℕ
+position_of j at = unwrap_or at (length j.entries)
+
+-- the number that is given is one of those from 1 to the last
+abbrev pub IsUpTo : ℕ → Option ℕ → Type 0
+IsUpTo last None = ⊤
+IsUpTo last (Some number) = (1 ≤ number) × (number ≤ last)
+
+-- the journal has the entry, and its cluster the node and the file, if they are given
+abbrev pub HasThese : JournalFields → Option ℕ → Option ℕ → Option ℕ → Type 0
+HasThese j at of_node of_file = (position_of j at ≤ length j.entries) × IsUpTo j.shape.nodes of_node × IsUpTo j.shape.files of_file
+
+-- this is the state of the world to which the entries up to a position lead, of the node and the file that are given
+abbrev pub IsStateBehind : JournalFields → ℕ → Option ℕ → Option ℕ → ClusterState → Type 0
+IsStateBehind j position of_node of_file told = (w : WorldState) × Leads (first_world j.shape) (take position j.entries) w × IsStateOf w (record { node = of_node; file = of_file }) told
+
+-- so there is one to be told
+abbrev pub HasState : JournalFields → Option ℕ → Option ℕ → Option ℕ → Type 0
+HasState j at of_node of_file = HasThese j at of_node of_file × ((told : ClusterState) × IsStateBehind j (position_of j at) of_node of_file told)
+
+-- a state
+abbrev pub IsStateTold : JournalFields → Option ℕ → Option ℕ → Option ℕ → Shown → Type 0
+IsStateTold j at of_node of_file = ShowsOf j (HasState j at of_node of_file) (¬ (HasThese j at of_node of_file)) ⊥
+
+-- counts
+abbrev pub IsCounted : JournalFields → Shown → Type 0
+IsCounted j = ShowsOf j ⊤ ⊥ ⊥
 
 -- a picture, around the call of a name, if one is given
 abbrev pub IsDrawn : JournalFields → Option (List ℕ) → Shown → Type 0

@@ -20,6 +20,12 @@ returns-in-explain c = line_met _ _ _ c.in-Some.name.now _ _ c.explain_in.result
 pub returns-in-open : goal.returns-in-open
 returns-in-open c = line_met _ _ _ c.in-Some.name.now _ _ c.open_in.result c.in-Some.ensures.name c.in-Some.ensures.rows c.in-open.is c.open_in.ensures
 
+pub returns-in-state : goal.returns-in-state
+returns-in-state c = line_met _ _ _ c.in-Some.name.now _ _ c.state_in.result c.in-Some.ensures.name c.in-Some.ensures.rows c.in-state.is c.state_in.ensures
+
+pub returns-in-stats : goal.returns-in-stats
+returns-in-stats c = line_met _ _ _ c.in-Some.name.now _ _ c.stats_in.result c.in-Some.ensures.name c.in-Some.ensures.rows c.in-stats.is c.stats_in.ensures
+
 pub returns-in-check : goal.returns-in-check
 returns-in-check c = IfOk-weaker c.check_in.result _ _ (λ line met. line_met _ _ _ c.in-Some.name.now _ _ line c.in-Some.ensures.name c.in-Some.ensures.rows c.in-check.is met) c.check_in.ensures
 

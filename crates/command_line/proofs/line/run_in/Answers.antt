@@ -1,6 +1,6 @@
 use Rattle.std.proofs.Common.{rules, codes, None, Some, [], ◌∷◌, ◌≡◌}
 use Rattle.clap.specs.Words.{found_of, rows_of}
-use Rattle.command_line.proofs.Unmet.{no_expect_flag, no_quiet, no_quiet_flag, no_run_flag, no_script}
+use Rattle.command_line.proofs.Unmet.{no_calm_flag, no_expect_flag, no_quiet, no_quiet_flag, no_run_flag, no_script}
 use Rattle.command_line.proofs.Tables.{no_value, same_value, value_is}
 use Rattle.command_line.proofs.line.run_in.Goals as goal
 
@@ -25,6 +25,11 @@ returns-in_err-quiet c =
     let none : c.from_residual-in_err-quiet.result ≡ None = search rules in
     rw none (no_quiet_flag (rows_of (found_of c.args.values.now)) c.in_err-quiet.ensures)
 
+pub returns-in_err-calm : goal.returns-in_err-calm
+returns-in_err-calm c =
+    let none : c.from_residual-in_err-calm.result ≡ None = search rules in
+    rw none (no_calm_flag (rows_of (found_of c.args.values.now)) c.in_err-calm.ensures)
+
 pub returns-then-not-may_be_quiet : goal.returns-then-not-may_be_quiet
 returns-then-not-may_be_quiet c =
     let found = found_of c.args.values.now in
@@ -40,4 +45,5 @@ returns c =
     let expected = c.in_ok-expect.ensures in
     let listed = c.in_ok-open.ensures in
     let quiet = c.in_ok-quiet.ensures in
-    ((λ i. Some (codes "run", script i ∷ after i ∷ journal i ∷ expected i ∷ listed i ∷ quiet i ∷ [])), c.may_be_quiet.ensures.may (search rules))
+    let calm = c.in_ok-calm.ensures in
+    ((λ i. Some (codes "run", script i ∷ after i ∷ journal i ∷ expected i ∷ listed i ∷ quiet i ∷ calm i ∷ [])), c.may_be_quiet.ensures.may (search rules))

@@ -25,6 +25,6 @@ returns-in_err-committed-clause-fault g c =
     let holds = g.S.Store.holds in
     let files = same-after (holds c.args.store.now) (holds c.run_of.new.store) (holds c.begin-draft.new.self) c.run_of.ensures.files c.begin-draft.ensures.files in
     let came = c.in_ok-played.ensures.run in
-    let has = uncompared (holds c.args.store.now c.args.path.now) c.args.wanted.expect came.0 _ came.1 in
-    let task = run c.args.path.now None (Some c.args.file.now) c.args.wanted.expect c.args.wanted.open c.args.wanted.quiet in
-    rw (p.1, p.2) (journal_fault (holds c.args.store.now) (holds c.begin-draft.new.self) (holds c.committed.new.store) _ _ task c.args.file.now _ files refl (_, has) (inr (has.0, has.1)) c.in_err-committed.ensures.fault)
+    let has = uncompared (holds c.args.store.now c.args.path.now) c.args.wanted.expect c.args.wanted.calm came.0 _ came.1 in
+    let task = run c.args.path.now None (Some c.args.file.now) c.args.wanted.expect c.args.wanted.open c.args.wanted.quiet c.args.wanted.calm in
+    rw (p.1, p.2) (journal_fault (holds c.args.store.now) (holds c.begin-draft.new.self) (holds c.committed.new.store) _ _ task c.args.file.now _ files refl has (inr (has.1.0, has.1.1)) c.in_err-committed.ensures.fault)

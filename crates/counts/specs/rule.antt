@@ -1,0 +1,4 @@
+pub mod Sums
+pub mod Kinds
+pub mod Touches
+pub mod Calls

@@ -1,0 +1,37 @@
+use Rattle.std.proofs.Common.{◌≡◌, ◌∙◌, ℕ, List, ap, length, subst, sym}
+use Rattle.std.proofs.lemmas.List.Elements.{All-weaker}
+use Rattle.std.proofs.lemmas.Result.{IfOk-weaker}
+use Rattle.messages.specs.declared.message.Message.{Message}
+use Rattle.cluster_core.specs.rule.Parts.{WorldParts, world_state}
+use Rattle.player.specs.rule.Rounds.{IsDue, IsQuiet}
+use Rattle.player.specs.code.Due.{AreDue}
+use Rattle.player.specs.code.Rounds.{Arrives}
+use Rattle.player.proofs.DueLists.{due_quiet}
+use Rattle.player.proofs.QuietRuns.{quietly_append, quietly_none}
+use Rattle.player.proofs.RoundEnds.{makes_round}
+use Rattle.player.proofs.rounds.round.Goals as goal
+
+pub returns-in_err-events-clause-goes : goal.returns-in_err-events-clause-goes
+returns-in_err-events-clause-goes c = quietly_none c.args.run.now
+
+pub take_all-requires : goal.take_all-requires
+take_all-requires c =
+    let w = world_state c.args.run.now.world in
+    let listed : AreDue w c.in_ok-events.events.items = subst (λ (p : WorldParts). AreDue (world_state p) c.in_ok-events.events.items) c.world-2.ensures.value c.in_ok-events.ensures in
+    let due : AreDue w c.as_slice.result.now = subst (AreDue w) (sym c.as_slice.ensures.value) listed in
+    All-weaker (IsDue w) IsQuiet (due_quiet w) c.as_slice.result.now due.each
+
+pub returns-clause-goes : goal.returns-clause-goes
+returns-clause-goes c = quietly_append c.args.run.now c.take_all.new.run c.deliver_from.new.run c.take_all.ensures.goes c.deliver_from.ensures.goes
+
+pub returns-clause-round : goal.returns-clause-round
+returns-clause-round c =
+    let w = world_state c.args.run.now.world in
+    let listed : AreDue w c.in_ok-events.events.items = subst (λ (p : WorldParts). AreDue (world_state p) c.in_ok-events.events.items) c.world-2.ensures.value c.in_ok-events.ensures in
+    let due : AreDue w c.as_slice.result.now = subst (AreDue w) (sym c.as_slice.ensures.value) listed in
+    let first : length c.sent-first.result.now ≡ length c.args.run.now.world.sent =
+    ap (λ (l : List Message). length l) c.sent-first.ensures ∙ ap (λ (p : WorldParts). length (world_state p).sent) c.world.ensures.value in
+    IfOk-weaker c.deliver_from.result _ _
+    (λ done arrives. makes_round c.args.run.now c.take_all.new.run c.deliver_from.new.run c.as_slice.result.now due c.in_ok-take_all.ensures.took
+    (subst (λ (k : ℕ). Arrives c.take_all.new.run k c.deliver_from.new.run) first arrives))
+    c.deliver_from.ensures.arrives

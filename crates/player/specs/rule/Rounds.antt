@@ -1,0 +1,97 @@
+-- Rounds: stretches of a run in which nothing fails and nothing is lost, and what is open is tried again.
+use Rattle.std.specs.Prelude.{◌≡◌, ◌⊎◌, ℕ, ◌+◌, ◌≤◌, ◌&&◌, Bool, true, List, [], ◌∷◌, ◌++◌, All, Contains, None, Err}
+use Rattle.messages.specs.declared.entry.Entry.{Entry}
+use Rattle.messages.specs.declared.event.Event.{Event}
+use Rattle.messages.specs.declared.event.Event.TheVariants.{Deliver, Retry, Resend, Learn}
+use Rattle.messages.specs.declared.message.Message.{Message}
+use Rattle.messages.specs.declared.refusal.Refused.{Refused}
+use Rattle.messages.specs.rule.Messages.{addressee}
+use Rattle.node_core.specs.declared.open_call.OpenCall.{OpenCall}
+use Rattle.cluster_core.specs.rule.Journals.{events_of}
+use Rattle.cluster_core.specs.rule.Next.{is_stopped, kept_next}
+use Rattle.cluster_core.specs.rule.Runs.{Leads}
+use Rattle.cluster_core.specs.rule.World.{WorldState, has_file, has_node, is_alive}
+use Rattle.player.specs.rule.Played.{PlayedState}
+use Rattle.player.specs.declared.calm.Calm.{Calm}
+use Rattle.player.specs.declared.calm.Calm.TheVariants as calm
+
+-- nothing fails or begins again, nobody calls, and no wait is interrupted
+abbrev pub IsQuiet : Event → Type 0
+IsQuiet (Deliver m) = Unit {0}
+IsQuiet (Retry n pid) = Unit {0}
+IsQuiet (Resend file) = Unit {0}
+IsQuiet (Learn file n incarnation) = Unit {0}
+IsQuiet _ = ⊥
+
+-- the entries lead from one world to another, and all are of quiet events
+pub record IsQuietRun (w : WorldState) (es : List Entry) (v : WorldState) : Type 0 where
+  pub leads : Leads w es v
+  pub quiet : All IsQuiet (events_of es)
+
+abbrev pub works : WorldState → ℕ → Bool
+works w file = has_file w file && w.working file
+
+-- the process of a live node has an open call
+abbrev pub HasOpen : WorldState → ℕ → ℕ → Type 0
+HasOpen w n pid = (is_alive w n ≡ true) × (c : OpenCall) × Contains (w.nodes n).pending c × (c.pid ≡ pid)
+
+-- a round owes to each working server of a file what node's incarnation was declared failed last, and a resend; and to each open call that it is tried again
+abbrev pub IsDue : WorldState → Event → Type 0
+IsDue w (Learn file n incarnation) = (works w file ≡ true) × (has_node w n ≡ true) × (1 ≤ incarnation) × (incarnation + 1 ≡ (w.nodes n).incarnation)
+IsDue w (Resend file) = works w file ≡ true
+IsDue w (Retry n pid) = HasOpen w n pid
+IsDue w _ = ⊥
+
+-- each message that an entry sends is delivered by a later one, unless who is to get it is declared failed, or it is one of those left
+abbrev pub Arrive : WorldState → (Message → Type 0) → List Entry → Type 0
+Arrive w IsLeft [] = Unit {0}
+Arrive w IsLeft (e ∷ es) = All (λ m. (is_stopped w (addressee m) ≡ true) ⊎ (Contains (events_of es) (Deliver m) ⊎ IsLeft m)) e.sends × Arrive w IsLeft es
+
+-- a round: what is due at its beginning happens, and what is sent in it arrives in it
+pub record IsRound (w : WorldState) (es : List Entry) (v : WorldState) : Type 0 where
+  pub run : IsQuietRun w es v
+  pub due : (event : Event) → IsDue w event → Contains (events_of es) event
+  pub arrive : Arrive v (λ m. ⊥) es
+
+-- no call is answered there
+abbrev pub AnswersNone : List Entry → Type 0
+AnswersNone es = All (λ e. e.reply ≡ None) es
+
+-- no call of a live node is open
+abbrev pub NoneOpen : WorldState → Type 0
+NoneOpen w = (n : ℕ) → is_alive w n ≡ true → (w.nodes n).pending ≡ []
+
+-- the entries end in two rounds, of which the second answers no call
+pub record EndsSilent (w : WorldState) (es : List Entry) (v : WorldState) : Type 0 where
+  pub before : List Entry
+  pub first : List Entry
+  pub second : List Entry
+  pub split : es ≡ before ++ (first ++ second)
+  pub begun : WorldState
+  pub mid : WorldState
+  pub leads : Leads w before begun
+  pub round : IsRound begun first mid
+  pub silent : IsRound mid second v
+  pub answers_none : AnswersNone second
+
+-- a quiet event is refused so
+abbrev pub Refuses : WorldState → Refused → Type 0
+Refuses w refusal = (event : Event) × IsQuiet event × (kept_next w event ≡ Err refusal)
+
+abbrev pub EndsAs : Calm → WorldState → List Entry → WorldState → Type 0
+EndsAs calm.NoneOpen w es v = NoneOpen v
+EndsAs calm.Silent w es v = EndsSilent w es v
+EndsAs (calm.Refused refusal) w es v = Refuses v refusal
+
+-- rounds lead by these entries from one world to another, and end so
+pub record IsCalmed (w : WorldState) (es : List Entry) (v : WorldState) (end : Calm) : Type 0 where
+  pub run : IsQuietRun w es v
+  pub ends : EndsAs end w es v
+
+-- what a script comes to goes on by rounds, which end so
+pub record EndsCalm (from : PlayedState) (end : Calm) (to : PlayedState) : Type 0 where
+  pub later : List Entry
+  pub shape : to.journal.shape ≡ from.journal.shape
+  pub entries : to.journal.entries ≡ from.journal.entries ++ later
+  pub refused : to.refused ≡ from.refused
+  pub rounds : IsCalmed from.world later to.world end

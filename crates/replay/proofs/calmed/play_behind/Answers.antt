@@ -1,0 +1,9 @@
+use Rattle.std.proofs.Common.{Bool, subst, sym}
+use Rattle.player.specs.code.Parts.{state_of}
+use Rattle.replay.specs.rule.Scripts.{GoesBehind}
+use Rattle.replay.proofs.calmed.play_behind.Goals as goal
+
+pub returns-then-calm-clause-played : goal.returns-then-calm-clause-played
+returns-then-calm-clause-played g c =
+    let made = c.in_ok-played.ensures.calm in
+    subst (λ (calm : Bool). GoesBehind calm c.args.journal c.args.script.lines (state_of c.in_ok-played.played)) (sym c.if-calm.true) (made.0, c.in_ok-played._end, made.1, made.2)

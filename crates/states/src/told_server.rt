@@ -1,0 +1,134 @@
+//! What is told of a token server.
+ghost use Rattle.std.specs.Prelude.{◌≡◌, IfOk, map, filter};
+ghost use Rattle.model.specs.rule.Limits.{most_nodes};
+ghost use Rattle.known_nodes.specs.rule.Rows.{is_awaited};
+ghost use Rattle.token_server.specs.rule.Parts.{server_state};
+ghost use Rattle.token_server.specs.code.Readers.{nodes_where};
+ghost use Rattle.states.specs.rule.Choices.{is_chosen, tells_held, tells_dead, Narrows};
+ghost use Rattle.states.specs.rule.States.{AreRows, AreServed, IsToldServer, known_dead};
+
+use crate::chosen::Chosen;
+use messages::file_number::FileNumber;
+use model::limits::MOST_NODES;
+use std::alloc::{AllocError, Global};
+use token_queue::held::Held;
+use token_queue::token_request::TokenRequest;
+use token_server::server::Server;
+use token_server::shown_row::ShownRow;
+
+/// The epoch of the token server of a file, both from 1, and whether the server works. One that doesn't was declared
+/// failed in that epoch; all epochs before it failed.
+#[derive(Clone, Copy, Debug, PartialEq, Eq)]
+pub struct ToldEpoch {
+    pub file: u16,
+    pub epoch: u16,
+    pub works: bool,
+}
+
+/// A node, and the greatest of its incarnations that a server knows to be dead, both from 1.
+#[derive(Clone, Copy, Debug, PartialEq, Eq)]
+pub struct KnownDead {
+    pub node: u8,
+    pub incarnation: u16,
+}
+
+/// What is told of a token server that works.
+#[derive(Drop)]
+pub struct ToldServer {
+    /// The file that it is the server of.
+    pub file: FileNumber,
+    /// The requests that it serves, in their order, each with the node whose answer it waits for: the least other
+    /// one whose token is in the way, or else its own, which is to take the grant.
+    pub served: Vec<Held>,
+    /// The queued requests, in the order in which they are to be served.
+    pub queued: Vec<TokenRequest>,
+    /// The requests that wait for a lock of another node to go, in the order in which they are to be queued again.
+    pub waiting: Vec<TokenRequest>,
+    /// The rows of the nodes that asked, by rising node.
+    pub rows: Vec<ShownRow>,
+    /// The nodes whose reports a rebuilt server awaits, by rising node.
+    pub awaited: Vec<u8>,
+    /// The nodes of which it knows an incarnation to be dead, by rising node.
+    pub dead: Vec<KnownDead>,
+}
+
+impl ToldServer {
+    /// What is told of the server of this file.
+    pub(crate) fn of(
+        alloc: Global,
+        server: &Server,
+        chosen: Chosen,
+        file: FileNumber,
+    ) -> Result<ToldServer, AllocError>
+        ensures told { IfOk result (IsToldServer (server_state server.now) chosen) }
+        ensures file { IfOk result (λ told. told.file ≡ file) }
+    {
+        Ok(ToldServer {
+            file,
+            served: served(alloc, server, chosen)?,
+            queued: chosen_of(server.queued(alloc)?, chosen),
+            waiting: chosen_of(server.waiting(alloc)?, chosen),
+            rows: rows(alloc, server, chosen)?,
+            awaited: awaited(alloc, server, chosen)?,
+            dead: dead(alloc, server, chosen)?,
+        })
+    }
+}
+
+// The requests that the server serves.
+fn served(alloc: Global, server: &Server, chosen: Chosen) -> Result<Vec<Held>, AllocError>
+    ensures { IfOk result (λ held. Narrows (AreServed (server_state server.now)) (tells_held chosen) held.items) }
+{
+    let mut held = Vec::from_slice(alloc, server.served())?;
+    held.retain(|held| chosen.has_held(held));
+    Ok(held)
+}
+
+// Those of the requests that are told of.
+fn chosen_of(requests: Vec<TokenRequest>, chosen: Chosen) -> Vec<TokenRequest>
+    ensures { result.items ≡ filter (λ r. is_chosen chosen.node r.call.node) requests.items }
+{
+    let mut requests = requests;
+    requests.retain(|request| chosen.has_request(request));
+    requests
+}
+
+// The rows of the nodes.
+fn rows(alloc: Global, server: &Server, chosen: Chosen) -> Result<Vec<ShownRow>, AllocError>
+    ensures { IfOk result (λ rows. Narrows (AreRows (server_state server.now)) (λ r. is_chosen chosen.node r.node) rows.items) }
+{
+    let mut rows = server.rows(alloc)?;
+    rows.retain(|row| chosen.has_node(row.node));
+    Ok(rows)
+}
+
+// The nodes whose reports the server awaits.
+fn awaited(alloc: Global, server: &Server, chosen: Chosen) -> Result<Vec<u8>, AllocError>
+    ensures { let s = server_state server.now in IfOk result (λ nodes. nodes.items ≡ filter (is_chosen chosen.node) (nodes_where (λ n. is_awaited (s.rows n)) s.shape.nodes)) }
+{
+    let mut nodes = server.awaited_nodes(alloc)?;
+    nodes.retain(|node| chosen.has_node(*node));
+    Ok(nodes)
+}
+
+// Whether the server knows an incarnation of the node to be dead, and the node is chosen.
+fn tells_dead(server: &Server, chosen: Chosen, node: u8) -> bool
+    ensures { result ≡ tells_dead (server_state server.now) chosen node }
+{
+    server.dead(node) > 0 && chosen.has_node(node)
+}
+
+// The nodes of which the server knows an incarnation to be dead.
+fn dead(alloc: Global, server: &Server, chosen: Chosen) -> Result<Vec<KnownDead>, AllocError>
+    ensures { let s = server_state server.now in IfOk result (λ dead. dead.items ≡ map (known_dead s) (nodes_where (tells_dead s chosen) most_nodes)) }
+{
+    let mut dead = Vec::new(alloc);
+    for place in 0..MOST_NODES {
+        let node = place + 1;
+        if tells_dead(server, chosen, node) {
+            let incarnation = server.dead(node);
+            dead.push(KnownDead { node, incarnation })?;
+        }
+    }
+    Ok(dead)
+}
