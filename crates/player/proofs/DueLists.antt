@@ -6,7 +6,10 @@ use Rattle.std.proofs.lemmas.Bool.Decides.{nat_tests}
 use Rattle.std.proofs.lemmas.List.{append-nil, take_more}
 use Rattle.std.proofs.lemmas.List.Elements.{All-nil, All-cons, All-append, All-weaker, Contains-append_left, Contains-append_right, Contains-push, Contains-push_cases}
 use Rattle.messages.specs.declared.event.Event.{Event}
-use Rattle.messages.specs.declared.event.Event.TheVariants.{Call, Deliver, Interrupt, Retry, Resend, Declare, Restart, Learn, FailServer, StartServer}
+use Rattle.messages.specs.declared.event.Event.TheVariants.{AtNode, AtServer, Deliver, Member}
+use Rattle.messages.specs.declared.event.NodeInput.TheVariants.{Call, Interrupt, Retry}
+use Rattle.messages.specs.declared.event.ServerInput.TheVariants.{Resend, Learn}
+use Rattle.messages.specs.declared.event.MemberEvent.TheVariants.{Declare, Restart, FailServer, StartServer}
 use Rattle.messages.specs.rule.Messages.{is_within}
 use Rattle.node_core.specs.declared.open_call.OpenCall.{OpenCall}
 use Rattle.node_core.specs.rule.State.{NodeState}
@@ -62,16 +65,16 @@ module _ (Is : ℕ → Event → Type 0) where
       (λ event is. let bounds = within is.0 event is.1 in (is.0, bounds.0, bounds.1, is.1))
 
 pub due_quiet : (w : WorldState) (event : Event) → IsDue w event → IsQuiet event
-due_quiet w (Call n pid op) due = absurd due
+due_quiet w (AtNode n (Call pid op)) due = absurd due
 due_quiet w (Deliver m) due = tt
-due_quiet w (Interrupt n pid) due = absurd due
-due_quiet w (Retry n pid) due = tt
-due_quiet w (Resend file) due = tt
-due_quiet w (Declare n) due = absurd due
-due_quiet w (Restart n) due = absurd due
-due_quiet w (Learn file n incarnation) due = tt
-due_quiet w (FailServer file) due = absurd due
-due_quiet w (StartServer file) due = absurd due
+due_quiet w (AtNode n (Interrupt pid)) due = absurd due
+due_quiet w (AtNode n (Retry pid)) due = tt
+due_quiet w (AtServer file Resend) due = tt
+due_quiet w (Member (Declare n)) due = absurd due
+due_quiet w (Member (Restart n)) due = absurd due
+due_quiet w (AtServer file (Learn n incarnation)) due = tt
+due_quiet w (Member (FailServer file)) due = absurd due
+due_quiet w (Member (StartServer file)) due = absurd due
 
 -- what is learned, tried again and sent again is all that is due
 module _ (w : WorldState) where
@@ -85,16 +88,16 @@ module _ (w : WorldState) where
   resend_due event is = is.1.1
 
   kind_of : (event : Event) → IsDue w event → IsLearn w event ⊎ (IsRetry w event ⊎ IsResend w event)
-  kind_of (Call n pid op) due = absurd due
+  kind_of (AtNode n (Call pid op)) due = absurd due
   kind_of (Deliver m) due = absurd due
-  kind_of (Interrupt n pid) due = absurd due
-  kind_of (Retry n pid) due = inr (inl (n, (pid, refl, due)))
-  kind_of (Resend file) due = inr (inr (file, (refl, due)))
-  kind_of (Declare n) due = absurd due
-  kind_of (Restart n) due = absurd due
-  kind_of (Learn file n incarnation) due = inl (file, (n, (incarnation, refl, due)))
-  kind_of (FailServer file) due = absurd due
-  kind_of (StartServer file) due = absurd due
+  kind_of (AtNode n (Interrupt pid)) due = absurd due
+  kind_of (AtNode n (Retry pid)) due = inr (inl (n, (pid, refl, due)))
+  kind_of (AtServer file Resend) due = inr (inr (file, (refl, due)))
+  kind_of (Member (Declare n)) due = absurd due
+  kind_of (Member (Restart n)) due = absurd due
+  kind_of (AtServer file (Learn n incarnation)) due = inl (file, (n, (incarnation, refl, due)))
+  kind_of (Member (FailServer file)) due = absurd due
+  kind_of (Member (StartServer file)) due = absurd due
 
   pub all_due : (a b c : List Event) → Adds (IsLearn w) [] a → Adds (IsRetry w) a b → Adds (IsResend w) b c → AreDue w c
   all_due a b c learns retries resends =
@@ -122,22 +125,22 @@ both_of false b is its = absurd (false≢true is)
 module _ (w : WorldState) where
   learn_file : (file : ℕ) (event : Event) → IsLearnOf w file event → (1 ≤ file) × (file ≤ w.shape.files)
   learn_file file event is =
-      let due : IsDue w (Learn file is.0 is.1.0) = subst (IsDue w) is.1.1 is.1.2 in
+      let due : IsDue w (AtServer file (Learn is.0 is.1.0)) = subst (IsDue w) is.1.1 is.1.2 in
       within_of w.shape.files file (first_of (has_file w file) (w.working file) due.0)
 
   learn_node : (file n : ℕ) (event : Event) → IsLearnAt w file n event → (1 ≤ n) × (n ≤ w.shape.nodes)
   learn_node file n event is =
-      let due : IsDue w (Learn file n is.0) = subst (IsDue w) is.1 is.2 in
+      let due : IsDue w (AtServer file (Learn n is.0)) = subst (IsDue w) is.1 is.2 in
       within_of w.shape.nodes n due.1
 
   retry_node : (n : ℕ) (event : Event) → IsRetryAt w n event → (1 ≤ n) × (n ≤ w.shape.nodes)
   retry_node n event is =
-      let due : IsDue w (Retry n is.0) = subst (IsDue w) is.1 is.2 in
+      let due : IsDue w (AtNode n (Retry is.0)) = subst (IsDue w) is.1 is.2 in
       within_of w.shape.nodes n (first_of (has_node w n) (w.alive n) due.0)
 
   resend_file : (file : ℕ) (event : Event) → IsResendAt w file event → (1 ≤ file) × (file ≤ w.shape.files)
   resend_file file event is =
-      let due : IsDue w (Resend file) = subst (IsDue w) is.0 is.1 in
+      let due : IsDue w (AtServer file Resend) = subst (IsDue w) is.0 is.1 in
       within_of w.shape.files file (first_of (has_file w file) (w.working file) due)
 
   up_to : (most last n : ℕ) → most ≤ last → (1 ≤ n) × (n ≤ most) → (1 ≤ n) × (n ≤ last)
@@ -158,12 +161,12 @@ module _ (w : WorldState) where
   -- a server that doesn't work learns nothing, and sends nothing again
   pub no_learn : (file : ℕ) (event : Event) → works w file ≡ false → IsLearnOf w file event → ⊥
   no_learn file event idle is =
-      let due : IsDue w (Learn file is.0 is.1.0) = subst (IsDue w) is.1.1 is.1.2 in
+      let due : IsDue w (AtServer file (Learn is.0 is.1.0)) = subst (IsDue w) is.1.1 is.1.2 in
       false≢true (sym idle ∙ due.0)
 
   pub no_resend : (file : ℕ) (event : Event) → works w file ≡ false → IsResendAt w file event → ⊥
   no_resend file event idle is =
-      let due : IsDue w (Resend file) = subst (IsDue w) is.0 is.1 in
+      let due : IsDue w (AtServer file Resend) = subst (IsDue w) is.0 is.1 in
       false≢true (sym idle ∙ due)
 
   -- a node that is there is alive
@@ -173,29 +176,29 @@ module _ (w : WorldState) where
   -- of a node that is not alive no call is tried again
   pub no_retry : (n : ℕ) (event : Event) → is_alive w n ≡ false → IsRetryAt w n event → ⊥
   no_retry n event idle is =
-      let due : IsDue w (Retry n is.0) = subst (IsDue w) is.1 is.2 in
+      let due : IsDue w (AtNode n (Retry is.0)) = subst (IsDue w) is.1 is.2 in
       false≢true (sym idle ∙ due.0)
 
   -- of a node of which no incarnation was declared failed nothing is learned
   pub no_dead : (file n : ℕ) (event : Event) → (w.nodes n).incarnation - 1 ≡ 0 → IsLearnAt w file n event → ⊥
   no_dead file n event none is =
-      let due : IsDue w (Learn file n is.0) = subst (IsDue w) is.1 is.2 in
+      let due : IsDue w (AtServer file (Learn n is.0)) = subst (IsDue w) is.1 is.2 in
       let least = due.2 in
       let next = due.3 in
       absurd (omega (arith, none, least, next))
 
   -- the one event that is learned of a node
-  pub one_dead : (file n dead : ℕ) (old : List Event) → works w file ≡ true → has_node w n ≡ true → dead ≡ (w.nodes n).incarnation - 1 → 1 ≤ dead → Adds (IsLearnAt w file n) old (old ++ Learn file n dead ∷ [])
+  pub one_dead : (file n dead : ℕ) (old : List Event) → works w file ≡ true → has_node w n ≡ true → dead ≡ (w.nodes n).incarnation - 1 → 1 ≤ dead → Adds (IsLearnAt w file n) old (old ++ AtServer file (Learn n dead) ∷ [])
   one_dead file n dead old working node is least =
-      adds_one (IsLearnAt w file n) old (Learn file n dead) (dead, refl, (working, node, least, omega (arith, is, least)))
+      adds_one (IsLearnAt w file n) old (AtServer file (Learn n dead)) (dead, refl, (working, node, least, omega (arith, is, least)))
       (λ other its.
-      let due : IsDue w (Learn file n its.0) = subst (IsDue w) its.1 its.2 in
+      let due : IsDue w (AtServer file (Learn n its.0)) = subst (IsDue w) its.1 its.2 in
       let next = due.3 in
       let same : dead ≡ its.0 = omega (arith, is, next) in
-      ap (λ (i : ℕ). Learn file n i) same ∙ sym its.1)
+      ap (λ (i : ℕ). AtServer file (Learn n i)) same ∙ sym its.1)
 
-  pub one_resend : (file : ℕ) (old : List Event) → works w file ≡ true → Adds (IsResendAt w file) old (old ++ Resend file ∷ [])
-  one_resend file old working = adds_one (IsResendAt w file) old (Resend file) (refl, working) (λ other its. sym its.0)
+  pub one_resend : (file : ℕ) (old : List Event) → works w file ≡ true → Adds (IsResendAt w file) old (old ++ AtServer file Resend ∷ [])
+  one_resend file old working = adds_one (IsResendAt w file) old (AtServer file Resend) (refl, working) (λ other its. sym its.0)
 
   -- the calls that a live node has open are those that are tried again there
   pub node_retries : (n : ℕ) (calls : List OpenCall) (old new : List Event) → is_alive w n ≡ true → calls ≡ (w.nodes n).pending → Adds (IsRetryOf n calls) old new → Adds (IsRetryAt w n) old new
@@ -203,23 +206,23 @@ module _ (w : WorldState) where
       adds_same (IsRetryOf n calls) (IsRetryAt w n) old new
       (λ event is. (is.0.pid, is.2, subst (IsDue w) (sym is.2) (alive, is.0, subst (λ (cs : List OpenCall). Contains cs is.0) are is.1, refl)))
       (λ event is.
-      let due : IsDue w (Retry n is.0) = subst (IsDue w) is.1 is.2 in
-      (due.1, subst (λ (cs : List OpenCall). Contains cs due.1) (sym are) due.2, is.1 ∙ ap (λ (pid : ℕ). Retry n pid) (sym due.3)))
+      let due : IsDue w (AtNode n (Retry is.0)) = subst (IsDue w) is.1 is.2 in
+      (due.1, subst (λ (cs : List OpenCall). Contains cs due.1) (sym are) due.2, is.1 ∙ ap (λ (pid : ℕ). AtNode n (Retry pid)) (sym due.3)))
 
 -- one more call of a node is tried again
-pub next_retry : (n : ℕ) (calls : List OpenCall) (i : ℕ) (c : OpenCall) (old mid : List Event) → i < length calls → c ≡ get_or calls i c → Adds (IsRetryOf n (take i calls)) old mid → Adds (IsRetryOf n (take (i + 1) calls)) old (mid ++ Retry n c.pid ∷ [])
+pub next_retry : (n : ℕ) (calls : List OpenCall) (i : ℕ) (c : OpenCall) (old mid : List Event) → i < length calls → c ≡ get_or calls i c → Adds (IsRetryOf n (take i calls)) old mid → Adds (IsRetryOf n (take (i + 1) calls)) old (mid ++ AtNode n (Retry c.pid) ∷ [])
 next_retry n calls i c old mid lt is so_far =
     let next : take (i + 1) calls ≡ take i calls ++ c ∷ [] = take_more calls i c lt ∙ ap (λ (x : OpenCall). take i calls ++ x ∷ []) (sym is) in
-    let Last : Event → Type 0 = λ event. event ≡ Retry n c.pid in
-    adds_join (IsRetryOf n (take i calls)) Last (IsRetryOf n (take (i + 1) calls)) old mid (mid ++ Retry n c.pid ∷ [])
+    let Last : Event → Type 0 = λ event. event ≡ AtNode n (Retry c.pid) in
+    adds_join (IsRetryOf n (take i calls)) Last (IsRetryOf n (take (i + 1) calls)) old mid (mid ++ AtNode n (Retry c.pid) ∷ [])
     (λ event its. (its.0, subst (λ (cs : List OpenCall). Contains cs its.0) (sym next) (Contains-append_left (take i calls) (c ∷ []) its.0 its.1), its.2))
     (λ event last. (c, subst (λ (cs : List OpenCall). Contains cs c) (sym next) (Contains-push (take i calls) c), last))
     (λ event its. elim (Contains-push_cases (take i calls) c its.0 (subst (λ (cs : List OpenCall). Contains cs its.0) next its.1)) [
       | inl before ↦ inl (its.0, before, its.2)
-      | inr same ↦ inr (its.2 ∙ ap (λ (x : OpenCall). Retry n x.pid) (sym same))
+      | inr same ↦ inr (its.2 ∙ ap (λ (x : OpenCall). AtNode n (Retry x.pid)) (sym same))
     ])
     so_far
-    (adds_one Last mid (Retry n c.pid) refl (λ other last. sym last))
+    (adds_one Last mid (AtNode n (Retry c.pid)) refl (λ other last. sym last))
 
 pub no_retries : (n : ℕ) (calls : List OpenCall) (old : List Event) → Adds (IsRetryOf n (take 0 calls)) old old
 no_retries n calls old = adds_none (IsRetryOf n (take 0 calls)) old (λ event is. let lt = is.1.1 in absurd (omega (arith, lt)))

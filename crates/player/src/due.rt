@@ -6,7 +6,7 @@ ghost use Rattle.player.specs.code.Due.{Adds, AreDue, IsLearn, IsLearnAt, IsLear
 ghost use Rattle.player.specs.rule.Rounds.{works};
 
 use cluster_core::world::World;
-use messages::event::Event;
+use messages::event::{Event, NodeInput, ServerInput};
 use messages::shape::Shape;
 use node_core::open_call::OpenCall;
 use std::alloc::{AllocError, Global};
@@ -67,11 +67,7 @@ fn push_learn(events: &mut Vec<Event>, world: &World, file: u16, node: u8) -> Re
     if incarnation == 0 {
         return Ok(());
     }
-    events.push(Event::Learn {
-        file,
-        node,
-        incarnation,
-    })?;
+    events.push(Event::AtServer(file, ServerInput::Learn { node, incarnation }))?;
     Ok(())
 }
 
@@ -96,7 +92,7 @@ fn push_retries_of(events: &mut Vec<Event>, node: u8, calls: &[OpenCall]) -> Res
 {
     for call in calls {
         let pid = call.pid;
-        events.push(Event::Retry { node, pid })?;
+        events.push(Event::AtNode(node, NodeInput::Retry { pid }))?;
     }
     Ok(())
 }
@@ -119,6 +115,6 @@ fn push_resend(events: &mut Vec<Event>, world: &World, file: u16) -> Result<(), 
     if !world.is_working(file) {
         return Ok(());
     }
-    events.push(Event::Resend { file })?;
+    events.push(Event::AtServer(file, ServerInput::Resend))?;
     Ok(())
 }

@@ -1,7 +1,9 @@
 -- The events that a round owes, as the code lists them.
 use Rattle.std.specs.Prelude.{◌≡◌, ℕ, ◌≤◌, List, ◌++◌, All, Contains}
 use Rattle.messages.specs.declared.event.Event.{Event}
-use Rattle.messages.specs.declared.event.Event.TheVariants.{Retry, Resend, Learn}
+use Rattle.messages.specs.declared.event.Event.TheVariants.{AtNode, AtServer}
+use Rattle.messages.specs.declared.event.NodeInput.TheVariants.{Retry}
+use Rattle.messages.specs.declared.event.ServerInput.TheVariants.{Resend, Learn}
 use Rattle.node_core.specs.declared.open_call.OpenCall.{OpenCall}
 use Rattle.cluster_core.specs.rule.World.{WorldState}
 use Rattle.player.specs.rule.Rounds.{IsDue}
@@ -24,7 +26,7 @@ OfUpTo Is last event = (n : ℕ) × (1 ≤ n) × (n ≤ last) × Is n event
 
 -- the server of the file is to learn of an incarnation of the node
 abbrev pub IsLearnAt : WorldState → ℕ → ℕ → Event → Type 0
-IsLearnAt w file n event = (incarnation : ℕ) × (event ≡ Learn file n incarnation) × IsDue w event
+IsLearnAt w file n event = (incarnation : ℕ) × (event ≡ AtServer file (Learn n incarnation)) × IsDue w event
 
 abbrev pub IsLearnOf : WorldState → ℕ → Event → Type 0
 IsLearnOf w file event = (n : ℕ) × IsLearnAt w file n event
@@ -34,16 +36,16 @@ IsLearn w event = (file : ℕ) × IsLearnOf w file event
 
 -- one of these calls of the node is to be tried again
 abbrev pub IsRetryOf : ℕ → List OpenCall → Event → Type 0
-IsRetryOf n calls event = (c : OpenCall) × Contains calls c × (event ≡ Retry n c.pid)
+IsRetryOf n calls event = (c : OpenCall) × Contains calls c × (event ≡ AtNode n (Retry c.pid))
 
 abbrev pub IsRetryAt : WorldState → ℕ → Event → Type 0
-IsRetryAt w n event = (pid : ℕ) × (event ≡ Retry n pid) × IsDue w event
+IsRetryAt w n event = (pid : ℕ) × (event ≡ AtNode n (Retry pid)) × IsDue w event
 
 abbrev pub IsRetry : WorldState → Event → Type 0
 IsRetry w event = (n : ℕ) × IsRetryAt w n event
 
 abbrev pub IsResendAt : WorldState → ℕ → Event → Type 0
-IsResendAt w file event = (event ≡ Resend file) × IsDue w event
+IsResendAt w file event = (event ≡ AtServer file Resend) × IsDue w event
 
 abbrev pub IsResend : WorldState → Event → Type 0
 IsResend w event = (file : ℕ) × IsResendAt w file event

@@ -2,7 +2,9 @@
 use Rattle.std.specs.Prelude.{◌≡◌, ◌⊎◌, ℕ, ◌+◌, ◌≤◌, ◌&&◌, Bool, true, List, [], ◌∷◌, ◌++◌, All, Contains, None, Err}
 use Rattle.messages.specs.declared.entry.Entry.{Entry}
 use Rattle.messages.specs.declared.event.Event.{Event}
-use Rattle.messages.specs.declared.event.Event.TheVariants.{Deliver, Retry, Resend, Learn}
+use Rattle.messages.specs.declared.event.Event.TheVariants.{AtNode, AtServer, Deliver}
+use Rattle.messages.specs.declared.event.NodeInput.TheVariants.{Retry}
+use Rattle.messages.specs.declared.event.ServerInput.TheVariants.{Resend, Learn}
 use Rattle.messages.specs.declared.message.Message.{Message}
 use Rattle.messages.specs.declared.refusal.Refused.{Refused}
 use Rattle.messages.specs.rule.Messages.{addressee}
@@ -18,9 +20,9 @@ use Rattle.player.specs.declared.calm.Calm.TheVariants as calm
 -- nothing fails or begins again, nobody calls, and no wait is interrupted
 abbrev pub IsQuiet : Event → Type 0
 IsQuiet (Deliver m) = Unit {0}
-IsQuiet (Retry n pid) = Unit {0}
-IsQuiet (Resend file) = Unit {0}
-IsQuiet (Learn file n incarnation) = Unit {0}
+IsQuiet (AtNode n (Retry pid)) = Unit {0}
+IsQuiet (AtServer file Resend) = Unit {0}
+IsQuiet (AtServer file (Learn n incarnation)) = Unit {0}
 IsQuiet _ = ⊥
 
 -- the entries lead from one world to another, and all are of quiet events
@@ -37,9 +39,9 @@ HasOpen w n pid = (is_alive w n ≡ true) × (c : OpenCall) × Contains (w.nodes
 
 -- a round owes to each working server of a file what node's incarnation was declared failed last, and a resend; and to each open call that it is tried again
 abbrev pub IsDue : WorldState → Event → Type 0
-IsDue w (Learn file n incarnation) = (works w file ≡ true) × (has_node w n ≡ true) × (1 ≤ incarnation) × (incarnation + 1 ≡ (w.nodes n).incarnation)
-IsDue w (Resend file) = works w file ≡ true
-IsDue w (Retry n pid) = HasOpen w n pid
+IsDue w (AtServer file (Learn n incarnation)) = (works w file ≡ true) × (has_node w n ≡ true) × (1 ≤ incarnation) × (incarnation + 1 ≡ (w.nodes n).incarnation)
+IsDue w (AtServer file Resend) = works w file ≡ true
+IsDue w (AtNode n (Retry pid)) = HasOpen w n pid
 IsDue w _ = ⊥
 
 -- each message that an entry sends is delivered by a later one, unless who is to get it is declared failed, or it is one of those left
