@@ -11,10 +11,10 @@ use messages::message::Message;
 use model::level::Level;
 use std::alloc::{AllocError, Global};
 use std::collections::VecDeque;
-use token_queue::token_request::TokenRequest;
 use token_server::event::ServerEvent;
 use token_server::server::Server;
 use token_server::shown_row::ShownRow;
+use token_server::token_queue::token_request::TokenRequest;
 
 /// The token server with its inbox.
 #[derive(Drop)]

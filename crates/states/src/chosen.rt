@@ -2,8 +2,8 @@
 ghost use Rattle.std.specs.Prelude.{◌≡◌, ◌||◌};
 ghost use Rattle.states.specs.rule.Choices.{is_chosen, tells_held};
 
-use token_queue::held::Held;
-use token_queue::token_request::TokenRequest;
+use token_server::token_queue::held::Held;
+use token_server::token_queue::token_request::TokenRequest;
 
 /// What is told of a cluster: what has to do with this node, and with this file, each counted from 1. `None` stands
 /// for all of them.

@@ -1,7 +1,7 @@
 //! Where the request of an open call is.
 ghost use Rattle.std.specs.Prelude.{◌≡◌, Some, None, find, option_map, IfOk, MatchOption};
-ghost use Rattle.token_queue.specs.rule.Requests.{is_of_call, meets};
-ghost use Rattle.known_nodes.specs.rule.Rows.{outstanding_of};
+ghost use Rattle.token_server.specs.rule.Requests.{is_of_call, meets};
+ghost use Rattle.token_server.specs.rule.Rows.{outstanding_of};
 ghost use Rattle.token_server.specs.rule.Parts.{server_state};
 ghost use Rattle.token_server.specs.rule.Server.{request_of};
 ghost use Rattle.token_server.specs.code.Obstacles.{obstacle};
@@ -14,8 +14,8 @@ use intervals::span::Span;
 use messages::message::Message;
 use model::call::CallId;
 use std::alloc::{AllocError, Global};
-use token_queue::held::Held;
-use token_queue::token_request::TokenRequest;
+use token_server::token_queue::held::Held;
+use token_server::token_queue::token_request::TokenRequest;
 use token_server::server::Server;
 use token_server::shown_row::ShownRow;
 

@@ -10,7 +10,7 @@ use model::level::Level;
 use std::alloc::AllocError;
 use std::fmt::Write;
 use texts::words::Named;
-use token_queue::token_request::TokenRequest;
+use token_server::token_queue::token_request::TokenRequest;
 use token_server::shown_row::ShownRow;
 
 /// Writes the lines of a server: its requests, its rows, the nodes that it awaits, the incarnations that it knows to

@@ -1,7 +1,7 @@
 //! What is told of a token server.
 ghost use Rattle.std.specs.Prelude.{◌≡◌, IfOk, map, filter};
 ghost use Rattle.model.specs.rule.Limits.{most_nodes};
-ghost use Rattle.known_nodes.specs.rule.Rows.{is_awaited};
+ghost use Rattle.token_server.specs.rule.Rows.{is_awaited};
 ghost use Rattle.token_server.specs.rule.Parts.{server_state};
 ghost use Rattle.token_server.specs.code.Readers.{nodes_where};
 ghost use Rattle.states.specs.rule.Choices.{is_chosen, tells_held, tells_dead, Narrows};
@@ -11,8 +11,8 @@ use crate::chosen::Chosen;
 use messages::file_number::FileNumber;
 use model::limits::MOST_NODES;
 use std::alloc::{AllocError, Global};
-use token_queue::held::Held;
-use token_queue::token_request::TokenRequest;
+use token_server::token_queue::held::Held;
+use token_server::token_queue::token_request::TokenRequest;
 use token_server::server::Server;
 use token_server::shown_row::ShownRow;
 

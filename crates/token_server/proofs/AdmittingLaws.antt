@@ -10,9 +10,9 @@ use Rattle.std.proofs.lemmas.List.Sums.{sum_by-append}
 use Rattle.intervals.specs.rule.Bytes.{Range}
 use Rattle.model.specs.declared.call.CallId.{CallId}
 use Rattle.messages.specs.rule.Messages.{same_call}
-use Rattle.token_queue.specs.declared.token_request.TokenRequest.{TokenRequest}
-use Rattle.token_queue.specs.rule.Requests.{is_of_call}
-use Rattle.token_queue.specs.rule.Requests.{meets}
+use Rattle.token_server.specs.declared.token_queue.token_request.TokenRequest.{TokenRequest}
+use Rattle.token_server.specs.rule.Requests.{is_of_call}
+use Rattle.token_server.specs.rule.Requests.{meets}
 use Rattle.token_server.specs.rule.Serve.{meets_some, admitted}
 use Rattle.token_server.specs.code.Admitting.{has_call_of, all_but, IsAdmitted}
 use Rattle.token_server.proofs.AdmitLaws.{Lists, admitted-more}

@@ -10,15 +10,15 @@ use Rattle.messages.specs.declared.refusal.StepError.TheVariants.{Spent}
 use Rattle.messages.specs.declared.message.Message.{Message}
 use Rattle.messages.specs.rule.Epochs.{before_epoch}
 use Rattle.messages.specs.rule.Messages.{greatest_number}
-use Rattle.token_queue.specs.declared.token_request.TokenRequest.{TokenRequest}
-use Rattle.known_nodes.specs.declared.node_change.NodeChange.{NodeChange}
-use Rattle.known_nodes.specs.declared.node_change.NodeChange.TheVariants.{Forgotten, Asked, Answered, Relieved, Reported}
-use Rattle.known_nodes.specs.declared.node_change.Changed.{Changed}
-use Rattle.known_nodes.specs.rule.Rows.{Row, is_hello, is_awaited, row_above}
+use Rattle.token_server.specs.declared.token_queue.token_request.TokenRequest.{TokenRequest}
+use Rattle.token_server.specs.declared.known_nodes.node_change.NodeChange.{NodeChange}
+use Rattle.token_server.specs.declared.known_nodes.node_change.NodeChange.TheVariants.{Forgotten, Asked, Answered, Relieved, Reported}
+use Rattle.token_server.specs.declared.known_nodes.node_change.Changed.{Changed}
+use Rattle.token_server.specs.rule.Rows.{Row, is_hello, is_awaited, row_above}
 use Rattle.token_server.specs.rule.State.{ServerState, awaits, begin, with_row}
 use Rattle.token_server.specs.rule.Serve.{conflicting_node, commanded, granted_to, revoked_from, served, with_more, and_then, each_served}
 use Rattle.token_server.specs.code.Ready.{AreOfEpoch}
-use Rattle.known_nodes.specs.code.Changes.{row_or_empty, row_after, rows_after}
+use Rattle.token_server.specs.code.Changes.{row_or_empty, row_after, rows_after}
 use Rattle.token_server.proofs.AdmissionLaws.{above-told}
 
 empty-told : (begin incarnation : ℕ) (row : Option Row) → is_awaited row ≡ false → is_awaited (row_or_empty begin incarnation row) ≡ false

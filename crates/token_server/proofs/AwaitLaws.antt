@@ -6,20 +6,20 @@ use Rattle.std.proofs.lemmas.List.{map-append, length-take, length-take-le, drop
 use Rattle.std.proofs.lemmas.Option.{slice_get_within}
 use Rattle.std.proofs.lemmas.List.Elements.{All-nil, All-cons, All-head, All-tail, All-push}
 use Rattle.intervals.specs.rule.Bytes.{Range}
-use Rattle.token_queue.specs.declared.token_request.TokenRequest.{TokenRequest}
-use Rattle.token_queue.specs.declared.held.Held.{Held}
-use Rattle.token_queue.specs.rule.Requests.{meets}
-use Rattle.token_queue.specs.rule.Actives.{requests_of, waiting_for}
-use Rattle.known_nodes.specs.declared.row_edit.RowEdit.{RowEdit}
-use Rattle.known_nodes.specs.declared.node_change.Changed.{Changed}
-use Rattle.known_nodes.specs.rule.Rows.{Row, row_conflicts}
+use Rattle.token_server.specs.declared.token_queue.token_request.TokenRequest.{TokenRequest}
+use Rattle.token_server.specs.declared.token_queue.held.Held.{Held}
+use Rattle.token_server.specs.rule.Requests.{meets}
+use Rattle.token_server.specs.rule.Actives.{requests_of, waiting_for}
+use Rattle.token_server.specs.declared.known_nodes.row_edit.RowEdit.{RowEdit}
+use Rattle.token_server.specs.declared.known_nodes.node_change.Changed.{Changed}
+use Rattle.token_server.specs.rule.Rows.{Row, row_conflicts}
 use Rattle.token_server.specs.rule.State.{ServerState}
 use Rattle.token_server.specs.rule.Serve.{conflicting_node}
-use Rattle.known_nodes.specs.code.Changes.{may_bar, rows_after}
+use Rattle.token_server.specs.code.Changes.{may_bar, rows_after}
 use Rattle.token_server.specs.code.Obstacles.{obstacle, are_apart, frees, may_turn}
-use Rattle.known_nodes.specs.rule.Parts.{rows_of}
+use Rattle.token_server.specs.rule.RowParts.{rows_of}
 use Rattle.token_server.specs.rule.Parts.{ServerParts, server_state}
-use Rattle.known_nodes.specs.code.Edits.{rows_overlaid}
+use Rattle.token_server.specs.code.RowEdits.{rows_overlaid}
 use Rattle.token_server.specs.code.Edits.{reached}
 use Rattle.token_server.proofs.FreeLaws.{obstacle-changed}
 use Rattle.token_server.proofs.GrantLaws.{unopposed-none}

@@ -14,10 +14,10 @@ use Rattle.token_set.proofs.TokenLaws.{conflicts-from}
 use Rattle.token_set.proofs.SearchLaws.{some_passes-first}
 use Rattle.token_set.proofs.AroundLaws.{largest_around-same, largest_around-or}
 use Rattle.token_server.specs.declared.told.Told.{Told}
-use Rattle.known_nodes.specs.rule.Rows.{Row, row_conflicts, row_conflicts_at}
-use Rattle.known_nodes.specs.code.Sent.{promised, barred_by, bars}
+use Rattle.token_server.specs.rule.Rows.{Row, row_conflicts, row_conflicts_at}
+use Rattle.token_server.specs.code.Sent.{promised, barred_by, bars}
 use Rattle.token_server.specs.code.Told.{row_told, cut}
-use Rattle.known_nodes.proofs.MarkLaws.{row_free}
+use Rattle.token_server.proofs.MarkLaws.{row_free}
 use Rattle.token_server.proofs.CutLaws.{cut-apart}
 
 or_none : (b : Bool) → b ≡ (b || false)

@@ -6,9 +6,9 @@ use Rattle.std.proofs.lemmas.List.Elements.{All-nil, All-cons, All-head, All-tai
 use Rattle.model.specs.declared.call.CallId.{CallId}
 use Rattle.messages.specs.declared.message.Blocking.TheVariants.{Yes}
 use Rattle.messages.specs.rule.Messages.{same_blocking}
-use Rattle.token_queue.specs.declared.token_request.TokenRequest.{TokenRequest}
-use Rattle.token_queue.specs.rule.Requests.{is_of_call, is_up_to}
-use Rattle.known_nodes.specs.rule.Rows.{Row}
+use Rattle.token_server.specs.declared.token_queue.token_request.TokenRequest.{TokenRequest}
+use Rattle.token_server.specs.rule.Requests.{is_of_call, is_up_to}
+use Rattle.token_server.specs.rule.Rows.{Row}
 use Rattle.token_server.specs.rule.State.{ServerState, forgotten, requests, requeued}
 use Rattle.token_server.specs.rule.Serve.{meets_some, admitted, ready}
 use Rattle.token_server.specs.rule.Server.{with_a_row, request_of, enqueued_with, enqueued, asked, ended, put_off, postponed, freed}

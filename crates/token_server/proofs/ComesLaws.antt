@@ -6,14 +6,14 @@ use Rattle.std.proofs.lemmas.Bool.{and_parts}
 use Rattle.std.proofs.lemmas.List.{take_more, drop_more, take-append-drop}
 use Rattle.std.proofs.lemmas.List.Elements.{filter-append}
 use Rattle.model.specs.declared.call.CallId.{CallId}
-use Rattle.token_queue.specs.declared.held.Held.{Held}
-use Rattle.token_queue.specs.declared.token_request.TokenRequest.{TokenRequest}
-use Rattle.token_queue.specs.rule.Requests.{is_of_call, meets, requests_in}
-use Rattle.token_queue.specs.code.Places.{request_at}
-use Rattle.token_queue.specs.rule.Actives.{requests_of}
-use Rattle.token_queue.proofs.CallLaws.{same_call-refl}
-use Rattle.token_queue.proofs.SlotLaws.{requests_in-append}
-use Rattle.token_queue.proofs.WalkLaws.{requests_in-around, requests_in-more}
+use Rattle.token_server.specs.declared.token_queue.held.Held.{Held}
+use Rattle.token_server.specs.declared.token_queue.token_request.TokenRequest.{TokenRequest}
+use Rattle.token_server.specs.rule.Requests.{is_of_call, meets, requests_in}
+use Rattle.token_server.specs.code.Places.{request_at}
+use Rattle.token_server.specs.rule.Actives.{requests_of}
+use Rattle.token_server.proofs.CallLaws.{same_call-refl}
+use Rattle.token_server.proofs.SlotLaws.{requests_in-append}
+use Rattle.token_server.proofs.WalkLaws.{requests_in-around, requests_in-more}
 use Rattle.token_server.specs.declared.gone.Gone.{Gone}
 use Rattle.token_server.specs.declared.sketch.Moved.{Moved}
 use Rattle.token_server.specs.declared.sketch.Moved.TheVariants.{Nothing, New, Again, Waiting, PutOff}

@@ -10,8 +10,8 @@ use Rattle.std.proofs.lemmas.List.Elements.{All-nil, All-head, All-tail, All-pus
 use Rattle.intervals.specs.rule.Bytes.{Range, is_in, NoneIn, IsLargest, largest_around}
 use Rattle.intervals.proofs.SpanSearch.{largest_is_largest}
 use Rattle.token_set.proofs.AroundLaws.{largest_around-is, largest_around-same, largest_around-or, largest_around-free}
-use Rattle.token_queue.specs.declared.token_request.TokenRequest.{TokenRequest}
-use Rattle.token_queue.specs.rule.Requests.{meets}
+use Rattle.token_server.specs.declared.token_queue.token_request.TokenRequest.{TokenRequest}
+use Rattle.token_server.specs.rule.Requests.{meets}
 use Rattle.token_server.specs.rule.Serve.{is_needed, narrowed}
 use Rattle.token_server.specs.code.Told.{cut, cut_all}
 use Rattle.token_server.proofs.GrantLaws.{none_needed}

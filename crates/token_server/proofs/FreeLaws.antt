@@ -12,16 +12,16 @@ use Rattle.model.specs.declared.level.Level.TheVariants.{Shared, Exclusive}
 use Rattle.token_set.specs.rule.Tokens.{Token, no_token, conflicts, level_conflicts}
 use Rattle.token_set.specs.rule.Releases.{lowered_level, lowered}
 use Rattle.token_set.proofs.SearchLaws.{first-same, some_passes-first, some_passes-from}
-use Rattle.known_nodes.specs.declared.node_change.NodeChange.{NodeChange}
-use Rattle.known_nodes.specs.declared.node_change.NodeChange.TheVariants.{Forgotten, Asked, Answered, Relieved, Reported}
-use Rattle.known_nodes.specs.declared.node_change.Changed.{Changed}
-use Rattle.token_queue.specs.declared.held.Held.{Held}
-use Rattle.token_queue.specs.declared.token_request.TokenRequest.{TokenRequest}
-use Rattle.known_nodes.specs.rule.Rows.{Row, row_above, row_conflicts}
+use Rattle.token_server.specs.declared.known_nodes.node_change.NodeChange.{NodeChange}
+use Rattle.token_server.specs.declared.known_nodes.node_change.NodeChange.TheVariants.{Forgotten, Asked, Answered, Relieved, Reported}
+use Rattle.token_server.specs.declared.known_nodes.node_change.Changed.{Changed}
+use Rattle.token_server.specs.declared.token_queue.held.Held.{Held}
+use Rattle.token_server.specs.declared.token_queue.token_request.TokenRequest.{TokenRequest}
+use Rattle.token_server.specs.rule.Rows.{Row, row_above, row_conflicts}
 use Rattle.token_server.specs.rule.State.{ServerState}
-use Rattle.token_queue.specs.rule.Requests.{meets}
+use Rattle.token_server.specs.rule.Requests.{meets}
 use Rattle.token_server.specs.rule.Serve.{conflicting_node}
-use Rattle.known_nodes.specs.code.Changes.{with_change, row_or_empty, row_after, may_bar}
+use Rattle.token_server.specs.code.Changes.{with_change, row_or_empty, row_after, may_bar}
 use Rattle.token_server.specs.code.Obstacles.{obstacle, is_dropped, frees, may_turn}
 use Rattle.token_server.proofs.GrantLaws.{conflicts_at}
 use Rattle.token_server.proofs.ObstacleLaws.{meets-from, obstacle-kept}

@@ -4,9 +4,9 @@ use Rattle.std.proofs.Common.{refl, sym, ap, subst, ◌∙◌, arith, append-nil
 use Rattle.std.proofs.lemmas.Bool.{and_parts, and_from, leb-true, le-leb}
 use Rattle.intervals.specs.rule.Bytes.{Range}
 use Rattle.model.specs.declared.call.CallId.{CallId}
-use Rattle.token_queue.specs.declared.token_request.TokenRequest.{TokenRequest}
-use Rattle.token_queue.specs.rule.Requests.{is_of_call}
-use Rattle.token_queue.specs.rule.Requests.{meets}
+use Rattle.token_server.specs.declared.token_queue.token_request.TokenRequest.{TokenRequest}
+use Rattle.token_server.specs.rule.Requests.{is_of_call}
+use Rattle.token_server.specs.rule.Requests.{meets}
 use Rattle.token_server.specs.rule.Serve.{meets_some}
 use Rattle.token_server.specs.code.Admitting.{IsAdmitted}
 use Rattle.token_server.specs.code.Ready.{AreDistinct}

@@ -10,11 +10,11 @@ use Rattle.intervals.proofs.SpanSearch.{largest_is_largest}
 use Rattle.token_set.proofs.SearchLaws.{first-is, some_passes-first}
 use Rattle.token_set.proofs.AroundLaws.{largest_around-free, largest_around-zero, largest_around-more, largest_around-skip, largest_around-same}
 use Rattle.model.specs.declared.mode.Mode.{Mode}
-use Rattle.token_queue.specs.declared.token_request.TokenRequest.{TokenRequest}
-use Rattle.known_nodes.specs.rule.Rows.{Row, row_conflicts, row_conflicts_at}
+use Rattle.token_server.specs.declared.token_queue.token_request.TokenRequest.{TokenRequest}
+use Rattle.token_server.specs.rule.Rows.{Row, row_conflicts, row_conflicts_at}
 use Rattle.token_server.specs.rule.State.{ServerState}
 use Rattle.token_server.specs.rule.Serve.{is_needed, narrowed, granted_span, conflicting_node}
-use Rattle.known_nodes.proofs.MarkLaws.{row_free}
+use Rattle.token_server.proofs.MarkLaws.{row_free}
 
 -- the row of another node conflicts with the bytes that the request needs
 abbrev pub conflicts_at : ServerState → TokenRequest → ℕ → Bool

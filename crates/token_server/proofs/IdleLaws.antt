@@ -6,13 +6,13 @@ use Rattle.intervals.specs.rule.Search.{some_passes}
 use Rattle.model.specs.rule.Limits.{IsNumber}
 use Rattle.messages.specs.rule.Shapes.{ShapeFields}
 use Rattle.messages.specs.rule.Epochs.{IsEpoch, before_epoch}
-use Rattle.token_queue.specs.rule.Requests.{LineParts}
-use Rattle.token_queue.specs.rule.Actives.{ActiveParts}
-use Rattle.known_nodes.specs.declared.known_node.KnownNode.{KnownNode}
-use Rattle.known_nodes.specs.rule.Rows.{is_awaited}
+use Rattle.token_server.specs.rule.Requests.{LineParts}
+use Rattle.token_server.specs.rule.Actives.{ActiveParts}
+use Rattle.token_server.specs.declared.known_nodes.known_node.KnownNode.{KnownNode}
+use Rattle.token_server.specs.rule.Rows.{is_awaited}
 use Rattle.token_server.specs.rule.State.{ServerState}
 use Rattle.token_server.specs.code.Obstacles.{obstacle, is_idle}
-use Rattle.known_nodes.specs.rule.Parts.{rows_of}
+use Rattle.token_server.specs.rule.RowParts.{rows_of}
 use Rattle.token_server.specs.rule.Parts.{server_state}
 use Rattle.token_server.specs.code.Ready.{IsServer}
 

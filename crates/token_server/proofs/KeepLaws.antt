@@ -12,10 +12,10 @@ use Rattle.messages.specs.declared.refusal.StepError.TheVariants.{Spent}
 use Rattle.messages.specs.declared.message.Message.{Message}
 use Rattle.messages.specs.rule.Messages.{greatest_number}
 use Rattle.token_set.specs.rule.Tokens.{Token}
-use Rattle.token_queue.specs.declared.token_request.TokenRequest.{TokenRequest}
-use Rattle.known_nodes.specs.rule.Rows.{Row, row_conflicts}
+use Rattle.token_server.specs.declared.token_queue.token_request.TokenRequest.{TokenRequest}
+use Rattle.token_server.specs.rule.Rows.{Row, row_conflicts}
 use Rattle.token_server.specs.rule.State.{ServerState, with_row, begin}
-use Rattle.token_queue.specs.rule.Requests.{meets}
+use Rattle.token_server.specs.rule.Requests.{meets}
 use Rattle.token_server.specs.rule.Serve.{meets_some, conflicting_node, commanded, granted_to, revoked_from, served}
 use Rattle.token_server.specs.code.Obstacles.{are_apart}
 use Rattle.token_server.proofs.GrantLaws.{conflicts_at}

@@ -1,3 +1,17 @@
+pub mod CallLaws
+pub mod SlotLaws
+pub mod PlaceLaws
+pub mod DistinctLaws
+pub mod WalkLaws
+pub mod LineLaws
+pub mod ActiveLaws
+pub mod KnownNodeLaws
+pub mod EditLaws
+pub mod GivenLaws
+pub mod MarkLaws
+pub mod OutstandingLaws
+pub mod ReportLaws
+pub mod RebuildLaws
 pub mod RequestLaws
 pub mod SketchLaws
 pub mod GrantLaws

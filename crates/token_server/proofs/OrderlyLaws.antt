@@ -19,10 +19,10 @@ use Rattle.messages.specs.rule.Messages.{same_blocking, host_of}
 use Rattle.model.specs.rule.Owners.{host_of_call}
 use Rattle.token_set.specs.rule.Tokens.{Token}
 use Rattle.token_set.specs.rule.Releases.{lowered}
-use Rattle.token_queue.specs.declared.token_request.TokenRequest.{TokenRequest}
-use Rattle.token_queue.specs.rule.Requests.{is_of_call, is_up_to}
-use Rattle.token_queue.proofs.CallLaws.{same_call-true}
-use Rattle.known_nodes.specs.rule.Rows.{Row, empty_row, row_above, is_grant, revoked_mode, row_of_incarnation, asks_token}
+use Rattle.token_server.specs.declared.token_queue.token_request.TokenRequest.{TokenRequest}
+use Rattle.token_server.specs.rule.Requests.{is_of_call, is_up_to}
+use Rattle.token_server.proofs.CallLaws.{same_call-true}
+use Rattle.token_server.specs.rule.Rows.{Row, empty_row, row_above, is_grant, revoked_mode, row_of_incarnation, asks_token}
 use Rattle.token_server.specs.rule.State.{ServerState, begin, forgotten, requests, requeued}
 use Rattle.token_server.specs.rule.Server.{Change, with_a_row, request_of, enqueued_with, enqueued, asked, acknowledged, ended, put_off, postponed, denial, row_of_host, taken, released, in_conflict, heard, freed, delivered}
 use Rattle.token_server.specs.rule.Serve.{meets_some, admitted, ready}

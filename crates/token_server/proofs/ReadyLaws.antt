@@ -11,12 +11,12 @@ use Rattle.messages.specs.declared.refusal.StepError.{StepError}
 use Rattle.messages.specs.declared.refusal.StepError.TheVariants.{NoMemory, Busy, Stranger, Spent}
 use Rattle.messages.specs.declared.outcome.Outcome.{Outcome}
 use Rattle.messages.specs.rule.Messages.{sending}
-use Rattle.token_queue.specs.declared.token_request.TokenRequest.{TokenRequest}
-use Rattle.token_queue.specs.declared.held.Held.{Held}
-use Rattle.token_queue.specs.rule.Requests.{LineParts, is_of_call, is_up_to, AreOfDistinctCalls}
-use Rattle.token_queue.specs.rule.Actives.{ActiveParts, requests_of}
-use Rattle.token_queue.proofs.CallLaws.{same_call-refl}
-use Rattle.known_nodes.specs.declared.known_node.KnownNode.{KnownNode}
+use Rattle.token_server.specs.declared.token_queue.token_request.TokenRequest.{TokenRequest}
+use Rattle.token_server.specs.declared.token_queue.held.Held.{Held}
+use Rattle.token_server.specs.rule.Requests.{LineParts, is_of_call, is_up_to, AreOfDistinctCalls}
+use Rattle.token_server.specs.rule.Actives.{ActiveParts, requests_of}
+use Rattle.token_server.proofs.CallLaws.{same_call-refl}
+use Rattle.token_server.specs.declared.known_nodes.known_node.KnownNode.{KnownNode}
 use Rattle.token_server.specs.declared.change.Draft.{Draft}
 use Rattle.token_server.specs.declared.change.Parts.{Parts}
 use Rattle.token_server.specs.declared.change.Edit.{Edit}
@@ -24,18 +24,18 @@ use Rattle.token_server.specs.declared.sketch.Sketch.{Sketch}
 use Rattle.token_server.specs.declared.sketch.Moved.{Moved}
 use Rattle.token_server.specs.declared.sketch.Moved.TheVariants.{Nothing, New, Again, Waiting, PutOff}
 use Rattle.token_server.specs.declared.told.Told.{Told}
-use Rattle.known_nodes.specs.rule.Rows.{Row, is_awaited}
+use Rattle.token_server.specs.rule.Rows.{Row, is_awaited}
 use Rattle.token_server.specs.rule.State.{ServerState, awaits}
 use Rattle.token_server.specs.rule.Serve.{meets_some, admitted, served, with_more, and_then, each_served, ready, serve}
 use Rattle.token_server.specs.rule.Resends.{sending_first}
 use Rattle.token_server.specs.code.Told.{with_told}
 use Rattle.token_server.specs.code.Obstacles.{obstacle, are_apart, is_idle}
 use Rattle.token_server.specs.code.Admitting.{all_but, all_stay}
-use Rattle.known_nodes.specs.rule.Parts.{rows_of, deaths_of}
+use Rattle.token_server.specs.rule.RowParts.{rows_of, deaths_of}
 use Rattle.token_server.specs.rule.Parts.{ServerParts, server_state}
 use Rattle.token_server.specs.code.Ready.{AreDistinct, IsOrderly, IsReady, IsServer}
 use Rattle.token_server.specs.code.Sketches.{dropped, without, still_active, queue_moved, waiting_moved, sketched}
-use Rattle.known_nodes.specs.code.Edits.{deaths_overlaid, given_of, given_rows}
+use Rattle.token_server.specs.code.RowEdits.{deaths_overlaid, given_of, given_rows}
 use Rattle.token_server.specs.code.Edits.{held_still, held_without, held_after, queue_after, waiting_after, IsDrafted, drafted, many_moved, HasRoom, IsNewCall, Fits, made}
 use Rattle.token_server.proofs.AdmitLaws.{ready-is}
 use Rattle.token_server.proofs.AskedLaws.{none-after, served-awaits, served-counted}

@@ -6,9 +6,9 @@ use Rattle.messages.specs.declared.refusal.StepError.TheVariants.{Stranger, Spen
 use Rattle.messages.specs.declared.message.Message.{Message}
 use Rattle.messages.specs.rule.Messages.{greatest_number, addressee, host_of, is_within}
 use Rattle.token_set.specs.rule.Tokens.{Token}
-use Rattle.token_queue.specs.declared.token_request.TokenRequest.{TokenRequest}
+use Rattle.token_server.specs.declared.token_queue.token_request.TokenRequest.{TokenRequest}
 use Rattle.token_server.specs.declared.event.ServerEvent.TheVariants.{Deliver}
-use Rattle.known_nodes.specs.rule.Rows.{Row}
+use Rattle.token_server.specs.rule.Rows.{Row}
 use Rattle.token_server.specs.rule.State.{ServerState, forgotten, requeued, begin, awaits}
 use Rattle.token_server.specs.rule.Serve.{conflicting_node, commanded, granted_to, revoked_from, served, with_more, and_then, each_served, ready, serve}
 use Rattle.token_server.specs.rule.Resends.{sending_first, outstanding, resend_rule}

@@ -10,8 +10,8 @@ use Rattle.messages.specs.declared.message.Message.{Message}
 use Rattle.messages.specs.declared.message.Message.TheVariants.{Grant}
 use Rattle.messages.specs.rule.Messages.{greatest_number}
 use Rattle.token_set.specs.rule.Tokens.{Token, raised}
-use Rattle.token_queue.specs.declared.token_request.TokenRequest.{TokenRequest}
-use Rattle.known_nodes.specs.rule.Rows.{Row, row_conflicts}
+use Rattle.token_server.specs.declared.token_queue.token_request.TokenRequest.{TokenRequest}
+use Rattle.token_server.specs.rule.Rows.{Row, row_conflicts}
 use Rattle.token_server.specs.rule.State.{ServerState, begin, with_row}
 use Rattle.token_server.specs.rule.Serve.{granted_span, conflicting_node, commanded, granted_to, revoked_from, served, with_more, and_then, each_served, ready, serve}
 use Rattle.token_server.specs.code.Grants.{IsUnhindered, GrantsWhatIsFree}

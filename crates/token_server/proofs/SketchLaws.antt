@@ -8,16 +8,16 @@ use Rattle.model.specs.declared.call.CallId.{CallId}
 use Rattle.model.specs.rule.Limits.{HostFields}
 use Rattle.model.specs.rule.Owners.{host_of_call}
 use Rattle.messages.specs.rule.Messages.{same_call}
-use Rattle.token_queue.specs.declared.token_request.TokenRequest.{TokenRequest}
-use Rattle.known_nodes.specs.declared.node_change.NodeChange.TheVariants.{Asked}
+use Rattle.token_server.specs.declared.token_queue.token_request.TokenRequest.{TokenRequest}
+use Rattle.token_server.specs.declared.known_nodes.node_change.NodeChange.TheVariants.{Asked}
 use Rattle.token_server.specs.declared.sketch.Moved.{Moved}
 use Rattle.token_server.specs.declared.sketch.Moved.TheVariants.{Nothing}
-use Rattle.known_nodes.specs.declared.node_change.Changed.{Changed}
-use Rattle.token_queue.specs.rule.Requests.{is_of_call, is_up_to}
-use Rattle.token_queue.specs.rule.Actives.{requests_of}
-use Rattle.known_nodes.specs.rule.Rows.{Row, row_above}
+use Rattle.token_server.specs.declared.known_nodes.node_change.Changed.{Changed}
+use Rattle.token_server.specs.rule.Requests.{is_of_call, is_up_to}
+use Rattle.token_server.specs.rule.Actives.{requests_of}
+use Rattle.token_server.specs.rule.Rows.{Row, row_above}
 use Rattle.token_server.specs.rule.State.{ServerState, forgotten, begin}
-use Rattle.known_nodes.specs.code.Changes.{with_change, row_or_empty, rows_after}
+use Rattle.token_server.specs.code.Changes.{with_change, row_or_empty, rows_after}
 use Rattle.token_server.specs.rule.Parts.{ServerParts, server_state}
 use Rattle.token_server.specs.rule.Server.{with_a_row, request_of, enqueued_with, enqueued, asked}
 use Rattle.token_server.specs.code.Sketches.{moved_with, moved_for, sketched}

@@ -14,16 +14,16 @@ use Rattle.messages.specs.declared.message.Message.TheVariants.{Grant, Revoke}
 use Rattle.messages.specs.rule.Messages.{greatest_number}
 use Rattle.model.specs.declared.host.Host.{Host}
 use Rattle.token_set.specs.rule.Tokens.{Token}
-use Rattle.token_queue.specs.declared.token_request.TokenRequest.{TokenRequest}
+use Rattle.token_server.specs.declared.token_queue.token_request.TokenRequest.{TokenRequest}
 use Rattle.token_server.specs.declared.told.Told.{Told}
-use Rattle.known_nodes.specs.rule.Rows.{Commands, Row}
+use Rattle.token_server.specs.rule.Rows.{Commands, Row}
 use Rattle.token_server.specs.rule.State.{ServerState, with_row, begin}
-use Rattle.known_nodes.specs.declared.known_node.KnownNode.{KnownNode}
-use Rattle.known_nodes.specs.declared.given.Given.{Given}
-use Rattle.known_nodes.specs.code.Sent.{next_number, told_commands, promised}
-use Rattle.known_nodes.specs.rule.Parts.{known_node_at}
-use Rattle.known_nodes.specs.declared.row_edit.RowEdit.{RowEdit}
-use Rattle.known_nodes.specs.code.Edits.{given_to_known_node, given_rows, given_of, rows_overlaid}
+use Rattle.token_server.specs.declared.known_nodes.known_node.KnownNode.{KnownNode}
+use Rattle.token_server.specs.declared.known_nodes.given.Given.{Given}
+use Rattle.token_server.specs.code.Sent.{next_number, told_commands, promised}
+use Rattle.token_server.specs.rule.RowParts.{known_node_at}
+use Rattle.token_server.specs.declared.known_nodes.row_edit.RowEdit.{RowEdit}
+use Rattle.token_server.specs.code.RowEdits.{given_to_known_node, given_rows, given_of, rows_overlaid}
 use Rattle.token_server.specs.code.Edits.{with_given}
 use Rattle.token_server.proofs.ServeLaws.{each_served-append}
 use Rattle.token_server.specs.rule.Serve.{narrowed, granted_span, commanded, granted_to, revoked_from, served, with_more, and_then, each_served}

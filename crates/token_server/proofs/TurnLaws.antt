@@ -15,19 +15,19 @@ use Rattle.messages.specs.declared.refusal.StepError.TheVariants.{Spent}
 use Rattle.messages.specs.declared.message.Message.{Message}
 use Rattle.messages.specs.rule.Messages.{greatest_number}
 use Rattle.token_set.specs.rule.Tokens.{Token}
-use Rattle.token_queue.specs.declared.held.Held.{Held}
-use Rattle.token_queue.specs.declared.token_request.TokenRequest.{TokenRequest}
-use Rattle.token_queue.specs.rule.Requests.{is_of_call, is_up_to}
-use Rattle.token_queue.specs.rule.Actives.{requests_of, waiting_for}
-use Rattle.token_queue.proofs.ActiveLaws.{waiting_for-at, waiting_for-length}
+use Rattle.token_server.specs.declared.token_queue.held.Held.{Held}
+use Rattle.token_server.specs.declared.token_queue.token_request.TokenRequest.{TokenRequest}
+use Rattle.token_server.specs.rule.Requests.{is_of_call, is_up_to}
+use Rattle.token_server.specs.rule.Actives.{requests_of, waiting_for}
+use Rattle.token_server.proofs.ActiveLaws.{waiting_for-at, waiting_for-length}
 use Rattle.token_server.specs.declared.lists.Lists.{Lists}
 use Rattle.token_server.specs.declared.told.Told.{Told}
-use Rattle.known_nodes.specs.declared.command.Order.{Order}
-use Rattle.known_nodes.specs.declared.command.Order.TheVariants.{Grant, Revoke}
-use Rattle.known_nodes.specs.code.Orders.{message_of}
-use Rattle.known_nodes.specs.rule.Rows.{Commands, Row, row_conflicts}
+use Rattle.token_server.specs.declared.known_nodes.command.Order.{Order}
+use Rattle.token_server.specs.declared.known_nodes.command.Order.TheVariants.{Grant, Revoke}
+use Rattle.token_server.specs.code.Orders.{message_of}
+use Rattle.token_server.specs.rule.Rows.{Commands, Row, row_conflicts}
 use Rattle.token_server.specs.rule.State.{ServerState, with_row, begin}
-use Rattle.known_nodes.specs.code.Sent.{next_number, told_commands}
+use Rattle.token_server.specs.code.Sent.{next_number, told_commands}
 use Rattle.token_server.specs.code.Sketches.{commands_of, without, still_active}
 use Rattle.token_server.specs.rule.Serve.{narrowed, granted_span, conflicting_node, commanded, granted_to, revoked_from, served, each_served}
 use Rattle.token_server.specs.code.Obstacles.{obstacle, are_apart, is_idle}

@@ -19,10 +19,10 @@ use Rattle.messages.specs.declared.outcome.Outcome.{Outcome}
 use Rattle.messages.specs.rule.Messages.{addressee, host_of, is_within, same_call, sending}
 use Rattle.token_set.specs.rule.Tokens.{Token}
 use Rattle.token_set.specs.rule.Releases.{lowered}
-use Rattle.token_queue.specs.declared.token_request.TokenRequest.{TokenRequest}
+use Rattle.token_server.specs.declared.token_queue.token_request.TokenRequest.{TokenRequest}
 use Rattle.token_server.specs.declared.event.ServerEvent.TheVariants.{Input, Deliver}
-use Rattle.token_queue.specs.rule.Requests.{is_of_call, is_up_to}
-use Rattle.known_nodes.specs.rule.Rows.{Row, is_grant, revoked_mode, asks_token}
+use Rattle.token_server.specs.rule.Requests.{is_of_call, is_up_to}
+use Rattle.token_server.specs.rule.Rows.{Row, is_grant, revoked_mode, asks_token}
 use Rattle.token_server.specs.rule.State.{ServerState, awaits, forgotten, requests, requeued}
 use Rattle.token_server.specs.rule.Serve.{meets_some, admitted, conflicting_node, commanded, granted_to, revoked_from, served, with_more, and_then, each_served, ready, serve}
 use Rattle.token_server.specs.rule.Resends.{outstanding, sending_first}

@@ -1,3 +1,10 @@
+pub mod Places
+pub mod Orders
+pub mod Sent
+pub mod Changes
+pub mod RowEdits
+pub mod Rebuilds
+pub mod Marks
 pub mod Readers
 pub mod Ready
 pub mod Sketches

@@ -1,3 +1,7 @@
+pub mod Requests
+pub mod Actives
+pub mod Rows
+pub mod RowParts
 pub mod State
 pub mod Parts
 pub mod Serve

@@ -1,9 +1,9 @@
 //! A planned step of a token server: what it changes, and what it sends.
 ghost use Rattle.std.specs.Prelude.{◌≡◌, IfOk};
 
+use crate::known_nodes::given::Given;
+use crate::known_nodes::row_edit::RowEdit;
 use crate::lists::{Lists, Spares};
-use known_nodes::given::Given;
-use known_nodes::row_edit::RowEdit;
 use messages::outcome::Outcome;
 use std::alloc::{AllocError, Global};
 

@@ -6,10 +6,12 @@
 pub mod change;
 pub mod event;
 mod gone;
+pub mod known_nodes;
 pub mod laws;
 pub mod lists;
 mod moves;
 pub mod server;
 pub mod shown_row;
 mod sketch;
+pub mod token_queue;
 mod told;

@@ -1,8 +1,8 @@
 //! The change of a token server's requests in a planned step.
 use crate::gone::Gone;
 use crate::sketch::Moved;
-use token_queue::held::Held;
-use token_queue::line::Line;
+use crate::token_queue::held::Held;
+use crate::token_queue::line::Line;
 
 /// The change of the requests in a step, made in this order. `ats`: new blockers of the active; `gone`: dropped;
 /// `moved`: re-queued; `fresh`: admitted.

@@ -1,7 +1,7 @@
 //! The functions that change a token server's requests in a step. None of them takes memory.
 ghost use Rattle.std.specs.Prelude.{◌≡◌, ◌≤◌, ◌++◌, ◌∷◌, [], find, length, None};
-ghost use Rattle.token_queue.specs.rule.Requests.{is_of_call};
-ghost use Rattle.token_queue.specs.rule.Actives.{requests_of, waiting_for};
+ghost use Rattle.token_server.specs.rule.Requests.{is_of_call};
+ghost use Rattle.token_server.specs.rule.Actives.{requests_of, waiting_for};
 ghost use Rattle.token_server.specs.code.Admitting.{has_call_of, all_but};
 ghost use Rattle.token_server.specs.code.Ready.{AreDistinct};
 ghost use Rattle.token_server.specs.code.Sketches.{without, queue_moved, waiting_moved};
@@ -10,11 +10,11 @@ ghost use Rattle.token_server.specs.code.Edits.{held_without, held_still, held_a
 use crate::gone::Gone;
 use crate::lists::{Lists, Spares};
 use crate::sketch::Moved;
+use crate::token_queue::active::Active;
+use crate::token_queue::held::Held;
+use crate::token_queue::line::Line;
+use crate::token_queue::token_request::TokenRequest;
 use model::call::CallId;
-use token_queue::active::Active;
-use token_queue::held::Held;
-use token_queue::line::Line;
-use token_queue::token_request::TokenRequest;
 
 /// Moves the requests of the line into the spare line, if there is one.
 pub(crate) fn refill(line: &mut Line, spare: Option<Line>, more: usize)

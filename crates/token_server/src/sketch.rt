@@ -3,10 +3,10 @@ ghost use Rattle.std.specs.Prelude.{◌≡◌, Some, None};
 ghost use Rattle.token_server.specs.code.Edits.{many_moved, many_put_off};
 ghost use Rattle.token_server.specs.code.Sketches.{dropped};
 
-use known_nodes::node_change::{Changed, NodeChange};
+use crate::known_nodes::node_change::{Changed, NodeChange};
+use crate::token_queue::line::Line;
+use crate::token_queue::token_request::TokenRequest;
 use model::call::CallId;
-use token_queue::line::Line;
-use token_queue::token_request::TokenRequest;
 
 /// The move of requests between the lists of a server.
 #[derive(Clone, Copy)]

@@ -2,9 +2,9 @@
 ghost use Rattle.std.specs.Prelude.{◌≡◌, ◌≤◌};
 ghost use Rattle.token_server.specs.code.Told.{told_to, cut};
 
+use crate::known_nodes::command::Command;
+use crate::known_nodes::commands::Commands;
 use intervals::span::Span;
-use known_nodes::command::Command;
-use known_nodes::commands::Commands;
 
 /// A command, the node that it goes to, and the commands to that node with it.
 #[derive(Clone, Copy)]

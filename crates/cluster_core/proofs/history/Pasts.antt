@@ -42,7 +42,7 @@ use Rattle.node_core.specs.rule.Interrupts.{interrupted, interrupt_rule}
 use Rattle.node_core.specs.rule.Retries.{retry_rule}
 use Rattle.node_core.specs.rule.Node.{node_rule}
 use Rattle.token_server.specs.declared.event.ServerEvent.TheVariants as server
-use Rattle.known_nodes.specs.rule.Rows.{awaited_row, outstanding_of}
+use Rattle.token_server.specs.rule.Rows.{awaited_row, outstanding_of}
 use Rattle.token_server.specs.rule.State.{ServerState, begin}
 use Rattle.token_server.specs.rule.Resends.{outstanding}
 use Rattle.token_server.specs.rule.Server.{server_rule}

@@ -25,7 +25,7 @@ use Rattle.node_core.specs.rule.Calls.{after_call, called}
 use Rattle.node_core.specs.rule.Commands.{in_epoch, in_order, granted, revoked, delivered}
 use Rattle.node_core.specs.rule.Interrupts.{interrupted}
 use Rattle.node_core.specs.rule.Node.{node_rule}
-use Rattle.token_queue.specs.declared.token_request.TokenRequest.{TokenRequest}
+use Rattle.token_server.specs.declared.token_queue.token_request.TokenRequest.{TokenRequest}
 use Rattle.token_server.specs.declared.event.ServerEvent.TheVariants as server
 use Rattle.token_server.specs.rule.State.{ServerState}
 use Rattle.token_server.specs.rule.Server.{server_rule}

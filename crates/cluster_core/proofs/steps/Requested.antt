@@ -27,10 +27,10 @@ use Rattle.messages.specs.declared.outcome.Outcome.{Outcome}
 use Rattle.messages.specs.declared.refusal.StepError.{StepError}
 use Rattle.messages.specs.declared.refusal.StepError.TheVariants.{Stranger, Spent}
 use Rattle.messages.specs.rule.Messages.{addressee, host_of, is_within, greatest_number, same_blocking, sending}
-use Rattle.token_queue.specs.declared.token_request.TokenRequest.{TokenRequest}
+use Rattle.token_server.specs.declared.token_queue.token_request.TokenRequest.{TokenRequest}
 use Rattle.token_server.specs.declared.event.ServerEvent.TheVariants.{Input, Deliver}
-use Rattle.token_queue.specs.rule.Requests.{is_of_call}
-use Rattle.known_nodes.specs.rule.Rows.{Row, empty_row, row_above, row_conflicts, outstanding_of, is_grant, revoked_mode, asks_token}
+use Rattle.token_server.specs.rule.Requests.{is_of_call}
+use Rattle.token_server.specs.rule.Rows.{Row, empty_row, row_above, row_conflicts, outstanding_of, is_grant, revoked_mode, asks_token}
 use Rattle.token_server.specs.rule.State.{ServerState, begin, awaits, with_row, forgotten, requests, requeued}
 use Rattle.token_server.specs.rule.Serve.{is_needed, narrowed, is_taken, conflicting_node, granted_span, commanded, granted_to, revoked_from, served, with_more, and_then, each_served, ready, serve}
 use Rattle.token_server.specs.rule.Resends.{outstanding, sending_first}

@@ -1,9 +1,9 @@
 -- A token server moves its requests about: the rest of it stays.
 use Rattle.std.specs.Prelude.{◌||◌, List, [], Option, Some, None}
 use Rattle.std.specs.List.{list_any}
-use Rattle.token_queue.specs.declared.token_request.TokenRequest.{TokenRequest}
-use Rattle.token_queue.specs.rule.Requests.{is_of_call}
-use Rattle.known_nodes.specs.rule.Rows.{Row}
+use Rattle.token_server.specs.declared.token_queue.token_request.TokenRequest.{TokenRequest}
+use Rattle.token_server.specs.rule.Requests.{is_of_call}
+use Rattle.token_server.specs.rule.Rows.{Row}
 use Rattle.token_server.specs.rule.State.{ServerState}
 use Rattle.token_server.specs.rule.Serve.{ready}
 use Rattle.token_server.specs.rule.Server.{request_of, enqueued_with, enqueued, freed}

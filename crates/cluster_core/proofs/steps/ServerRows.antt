@@ -28,16 +28,16 @@ use Rattle.messages.specs.declared.outcome.Outcome.{Outcome}
 use Rattle.messages.specs.rule.Messages.{addressee, host_of, same_blocking, greatest_number, is_within, sending}
 use Rattle.messages.specs.rule.Shapes.{ShapeFields}
 use Rattle.node_core.specs.rule.State.{NodeState}
-use Rattle.token_queue.specs.declared.token_request.TokenRequest.{TokenRequest}
+use Rattle.token_server.specs.declared.token_queue.token_request.TokenRequest.{TokenRequest}
 use Rattle.token_server.specs.declared.event.ServerEvent.TheVariants.{Deliver}
-use Rattle.token_queue.specs.rule.Requests.{is_of_call, is_up_to}
-use Rattle.known_nodes.specs.rule.Rows.{Row, empty_row, is_hello, is_awaited, row_above, row_conflicts, row_conflicts_at, is_grant, revoked_mode, row_of_incarnation, asks_token}
+use Rattle.token_server.specs.rule.Requests.{is_of_call, is_up_to}
+use Rattle.token_server.specs.rule.Rows.{Row, empty_row, is_hello, is_awaited, row_above, row_conflicts, row_conflicts_at, is_grant, revoked_mode, row_of_incarnation, asks_token}
 use Rattle.token_server.specs.rule.State.{ServerState, begin, awaits, with_row, forgotten, requests, requeued}
 use Rattle.token_server.specs.rule.Serve.{is_taken, narrowed, granted_span, conflicting_node, commanded, granted_to, revoked_from, served, each_served, ready, serve}
 use Rattle.token_server.specs.rule.Resends.{sending_first}
 use Rattle.token_server.specs.rule.Server.{Change, with_a_row, request_of, enqueued, asked, acknowledged, ended, put_off, postponed, denial, row_of_host, taken, released, in_conflict, heard, freed, delivered, change, then_serve, server_rule}
 use Rattle.token_server.proofs.CareLaws.{find-each, find-passes, active-each, ready-each, requeued-each, freed-each, ended-each, postponed-each, forgotten-each, forgotten-young, enqueued-each}
-use Rattle.known_nodes.proofs.MarkLaws.{row_free}
+use Rattle.token_server.proofs.MarkLaws.{row_free}
 use Rattle.token_server.proofs.GrantLaws.{conflicts_at, conflicts_at_byte}
 use Rattle.cluster_core.proofs.common.Choices.{if_either, at_number}
 use Rattle.cluster_core.proofs.common.Refusals.{ok_is}

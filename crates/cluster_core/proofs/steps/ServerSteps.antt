@@ -16,10 +16,10 @@ use Rattle.messages.specs.declared.token_run.TokenRun.{TokenRun}
 use Rattle.messages.specs.declared.message.Message.{Message}
 use Rattle.messages.specs.declared.message.Message.TheVariants.{Request, Taken, Released, Conflict, Freed, Report}
 use Rattle.messages.specs.declared.outcome.Outcome.{Outcome}
-use Rattle.token_queue.specs.declared.token_request.TokenRequest.{TokenRequest}
+use Rattle.token_server.specs.declared.token_queue.token_request.TokenRequest.{TokenRequest}
 use Rattle.token_server.specs.declared.event.ServerEvent.{ServerEvent}
 use Rattle.token_server.specs.declared.event.ServerEvent.TheVariants.{Input, Deliver}
-use Rattle.known_nodes.specs.rule.Rows.{Row, is_grant, revoked_mode, asks_token}
+use Rattle.token_server.specs.rule.Rows.{Row, is_grant, revoked_mode, asks_token}
 use Rattle.token_server.specs.rule.State.{ServerState, begin, awaits, with_row, forgotten, requeued}
 use Rattle.token_server.specs.rule.Serve.{conflicting_node, commanded, granted_to, revoked_from, served, with_more, and_then, each_served, ready, serve}
 use Rattle.token_server.specs.rule.Resends.{outstanding, sending_first}

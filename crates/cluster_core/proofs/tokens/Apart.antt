@@ -36,11 +36,11 @@ use Rattle.node_core.specs.rule.Commands.{renewed, in_epoch, done_in, told, deli
 use Rattle.node_core.specs.rule.Interrupts.{interrupted}
 use Rattle.node_core.specs.rule.Node.{node_rule}
 use Rattle.token_server.specs.declared.event.ServerEvent.TheVariants as server
-use Rattle.token_queue.specs.declared.token_request.TokenRequest.{TokenRequest}
+use Rattle.token_server.specs.declared.token_queue.token_request.TokenRequest.{TokenRequest}
 use Rattle.token_server.specs.rule.State.{ServerState, begin, forgotten, requeued}
 use Rattle.token_server.proofs.CareLaws.{active-each}
 use Rattle.token_server.specs.rule.Serve.{served, with_more, and_then, each_served, serve}
-use Rattle.known_nodes.specs.rule.Rows.{outstanding_of}
+use Rattle.token_server.specs.rule.Rows.{outstanding_of}
 use Rattle.token_server.specs.rule.Resends.{outstanding, sending_first}
 use Rattle.token_server.specs.rule.Server.{server_rule}
 use Rattle.cluster_core.specs.rule.World.{WorldState, first_world, is_alive, has_node, has_file, was_declared}

@@ -8,7 +8,7 @@ use Rattle.messages.specs.rule.Messages.{host_of}
 use Rattle.messages.specs.declared.message.Message.{Message}
 use Rattle.messages.specs.declared.event.Event.{Event}
 use Rattle.node_core.specs.rule.State.{FileState, NodeState, first_file, first_node}
-use Rattle.known_nodes.specs.rule.Rows.{Row}
+use Rattle.token_server.specs.rule.Rows.{Row}
 use Rattle.token_server.specs.rule.State.{begin}
 use Rattle.cluster_core.specs.rule.World.{WorldState, has_node}
 use Rattle.cluster_core.specs.rule.Next.{declared, restarted, silent}

@@ -13,7 +13,7 @@ use Rattle.messages.specs.rule.Messages.{host_of, is_among, is_within}
 use Rattle.messages.specs.declared.message.Message.{Message}
 use Rattle.messages.specs.declared.message.Message.TheVariants.{Grant}
 use Rattle.node_core.specs.rule.State.{FileState, NodeState}
-use Rattle.known_nodes.specs.rule.Rows.{Row, row_conflicts_at}
+use Rattle.token_server.specs.rule.Rows.{Row, row_conflicts_at}
 use Rattle.token_server.specs.rule.State.{ServerState, begin, with_row, requests}
 use Rattle.cluster_core.specs.rule.World.{WorldState, is_alive}
 use Rattle.cluster_core.specs.rule.Safe.{Excludes}

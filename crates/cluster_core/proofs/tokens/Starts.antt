@@ -11,7 +11,7 @@ use Rattle.messages.specs.rule.Messages.{host_of, same_message, is_among, is_wit
 use Rattle.messages.specs.declared.message.Message.{Message}
 use Rattle.messages.specs.declared.message.Message.TheVariants.{Hello}
 use Rattle.messages.specs.declared.event.Event.{Event}
-use Rattle.known_nodes.specs.rule.Rows.{awaited_row, outstanding_of}
+use Rattle.token_server.specs.rule.Rows.{awaited_row, outstanding_of}
 use Rattle.token_server.specs.rule.State.{ServerState, begin}
 use Rattle.token_server.specs.rule.Resends.{outstanding}
 use Rattle.cluster_core.specs.rule.World.{WorldState, has_node, is_alive}

@@ -13,7 +13,7 @@ use Rattle.messages.specs.rule.Messages.{host_of}
 use Rattle.messages.specs.rule.Reports.{reported}
 use Rattle.node_core.specs.rule.State.{FileState}
 use Rattle.node_core.specs.rule.Commands.{renewed}
-use Rattle.known_nodes.specs.rule.Rows.{Row, is_hello}
+use Rattle.token_server.specs.rule.Rows.{Row, is_hello}
 use Rattle.cluster_core.specs.rule.Numbers.{is_command}
 use Rattle.cluster_core.proofs.tokens.Lowering.{IsWithin}
 use Rattle.cluster_core.proofs.tokens.Talks.{Sent, IsHostOf, IsCommandTo, IsAnswerOf, same_answer_of, promised, settled, settled_within, in_epoch, States, IsKnown, InStep, IsLast, Talk, IsAhead, MayHold, on_the_way}

@@ -8,7 +8,7 @@ use Rattle.messages.specs.declared.message.Message.{Message}
 use Rattle.messages.specs.declared.message.Message.TheVariants.{Hello}
 use Rattle.messages.specs.rule.Messages.{host_of}
 use Rattle.node_core.specs.rule.State.{FileState}
-use Rattle.known_nodes.specs.rule.Rows.{Row, awaited_row}
+use Rattle.token_server.specs.rule.Rows.{Row, awaited_row}
 use Rattle.cluster_core.specs.rule.Numbers.{is_command}
 use Rattle.cluster_core.proofs.tokens.Talks.{Sent, IsHostOf, IsCommandTo, IsAnswerOf, same_command, command_host, promised, in_epoch, IsCountedIn, InStep, Talk, MayHold, on_the_way}
 

@@ -13,7 +13,7 @@ use Rattle.messages.specs.declared.message.Message.{Message}
 use Rattle.messages.specs.declared.message.Message.TheVariants.{Grant, Revoke, Taken, Released, Conflict, Hello, Report}
 use Rattle.messages.specs.rule.Reports.{reported}
 use Rattle.node_core.specs.rule.State.{FileState}
-use Rattle.known_nodes.specs.rule.Rows.{Row, is_hello, is_awaited, row_conflicts_at}
+use Rattle.token_server.specs.rule.Rows.{Row, is_hello, is_awaited, row_conflicts_at}
 use Rattle.cluster_core.specs.rule.Numbers.{is_command}
 use Rattle.cluster_core.proofs.tokens.Lowering.{IsWithin, within_itself, within_same, within_raised, within_conflicts}
 

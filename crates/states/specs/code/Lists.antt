@@ -5,7 +5,7 @@ use Rattle.model.specs.declared.lock_info.LockInfo.{LockInfo}
 use Rattle.model.specs.rule.Locks.{excludes}
 use Rattle.model.specs.rule.Owners.{same_owner}
 use Rattle.node_core.specs.declared.open_call.OpenCall.{OpenCall}
-use Rattle.token_queue.specs.declared.held.Held.{Held}
+use Rattle.token_server.specs.declared.token_queue.held.Held.{Held}
 use Rattle.cluster_core.specs.declared.held_lock.HeldLock.{HeldLock}
 
 -- the lock, of those of the cluster, blocks the call

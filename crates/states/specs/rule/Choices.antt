@@ -2,7 +2,7 @@
 use Rattle.std.specs.Prelude.{◌≡◌, ℕ, Bool, true, ◌&&◌, ◌||◌, ◌==◌, nat_lt, List, filter, Option, Some, None}
 use Rattle.model.specs.rule.Limits.{most_nodes}
 use Rattle.messages.specs.rule.Shapes.{most_files}
-use Rattle.token_queue.specs.declared.held.Held.{Held}
+use Rattle.token_server.specs.declared.token_queue.held.Held.{Held}
 use Rattle.token_server.specs.rule.State.{ServerState}
 use Rattle.token_server.specs.code.Readers.{nodes_where}
 use Rattle.cluster_core.specs.declared.held_lock.HeldLock.{HeldLock}

@@ -1,9 +1,9 @@
 -- What is told of a world.
 use Rattle.std.specs.Prelude.{◌≡◌, ℕ, ◌-◌, Bool, if◌then◌else◌, List, [], All, filter, map, is_some, Option, Some, None}
 use Rattle.model.specs.rule.Limits.{most_nodes}
-use Rattle.token_queue.specs.declared.held.Held.{Held}
-use Rattle.token_queue.specs.rule.Actives.{requests_of}
-use Rattle.known_nodes.specs.rule.Rows.{is_awaited}
+use Rattle.token_server.specs.declared.token_queue.held.Held.{Held}
+use Rattle.token_server.specs.rule.Actives.{requests_of}
+use Rattle.token_server.specs.rule.Rows.{is_awaited}
 use Rattle.token_server.specs.declared.shown_row.ShownRow.{ShownRow}
 use Rattle.token_server.specs.rule.State.{ServerState}
 use Rattle.token_server.specs.code.Obstacles.{obstacle}

@@ -3,9 +3,9 @@ use Rattle.std.specs.Prelude.{◌≡◌, ℕ, ◌<◌, false, List, [], ◌∷�
 use Rattle.std.specs.List.{list_any}
 use Rattle.messages.specs.declared.message.Message.TheVariants.{Request}
 use Rattle.messages.specs.declared.outcome.Outcome.{Outcome}
-use Rattle.token_queue.specs.declared.token_request.TokenRequest.{TokenRequest}
+use Rattle.token_server.specs.declared.token_queue.token_request.TokenRequest.{TokenRequest}
 use Rattle.token_server.specs.declared.event.ServerEvent.TheVariants.{Deliver}
-use Rattle.token_queue.specs.rule.Requests.{is_of_call}
+use Rattle.token_server.specs.rule.Requests.{is_of_call}
 use Rattle.token_server.specs.rule.State.{ServerState, awaits, requests}
 use Rattle.token_server.specs.rule.Serve.{meets_some}
 use Rattle.token_server.specs.rule.Server.{server_rule}

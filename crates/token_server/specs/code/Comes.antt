@@ -1,10 +1,10 @@
 -- The admission of requests from the queue of a token server, slot by slot.
 use Rattle.std.specs.Prelude.{◌≡◌, ◌≤◌, true, List, [], find, count_by, Option, Some}
 use Rattle.model.specs.declared.call.CallId.{CallId}
-use Rattle.token_queue.specs.declared.held.Held.{Held}
-use Rattle.token_queue.specs.declared.token_request.TokenRequest.{TokenRequest}
-use Rattle.token_queue.specs.rule.Requests.{is_of_call, meets, requests_in}
-use Rattle.token_queue.specs.rule.Actives.{requests_of}
+use Rattle.token_server.specs.declared.token_queue.held.Held.{Held}
+use Rattle.token_server.specs.declared.token_queue.token_request.TokenRequest.{TokenRequest}
+use Rattle.token_server.specs.rule.Requests.{is_of_call, meets, requests_in}
+use Rattle.token_server.specs.rule.Actives.{requests_of}
 use Rattle.token_server.specs.declared.gone.Gone.{Gone}
 use Rattle.token_server.specs.rule.Serve.{meets_some}
 use Rattle.token_server.specs.code.Admitting.{all_stay}

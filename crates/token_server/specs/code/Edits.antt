@@ -4,14 +4,14 @@ use Rattle.std.specs.Global.{Global}
 use Rattle.model.specs.declared.call.CallId.{CallId}
 use Rattle.messages.specs.declared.message.Message.{Message}
 use Rattle.std.specs.Vec.{vec_capacity}
-use Rattle.token_queue.specs.declared.token_request.TokenRequest.{TokenRequest}
-use Rattle.token_queue.specs.declared.held.Held.{Held}
-use Rattle.token_queue.specs.rule.Requests.{LineParts, is_of_call, is_up_to, AreOfDistinctCalls}
-use Rattle.token_queue.specs.rule.Actives.{ActiveParts, requests_of, waiting_for}
-use Rattle.known_nodes.specs.declared.known_node.KnownNode.{KnownNode}
-use Rattle.known_nodes.specs.declared.row_edit.RowEdit.{RowEdit}
+use Rattle.token_server.specs.declared.token_queue.token_request.TokenRequest.{TokenRequest}
+use Rattle.token_server.specs.declared.token_queue.held.Held.{Held}
+use Rattle.token_server.specs.rule.Requests.{LineParts, is_of_call, is_up_to, AreOfDistinctCalls}
+use Rattle.token_server.specs.rule.Actives.{ActiveParts, requests_of, waiting_for}
+use Rattle.token_server.specs.declared.known_nodes.known_node.KnownNode.{KnownNode}
+use Rattle.token_server.specs.declared.known_nodes.row_edit.RowEdit.{RowEdit}
 use Rattle.token_server.specs.declared.change.Draft.{Draft}
-use Rattle.known_nodes.specs.declared.given.Given.{Given}
+use Rattle.token_server.specs.declared.known_nodes.given.Given.{Given}
 use Rattle.token_server.specs.declared.change.Edit.{Edit}
 use Rattle.token_server.specs.declared.change.Parts.{Parts}
 use Rattle.token_server.specs.declared.lists.Lists.{Lists}
@@ -22,12 +22,12 @@ use Rattle.token_server.specs.rule.Serve.{serve}
 use Rattle.token_server.specs.code.Admitting.{all_but, IsAdmitted}
 use Rattle.token_server.specs.declared.sketch.Sketch.{Sketch}
 use Rattle.token_server.specs.code.Obstacles.{obstacle}
-use Rattle.known_nodes.specs.code.Changes.{rows_after, deaths_after}
+use Rattle.token_server.specs.code.Changes.{rows_after, deaths_after}
 use Rattle.token_server.specs.code.Sketches.{without, still_active, queue_moved, waiting_moved, sketched}
-use Rattle.known_nodes.specs.rule.Parts.{rows_of, deaths_of}
+use Rattle.token_server.specs.rule.RowParts.{rows_of, deaths_of}
 use Rattle.token_server.specs.rule.Parts.{ServerParts, server_state}
 use Rattle.token_server.specs.code.Ready.{IsOrderly, IsReady}
-use Rattle.known_nodes.specs.code.Edits.{rows_overlaid, deaths_overlaid, given_of, given_rows}
+use Rattle.token_server.specs.code.RowEdits.{rows_overlaid, deaths_overlaid, given_of, given_rows}
 
 -- the active requests without that of the call that ends, if one does
 abbrev pub held_still : Option CallId → List Held → List Held

@@ -1,16 +1,16 @@
 -- The node whose row an active request waits for.
 use Rattle.std.specs.Prelude.{ℕ, ◌-◌, Bool, true, false, not, ◌&&◌, ◌||◌, ◌==◌, nat_le, if◌then◌else◌, List, [], ◌∷◌, is_some, Option, Some, None}
 use Rattle.intervals.specs.rule.Bytes.{Range}
-use Rattle.token_queue.specs.declared.held.Held.{Held}
-use Rattle.token_queue.specs.declared.token_request.TokenRequest.{TokenRequest}
-use Rattle.known_nodes.specs.declared.node_change.NodeChange.{NodeChange}
-use Rattle.known_nodes.specs.declared.node_change.NodeChange.TheVariants.{Forgotten, Asked, Answered, Relieved, Reported}
-use Rattle.known_nodes.specs.declared.node_change.Changed.{Changed}
-use Rattle.known_nodes.specs.rule.Rows.{Row}
+use Rattle.token_server.specs.declared.token_queue.held.Held.{Held}
+use Rattle.token_server.specs.declared.token_queue.token_request.TokenRequest.{TokenRequest}
+use Rattle.token_server.specs.declared.known_nodes.node_change.NodeChange.{NodeChange}
+use Rattle.token_server.specs.declared.known_nodes.node_change.NodeChange.TheVariants.{Forgotten, Asked, Answered, Relieved, Reported}
+use Rattle.token_server.specs.declared.known_nodes.node_change.Changed.{Changed}
+use Rattle.token_server.specs.rule.Rows.{Row}
 use Rattle.token_server.specs.rule.State.{ServerState}
-use Rattle.token_queue.specs.rule.Requests.{meets}
+use Rattle.token_server.specs.rule.Requests.{meets}
 use Rattle.token_server.specs.rule.Serve.{conflicting_node, meets_some}
-use Rattle.known_nodes.specs.code.Changes.{may_bar}
+use Rattle.token_server.specs.code.Changes.{may_bar}
 
 -- the node that blocks a request: the least other node whose row conflicts with the bytes that it needs; else its own node, to which it is granted
 abbrev pub obstacle : ServerState → TokenRequest → ℕ

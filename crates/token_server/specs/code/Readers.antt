@@ -3,7 +3,7 @@ use Rattle.std.specs.Prelude.{◌≡◌, ℕ, Bool, List, filter, Some}
 use Rattle.std.specs.List.{range_with_len}
 use Rattle.token_set.specs.code.Runs.{ListsRuns}
 use Rattle.token_server.specs.declared.shown_row.ShownRow.{ShownRow}
-use Rattle.known_nodes.specs.rule.Rows.{Row}
+use Rattle.token_server.specs.rule.Rows.{Row}
 use Rattle.token_server.specs.rule.State.{ServerState}
 
 -- the nodes from 1 to n that pass the test, by rising node

@@ -4,19 +4,19 @@ use Rattle.std.specs.Option.{option_map}
 use Rattle.model.specs.declared.call.CallId.{CallId}
 use Rattle.messages.specs.declared.message.Message.{Message}
 use Rattle.messages.specs.declared.message.Message.TheVariants.{Taken, Released, Conflict}
-use Rattle.token_queue.specs.declared.token_request.TokenRequest.{TokenRequest}
-use Rattle.token_queue.specs.rule.Actives.{requests_of}
+use Rattle.token_server.specs.declared.token_queue.token_request.TokenRequest.{TokenRequest}
+use Rattle.token_server.specs.rule.Actives.{requests_of}
 use Rattle.token_server.specs.declared.sketch.Moved.{Moved}
 use Rattle.token_server.specs.declared.sketch.Moved.TheVariants.{Nothing, New, Again, Waiting, PutOff}
-use Rattle.known_nodes.specs.declared.node_change.Changed.{Changed}
+use Rattle.token_server.specs.declared.known_nodes.node_change.Changed.{Changed}
 use Rattle.token_server.specs.declared.sketch.Sketch.{Sketch}
-use Rattle.token_queue.specs.rule.Requests.{is_of_call, is_up_to}
-use Rattle.known_nodes.specs.rule.Rows.{Commands, Row}
+use Rattle.token_server.specs.rule.Requests.{is_of_call, is_up_to}
+use Rattle.token_server.specs.rule.Rows.{Commands, Row}
 use Rattle.token_server.specs.rule.State.{ServerState}
 use Rattle.token_server.specs.rule.Server.{request_of}
-use Rattle.known_nodes.specs.rule.Parts.{rows_of, deaths_of}
+use Rattle.token_server.specs.rule.RowParts.{rows_of, deaths_of}
 use Rattle.token_server.specs.rule.Parts.{ServerParts}
-use Rattle.known_nodes.specs.code.Changes.{dropped_to, rows_after, deaths_after}
+use Rattle.token_server.specs.code.Changes.{dropped_to, rows_after, deaths_after}
 
 -- the commands to the node of a row
 abbrev pub commands_of : Row → Commands

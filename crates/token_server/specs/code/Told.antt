@@ -2,11 +2,11 @@
 use Rattle.std.specs.Prelude.{ℕ, ◌+◌, ◌-◌, ◌==◌, nat_lt, max, min, if◌then◌else◌, List, [], ◌∷◌, map, find, Option, Some, None}
 use Rattle.intervals.specs.rule.Bytes.{Range}
 use Rattle.messages.specs.declared.message.Message.{Message}
-use Rattle.token_queue.specs.declared.token_request.TokenRequest.{TokenRequest}
+use Rattle.token_server.specs.declared.token_queue.token_request.TokenRequest.{TokenRequest}
 use Rattle.token_server.specs.declared.told.Told.{Told}
-use Rattle.known_nodes.specs.rule.Rows.{Row}
+use Rattle.token_server.specs.rule.Rows.{Row}
 use Rattle.token_server.specs.rule.State.{ServerState}
-use Rattle.known_nodes.specs.code.Sent.{promised}
+use Rattle.token_server.specs.code.Sent.{promised}
 
 -- the command to the node among these, if there is one
 abbrev pub told_to : List Told → ℕ → Option Told

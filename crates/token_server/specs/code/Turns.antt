@@ -1,8 +1,8 @@
 -- The turns of the active requests, one after the other.
 use Rattle.std.specs.Prelude.{◌≡◌, ◌≤◌, false, List, ◌++◌, filter, All, IfSome, Option, Ok}
 use Rattle.std.specs.Option.{option_to_list}
-use Rattle.token_queue.specs.declared.held.Held.{Held}
-use Rattle.token_queue.specs.rule.Actives.{requests_of, waiting_for}
+use Rattle.token_server.specs.declared.token_queue.held.Held.{Held}
+use Rattle.token_server.specs.rule.Actives.{requests_of, waiting_for}
 use Rattle.token_server.specs.declared.lists.Lists.{Lists}
 use Rattle.token_server.specs.declared.told.Told.{Told}
 use Rattle.token_server.specs.rule.State.{ServerState}

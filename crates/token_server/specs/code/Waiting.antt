@@ -4,7 +4,7 @@ use Rattle.std.specs.List.{list_any}
 use Rattle.model.specs.declared.call.CallId.{CallId}
 use Rattle.messages.specs.declared.outcome.Outcome.{Outcome}
 use Rattle.token_server.specs.declared.event.ServerEvent.{ServerEvent}
-use Rattle.token_queue.specs.rule.Requests.{is_of_call}
+use Rattle.token_server.specs.rule.Requests.{is_of_call}
 use Rattle.token_server.specs.rule.State.{ServerState, requests}
 use Rattle.token_server.specs.rule.Server.{server_rule}
 

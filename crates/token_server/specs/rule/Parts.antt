@@ -1,11 +1,11 @@
 -- What the code keeps of a token server, and the state that it stands for.
 use Rattle.std.specs.Prelude.{ℕ, List}
 use Rattle.messages.specs.rule.Shapes.{ShapeFields}
-use Rattle.token_queue.specs.rule.Requests.{LineParts}
-use Rattle.token_queue.specs.rule.Actives.{ActiveParts, requests_of}
-use Rattle.known_nodes.specs.declared.known_node.KnownNode.{KnownNode}
+use Rattle.token_server.specs.rule.Requests.{LineParts}
+use Rattle.token_server.specs.rule.Actives.{ActiveParts, requests_of}
+use Rattle.token_server.specs.declared.known_nodes.known_node.KnownNode.{KnownNode}
 use Rattle.token_server.specs.rule.State.{ServerState}
-use Rattle.known_nodes.specs.rule.Parts.{rows_of, deaths_of}
+use Rattle.token_server.specs.rule.RowParts.{rows_of, deaths_of}
 
 -- one file's server: epoch, what is known of each node from node 1 on, active requests with the nodes whose rows they wait for, the queue, and those that wait
 pub record ServerParts : Type 0 where

@@ -6,7 +6,7 @@ use Rattle.messages.specs.declared.outcome.Outcome.{Outcome}
 use Rattle.messages.specs.rule.Messages.{sending}
 use Rattle.token_server.specs.rule.State.{ServerState, requeued}
 use Rattle.token_server.specs.rule.Serve.{serve}
-use Rattle.known_nodes.specs.rule.Rows.{outstanding_to}
+use Rattle.token_server.specs.rule.Rows.{outstanding_to}
 
 -- the outstanding commands of the server
 abbrev pub outstanding : ServerState → List Message

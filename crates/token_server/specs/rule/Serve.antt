@@ -11,9 +11,9 @@ use Rattle.messages.specs.declared.refusal.StepError.TheVariants.{Spent}
 use Rattle.messages.specs.declared.message.Message.{Message}
 use Rattle.messages.specs.declared.message.Message.TheVariants.{Grant, Revoke}
 use Rattle.messages.specs.rule.Messages.{greatest_number}
-use Rattle.token_queue.specs.declared.token_request.TokenRequest.{TokenRequest}
-use Rattle.token_queue.specs.rule.Requests.{meets}
-use Rattle.known_nodes.specs.rule.Rows.{Row, row_conflicts, row_conflicts_at}
+use Rattle.token_server.specs.declared.token_queue.token_request.TokenRequest.{TokenRequest}
+use Rattle.token_server.specs.rule.Requests.{meets}
+use Rattle.token_server.specs.rule.Rows.{Row, row_conflicts, row_conflicts_at}
 use Rattle.token_server.specs.rule.State.{ServerState, with_row, begin, awaits}
 
 -- the request needs a byte that one of these needs

@@ -19,12 +19,12 @@ use Rattle.messages.specs.declared.outcome.Outcome.{Outcome}
 use Rattle.messages.specs.declared.actor.Actor.{Actor}
 use Rattle.messages.specs.declared.actor.Actor.TheVariants.{Node as ANode, Server as AServer}
 use Rattle.messages.specs.rule.Messages.{addressee, host_of, is_within, same_blocking, sending}
-use Rattle.token_queue.specs.declared.token_request.TokenRequest.{TokenRequest}
+use Rattle.token_server.specs.declared.token_queue.token_request.TokenRequest.{TokenRequest}
 use Rattle.messages.specs.declared.event.ServerInput.TheVariants.{Resend, Learn}
 use Rattle.token_server.specs.declared.event.ServerEvent.{ServerEvent}
 use Rattle.token_server.specs.declared.event.ServerEvent.TheVariants.{Input, Deliver}
-use Rattle.token_queue.specs.rule.Requests.{is_of_call}
-use Rattle.known_nodes.specs.rule.Rows.{Row, empty_row, is_grant, revoked_mode, asks_token, row_of_incarnation}
+use Rattle.token_server.specs.rule.Requests.{is_of_call}
+use Rattle.token_server.specs.rule.Rows.{Row, empty_row, is_grant, revoked_mode, asks_token, row_of_incarnation}
 use Rattle.token_server.specs.rule.State.{ServerState, begin, with_row, forgotten, requeued}
 use Rattle.token_server.specs.rule.Serve.{serve}
 use Rattle.token_server.specs.rule.Resends.{sending_first, resend_rule}

@@ -4,9 +4,9 @@ use Rattle.intervals.specs.rule.Search.{some_passes}
 use Rattle.messages.specs.rule.Shapes.{ShapeFields}
 use Rattle.messages.specs.rule.Epochs.{before_epoch}
 use Rattle.messages.specs.rule.Messages.{is_within}
-use Rattle.token_queue.specs.declared.token_request.TokenRequest.{TokenRequest}
-use Rattle.token_queue.specs.rule.Requests.{is_up_to}
-use Rattle.known_nodes.specs.rule.Rows.{Row, awaited_row, is_awaited, row_above}
+use Rattle.token_server.specs.declared.token_queue.token_request.TokenRequest.{TokenRequest}
+use Rattle.token_server.specs.rule.Requests.{is_up_to}
+use Rattle.token_server.specs.rule.Rows.{Row, awaited_row, is_awaited, row_above}
 
 -- one file's server: epoch (1 until rebuilt), rows of nodes that asked, their greatest dead incarnations (0 at first), the queue, active and waiting requests
 pub record ServerState : Type 0 where

@@ -1,7 +1,7 @@
 //! The admission of requests from the queue of a token server.
 ghost use Rattle.std.specs.Prelude.{◌≡◌, ◌+◌, ◌<◌, ◌≤◌, ◌++◌, ◌∷◌, [], true, false, ◌&&◌, ◌||◌, take, length, Some, IfOk};
-ghost use Rattle.token_queue.specs.rule.Requests.{meets, requests_in};
-ghost use Rattle.token_queue.specs.rule.Actives.{requests_of};
+ghost use Rattle.token_server.specs.rule.Requests.{meets, requests_in};
+ghost use Rattle.token_server.specs.rule.Actives.{requests_of};
 ghost use Rattle.token_server.specs.rule.Serve.{meets_some};
 ghost use Rattle.token_server.specs.code.Admitting.{all_stay, IsAdmitted};
 ghost use Rattle.token_server.specs.code.Ready.{AreDistinct};
@@ -11,13 +11,13 @@ ghost use Rattle.token_server.specs.code.Comes.{served_on, left_in, NeedsAllOf, 
 use super::Server;
 use crate::gone::Gone;
 use crate::sketch::Moved;
+use crate::token_queue::active::Active;
+use crate::token_queue::held::Held;
+use crate::token_queue::line::Line;
+use crate::token_queue::token_request::TokenRequest;
 use intervals::span::Span;
 use model::call::CallId;
 use std::alloc::{AllocError, Global};
-use token_queue::active::Active;
-use token_queue::held::Held;
-use token_queue::line::Line;
-use token_queue::token_request::TokenRequest;
 
 impl Server {
     // The requests that are admitted from the queue, in order, after the removals and moves of a step. None while a

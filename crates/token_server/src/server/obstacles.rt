@@ -2,26 +2,26 @@
 ghost use Rattle.std.specs.Prelude.{◌≡◌, ◌≤◌, ◌↔◌, true, false, not, ◌&&◌, ◌||◌, ◌==◌, All, length, drop, IsSome, IfOk, IfSome, Option, Some};
 ghost use Rattle.intervals.specs.rule.Bytes.{Range};
 ghost use Rattle.model.specs.rule.Limits.{IsNumber, most_nodes};
-ghost use Rattle.token_queue.specs.rule.Requests.{meets};
-ghost use Rattle.token_queue.specs.rule.Actives.{requests_of, waiting_for};
-ghost use Rattle.known_nodes.specs.rule.Rows.{Row, row_conflicts};
+ghost use Rattle.token_server.specs.rule.Requests.{meets};
+ghost use Rattle.token_server.specs.rule.Actives.{requests_of, waiting_for};
+ghost use Rattle.token_server.specs.rule.Rows.{Row, row_conflicts};
 ghost use Rattle.token_server.specs.rule.Serve.{conflicting_node};
-ghost use Rattle.known_nodes.specs.rule.Parts.{rows_of};
+ghost use Rattle.token_server.specs.rule.RowParts.{rows_of};
 ghost use Rattle.token_server.specs.rule.Parts.{server_state};
-ghost use Rattle.known_nodes.specs.code.Changes.{may_bar, rows_after};
+ghost use Rattle.token_server.specs.code.Changes.{may_bar, rows_after};
 ghost use Rattle.token_server.specs.code.Obstacles.{obstacle, is_dropped, frees, may_turn};
-ghost use Rattle.known_nodes.specs.code.Marks.{NoneExclusive};
-ghost use Rattle.known_nodes.specs.code.Edits.{rows_overlaid};
+ghost use Rattle.token_server.specs.code.Marks.{NoneExclusive};
+ghost use Rattle.token_server.specs.code.RowEdits.{rows_overlaid};
 ghost use Rattle.token_server.specs.code.Edits.{reached};
 
 use super::Server;
 use super::admitting::needs_all_of;
-use known_nodes::node_change::{Changed, NodeChange};
-use known_nodes::row_edit::RowEdit;
+use crate::known_nodes::node_change::{Changed, NodeChange};
+use crate::known_nodes::row_edit::RowEdit;
+use crate::token_queue::held::Held;
+use crate::token_queue::token_request::TokenRequest;
 use model::mode::Mode;
 use std::alloc::{AllocError, Global};
-use token_queue::held::Held;
-use token_queue::token_request::TokenRequest;
 
 impl Server {
     // Whether the row of another node conflicts with the bytes that the request needs.

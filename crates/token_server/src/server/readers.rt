@@ -1,20 +1,20 @@
 //! The readers of a token server: what it holds, as lists. A function here that gives a `Result` answers `AllocError`
 //! where a request for memory was refused.
 ghost use Rattle.std.specs.Prelude.{◌≡◌, false, All, IfOk, MatchOption, map, is_some, None};
-ghost use Rattle.token_queue.specs.rule.Requests.{requests_in};
-ghost use Rattle.token_queue.specs.rule.Actives.{requests_of};
-ghost use Rattle.known_nodes.specs.rule.Rows.{is_awaited};
+ghost use Rattle.token_server.specs.rule.Requests.{requests_in};
+ghost use Rattle.token_server.specs.rule.Actives.{requests_of};
+ghost use Rattle.token_server.specs.rule.Rows.{is_awaited};
 ghost use Rattle.token_server.specs.code.Obstacles.{obstacle, is_idle};
-ghost use Rattle.known_nodes.specs.rule.Parts.{row_state};
+ghost use Rattle.token_server.specs.rule.RowParts.{row_state};
 ghost use Rattle.token_server.specs.rule.Parts.{server_state};
 ghost use Rattle.token_server.specs.code.Readers.{nodes_where, Shows, IsRow};
 
 use super::Server;
+use crate::known_nodes::token_holder::TokenHolder;
 use crate::shown_row::ShownRow;
-use known_nodes::token_holder::TokenHolder;
+use crate::token_queue::held::Held;
+use crate::token_queue::token_request::TokenRequest;
 use std::alloc::{AllocError, Global};
-use token_queue::held::Held;
-use token_queue::token_request::TokenRequest;
 
 impl Server {
     /// The active requests, in the order in which they became active, each with the node whose row it waits for: the

@@ -4,29 +4,31 @@ ghost use Rattle.std.specs.Option.{option_map, option_to_list};
 ghost use Rattle.model.specs.rule.Limits.{IsNumber};
 ghost use Rattle.intervals.specs.rule.Bytes.{largest_around};
 ghost use Rattle.messages.specs.rule.Epochs.{before_epoch};
-ghost use Rattle.token_queue.specs.rule.Actives.{requests_of};
-ghost use Rattle.known_nodes.specs.rule.Rows.{row_conflicts, row_conflicts_at};
+ghost use Rattle.token_server.specs.rule.Actives.{requests_of};
+ghost use Rattle.token_server.specs.rule.Rows.{row_conflicts, row_conflicts_at};
 ghost use Rattle.token_server.specs.rule.Serve.{narrowed, granted_span, conflicting_node, served, each_served, serve};
-ghost use Rattle.known_nodes.specs.code.Sent.{bars};
+ghost use Rattle.token_server.specs.code.Sent.{bars};
 ghost use Rattle.token_server.specs.code.Told.{row_told, with_told, commands_told, cut, cut_all};
 ghost use Rattle.token_server.specs.code.Obstacles.{obstacle, are_apart, is_idle};
-ghost use Rattle.known_nodes.specs.rule.Parts.{known_node_at};
+ghost use Rattle.token_server.specs.rule.RowParts.{known_node_at};
 ghost use Rattle.token_server.specs.rule.Parts.{server_state};
 ghost use Rattle.token_server.specs.code.Ready.{AreOfEpoch};
 ghost use Rattle.token_server.specs.code.Sketches.{commands_of, without, still_active, sketched};
-ghost use Rattle.known_nodes.specs.code.Edits.{rows_overlaid, seen, given_to_known_node, given_of};
+ghost use Rattle.token_server.specs.code.RowEdits.{rows_overlaid, seen, given_to_known_node, given_of};
 ghost use Rattle.token_server.specs.code.Edits.{keeps, held_after, drafted, with_given, IsDrafted, IsServed};
 ghost use Rattle.token_server.specs.code.Turns.{kept_of, IsTurn, AreServed};
 
 use super::{Server, commands_told};
 use crate::change::Draft;
+use crate::known_nodes::command::{Command, Order};
+use crate::known_nodes::commands::Commands;
+use crate::known_nodes::given::Given;
 use crate::lists::Lists;
 use crate::sketch::Sketch;
+use crate::token_queue::held::Held;
+use crate::token_queue::token_request::TokenRequest;
 use crate::told::{Told, cut, told_to};
 use intervals::span::Span;
-use known_nodes::command::{Command, Order};
-use known_nodes::commands::Commands;
-use known_nodes::given::Given;
 use messages::command_number::CommandNumber;
 use messages::items::Items;
 use messages::message::Message;
@@ -35,8 +37,6 @@ use messages::wanted::Wanted;
 use model::host::Host;
 use model::mode::Mode;
 use std::alloc::{AllocError, Global};
-use token_queue::held::Held;
-use token_queue::token_request::TokenRequest;
 
 impl Server {
     // The largest span within the desired one, around the required one, without bytes that another active request

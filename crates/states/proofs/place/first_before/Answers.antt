@@ -1,7 +1,7 @@
 use Rattle.std.proofs.Common.{◌∙◌, ◌++◌, List, sym}
 use Rattle.std.specs.Prelude.{find, option_map}
-use Rattle.token_queue.specs.declared.token_request.TokenRequest.{TokenRequest}
-use Rattle.token_queue.specs.rule.Requests.{meets}
+use Rattle.token_server.specs.declared.token_queue.token_request.TokenRequest.{TokenRequest}
+use Rattle.token_server.specs.rule.Requests.{meets}
 use Rattle.states.specs.rule.Places.{up_to}
 use Rattle.states.specs.code.Lists.{first_call}
 use Rattle.states.proofs.Requests.{first_of_both}

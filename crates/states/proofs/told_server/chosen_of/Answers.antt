@@ -1,6 +1,6 @@
 use Rattle.std.proofs.Common.{rules}
 use Rattle.std.proofs.lemmas.Fn.{filter_same}
-use Rattle.token_queue.specs.declared.token_request.TokenRequest.{TokenRequest}
+use Rattle.token_server.specs.declared.token_queue.token_request.TokenRequest.{TokenRequest}
 use Rattle.states.specs.rule.Choices.{is_chosen}
 use Rattle.states.proofs.told_server.chosen_of.Goals as goal
 

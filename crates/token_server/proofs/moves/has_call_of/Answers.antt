@@ -1,9 +1,9 @@
 use Rattle.std.proofs.Common.{◌∙◌, rules, tests}
 use Rattle.std.proofs.lemmas.Iterator.{YieldsList-from_slice}
 use Rattle.std.proofs.lemmas.Iterator.Search.{any_from_yields_List}
-use Rattle.token_queue.specs.declared.held.Held.{Held}
-use Rattle.token_queue.specs.rule.Requests.{is_of_call}
-use Rattle.token_queue.proofs.ActiveLaws.{any-held}
+use Rattle.token_server.specs.declared.token_queue.held.Held.{Held}
+use Rattle.token_server.specs.rule.Requests.{is_of_call}
+use Rattle.token_server.proofs.ActiveLaws.{any-held}
 use Rattle.token_server.proofs.moves.has_call_of.Goals as goal
 
 pub returns : goal.returns

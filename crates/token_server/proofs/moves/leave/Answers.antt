@@ -1,10 +1,10 @@
 use Rattle.std.specs.Prelude.{◌≡◌, ◌+◌, not, List, [], ◌∷◌, ◌++◌, filter}
 use Rattle.std.proofs.Common.{sym, ap, ◌∙◌, take}
 use Rattle.std.proofs.lemmas.List.{take_more, take_all, map-append}
-use Rattle.token_queue.specs.declared.held.Held.{Held}
-use Rattle.token_queue.specs.declared.token_request.TokenRequest.{TokenRequest}
-use Rattle.token_queue.specs.rule.Requests.{is_of_call}
-use Rattle.token_queue.specs.rule.Actives.{requests_of}
+use Rattle.token_server.specs.declared.token_queue.held.Held.{Held}
+use Rattle.token_server.specs.declared.token_queue.token_request.TokenRequest.{TokenRequest}
+use Rattle.token_server.specs.rule.Requests.{is_of_call}
+use Rattle.token_server.specs.rule.Actives.{requests_of}
 use Rattle.token_server.specs.code.Admitting.{all_but}
 use Rattle.token_server.proofs.AdmittingLaws.{all_but-none, all_but-push}
 use Rattle.token_server.proofs.moves.leave.Goals as goal

@@ -1,6 +1,6 @@
 use Rattle.std.specs.Prelude.{◌≡◌}
 use Rattle.std.proofs.Common.{take}
-use Rattle.token_queue.specs.rule.Actives.{requests_of}
+use Rattle.token_server.specs.rule.Actives.{requests_of}
 use Rattle.token_server.specs.code.Admitting.{all_but}
 use Rattle.token_server.proofs.moves.leave.Given as goal
 

@@ -1,7 +1,7 @@
 use Rattle.std.specs.Prelude.{◌++◌, List}
 use Rattle.std.proofs.Common.{sym, ap, subst, ◌∙◌}
-use Rattle.token_queue.specs.declared.held.Held.{Held}
-use Rattle.token_queue.specs.rule.Actives.{requests_of, waiting_for}
+use Rattle.token_server.specs.declared.token_queue.held.Held.{Held}
+use Rattle.token_server.specs.rule.Actives.{requests_of, waiting_for}
 use Rattle.token_server.specs.code.Ready.{AreDistinct}
 use Rattle.token_server.specs.code.Edits.{held_without, held_still}
 use Rattle.token_server.proofs.EndLaws.{distinct-kept}

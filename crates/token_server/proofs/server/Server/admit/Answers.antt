@@ -1,6 +1,6 @@
 use Rattle.std.specs.Prelude.{◌++◌}
 use Rattle.std.proofs.Common.{sym, subst}
-use Rattle.token_queue.specs.rule.Actives.{requests_of}
+use Rattle.token_server.specs.rule.Actives.{requests_of}
 use Rattle.token_server.specs.rule.Parts.{ServerParts}
 use Rattle.token_server.specs.code.Ready.{AreDistinct}
 use Rattle.token_server.specs.code.Sketches.{without, queue_moved}

@@ -1,4 +1,4 @@
-use Rattle.known_nodes.specs.rule.Parts.{rows_of}
+use Rattle.token_server.specs.rule.RowParts.{rows_of}
 use Rattle.token_server.proofs.AwaitLaws.{unfreed-waits}
 use Rattle.token_server.proofs.server.Server.at_after.Goals as goal
 

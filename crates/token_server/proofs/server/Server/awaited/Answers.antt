@@ -1,17 +1,17 @@
 use Rattle.std.specs.Prelude.{◌≡◌, ℕ, ◌+◌, ◌<◌, List, ◌∷◌, [], ◌++◌, length, All, Option}
 use Rattle.std.proofs.Common.{sym, ap, subst, ◌∙◌, take, drop, arith}
 use Rattle.std.proofs.lemmas.List.Elements.{All-drop}
-use Rattle.token_queue.specs.declared.held.Held.{Held}
-use Rattle.token_queue.specs.declared.token_request.TokenRequest.{TokenRequest}
-use Rattle.token_queue.specs.rule.Actives.{waiting_for}
-use Rattle.known_nodes.specs.rule.Rows.{Row}
-use Rattle.known_nodes.specs.declared.node_change.Changed.{Changed}
+use Rattle.token_server.specs.declared.token_queue.held.Held.{Held}
+use Rattle.token_server.specs.declared.token_queue.token_request.TokenRequest.{TokenRequest}
+use Rattle.token_server.specs.rule.Actives.{waiting_for}
+use Rattle.token_server.specs.rule.Rows.{Row}
+use Rattle.token_server.specs.declared.known_nodes.node_change.Changed.{Changed}
 use Rattle.token_server.specs.code.Obstacles.{obstacle}
-use Rattle.known_nodes.specs.rule.Parts.{rows_of}
+use Rattle.token_server.specs.rule.RowParts.{rows_of}
 use Rattle.token_server.specs.rule.Parts.{ServerParts, server_state}
-use Rattle.known_nodes.specs.code.Marks.{NoneExclusive}
-use Rattle.known_nodes.specs.code.Changes.{rows_after}
-use Rattle.known_nodes.specs.code.Edits.{rows_overlaid}
+use Rattle.token_server.specs.code.Marks.{NoneExclusive}
+use Rattle.token_server.specs.code.Changes.{rows_after}
+use Rattle.token_server.specs.code.RowEdits.{rows_overlaid}
 use Rattle.token_server.specs.code.Edits.{reached}
 use Rattle.token_server.proofs.AwaitLaws.{Await, await-more, await-first, unfreed-all}
 use Rattle.token_server.proofs.TurnLaws.{read-place, take-next}

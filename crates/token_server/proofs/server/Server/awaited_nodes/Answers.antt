@@ -1,7 +1,7 @@
 use Rattle.std.specs.Prelude.{◌≡◌, ℕ, ◌+◌, Bool, true, false, List, [], ◌∷◌, ◌++◌}
 use Rattle.std.proofs.Common.{sym, ap, ◌∙◌, arith}
-use Rattle.known_nodes.specs.rule.Rows.{is_awaited}
-use Rattle.known_nodes.specs.rule.Parts.{rows_of}
+use Rattle.token_server.specs.rule.Rows.{is_awaited}
+use Rattle.token_server.specs.rule.RowParts.{rows_of}
 use Rattle.token_server.specs.rule.Parts.{ServerParts, server_state}
 use Rattle.token_server.proofs.ReaderLaws.{nodes_where-passing, nodes_where-missing}
 use Rattle.token_server.proofs.server.Server.awaited_nodes.Goals.{then-is_awaited+in_ok-push, else-is_awaited}

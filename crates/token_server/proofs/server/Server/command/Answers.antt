@@ -4,14 +4,14 @@ use Rattle.std.proofs.Common.{sym, ap, refl, ◌∙◌}
 use Rattle.messages.specs.declared.refusal.StepError.{StepError}
 use Rattle.messages.specs.rule.Epochs.{before_epoch}
 use Rattle.token_server.specs.declared.told.Told.{Told}
-use Rattle.known_nodes.specs.rule.Rows.{Commands}
+use Rattle.token_server.specs.rule.Rows.{Commands}
 use Rattle.token_server.specs.rule.State.{ServerState, begin}
-use Rattle.known_nodes.specs.code.Sent.{next_number}
+use Rattle.token_server.specs.code.Sent.{next_number}
 use Rattle.token_server.specs.rule.Parts.{ServerParts}
 use Rattle.token_server.specs.code.Sketches.{commands_of}
-use Rattle.known_nodes.specs.declared.command.Order.TheVariants.{Revoke}
+use Rattle.token_server.specs.declared.known_nodes.command.Order.TheVariants.{Revoke}
 use Rattle.token_server.specs.rule.Serve.{narrowed}
-use Rattle.known_nodes.specs.code.Orders.{message_of}
+use Rattle.token_server.specs.code.Orders.{message_of}
 use Rattle.token_server.specs.code.Told.{with_told}
 use Rattle.token_server.specs.code.Edits.{drafted}
 use Rattle.token_server.proofs.ToldLaws.{has_number}

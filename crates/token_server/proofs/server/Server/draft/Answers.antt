@@ -1,12 +1,12 @@
 use Rattle.std.specs.Prelude.{◌≡◌, ℕ, Option}
 use Rattle.std.proofs.Common.{ap, subst, ◌∙◌}
 use Rattle.intervals.specs.rule.Search.{some_passes}
-use Rattle.known_nodes.specs.rule.Rows.{Row, is_awaited}
-use Rattle.known_nodes.specs.rule.Parts.{rows_of, deaths_of}
+use Rattle.token_server.specs.rule.Rows.{Row, is_awaited}
+use Rattle.token_server.specs.rule.RowParts.{rows_of, deaths_of}
 use Rattle.token_server.specs.rule.Parts.{ServerParts, server_state}
 use Rattle.token_server.specs.code.Ready.{IsReady}
-use Rattle.known_nodes.specs.code.Changes.{rows_after, deaths_after}
-use Rattle.known_nodes.specs.code.Edits.{rows_overlaid, deaths_overlaid}
+use Rattle.token_server.specs.code.Changes.{rows_after, deaths_after}
+use Rattle.token_server.specs.code.RowEdits.{rows_overlaid, deaths_overlaid}
 use Rattle.token_server.proofs.AskedLaws.{none-after}
 use Rattle.token_server.proofs.server.Server.draft.Goals as goal
 

@@ -1,13 +1,13 @@
 use Rattle.std.specs.Prelude.{◌≡◌, ◌≤◌, List, Option, Some, None}
 use Rattle.std.proofs.Common.{sym, ap, ◌∙◌, arith}
 use Rattle.intervals.specs.rule.Bytes.{Range, largest_around}
-use Rattle.known_nodes.specs.declared.known_node.KnownNode.{KnownNode}
-use Rattle.known_nodes.specs.rule.Rows.{Row, row_conflicts, row_conflicts_at}
+use Rattle.token_server.specs.declared.known_nodes.known_node.KnownNode.{KnownNode}
+use Rattle.token_server.specs.rule.Rows.{Row, row_conflicts, row_conflicts_at}
 use Rattle.token_server.specs.rule.Parts.{ServerParts}
 use Rattle.token_server.specs.declared.told.Told.{Told}
 use Rattle.token_server.specs.code.Told.{told_to, row_told}
-use Rattle.known_nodes.specs.code.Edits.{seen, rows_overlaid}
-use Rattle.known_nodes.proofs.MarkLaws.{row_free}
+use Rattle.token_server.specs.code.RowEdits.{seen, rows_overlaid}
+use Rattle.token_server.proofs.MarkLaws.{row_free}
 use Rattle.token_server.proofs.GrantLaws.{free_around-none}
 use Rattle.token_server.proofs.BarLaws.{told-nothing, told-clear, around-cut}
 use Rattle.token_server.proofs.server.Server.free_around.Goals as goal

@@ -1,10 +1,10 @@
 use Rattle.std.specs.Prelude.{◌≡◌, ◌+◌, ◌≤◌, List, true, false, All, length, slice_get, Some}
 use Rattle.std.proofs.Common.{ap, subst, ◌∙◌, drop, arith}
 use Rattle.std.proofs.lemmas.List.{take_all}
-use Rattle.token_queue.specs.declared.held.Held.{Held}
-use Rattle.token_queue.specs.rule.Actives.{requests_of}
+use Rattle.token_server.specs.declared.token_queue.held.Held.{Held}
+use Rattle.token_server.specs.rule.Actives.{requests_of}
 use Rattle.token_server.specs.code.Obstacles.{are_apart, may_turn}
-use Rattle.known_nodes.specs.rule.Parts.{rows_of}
+use Rattle.token_server.specs.rule.RowParts.{rows_of}
 use Rattle.token_server.specs.rule.Parts.{ServerParts}
 use Rattle.token_server.proofs.AwaitLaws.{rest-more, rest-none, rest-apart}
 use Rattle.token_server.proofs.TurnLaws.{read-place}

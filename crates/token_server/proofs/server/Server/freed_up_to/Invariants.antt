@@ -1,7 +1,7 @@
 use Rattle.std.specs.Prelude.{◌≡◌, ◌≤◌, false, All, length}
 use Rattle.std.proofs.Common.{take, drop}
 use Rattle.token_server.specs.code.Obstacles.{may_turn}
-use Rattle.known_nodes.specs.rule.Parts.{rows_of}
+use Rattle.token_server.specs.rule.RowParts.{rows_of}
 use Rattle.token_server.proofs.server.Server.freed_up_to.Given as goal
 
 abbrev pub invariant-loop-place : goal.invariant-loop-place

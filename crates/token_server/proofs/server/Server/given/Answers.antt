@@ -2,7 +2,7 @@ use Rattle.std.specs.Prelude.{◌≡◌, ◌+◌, ◌≤◌, List, [], ◌∷◌
 use Rattle.std.proofs.Common.{refl, sym, ap, subst, ◌∙◌, take, arith}
 use Rattle.std.proofs.lemmas.List.{take_more, take_all}
 use Rattle.token_server.specs.declared.told.Told.{Told}
-use Rattle.known_nodes.specs.declared.given.Given.{Given}
+use Rattle.token_server.specs.declared.known_nodes.given.Given.{Given}
 use Rattle.token_server.specs.code.Edits.{drafted}
 use Rattle.token_server.proofs.ToldLaws.{GivesTold, GiveTold, give_told-more, with_given-told}
 use Rattle.token_server.proofs.server.Server.given.Goals as goal

@@ -1,11 +1,11 @@
 use Rattle.std.specs.Prelude.{◌≡◌, ℕ, List, [], ◌∷◌, Option}
 use Rattle.std.proofs.Common.{refl, sym, ap, subst, ◌∙◌}
 use Rattle.std.proofs.lemmas.List.Elements.{All-append}
-use Rattle.token_queue.specs.declared.token_request.TokenRequest.{TokenRequest}
-use Rattle.token_queue.specs.declared.held.Held.{Held}
-use Rattle.token_queue.specs.rule.Actives.{requests_of, waiting_for}
+use Rattle.token_server.specs.declared.token_queue.token_request.TokenRequest.{TokenRequest}
+use Rattle.token_server.specs.declared.token_queue.held.Held.{Held}
+use Rattle.token_server.specs.rule.Actives.{requests_of, waiting_for}
 use Rattle.intervals.specs.rule.Search.{some_passes}
-use Rattle.known_nodes.specs.rule.Rows.{Row, is_awaited}
+use Rattle.token_server.specs.rule.Rows.{Row, is_awaited}
 use Rattle.token_server.specs.rule.State.{awaits}
 use Rattle.token_server.specs.code.Admitting.{IsAdmitted}
 use Rattle.token_server.specs.code.Obstacles.{obstacle}

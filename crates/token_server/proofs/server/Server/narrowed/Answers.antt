@@ -1,9 +1,9 @@
 use Rattle.std.specs.Prelude.{◌≡◌, List, ◌++◌, All}
 use Rattle.std.proofs.Common.{refl, sym, ap, subst, ◌∙◌}
 use Rattle.intervals.specs.rule.Bytes.{Range}
-use Rattle.token_queue.specs.declared.held.Held.{Held}
-use Rattle.token_queue.specs.declared.token_request.TokenRequest.{TokenRequest}
-use Rattle.token_queue.specs.rule.Actives.{requests_of}
+use Rattle.token_server.specs.declared.token_queue.held.Held.{Held}
+use Rattle.token_server.specs.declared.token_queue.token_request.TokenRequest.{TokenRequest}
+use Rattle.token_server.specs.rule.Actives.{requests_of}
 use Rattle.token_server.specs.declared.lists.Lists.{Lists}
 use Rattle.token_server.specs.rule.Serve.{narrowed}
 use Rattle.token_server.specs.rule.Parts.{ServerParts}

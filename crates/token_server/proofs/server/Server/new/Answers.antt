@@ -4,8 +4,8 @@ use Rattle.intervals.specs.rule.Search.{some_passes}
 use Rattle.token_set.proofs.SearchLaws.{none_passes-from}
 use Rattle.model.specs.rule.Limits.{IsNumber}
 use Rattle.messages.specs.rule.Epochs.{before_epoch}
-use Rattle.known_nodes.specs.rule.Rows.{Row, is_awaited}
-use Rattle.known_nodes.specs.rule.Parts.{rows_of}
+use Rattle.token_server.specs.rule.Rows.{Row, is_awaited}
+use Rattle.token_server.specs.rule.RowParts.{rows_of}
 use Rattle.token_server.proofs.IdleLaws.{idle-server}
 use Rattle.token_server.proofs.server.Server.new.Goals as goal
 

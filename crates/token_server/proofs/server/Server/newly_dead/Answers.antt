@@ -1,6 +1,6 @@
 use Rattle.std.specs.Prelude.{◌≡◌, All}
 use Rattle.std.proofs.Common.{sym, ap, subst, ◌∙◌, arith}
-use Rattle.known_nodes.specs.rule.Parts.{deaths_of}
+use Rattle.token_server.specs.rule.RowParts.{deaths_of}
 use Rattle.token_server.specs.rule.Parts.{ServerParts, server_state}
 use Rattle.token_server.specs.rule.State.{requests}
 use Rattle.token_server.specs.code.Sketches.{dropped}

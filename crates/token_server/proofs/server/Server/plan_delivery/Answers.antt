@@ -5,7 +5,7 @@ use Rattle.model.specs.rule.Limits.{HostFields}
 use Rattle.messages.specs.declared.message.Message.{Message}
 use Rattle.messages.specs.rule.Messages.{host_of}
 use Rattle.token_server.specs.declared.sketch.Sketch.{Sketch}
-use Rattle.known_nodes.specs.rule.Parts.{deaths_of}
+use Rattle.token_server.specs.rule.RowParts.{deaths_of}
 use Rattle.token_server.specs.rule.Parts.{ServerParts, server_state}
 use Rattle.token_server.specs.code.Ready.{IsOrderly}
 use Rattle.token_server.specs.code.Sketches.{sketched}

@@ -2,9 +2,9 @@ use Rattle.std.specs.Prelude.{ℕ}
 use Rattle.std.proofs.Common.{ap, sym, subst, ◌∙◌, arith}
 use Rattle.intervals.specs.rule.Search.{some_passes}
 use Rattle.model.specs.rule.Limits.{IsNumber}
-use Rattle.known_nodes.specs.rule.Rows.{is_awaited}
-use Rattle.known_nodes.specs.rule.Parts.{rows_of}
-use Rattle.known_nodes.proofs.RebuildLaws.{rebuilt-counted}
+use Rattle.token_server.specs.rule.Rows.{is_awaited}
+use Rattle.token_server.specs.rule.RowParts.{rows_of}
+use Rattle.token_server.proofs.RebuildLaws.{rebuilt-counted}
 use Rattle.token_server.proofs.IdleLaws.{idle-server}
 use Rattle.token_server.proofs.server.Server.rebuild.Goals as goal
 

@@ -6,9 +6,9 @@ use Rattle.messages.specs.declared.refusal.StepError.{StepError}
 use Rattle.messages.specs.declared.refusal.StepError.TheVariants.{NoMemory}
 use Rattle.token_server.specs.rule.State.{ServerState}
 use Rattle.token_server.specs.rule.Serve.{serve}
-use Rattle.known_nodes.specs.rule.Rows.{outstanding_to}
+use Rattle.token_server.specs.rule.Rows.{outstanding_to}
 use Rattle.token_server.specs.rule.Resends.{outstanding, sending_first, resend_rule}
-use Rattle.known_nodes.specs.rule.Parts.{rows_of}
+use Rattle.token_server.specs.rule.RowParts.{rows_of}
 use Rattle.token_server.specs.rule.Parts.{ServerParts, server_state}
 use Rattle.token_server.specs.code.Ready.{IsOrderly}
 use Rattle.token_server.specs.code.Sketches.{sketched}

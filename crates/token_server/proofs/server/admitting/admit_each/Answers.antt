@@ -1,7 +1,7 @@
 use Rattle.std.specs.Prelude.{List, ◌++◌, Option}
 use Rattle.std.proofs.Common.{sym, ap, subst, ◌∙◌, append-nil, arith}
 use Rattle.std.proofs.lemmas.List.{take_all}
-use Rattle.token_queue.specs.declared.token_request.TokenRequest.{TokenRequest}
+use Rattle.token_server.specs.declared.token_queue.token_request.TokenRequest.{TokenRequest}
 use Rattle.token_server.specs.code.Admitting.{IsAdmitted}
 use Rattle.token_server.specs.code.Comes.{served_on, left_in}
 use Rattle.token_server.proofs.ComesLaws.{without-nil}

@@ -1,9 +1,9 @@
 use Rattle.std.specs.Prelude.{[], ◌+◌, List, Option, Some}
 use Rattle.std.proofs.Common.{sym, subst, arith}
 use Rattle.std.proofs.lemmas.List.{take_all}
-use Rattle.token_queue.specs.declared.token_request.TokenRequest.{TokenRequest}
-use Rattle.token_queue.specs.rule.Requests.{requests_in}
-use Rattle.token_queue.specs.rule.Actives.{requests_of}
+use Rattle.token_server.specs.declared.token_queue.token_request.TokenRequest.{TokenRequest}
+use Rattle.token_server.specs.rule.Requests.{requests_in}
+use Rattle.token_server.specs.rule.Actives.{requests_of}
 use Rattle.token_server.specs.code.Admitting.{IsAdmitted}
 use Rattle.token_server.specs.code.Sketches.{still_active}
 use Rattle.token_server.proofs.AdmittingLaws.{admitted-none}

@@ -1,11 +1,11 @@
 use Rattle.std.specs.Prelude.{◌≡◌, ℕ, false, not, List, [], ◌++◌, filter, is_some, Option, Some, None}
 use Rattle.std.proofs.Common.{refl, sym, ap, subst, ◌∙◌}
 use Rattle.model.specs.declared.call.CallId.{CallId}
-use Rattle.token_queue.specs.declared.held.Held.{Held}
-use Rattle.token_queue.specs.declared.token_request.TokenRequest.{TokenRequest}
-use Rattle.token_queue.specs.rule.Requests.{is_of_call, requests_in}
-use Rattle.token_queue.specs.rule.Actives.{requests_of}
-use Rattle.token_queue.proofs.LineLaws.{filter-none}
+use Rattle.token_server.specs.declared.token_queue.held.Held.{Held}
+use Rattle.token_server.specs.declared.token_queue.token_request.TokenRequest.{TokenRequest}
+use Rattle.token_server.specs.rule.Requests.{is_of_call, requests_in}
+use Rattle.token_server.specs.rule.Actives.{requests_of}
+use Rattle.token_server.proofs.LineLaws.{filter-none}
 use Rattle.token_server.specs.code.Admitting.{IsAdmitted}
 use Rattle.token_server.specs.code.Ready.{AreDistinct}
 use Rattle.token_server.specs.code.Sketches.{without, still_active}

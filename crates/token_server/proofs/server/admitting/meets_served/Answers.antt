@@ -4,8 +4,8 @@ use Rattle.std.proofs.Common.{ap, ◌∙◌, rules, tests}
 use Rattle.std.proofs.lemmas.Iterator.{YieldsList-from_slice}
 use Rattle.std.proofs.lemmas.Iterator.Search.{any_from_yields_List}
 use Rattle.intervals.specs.rule.Bytes.{Range}
-use Rattle.token_queue.specs.declared.held.Held.{Held}
-use Rattle.token_queue.specs.rule.Requests.{meets}
+use Rattle.token_server.specs.declared.token_queue.held.Held.{Held}
+use Rattle.token_server.specs.rule.Requests.{meets}
 use Rattle.token_server.specs.code.Edits.{keeps}
 use Rattle.token_server.proofs.ComesLaws.{meets-served}
 use Rattle.token_server.proofs.server.admitting.meets_served.Goals as goal

@@ -1,5 +1,5 @@
 use Rattle.std.proofs.Common.{ap, ◌∙◌}
-use Rattle.known_nodes.specs.declared.node_change.NodeChange.{NodeChange}
+use Rattle.token_server.specs.declared.known_nodes.node_change.NodeChange.{NodeChange}
 use Rattle.token_server.specs.code.Obstacles.{frees}
 use Rattle.token_server.proofs.AwaitLaws.{apart-part}
 use Rattle.token_server.proofs.server.obstacles.takes_all.Goals as goal

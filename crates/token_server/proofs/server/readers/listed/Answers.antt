@@ -1,7 +1,7 @@
 use Rattle.std.specs.Prelude.{List, [], ◌∷◌, ◌++◌}
 use Rattle.std.proofs.Common.{sym, ap, ◌∙◌}
-use Rattle.token_queue.specs.declared.token_request.TokenRequest.{TokenRequest}
-use Rattle.token_queue.proofs.WalkLaws.{requests_in-full, requests_in-empty}
+use Rattle.token_server.specs.declared.token_queue.token_request.TokenRequest.{TokenRequest}
+use Rattle.token_server.proofs.WalkLaws.{requests_in-full, requests_in-empty}
 use Rattle.token_server.proofs.server.readers.listed.Goals.{in-Some+in_ok-push, in_default}
 use Rattle.token_server.proofs.server.readers.listed.Goals as goal
 

@@ -1,5 +1,5 @@
 use Rattle.std.proofs.Common.{take}
-use Rattle.token_queue.specs.rule.Actives.{requests_of}
+use Rattle.token_server.specs.rule.Actives.{requests_of}
 use Rattle.token_server.proofs.CutLaws.{AreCut}
 use Rattle.token_server.proofs.server.serving.cut_by_all.Given as goal
 

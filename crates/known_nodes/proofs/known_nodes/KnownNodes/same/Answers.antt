@@ -1,7 +1,0 @@
-use Rattle.std.proofs.Common.{◌∙◌}
-use Rattle.known_nodes.proofs.KnownNodeLaws.{same_known_nodes}
-use Rattle.known_nodes.proofs.known_nodes.KnownNodes.same.Goals as goal
-
-pub returns : goal.returns
-returns c =
-    same_known_nodes _ _ _ _ _ (c.deref.ensures.value ∙ c.self.view_is) (c.deref-2.ensures.value ∙ c.other.view_is) c.requires c.same_each.ensures

@@ -1,7 +1,0 @@
-pub mod CallLaws
-pub mod SlotLaws
-pub mod PlaceLaws
-pub mod DistinctLaws
-pub mod WalkLaws
-pub mod LineLaws
-pub mod ActiveLaws

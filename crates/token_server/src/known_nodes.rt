@@ -1,0 +1,13 @@
+//! What the token server of a file knows of each node: the row with its incarnation, its token and its outstanding
+//! command. It knows nothing of the queue of requests, of when a command is sent, of files of the operating system or
+//! of printed text.
+
+pub mod command;
+pub mod commands;
+pub mod given;
+pub mod known_node;
+pub mod known_nodes;
+pub mod node_change;
+mod reports;
+pub mod row_edit;
+pub mod token_holder;

@@ -1,0 +1,10 @@
+//! The requests for tokens that a token server keeps: the active ones, and lines of those that are queued or wait. It
+//! knows when two requests need a common byte, and nothing of tokens, rows, messages that are sent, files or printed
+//! text.
+
+pub mod active;
+pub mod held;
+pub mod line;
+mod slots;
+pub mod token_request;
+mod walk;
