@@ -10,9 +10,9 @@ use Rattle.lockscript.specs.code.Readings.{HasOneReading}
 use Rattle.lockscript.specs.rule.Scripts.{HasScript, IsRefused}
 use Rattle.message_text.specs.rule.Names.{call_text}
 use Rattle.message_text.proofs.NameTexts.{call as call_texts}
-use Rattle.stories.specs.rule.Stories.{is_made}
-use Rattle.pictures.specs.declared.window.Window.{Window}
-use Rattle.pictures.specs.rule.Around.{around}
+use Rattle.views.specs.rule.Stories.{is_made}
+use Rattle.views.specs.declared.pictures.window.Window.{Window}
+use Rattle.views.specs.rule.Around.{around}
 use Rattle.replay.specs.rule.Tellings.{HasCall, HasNoCall, HasNoWindow, margin}
 
 -- a name is of one call

@@ -14,15 +14,15 @@ use cluster_core::item::Item;
 use cluster_core::journal::Journal;
 use command_line::format::Format;
 use command_line::picture_line::PictureLine;
-use diagrams::mermaid::sequence;
-use diagrams::trace::trace;
 use message_text::names::call_of;
-use pictures::around::around;
-use pictures::picture::picture;
-use pictures::stretch::holdings;
-use pictures::window::Window;
 use placement::placed::placed;
 use std::alloc::{AllocError, Global};
+use views::diagrams::mermaid::sequence;
+use views::diagrams::trace::trace;
+use views::pictures::around::around;
+use views::pictures::picture::picture;
+use views::pictures::stretch::holdings;
+use views::pictures::window::Window;
 
 // How many entries a picture shows at most.
 const MOST_DRAWN: u64 = 400;

@@ -15,7 +15,7 @@ use message_text::names::call_of;
 use placement::placed::placed;
 use states::open_words::open_text;
 use std::alloc::{AllocError, Global};
-use stories::story;
+use views::stories::story;
 
 // The story of the call of this name, by the journal of a file, where that is one of a run.
 pub(crate) fn explain<'a, S: Store>(

@@ -6,8 +6,8 @@ ghost use Rattle.cluster_core.specs.rule.World.{first_world};
 
 use cluster_core::journal::Journal;
 use cluster_core::world::World;
-use pictures::stretch::{repeat, up_to};
 use std::alloc::{AllocError, Global};
+use views::pictures::stretch::{repeat, up_to};
 
 // The world to which so many entries of the journal lead, or all, if it has fewer. Their events happen once more.
 pub(crate) fn world_behind(

@@ -13,9 +13,9 @@ use model::call::CallId;
 use model::op::LockCommand;
 use std::alloc::{AllocError, Global};
 use std::fmt::Write;
-use stories::lines::{push_addressed, push_calling, push_ended};
-use stories::open_call::{OpenCall, unanswered};
-use stories::placed_entry::NumberedMessage;
+use views::stories::lines::{push_addressed, push_calling, push_ended};
+use views::stories::open_call::{OpenCall, unanswered};
+use views::stories::placed_entry::NumberedMessage;
 
 /// The text of the calls of the entries of a journal of this version, the first at position 1, to which no entry
 /// replies, in the order of their entries. Under the line of a call stands where it ended, or else why it is open in

@@ -6,11 +6,11 @@ use Rattle.cluster_core.specs.rule.Journals.{JournalFields, IsFirstWrong}
 use Rattle.cluster_core.specs.rule.Runs.{IsRun, Leads}
 use Rattle.cluster_core.specs.rule.World.{WorldState, first_world}
 use Rattle.message_text.specs.rule.Names.{call_text}
-use Rattle.pictures.specs.rule.Around.{around}
+use Rattle.views.specs.rule.Around.{around}
 use Rattle.states.specs.declared.chosen.Chosen.{Chosen}
 use Rattle.states.specs.declared.cluster_state.ClusterState.{ClusterState}
 use Rattle.states.specs.rule.States.{IsStateOf}
-use Rattle.stories.specs.rule.Stories.{is_made}
+use Rattle.views.specs.rule.Stories.{is_made}
 use Rattle.replay.specs.declared.shown.Shown.{Shown}
 use Rattle.replay.specs.declared.shown.Shown.TheVariants.{Text, Wanting, Partial, No}
 

@@ -1,2 +1,0 @@
-pub mod Tracks
-pub mod Laws

@@ -1,4 +1,0 @@
-pub mod Passes
-pub mod Firsts
-pub mod CallParts
-pub mod OpenEnds

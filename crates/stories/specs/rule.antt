@@ -1,4 +1,0 @@
-pub mod About
-pub mod Pending
-pub mod OpenCalls
-pub mod Stories

@@ -1,0 +1,11 @@
+pub mod Passes
+pub mod Firsts
+pub mod CallParts
+pub mod OpenEnds
+pub mod Lasts
+pub mod RowLaws
+pub mod LastToPass
+pub mod Grows
+pub mod LastBars
+pub mod HeldStretches
+pub mod TrackLaws

@@ -1,0 +1,4 @@
+pub mod Index
+pub mod OpenIndexes
+pub mod Indexes
+pub mod Lanes

@@ -1,0 +1,52 @@
+-- What a picture shows, and where entries stand in it. Its unit is a pixel at scale 1.
+use Rattle.std.specs.Prelude.{ℕ, ◌+◌, ◌-◌, ◌*◌, List, length, min}
+use Rattle.messages.specs.declared.version.Version.{Version}
+use Rattle.messages.specs.code.Entries.{EntryFields}
+use Rattle.messages.specs.rule.Shapes.{ShapeFields}
+use Rattle.cluster_core.specs.declared.item.Item.{Item}
+use Rattle.views.specs.declared.pictures.bar.Bar.{Bar}
+use Rattle.views.specs.declared.pictures.place.Place.{Place}
+use Rattle.views.specs.declared.pictures.row.Row.{Row}
+use Rattle.views.specs.declared.pictures.track.Track.{Track}
+use Rattle.views.specs.declared.pictures.window.Window.{Window}
+use Rattle.views.specs.rule.Bars.{bars}
+use Rattle.views.specs.rule.History.{places}
+use Rattle.views.specs.rule.Holdings.{HoldingsFields}
+use Rattle.views.specs.rule.Pieces.{pieces}
+use Rattle.views.specs.rule.Rows.{rows}
+use Rattle.views.specs.rule.Stretches.{PlacedFields, cut, stretch}
+use Rattle.views.specs.rule.Tracks.{tracks}
+
+-- the version of the journal, which of its entries are drawn, the rows, the calls, the entries, where the history has calls, and what stands below the rows
+pub record DrawingFields : Type 0 where
+  pub version : Version
+  pub window : Window
+  pub rows : List Row
+  pub bars : List Bar
+  pub part : List PlacedFields
+  pub places : List Place
+  pub tracks : List Track
+
+-- of the entries and their history, of a cluster of this shape, and of what nodes hold behind entries, as far as the window shows it
+abbrev pub drawing_of : ShapeFields → List EntryFields → List Item → List HoldingsFields → Window → DrawingFields
+drawing_of shape entries history holdings window =
+    let w = cut (length entries) window in
+    record {
+      version = shape.version;
+      window = w;
+      rows = rows shape (stretch w entries) (bars w entries);
+      bars = bars w entries;
+      part = stretch w entries;
+      places = places w entries history;
+      tracks = tracks (pieces holdings);
+    }
+
+-- where an entry at this position stands: 60 units each, from the left edge at 130 units on; those before the window on that edge, those behind it on the right edge
+unfoldable pub x_of : Window → ℕ → ℕ
+x_of w at = 130 + 60 * ((min at (w.to + 1) + 1) - w.from)
+
+abbrev pub left_edge : ℕ
+left_edge = 130
+
+abbrev pub right_edge : Window → ℕ
+right_edge w = x_of w (w.to + 1)

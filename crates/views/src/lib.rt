@@ -1,0 +1,7 @@
+//! What tools show of a run, from the entries of its journal and their history: the story of one call and the calls without
+//! a reply; a picture; and two other texts of what a picture shows.
+#![tactic(auto)]
+
+pub mod diagrams;
+pub mod pictures;
+pub mod stories;

@@ -1,0 +1,81 @@
+//! The boxes of calls. Each error is `AllocError`: a request for memory was refused.
+ghost use Rattle.std.specs.Prelude.{◌<◌, ◌^◌};
+
+use crate::pictures::bar::Bar;
+use crate::pictures::drawing::Drawing;
+use crate::pictures::outcome::{class_of, push_outcome};
+use crate::pictures::row::Row;
+use crate::pictures::sheet::{point_on, x_of};
+use lockscript::operations::Operation;
+use message_text::names::push_call;
+use std::alloc::{AllocError, Global};
+use svg::elements::{push_box, push_label};
+use texts::text::{Text, split_field};
+
+/// Draws the calls.
+pub(crate) fn push_bars(
+    out: &mut String,
+    alloc: Global,
+    drawing: &Drawing<'_>,
+) -> Result<(), AllocError> {
+    for bar in &drawing.bars {
+        push_bar(out, alloc, drawing, bar)?;
+    }
+    Ok(())
+}
+
+// Draws a call: a box, its operation, of which only the first word where there is no room for more, and as a title what
+// became of it.
+fn push_bar(
+    out: &mut String,
+    alloc: Global,
+    drawing: &Drawing<'_>,
+    bar: &Bar,
+) -> Result<(), AllocError> {
+    let mut op = String::new(alloc);
+    Operation::write(&bar.made.op, &mut op)?;
+    out.push_str("<g><title>")?;
+    push_call(out, &bar.made.call)?;
+    out.push_str(" ")?;
+    out.push_str(op.as_str())?;
+    out.push_str(": ")?;
+    push_outcome(out, bar)?;
+    out.push_str("</title>")?;
+    push_box_of(out, drawing, bar, op.as_str())?;
+    out.push_str("</g>\n")
+}
+
+// Draws the box of a call of this operation.
+fn push_box_of(
+    out: &mut String,
+    drawing: &Drawing<'_>,
+    bar: &Bar,
+    op: &str,
+) -> Result<(), AllocError> {
+    let position = u128::from(bar.made.position);
+    let row = Row::of(bar);
+    let width = width_of(drawing, bar);
+    let corner = point_on(drawing, position, &row, 0, 8);
+    push_box(out, class_of(bar), &corner, width + 8, 18)?;
+    let at = point_on(drawing, position, &row, 11, 20);
+    push_label(out, "op", &at, fitting(op, width))
+}
+
+// How far the bar of a call goes.
+fn width_of(drawing: &Drawing<'_>, bar: &Bar) -> u128
+    ensures { result < 2 ^ 72 }
+{
+    let start = x_of(&drawing.window, u128::from(bar.made.position));
+    x_of(&drawing.window, bar.right_end(&drawing.window)).saturating_sub(start)
+}
+
+// The operation, or its first word where it does not go into this width.
+fn fitting(op: &str, width: u128) -> &str {
+    if op.len() as u128 * 5 <= width {
+        return op;
+    }
+    match split_field(op) {
+        Some((word, _)) => word,
+        None => op,
+    }
+}

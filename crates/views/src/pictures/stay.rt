@@ -1,0 +1,34 @@
+//! How long something is held.
+ghost use Rattle.std.specs.Prelude.{◌≡◌};
+ghost use Rattle.views.specs.rule.Shares.{goes_on};
+
+use crate::pictures::held::Held;
+use crate::pictures::piece::Piece;
+
+/// What is held behind each entry from one position to another, with both of them; positions count from 1.
+#[derive(Clone, Copy)]
+pub struct Stay {
+    pub held: Held,
+    pub from: u64,
+    pub to: u64,
+}
+
+impl Stay {
+    /// The stay that begins with the piece.
+    pub(crate) fn of(piece: &Piece) -> Stay
+        ensures { result ≡ record { held = piece.now.held; from = piece.now.position; to = piece.now.position } }
+    {
+        Stay {
+            held: piece.held,
+            from: piece.position,
+            to: piece.position,
+        }
+    }
+
+    /// Whether it goes on by the piece, which is the same at the next entry.
+    pub(crate) fn goes_on(&self, piece: &Piece) -> bool
+        ensures { result ≡ goes_on piece.now self.now }
+    {
+        self.held.is_same(&piece.held) && u128::from(piece.position) == u128::from(self.to) + 1
+    }
+}

@@ -1,0 +1,18 @@
+//! The story of one call of a journal, and the calls without a reply.
+//!
+//! # Errors
+//! All are `AllocError`, where a request for memory was refused.
+
+pub mod about;
+pub mod call_story;
+pub mod end;
+pub mod ending;
+pub mod ends;
+pub mod lines;
+pub mod made_call;
+pub mod open_call;
+mod parts;
+pub mod placed_entry;
+mod sent_messages;
+pub mod story;
+mod under_way;
