@@ -6,8 +6,8 @@ use Rattle.std.specs.Ordering.{nat_cmp}
 use Rattle.std.proofs.Common.{ap, sym, subst, drop, drop-cons, add-one, ◌∙◌, arith, refl, ⊎_elim}
 use Rattle.std.proofs.lemmas.Bool.{cases_Bool, eqb-true}
 use Rattle.std.proofs.lemmas.Bool.Decides.{nat_tests}
-use Rattle.lockscript.specs.declared.script_line.Command.{Command}
-use Rattle.lockscript.specs.declared.script_line.Command.TheVariants.{Call, Deliver, Lose, Settle, Interrupt, Retry, Resend, Declare, Restart, Learn, FailServer, StartServer}
+use Rattle.lockscript.specs.declared.script_line.ScriptCommand.{ScriptCommand}
+use Rattle.lockscript.specs.declared.script_line.ScriptCommand.TheVariants.{Call, Deliver, Lose, Settle, Interrupt, Retry, Resend, Declare, Restart, Learn, FailServer, StartServer}
 use Rattle.actors.specs.declared.line_outcome.LineOutcome.{LineOutcome}
 use Rattle.actors.specs.declared.line_outcome.LineOutcome.TheVariants.{Answered, Denied, Made, Refused, Settled, Open, Left}
 use Rattle.actors.specs.declared.played_line.PlayedLine.{PlayedLine}
@@ -32,7 +32,7 @@ or_right : (a b : Bool) → b ≡ true → (a || b) ≡ true
 or_right true b h = refl
 or_right false b h = h
 
-declares_sooner : (n a b : ℕ) → a ≤ b → (c : Command) (o : LineOutcome) → declares n b c o ≡ true → declares n a c o ≡ true
+declares_sooner : (n a b : ℕ) → a ≤ b → (c : ScriptCommand) (o : LineOutcome) → declares n b c o ≡ true → declares n a c o ≡ true
 declares_sooner n a b le (Declare m) (Made at) h = and_then (m == n) (nat_lt b at) (nat_lt a at) (λ e. lt_trans a b at e le) h
 declares_sooner n a b le (Declare m) (Answered r) h = h
 declares_sooner n a b le (Declare m) (Denied e) h = h
@@ -53,7 +53,7 @@ declares_sooner n a b le (FailServer m) o h = h
 declares_sooner n a b le (StartServer m) o h = h
 
 -- a node that is declared failed behind a position is declared failed behind an earlier one
-pub fails_sooner : (is_between : Command → Bool) (n a b : ℕ) → a ≤ b → (ls : List PlayedLine) → fails_in is_between n b ls ≡ true → fails_in is_between n a ls ≡ true
+pub fails_sooner : (is_between : ScriptCommand → Bool) (n a b : ℕ) → a ≤ b → (ls : List PlayedLine) → fails_in is_between n b ls ≡ true → fails_in is_between n a ls ≡ true
 fails_sooner is_between n a b le [] h = h
 fails_sooner is_between n a b le (l ∷ ls) h =
     and_then (not (is_between l.line.command)) _ _
@@ -64,7 +64,7 @@ here : (n : ℕ) → (n == n) ≡ true
 here n = grind (arith, nat_tests)
 
 -- the declarations that are awaited after one more is, if they come, come before as well
-pub met_by_one : (is_between : Command → Bool) (old new : BTreeMap ℕ ℕ) (node least : ℕ) → ((n : ℕ) → tree.get nat_cmp new n ≡ (if n == node then Some (max least (unwrap_or (tree.get nat_cmp old node) 0)) else tree.get nat_cmp old n)) → (behind : List PlayedLine) → AreMet is_between new behind → (fails_in is_between node least behind ≡ true) × AreMet is_between old behind
+pub met_by_one : (is_between : ScriptCommand → Bool) (old new : BTreeMap ℕ ℕ) (node least : ℕ) → ((n : ℕ) → tree.get nat_cmp new n ≡ (if n == node then Some (max least (unwrap_or (tree.get nat_cmp old node) 0)) else tree.get nat_cmp old n)) → (behind : List PlayedLine) → AreMet is_between new behind → (fails_in is_between node least behind ≡ true) × AreMet is_between old behind
 met_by_one is_between old new node least step behind met =
     let k = unwrap_or (tree.get nat_cmp old node) 0 in
     let most = met node (max least k) (step node ∙ ap (λ b. if b then Some (max least k) else tree.get nat_cmp old node) (here node)) in (
@@ -83,7 +83,7 @@ none_some : {X : Type 0} (o : Option X) (x : X) → o ≡ None → o ≡ Some x 
 none_some o x n s = cc
 
 -- the awaited declarations come before a line, if the line makes its own and the rest come behind it
-pub met_past : (is_between : Command → Bool) (old new : BTreeMap ℕ ℕ) (l : PlayedLine) (behind : List PlayedLine) → (is_between l.line.command ≡ true → (n : ℕ) → tree.get nat_cmp old n ≡ None) → ((n least : ℕ) → tree.get nat_cmp old n ≡ Some least → (declares n least l.line.command l.outcome ≡ true) ⊎ (tree.get nat_cmp new n ≡ Some least)) → AreMet is_between new behind → AreMet is_between old (l ∷ behind)
+pub met_past : (is_between : ScriptCommand → Bool) (old new : BTreeMap ℕ ℕ) (l : PlayedLine) (behind : List PlayedLine) → (is_between l.line.command ≡ true → (n : ℕ) → tree.get nat_cmp old n ≡ None) → ((n least : ℕ) → tree.get nat_cmp old n ≡ Some least → (declares n least l.line.command l.outcome ≡ true) ⊎ (tree.get nat_cmp new n ≡ Some least)) → AreMet is_between new behind → AreMet is_between old (l ∷ behind)
 met_past is_between old new l behind parted step met = λ n least is. ⊎_elim
     (λ p. absurd (none_some (tree.get nat_cmp old n) least (parted p n) is))
     (λ p. ⊎_elim
@@ -97,11 +97,11 @@ pub if_ok : {A E : Type 0} (r : Result A E) (P Q : A → Type 0) → ((a : A) �
 if_ok (Ok a) P Q f p = f a p
 if_ok (Err e) P Q f p = p
 
-pub call_may : (is_between : Command → Bool) (shape : ShapeFields) (m : ClusterMembers) (command : Command) (n pid : ℕ) (op : Op) (o : LineOutcome) (behind : List PlayedLine) → command ≡ Call n pid op → MayCallCome is_between shape m.nodes n pid op o behind → MayCome is_between shape m command o behind
-call_may is_between shape m command n pid op o behind e h = subst (λ (k : Command). MayCome is_between shape m k o behind) (sym e) h
+pub call_may : (is_between : ScriptCommand → Bool) (shape : ShapeFields) (m : ClusterMembers) (command : ScriptCommand) (n pid : ℕ) (op : Op) (o : LineOutcome) (behind : List PlayedLine) → command ≡ Call n pid op → MayCallCome is_between shape m.nodes n pid op o behind → MayCome is_between shape m command o behind
+call_may is_between shape m command n pid op o behind e h = subst (λ (k : ScriptCommand). MayCome is_between shape m k o behind) (sym e) h
 
 -- one more line may have its outcome
-pub all_past : (is_between : Command → Bool) (shape : ShapeFields) (m m' : ClusterMembers) (old new : BTreeMap ℕ ℕ) (lines : List PlayedLine) (i : ℕ) (x : PlayedLine) → i < length lines → x ≡ get_or lines i x → m' ≡ after_line shape m x → ((behind : List PlayedLine) → AreMet is_between new behind → MayCome is_between shape m x.line.command x.outcome behind × AreMet is_between old (x ∷ behind)) → AreMet is_between new (drop (i + 1) lines) → MayAllCome is_between shape m' (drop (i + 1) lines) → AreMet is_between old (drop i lines) × MayAllCome is_between shape m (drop i lines)
+pub all_past : (is_between : ScriptCommand → Bool) (shape : ShapeFields) (m m' : ClusterMembers) (old new : BTreeMap ℕ ℕ) (lines : List PlayedLine) (i : ℕ) (x : PlayedLine) → i < length lines → x ≡ get_or lines i x → m' ≡ after_line shape m x → ((behind : List PlayedLine) → AreMet is_between new behind → MayCome is_between shape m x.line.command x.outcome behind × AreMet is_between old (x ∷ behind)) → AreMet is_between new (drop (i + 1) lines) → MayAllCome is_between shape m' (drop (i + 1) lines) → AreMet is_between old (drop i lines) × MayAllCome is_between shape m (drop i lines)
 all_past is_between shape m m' old new lines i x lt is members may met rest =
     let r = may (drop (i + 1) lines) met in
     let cons : drop i lines ≡ x ∷ drop (i + 1) lines = drop-cons lines i x lt ∙ ap (λ (k : ℕ). get_or lines i x ∷ drop k lines) (sym (add-one i)) ∙ ap (λ (y : PlayedLine). y ∷ drop (i + 1) lines) (sym is) in

@@ -4,7 +4,7 @@ use Rattle.std.specs.List.{Contains}
 use Rattle.std.proofs.Common.{ap, sym, subst, ◌∙◌, ◌⊎◌, arith, ⊎_elim, inl, inr, refl}
 use Rattle.std.proofs.lemmas.Bool.{cases_Bool, cases_order, false≢true}
 use Rattle.std.proofs.lemmas.List.Elements.{All-contains, All-nil, All-push}
-use Rattle.lockscript.specs.declared.script_line.Command.{Command}
+use Rattle.lockscript.specs.declared.script_line.ScriptCommand.{ScriptCommand}
 use Rattle.actors.specs.declared.line_outcome.LineOutcome.TheVariants.{Left}
 use Rattle.actors.specs.declared.played_line.PlayedLine.{PlayedLine}
 use Rattle.actors.specs.rule.Cuts.{IsBarred, is_open}
@@ -15,21 +15,21 @@ abbrev pub Opened : List PlayedLine → ℕ → ℕ × ℕ → Type 0
 Opened lines count a = (i : ℕ) × (l : PlayedLine) × (i < count) × (slice_get lines i ≡ Some l) × (is_open l.outcome ≡ true) × (asker l.line.command ≡ a)
 
 -- a line that separates phases stands behind an open call of the first lines
-abbrev pub Over : (Command → Bool) → List PlayedLine → ℕ → Type 0
+abbrev pub Over : (ScriptCommand → Bool) → List PlayedLine → ℕ → Type 0
 Over is_between lines count = (i : ℕ) × (l : PlayedLine) × (k : ℕ) × (n : PlayedLine) × (i < k) × (k < count) × (slice_get lines i ≡ Some l) × (is_open l.outcome ≡ true) × (slice_get lines k ≡ Some n) × (is_between n.line.command ≡ true)
 
-pub record Passed (is_between : Command → Bool) (lines : List PlayedLine) (count : ℕ) (askers : List (ℕ × ℕ)) (over : Bool) : Type 0 where
+pub record Passed (is_between : ScriptCommand → Bool) (lines : List PlayedLine) (count : ℕ) (askers : List (ℕ × ℕ)) (over : Bool) : Type 0 where
   pub opened : All (Opened lines count) askers
   pub is_over : over ≡ true → Over is_between lines count
   pub barred : (j : ℕ) (m : PlayedLine) → j < count → slice_get lines j ≡ Some m → m.outcome ≡ Left → IsBarred is_between lines j m
 
 -- the next line is passed as well
-pub record Passes (is_between : Command → Bool) (askers : List (ℕ × ℕ)) (over : Bool) (line : PlayedLine) (askers' : List (ℕ × ℕ)) (over' : Bool) : Type 0 where
+pub record Passes (is_between : ScriptCommand → Bool) (askers : List (ℕ × ℕ)) (over : Bool) (line : PlayedLine) (askers' : List (ℕ × ℕ)) (over' : Bool) : Type 0 where
   pub over_by : over' ≡ true → (over ≡ true) ⊎ ((is_between line.line.command ≡ true) × (askers ≢ []))
   pub left_by : line.outcome ≡ Left → (over' ≡ true) ⊎ Contains askers (asker line.line.command)
   pub open_by : askers' ≡ (if is_open line.outcome then askers ++ asker line.line.command ∷ [] else askers)
 
-pub none_passed : (is_between : Command → Bool) (lines : List PlayedLine) → Passed is_between lines 0 [] false
+pub none_passed : (is_between : ScriptCommand → Bool) (lines : List PlayedLine) → Passed is_between lines 0 [] false
 none_passed is_between lines = record { opened = All-nil (Opened lines 0); is_over = λ e. absurd (false≢true e); barred = λ j m lt. absurd (omega arith) }
 
 is_here : {X : Type 0} (x y : X) → Some x ≡ Some y → x ≡ y
@@ -39,7 +39,7 @@ first_of : {X : Type 0} (P : X → Type 0) (xs : List X) → All P xs → xs ≢
 first_of P [] all filled = absurd (filled refl)
 first_of P (x ∷ xs) all filled = (x, all 0 x (omega arith))
 
-module _ (is_between : Command → Bool) (lines : List PlayedLine) (count : ℕ) (askers askers' : List (ℕ × ℕ)) (over over' : Bool) (x : PlayedLine) (here : slice_get lines count ≡ Some x) (before : Passed is_between lines count askers over) (next : Passes is_between askers over x askers' over') where
+module _ (is_between : ScriptCommand → Bool) (lines : List PlayedLine) (count : ℕ) (askers askers' : List (ℕ × ℕ)) (over over' : Bool) (x : PlayedLine) (here : slice_get lines count ≡ Some x) (before : Passed is_between lines count askers over) (next : Passes is_between askers over x askers' over') where
   the_next : (i : ℕ) (l : PlayedLine) → i ≡ count → slice_get lines i ≡ Some l → l ≡ x
   the_next i l is at = is_here l x (sym at ∙ (ap (slice_get lines) is ∙ here))
 

@@ -3,23 +3,23 @@ use Rattle.std.specs.Prelude.{◌≡◌, ℕ, ◌+◌, ◌<◌, ◌≤◌, Bool,
 use Rattle.std.specs.Option.{unwrap_or}
 use Rattle.std.proofs.Common.{ap, sym, ◌∙◌, ◌⊎◌, arith, ⊎_elim, inl, inr}
 use Rattle.std.proofs.lemmas.Bool.{cases_order, cases_Bool}
-use Rattle.lockscript.specs.declared.script_line.Command.{Command}
+use Rattle.lockscript.specs.declared.script_line.ScriptCommand.{ScriptCommand}
 use Rattle.actors.specs.declared.played_line.PlayedLine.{PlayedLine}
 use Rattle.actors.specs.rule.Lines.{begins, ends, Precedes}
 
 -- the first lines stand in phases: the greatest position of their entries, and that up to the last line that separates phases
-pub record Passed (is_between : Command → Bool) (lines : List PlayedLine) (count all earlier : ℕ) : Type 0 where
+pub record Passed (is_between : ScriptCommand → Bool) (lines : List PlayedLine) (count all earlier : ℕ) : Type 0 where
   pub known : (i p : ℕ) (l : PlayedLine) → i < count → slice_get lines i ≡ Some l → ends l.outcome ≡ Some p → p ≤ all
   pub known_earlier : (i j p : ℕ) (l m : PlayedLine) → i ≤ j → j < count → slice_get lines i ≡ Some l → slice_get lines j ≡ Some m → is_between m.line.command ≡ true → ends l.outcome ≡ Some p → p ≤ earlier
   pub phases : (i j k : ℕ) (l m n : PlayedLine) → i ≤ j → j ≤ k → i < k → k < count → slice_get lines i ≡ Some l → slice_get lines j ≡ Some m → slice_get lines k ≡ Some n → is_between m.line.command ≡ true → Precedes l n
 
 -- the next line is passed as well: it begins late enough
-pub record Passes (is_between : Command → Bool) (x : PlayedLine) (all earlier all' earlier' : ℕ) : Type 0 where
+pub record Passes (is_between : ScriptCommand → Bool) (x : PlayedLine) (all earlier all' earlier' : ℕ) : Type 0 where
   pub all_is : all' ≡ max all (unwrap_or (ends x.outcome) 0)
   pub earlier_is : earlier' ≡ (if is_between x.line.command then all' else earlier)
   pub later : (at : ℕ) → begins x.outcome ≡ Some at → (if is_between x.line.command then all else earlier) < at
 
-pub none_passed : (is_between : Command → Bool) (lines : List PlayedLine) → Passed is_between lines 0 0 0
+pub none_passed : (is_between : ScriptCommand → Bool) (lines : List PlayedLine) → Passed is_between lines 0 0 0
 none_passed is_between lines = record {
   known = λ i p l lt. absurd (omega arith);
   known_earlier = λ i j p l m le lt. absurd (omega arith);
@@ -29,7 +29,7 @@ none_passed is_between lines = record {
 is_here : {X : Type 0} (x y : X) → Some x ≡ Some y → x ≡ y
 is_here x y e = search (e)
 
-module _ (is_between : Command → Bool) (lines : List PlayedLine) (count all earlier all' earlier' : ℕ) (x : PlayedLine) (here : slice_get lines count ≡ Some x) (before : Passed is_between lines count all earlier) (next : Passes is_between x all earlier all' earlier') where
+module _ (is_between : ScriptCommand → Bool) (lines : List PlayedLine) (count all earlier all' earlier' : ℕ) (x : PlayedLine) (here : slice_get lines count ≡ Some x) (before : Passed is_between lines count all earlier) (next : Passes is_between x all earlier all' earlier') where
   -- a read at the next place gives the next line
   the_next : (i : ℕ) (l : PlayedLine) → i ≡ count → slice_get lines i ≡ Some l → l ≡ x
   the_next i l is at = is_here l x (sym at ∙ (ap (slice_get lines) is ∙ here))

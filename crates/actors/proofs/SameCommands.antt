@@ -7,19 +7,19 @@ use Rattle.std.proofs.lemmas.Grind.{common_steps}
 use Rattle.model.specs.declared.op.Op.{Op}
 use Rattle.model.specs.contracts.op.OpPartialEq.TheImpl as derived_of_ops
 use Rattle.messages.proofs.SameMessages.{both, op_eq-Decides}
-use Rattle.lockscript.specs.declared.script_line.Command.{Command}
-use Rattle.lockscript.specs.declared.script_line.Command.TheVariants.{Call, Deliver, Lose, Settle, Interrupt, Retry, Resend, Declare, Restart, Learn, FailServer, StartServer}
-use Rattle.lockscript.specs.contracts.script_line.CommandPartialEq.TheImpl as derived
+use Rattle.lockscript.specs.declared.script_line.ScriptCommand.{ScriptCommand}
+use Rattle.lockscript.specs.declared.script_line.ScriptCommand.TheVariants.{Call, Deliver, Lose, Settle, Interrupt, Retry, Resend, Declare, Restart, Learn, FailServer, StartServer}
+use Rattle.lockscript.specs.contracts.script_line.ScriptCommandPartialEq.TheImpl as derived
 use Rattle.lockscript.specs.contracts.script_line.ScriptLinePartialEq.TheImpl as derived_of_lines
 use Rattle.lockscript.specs.rule.Scripts.{LineFields}
-use Rattle.actors.specs.declared.asked.Asked.{Asked}
-use Rattle.actors.specs.contracts.asked.AskedPartialEq.TheImpl as derived_of_asked
+use Rattle.actors.specs.declared.indexed_command.IndexedCommand.{IndexedCommand}
+use Rattle.actors.specs.contracts.indexed_command.IndexedCommandPartialEq.TheImpl as derived_of_asked
 
 call_parts : (node pid n p : ℕ) (op o : Op) → derived.ghosts.eq (Call node pid op) (Call n p o) ≡ ((node == n) && ((pid == p) && derived_of_ops.ghosts.eq op o))
 call_parts node pid n p op o = search rules
 
 -- the derived `==` of commands is equality
-pub command_eq-Decides : (a b : Command) → Decides (derived.ghosts.eq a b) (a ≡ b)
+pub command_eq-Decides : (a b : ScriptCommand) → Decides (derived.ghosts.eq a b) (a ≡ b)
 command_eq-Decides (Call node pid op) (Call n p o) =
     Decides-at _ _ (call_parts node pid n p op o)
     (Decides-like _ (λ (nodes, (pids, ops)) i. Call (nodes i) (pids i) (ops i)) (λ e. (cc, (cc, cc)))
@@ -37,11 +37,11 @@ command_eq-Decides (FailServer file) (FailServer f) = grind (arith, common_steps
 command_eq-Decides (StartServer file) (StartServer f) = grind (arith, common_steps)
 command_eq-Decides _ _ = (λ h. absurd (false≢true h), λ e. cc)
 
-asked_parts : (a b : Asked) → derived_of_asked.ghosts.eq a b ≡ ((a.index == b.index) && derived.ghosts.eq a.command b.command)
+asked_parts : (a b : IndexedCommand) → derived_of_asked.ghosts.eq a b ≡ ((a.index == b.index) && derived.ghosts.eq a.command b.command)
 asked_parts a b = search rules
 
 -- the derived `==` of commands with indexes is equality
-pub asked_eq-Decides : (a b : Asked) → Decides (derived_of_asked.ghosts.eq a b) (a ≡ b)
+pub asked_eq-Decides : (a b : IndexedCommand) → Decides (derived_of_asked.ghosts.eq a b) (a ≡ b)
 asked_eq-Decides a b =
     Decides-at _ _ (asked_parts a b)
     (Decides-like _ (λ (indices, commands) i. record { index = indices i; command = commands i }) (λ e. (cc, cc))

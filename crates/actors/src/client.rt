@@ -5,7 +5,7 @@ ghost use Rattle.actors.specs.rule.Clients.{ClientFields, IsMadeBy};
 use crate::call_error::CallError;
 use crate::direct::Direct;
 use crate::gate::Gate;
-use crate::letter::{Answer, Letter, Question};
+use crate::letter::{CallResult, Letter, Question};
 use book::mark::Mark;
 use book::receipt::Receipt;
 use crossbeam_channel::{Receiver, SendError, Sender, bounded};
@@ -26,7 +26,7 @@ pub struct Client<'a, J: Name, G: Gate> {
     alloc: Global,
     mailbox: &'a Sender<Letter>,
     direct: Option<Direct<'a, J, G>>,
-    answers: Option<Receiver<Answer>>,
+    answers: Option<Receiver<CallResult>>,
 }
 
 impl<'a, J: Name, G: Gate> Model for Client<'a, J, G> {
@@ -85,7 +85,7 @@ impl<'a, J: Name, G: Gate> Client<'a, J, G> {
     }
 
     // The question for the worker: the call, with what the client has seen.
-    fn question(&self, op: Op, back: Option<Sender<Answer>>) -> Question
+    fn question(&self, op: Op, back: Option<Sender<CallResult>>) -> Question
         ensures process { result.process ≡ self.now.process }
         ensures operation { result.op ≡ op }
         ensures seen { unwrap_or result.seen 0 ≡ self.now.last }
@@ -124,7 +124,7 @@ impl<'a, J: Name, G: Gate> Client<'a, J, G> {
 
     // Makes the call at the node's desk. `None` where it isn't made there. (The stamp of a call that is made there
     // always gives its receipt.)
-    fn make<R: Wait>(&self, rt: &R, op: Op) -> Option<Answer>
+    fn make<R: Wait>(&self, rt: &R, op: Op) -> Option<CallResult>
         ensures { IfSome result (λ answer. IfOk answer (IsMadeBy self.now op)) }
     {
         let direct = self.direct.as_ref()?;
@@ -138,7 +138,7 @@ impl<'a, J: Name, G: Gate> Client<'a, J, G> {
     }
 
     // Has the node's worker make the call, and waits for its reply.
-    fn ask<R: Wait>(&mut self, rt: &R, op: Op) -> Answer
+    fn ask<R: Wait>(&mut self, rt: &R, op: Op) -> CallResult
         ensures made { IfOk result (IsMadeBy self.old op) }
         ensures unchanged { self.new ≡ self.old }
     {
@@ -155,7 +155,7 @@ impl<'a, J: Name, G: Gate> Client<'a, J, G> {
     }
 
     // The channel on which the answer comes, and its other end for the worker, if the worker has none of this client.
-    fn path(&mut self) -> Result<(Receiver<Answer>, Option<Sender<Answer>>), CallError>
+    fn path(&mut self) -> Result<(Receiver<CallResult>, Option<Sender<CallResult>>), CallError>
         ensures { self.new ≡ self.old }
     {
         if let Some(answers) = self.answers.take() {
@@ -168,7 +168,7 @@ impl<'a, J: Name, G: Gate> Client<'a, J, G> {
     }
 
     // The receipt of the call, or why there is none. (No worker answers with the receipt of another call.)
-    fn wait_for_answer<R: Wait>(&self, rt: &R, answers: &Receiver<Answer>, op: Op) -> Answer
+    fn wait_for_answer<R: Wait>(&self, rt: &R, answers: &Receiver<CallResult>, op: Op) -> CallResult
         ensures { IfOk result (IsMadeBy self.now op) }
     {
         match answers.recv(rt) {

@@ -15,8 +15,8 @@ use crate::direct::Direct;
 use crate::gate::{Gate, OpenGate};
 use crate::halt::Halt;
 use crate::letter::Letter;
+use crate::node_place::NodePlace;
 use crate::pacer::pace;
-use crate::place::Place;
 use crate::rebuilt::Rebuilt;
 use crate::shared::{Mailbox, Shared, index_of};
 use crate::stuck::is_stuck;
@@ -51,7 +51,7 @@ pub struct Cluster<'a, J: Name, G: Gate> {
     gate: &'a G,
     mailboxes: &'a [Mailbox],
     desks: &'a [Desk<J>],
-    places: &'a [Mutex<Place<J>>],
+    places: &'a [Mutex<NodePlace<J>>],
     rebuilt: &'a [Mutex<Option<Rebuilt<J>>>],
     halt: &'a Halt,
     ghost within: { IsNumber most_nodes nodes },
@@ -61,7 +61,7 @@ pub struct Cluster<'a, J: Name, G: Gate> {
 
 impl<'a, J: Name, G: Gate> Cluster<'a, J, G> {
     // The place of the node, if the cluster has it.
-    fn place(&self, node: u8) -> Option<&'a Mutex<Place<J>>> {
+    fn place(&self, node: u8) -> Option<&'a Mutex<NodePlace<J>>> {
         self.places.get(usize::from(node).checked_sub(1)?)
     }
 
@@ -285,7 +285,7 @@ pub(crate) struct Begun<J: Name> {
     nodes: u8,
     mailboxes: Vec<Mailbox>,
     desks: Vec<Desk<J>>,
-    places: Vec<Mutex<Place<J>>>,
+    places: Vec<Mutex<NodePlace<J>>>,
     rebuilt: Vec<Mutex<Option<Rebuilt<J>>>>,
     halt: Halt,
     working: AtomicU64,
@@ -483,12 +483,12 @@ fn workers_of<J: Name, W: Weather>(
 }
 
 // The places of that many nodes, as they begin.
-fn places_of<J: Name>(alloc: Global, nodes: u8) -> Result<Vec<Mutex<Place<J>>>, AllocError>
+fn places_of<J: Name>(alloc: Global, nodes: u8) -> Result<Vec<Mutex<NodePlace<J>>>, AllocError>
     ensures { IfOk result (λ places. length places.items ≡ nodes) }
 {
     let mut places = Vec::new(alloc);
     for _ in 0..nodes {
-        places.push(Mutex::new(Place::new(alloc)))?;
+        places.push(Mutex::new(NodePlace::new(alloc)))?;
     }
     Ok(places)
 }

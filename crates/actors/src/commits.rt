@@ -2,7 +2,7 @@
 ghost use Rattle.std.specs.Prelude.{◌≡◌, IfOk};
 ghost use Rattle.book.specs.rule.Commits.{Names, IsStepFrom};
 
-use crate::gate::{Gate, Point};
+use crate::gate::{Gate, GatePoint};
 use crate::halt::Halt;
 use crate::locks::lock;
 use book::book::Book;
@@ -31,10 +31,10 @@ pub(crate) fn commit<J: Name, G: Gate, R: Wait>(
     ensures { IfOk result (λ stamp. stamp.event ≡ prepared.event) }
 {
     let actor = seat.actor();
-    gate.at(Point::Prepared(actor));
+    gate.at(GatePoint::Prepared(actor));
     let committed = lock(rt, book).commit(alloc, seat, prepared, seen);
     let stamp = committed?;
     halt.note_step();
-    gate.at(Point::Committed(actor, stamp.position()));
+    gate.at(GatePoint::Committed(actor, stamp.position()));
     Ok(stamp)
 }

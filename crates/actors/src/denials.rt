@@ -4,7 +4,7 @@ ghost use Rattle.std.specs.Prelude.{◌≡◌, ◌⊎◌, ℕ, Bool, List, ◌�
 ghost use Rattle.std.specs.BTreeMap as tree;
 ghost use Rattle.std.specs.Ordering.{nat_cmp};
 ghost use Rattle.actors.specs.rule.Lines.{parts};
-ghost use Rattle.lockscript.specs.declared.script_line.Command.{Command};
+ghost use Rattle.lockscript.specs.declared.script_line.ScriptCommand.{ScriptCommand};
 ghost use Rattle.actors.specs.declared.line_outcome.LineOutcome.TheVariants.{Denied};
 ghost use Rattle.actors.specs.declared.played_line.PlayedLine.{PlayedLine};
 ghost use Rattle.actors.specs.code.Awaited.{AreMet, members_of};
@@ -17,7 +17,7 @@ ghost use Rattle.messages.specs.declared.refusal.Refused.TheVariants as refusal;
 use crate::call_error::CallError;
 use crate::line_outcome::LineOutcome;
 use crate::played_line::PlayedLine;
-use lockscript::script_line::Command;
+use lockscript::script_line::ScriptCommand;
 use members::members::Members;
 use messages::refusal::Refused;
 use messages::shape::Shape;
@@ -61,41 +61,41 @@ fn has_call(shape: Shape, node: u8, pid: u16, op: &Op) -> bool
 // The members of a cluster behind the lines that were passed, and the nodes that have still to be declared failed in
 // the phase, each with the position behind which that has to be.
 #[derive(Drop)]
-struct Passed {
+struct PassedMembers {
     members: Members,
     awaited: BTreeMap<u8, u32>,
 }
 
-impl Passed {
+impl PassedMembers {
     // The members before any line was passed.
-    fn new(alloc: Global, shape: Shape) -> Result<Passed, AllocError>
+    fn new(alloc: Global, shape: Shape) -> Result<PassedMembers, AllocError>
         ensures members { IfOk result (λ p. members_of p.members ≡ first_of shape) }
     {
-        Ok(Passed {
+        Ok(PassedMembers {
             members: Members::new(alloc, shape)?,
             awaited: BTreeMap::new(alloc),
         })
     }
 
     // Makes the failure or the start of the line's command.
-    fn change(&mut self, shape: Shape, command: Command) -> Result<(), Refused>
+    fn change(&mut self, shape: Shape, command: ScriptCommand) -> Result<(), Refused>
         ensures ok { OnOk result (changed_by shape (members_of self.old.members) command ≡ Ok (members_of self.new.members)) }
         ensures err { IfErr result (λ why. changed_by shape (members_of self.old.members) command ≡ Err why) }
         ensures unchanged { OnErr result (self.new.members ≡ self.old.members) }
         ensures awaited { self.new.awaited ≡ self.old.awaited }
     {
         match command {
-            Command::Declare { node } => {
+            ScriptCommand::Declare { node } => {
                 self.members.declare(node)?;
             }
-            Command::Restart { node } => {
+            ScriptCommand::Restart { node } => {
                 self.members.restart(node)?;
             }
-            Command::FailServer { file } => {
+            ScriptCommand::FailServer { file } => {
                 rebuilds(shape)?;
                 self.members.fail_server(file)?;
             }
-            Command::StartServer { file } => {
+            ScriptCommand::StartServer { file } => {
                 rebuilds(shape)?;
                 self.members.start_server(file)?;
             }
@@ -105,7 +105,7 @@ impl Passed {
     }
 
     // Makes the failure or the start, if its outcome says that it was made. Answers whether the outcome may be.
-    fn pass_change(&mut self, shape: Shape, command: Command, outcome: &LineOutcome) -> bool
+    fn pass_change(&mut self, shape: Shape, command: ScriptCommand, outcome: &LineOutcome) -> bool
         ensures may { IsTrue result → MayChangeCome (changed_by shape (members_of self.old.members) command) outcome.now }
         ensures members { IsTrue result → members_of self.new.members ≡ if_made (members_of self.old.members) (changed_by shape (members_of self.old.members) command) outcome.now }
         ensures awaited { self.new.awaited ≡ self.old.awaited }
@@ -134,11 +134,11 @@ impl Passed {
     }
 
     // Notes a line that declares a node failed which has to be. `false` where its entry stands too early.
-    fn meet(&mut self, command: Command, outcome: &LineOutcome) -> bool
+    fn meet(&mut self, command: ScriptCommand, outcome: &LineOutcome) -> bool
         ensures members { self.new.members ≡ self.old.members }
         ensures awaited { IsTrue result → (n after : ℕ) → tree.get nat_cmp self.old.awaited n ≡ Some after → (declares n after command outcome.now ≡ true) ⊎ (tree.get nat_cmp self.new.awaited n ≡ Some after) }
     {
-        let (Command::Declare { node }, LineOutcome::Made(at)) = (command, outcome) else {
+        let (ScriptCommand::Declare { node }, LineOutcome::Made(at)) = (command, outcome) else {
             return true;
         };
         match self.awaited.remove(&node) {
@@ -158,7 +158,7 @@ impl Passed {
         outcome: &LineOutcome,
     ) -> Result<bool, AllocError>
         ensures members { self.new.members ≡ self.old.members }
-        ensures may { IfOk result (λ may. may ≡ true → (is_between : Command → Bool) (behind : List PlayedLine) → AreMet is_between self.new.awaited behind → MayCallCome is_between shape (members_of self.old.members).nodes node pid op outcome.now behind × AreMet is_between self.old.awaited behind) }
+        ensures may { IfOk result (λ may. may ≡ true → (is_between : ScriptCommand → Bool) (behind : List PlayedLine) → AreMet is_between self.new.awaited behind → MayCallCome is_between shape (members_of self.old.members).nodes node pid op outcome.now behind × AreMet is_between self.old.awaited behind) }
     {
         let live = self.members.alive(node);
         match outcome {
@@ -183,7 +183,7 @@ impl Passed {
         why: CallError,
     ) -> Result<bool, AllocError>
         ensures members { self.new.members ≡ self.old.members }
-        ensures may { IfOk result (λ may. may ≡ true → (is_between : Command → Bool) (behind : List PlayedLine) → AreMet is_between self.new.awaited behind → MayCallCome is_between shape (members_of self.old.members).nodes node pid op (Denied why) behind × AreMet is_between self.old.awaited behind) }
+        ensures may { IfOk result (λ may. may ≡ true → (is_between : ScriptCommand → Bool) (behind : List PlayedLine) → AreMet is_between self.new.awaited behind → MayCallCome is_between shape (members_of self.old.members).nodes node pid op (Denied why) behind × AreMet is_between self.old.awaited behind) }
     {
         let is_live = self.members.alive(node).is_some();
         match why {
@@ -225,7 +225,13 @@ impl Passed {
             return Ok(false);
         }
         match command {
-            Command::Call { node, pid, op } => self.pass_call(shape, node, pid, op, &line.outcome),
+            ScriptCommand::Call { node, pid, op } => self.pass_call(
+                shape,
+                node,
+                pid,
+                op,
+                &line.outcome,
+            ),
             _ => Ok(self.pass_change(shape, command, &line.outcome)),
         }
     }
@@ -241,7 +247,7 @@ pub(crate) fn may_all_come(
 ) -> Result<bool, AllocError>
     ensures { IfOk result (λ may. may ≡ true → MayAllCome (parts no_join) shape (first_of shape) lines.now) }
 {
-    let mut passed = Passed::new(alloc, shape)?;
+    let mut passed = PassedMembers::new(alloc, shape)?;
     for line in lines {
         if !passed.pass(shape, no_join, line)? {
             return Ok(false);

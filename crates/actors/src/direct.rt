@@ -8,7 +8,7 @@ use crate::desk::Desk;
 use crate::gate::Gate;
 use crate::halt::Halt;
 use crate::locks::lock;
-use crate::open_calls::may_release;
+use crate::unanswered_calls::may_release;
 use book::book::Book;
 use book::mark::Mark;
 use book::seat::Seat;

@@ -5,15 +5,15 @@ ghost use Rattle.actors.specs.rule.Lines.{AreLinesOf};
 ghost use Rattle.actors.specs.rule.Runs.{IsFullJournal};
 ghost use Rattle.cluster_core.specs.rule.Histories.{HasOneHistory};
 
-use crate::asked::{Asked, asked_in, by_asker};
 use crate::call_error::CallError;
+use crate::indexed_command::{IndexedCommand, asked_in, by_asker};
 use crate::line_outcome::LineOutcome;
 use crate::played_line::PlayedLine;
 use crate::thread_run::are_lines_of;
 use cluster_core::journal::Journal;
 use cluster_core::world::JOURNAL_LIMIT;
 use lockscript::script::Script;
-use lockscript::script_line::{Command, ScriptLine};
+use lockscript::script_line::{ScriptCommand, ScriptLine};
 use messages::entry::Entry;
 use std::alloc::{AllocError, Global};
 
@@ -67,8 +67,8 @@ fn lines_behind(
 }
 
 // The commands of the lines, each with the index of its line in the place of an entry's.
-fn commands_of(alloc: Global, script: &[ScriptLine]) -> Result<Vec<Asked>, AllocError> {
-    let asked = |(index, line): (usize, &ScriptLine)| Asked {
+fn commands_of(alloc: Global, script: &[ScriptLine]) -> Result<Vec<IndexedCommand>, AllocError> {
+    let asked = |(index, line): (usize, &ScriptLine)| IndexedCommand {
         index,
         command: line.command(),
     };
@@ -76,12 +76,12 @@ fn commands_of(alloc: Global, script: &[ScriptLine]) -> Result<Vec<Asked>, Alloc
 }
 
 // The outcome of a line that made this entry, of which nothing else is known.
-fn made_at(one: &Asked) -> LineOutcome {
+fn made_at(one: &IndexedCommand) -> LineOutcome {
     let position = u32::try_from(one.index)
         .unwrap_or(u32::MAX)
         .saturating_add(1);
     match one.command {
-        Command::Call { .. } => LineOutcome::Denied(CallError::Killed { call_at: position }),
+        ScriptCommand::Call { .. } => LineOutcome::Denied(CallError::Killed { call_at: position }),
         _ => LineOutcome::Made(position),
     }
 }

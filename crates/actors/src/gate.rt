@@ -3,7 +3,7 @@ use messages::actor::Actor;
 
 /// A moment in the work of an actor, of which a gate is told.
 #[derive(Clone, Copy, Debug, PartialEq, Eq)]
-pub enum Point {
+pub enum GatePoint {
     /// The actor has prepared a step, which it will commit. It holds no lock but that of its own seat.
     Prepared(Actor),
     /// The actor has committed the step as the entry at this position, from 1. It holds no lock but that of its own
@@ -13,7 +13,7 @@ pub enum Point {
 
 /// The trait of what is told of each such moment. The actor waits there until `at` returns.
 pub trait Gate {
-    fn at(&self, point: Point);
+    fn at(&self, point: GatePoint);
 
     /// Whether the gate is open to clients. It is asked once, when the cluster begins. If it is open, a client may
     /// make a call that needs no other actor on its own thread. The gate of `run_threads` is told of such a step too,
@@ -28,7 +28,7 @@ pub trait Gate {
 pub struct OpenGate;
 
 impl Gate for OpenGate {
-    fn at(&self, _point: Point) {}
+    fn at(&self, _point: GatePoint) {}
 
     fn is_open(&self) -> bool {
         true

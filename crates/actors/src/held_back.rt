@@ -4,7 +4,7 @@ use std::alloc::{AllocError, Global};
 
 // A message, and the number of ticks after which it goes.
 #[derive(Drop)]
-struct Held {
+struct DelayedMessage {
     ticks: u32,
     message: Message,
 }
@@ -12,7 +12,7 @@ struct Held {
 /// The messages of an actor that its weather holds back, in the order in which they were sent.
 #[derive(Drop)]
 pub(crate) struct HeldBack {
-    messages: Vec<Held>,
+    messages: Vec<DelayedMessage>,
 }
 
 impl HeldBack {
@@ -31,7 +31,7 @@ impl HeldBack {
         message: &Message,
     ) -> Result<(), AllocError> {
         let message = message.copy(alloc)?;
-        self.messages.push(Held { ticks, message })?;
+        self.messages.push(DelayedMessage { ticks, message })?;
         Ok(())
     }
 
@@ -53,7 +53,7 @@ impl HeldBack {
     /// Takes out the first message whose ticks have passed, if there is one.
     pub(crate) fn take_due(&mut self) -> Option<Message> {
         let index = self.messages.iter().position(|held| held.ticks == 0)?;
-        let Held { message, .. } = self.messages.remove(index);
+        let DelayedMessage { message, .. } = self.messages.remove(index);
         Some(message)
     }
 }

@@ -29,8 +29,8 @@ pub(crate) struct Question {
     pub(crate) process: Process,
     pub(crate) op: Op,
     pub(crate) seen: Option<Mark>,
-    pub(crate) back: Option<Sender<Answer>>,
+    pub(crate) back: Option<Sender<CallResult>>,
 }
 
 /// The answer to a call: its receipt, or why there is none.
-pub(crate) type Answer = Result<Receipt, CallError>;
+pub(crate) type CallResult = Result<Receipt, CallError>;

@@ -3,7 +3,6 @@
 //! of printed text.
 #![tactic(auto)]
 
-pub mod asked;
 pub mod call_error;
 mod call_queue;
 pub mod client;
@@ -17,18 +16,18 @@ mod full;
 pub mod gate;
 mod halt;
 mod held_back;
+pub mod indexed_command;
 mod letter;
 pub mod line_outcome;
 mod locks;
 pub mod manner;
-mod open_calls;
+mod node_place;
 mod outgoing;
 mod pacer;
-mod part;
 mod patience;
+mod phase_calls;
 mod phase_order;
 mod phases;
-mod place;
 pub mod played_line;
 mod rebuilt;
 mod resends;
@@ -42,5 +41,6 @@ mod stuck;
 pub mod thread_run;
 pub mod threads;
 mod unanswered;
+mod unanswered_calls;
 pub mod weather;
 mod worker;

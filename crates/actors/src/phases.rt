@@ -6,13 +6,13 @@ use crate::cluster::Cluster;
 use crate::gate::Gate;
 use crate::line_outcome::LineOutcome;
 use crate::manner::Manner;
-use crate::part::Part;
+use crate::phase_calls::PhaseCalls;
 use crate::played_line::PlayedLine;
 use crate::run_watcher::RunWatcher;
 use crate::stage::Stage;
 use book::receipt::Receipt;
 use lockscript::play_error::PlayError;
-use lockscript::script_line::{Command, ScriptLine};
+use lockscript::script_line::{ScriptCommand, ScriptLine};
 use messages::refusal::Refused;
 use model::op::Op;
 use std::alloc::Global;
@@ -36,7 +36,7 @@ pub(crate) struct Phases<'a, 'b, J: Name, G: Gate> {
     is_over: bool,
     lines: Vec<PlayedLine>,
     first: usize,
-    parts: Vec<Part<'a, J, G>>,
+    parts: Vec<PhaseCalls<'a, J, G>>,
     places: BTreeMap<(u8, u16), usize>,
     idle: BTreeMap<(u8, u16), Client<'a, J, G>>,
     last: Option<Receipt>,
@@ -95,8 +95,8 @@ impl<'a, 'b, J: Name + Send + Sync, G: Gate + Sync> Phases<'a, 'b, J, G> {
     }
 
     // Adds a part for the process of a line in the phase, if it has none.
-    fn add(&mut self, command: Command) -> Result<(), PlayError> {
-        let Command::Call { node, pid, .. } = command else {
+    fn add(&mut self, command: ScriptCommand) -> Result<(), PlayError> {
+        let ScriptCommand::Call { node, pid, .. } = command else {
             return Ok(());
         };
         if self.places.contains_key(&(node, pid)) {
@@ -105,7 +105,7 @@ impl<'a, 'b, J: Name + Send + Sync, G: Gate + Sync> Phases<'a, 'b, J, G> {
         if self.places.insert((node, pid), self.parts.len()).is_err() {
             return Err(PlayError::NoMemory);
         }
-        match self.parts.push(Part::new(self.alloc, node)) {
+        match self.parts.push(PhaseCalls::new(self.alloc, node)) {
             Ok(()) => Ok(()),
             Err(_) => Err(PlayError::NoMemory),
         }
@@ -123,8 +123,8 @@ impl<'a, 'b, J: Name + Send + Sync, G: Gate + Sync> Phases<'a, 'b, J, G> {
         &mut self,
         rt: &R,
         index: usize,
-        command: Command,
-        parts: &[Part<'a, J, G>],
+        command: ScriptCommand,
+        parts: &[PhaseCalls<'a, J, G>],
     ) -> Result<(), PlayError> {
         let outcome = self.change(rt, command, parts)?;
         self.note(index, outcome);
@@ -135,14 +135,14 @@ impl<'a, 'b, J: Name + Send + Sync, G: Gate + Sync> Phases<'a, 'b, J, G> {
     fn change<R: Wait>(
         &mut self,
         rt: &R,
-        command: Command,
-        parts: &[Part<'a, J, G>],
+        command: ScriptCommand,
+        parts: &[PhaseCalls<'a, J, G>],
     ) -> Result<LineOutcome, PlayError> {
         let made = match command {
-            Command::Declare { node } => self.declare(rt, node),
-            Command::Restart { node } => self.restart(rt, node, parts),
-            Command::FailServer { file } => self.fail_server(rt, file),
-            Command::StartServer { file } => self.start_server(rt, file),
+            ScriptCommand::Declare { node } => self.declare(rt, node),
+            ScriptCommand::Restart { node } => self.restart(rt, node, parts),
+            ScriptCommand::FailServer { file } => self.fail_server(rt, file),
+            ScriptCommand::StartServer { file } => self.start_server(rt, file),
             _ => return Ok(LineOutcome::Settled),
         };
         match made {
@@ -179,7 +179,7 @@ impl<'a, 'b, J: Name + Send + Sync, G: Gate + Sync> Phases<'a, 'b, J, G> {
         &mut self,
         rt: &R,
         node: u8,
-        parts: &[Part<'a, J, G>],
+        parts: &[PhaseCalls<'a, J, G>],
     ) -> Result<u32, Refused> {
         let position = self.cluster.restart(rt, node)?;
         self.idle.retain(|process, _| process.0 != node);
@@ -237,7 +237,7 @@ impl<'a, 'b, J: Name + Send + Sync, G: Gate + Sync> Phases<'a, 'b, J, G> {
     fn play_all<R: Threads + Wait + Clock + Sync, V: RunWatcher>(
         &mut self,
         rt: &R,
-        parts: &[Part<'a, J, G>],
+        parts: &[PhaseCalls<'a, J, G>],
         watcher: &mut V,
     ) -> Result<(), PlayError> {
         let cluster = self.cluster;
@@ -272,7 +272,7 @@ impl<'a, 'b, J: Name + Send + Sync, G: Gate + Sync> Phases<'a, 'b, J, G> {
                 break;
             };
             let command = played.line.command();
-            if let Command::Call { node, pid, op } = command {
+            if let ScriptCommand::Call { node, pid, op } = command {
                 self.queue(stage, index, node, pid, op)?;
                 continue;
             }
@@ -321,10 +321,10 @@ impl<'a, 'b, J: Name + Send + Sync, G: Gate + Sync> Phases<'a, 'b, J, G> {
     // The part of the process in the phase, if it has one.
     fn part_of<'p>(
         &self,
-        parts: &'p [Part<'a, J, G>],
+        parts: &'p [PhaseCalls<'a, J, G>],
         node: u8,
         pid: u16,
-    ) -> Option<&'p Part<'a, J, G>> {
+    ) -> Option<&'p PhaseCalls<'a, J, G>> {
         parts.get(*self.places.get(&(node, pid))?)
     }
 
@@ -338,7 +338,7 @@ impl<'a, 'b, J: Name + Send + Sync, G: Gate + Sync> Phases<'a, 'b, J, G> {
     }
 
     // Notes the outcomes of a part that was played, and keeps its client.
-    fn end(&mut self, part: Part<'a, J, G>) -> Result<(), PlayError> {
+    fn end(&mut self, part: PhaseCalls<'a, J, G>) -> Result<(), PlayError> {
         let (outcomes, client) = part.into_outcomes()?;
         for (index, outcome) in outcomes.iter() {
             self.note(*index, *outcome);

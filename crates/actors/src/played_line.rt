@@ -2,14 +2,14 @@
 ghost use Rattle.std.specs.Prelude.{◌≡◌, ◌↔◌, IsTrue};
 ghost use Rattle.actors.specs.declared.line_outcome.LineOutcome.TheVariants.{Left};
 ghost use Rattle.actors.specs.rule.Lines.{Fits, asker, is_call, is_change, made_by, may_be_denied, may_be_refused, parts, receipt_in, refused_in};
-ghost use Rattle.lockscript.specs.declared.script_line.Command.TheVariants.{Call, Settle};
+ghost use Rattle.lockscript.specs.declared.script_line.ScriptCommand.TheVariants.{Call, Settle};
 
-use crate::asked::{Asked, asker_of};
 use crate::call_error::CallError;
+use crate::indexed_command::{IndexedCommand, asker_of};
 use crate::line_outcome::LineOutcome;
 use book::receipt::Receipt;
 use lockscript::refused_line::RefusedLine;
-use lockscript::script_line::{Command, ScriptLine};
+use lockscript::script_line::{ScriptCommand, ScriptLine};
 use messages::refusal::Refused;
 
 /// A line of a script, and its outcome on threads.
@@ -49,11 +49,11 @@ impl PlayedLine {
     }
 
     /// The command of the line with the index of the entry that it made, if it made one.
-    pub(crate) fn made(&self) -> Option<Asked>
+    pub(crate) fn made(&self) -> Option<IndexedCommand>
         ensures { result ≡ made_by self.now }
     {
         let position = self.outcome.begins()?;
-        Some(Asked {
+        Some(IndexedCommand {
             index: position.saturating_sub(1) as usize,
             command: self.line.command(),
         })
@@ -78,8 +78,8 @@ impl PlayedLine {
         ensures { result ≡ parts no_join self.now.line.command }
     {
         match self.line.command() {
-            Command::Settle => true,
-            Command::Call { .. } => false,
+            ScriptCommand::Settle => true,
+            ScriptCommand::Call { .. } => false,
             _ => !no_join,
         }
     }
@@ -102,10 +102,10 @@ impl PlayedLine {
 }
 
 // Whether the command is the receipt's call.
-fn is_call_of(command: &Command, receipt: &Receipt) -> bool
+fn is_call_of(command: &ScriptCommand, receipt: &Receipt) -> bool
     ensures { IsTrue result ↔ (command.now ≡ Call receipt.now.call.node receipt.now.pid receipt.now.op) }
 {
-    let call = Command::Call {
+    let call = ScriptCommand::Call {
         node: receipt.call().node,
         pid: receipt.pid(),
         op: receipt.op(),
@@ -114,35 +114,35 @@ fn is_call_of(command: &Command, receipt: &Receipt) -> bool
 }
 
 // Whether both commands are equal.
-fn same_command(one: &Command, other: &Command) -> bool
+fn same_command(one: &ScriptCommand, other: &ScriptCommand) -> bool
     ensures { IsTrue result ↔ (one.now ≡ other.now) }
 {
     one == other
 }
 
-fn is_call(command: &Command) -> bool
+fn is_call(command: &ScriptCommand) -> bool
     ensures { result ≡ is_call command.now }
 {
-    matches!(command, Command::Call { .. })
+    matches!(command, ScriptCommand::Call { .. })
 }
 
 // Whether the command is a failure or a start.
-fn is_change(command: &Command) -> bool
+fn is_change(command: &ScriptCommand) -> bool
     ensures { result ≡ is_change command.now }
 {
     matches!(
         command,
-        Command::Declare { .. }
-            | Command::Restart { .. }
-            | Command::FailServer { .. }
-            | Command::StartServer { .. }
+        ScriptCommand::Declare { .. }
+            | ScriptCommand::Restart { .. }
+            | ScriptCommand::FailServer { .. }
+            | ScriptCommand::StartServer { .. }
     )
 }
 
-fn is_settle(command: &Command) -> bool
+fn is_settle(command: &ScriptCommand) -> bool
     ensures { IsTrue result ↔ (command.now ≡ Settle) }
 {
-    same_command(command, &Command::Settle)
+    same_command(command, &ScriptCommand::Settle)
 }
 
 // Whether a call may be denied for this reason while the run goes on.

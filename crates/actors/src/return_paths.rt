@@ -1,6 +1,6 @@
 //! The channels on which a node's worker answers its clients.
 use crate::call_error::CallError;
-use crate::letter::Answer;
+use crate::letter::CallResult;
 use crossbeam_channel::Sender;
 use model::process::Process;
 use std::alloc::Global;
@@ -12,7 +12,7 @@ use std::sync::Wait;
 /// worker ends.
 #[derive(Drop)]
 pub(crate) struct ReturnPaths {
-    paths: BTreeMap<(u16, u16), Sender<Answer>>,
+    paths: BTreeMap<(u16, u16), Sender<CallResult>>,
 }
 
 impl ReturnPaths {
@@ -29,7 +29,7 @@ impl ReturnPaths {
         &mut self,
         rt: &R,
         process: Process,
-        back: Option<Sender<Answer>>,
+        back: Option<Sender<CallResult>>,
     ) -> bool {
         let Some(back) = back else {
             return true;
@@ -44,7 +44,7 @@ impl ReturnPaths {
     }
 
     /// Answers the process. A client that is gone needs no answer.
-    pub(crate) fn answer<R: Wait>(&self, rt: &R, process: Process, answer: Answer) {
+    pub(crate) fn answer<R: Wait>(&self, rt: &R, process: Process, answer: CallResult) {
         if let Some(back) = self.paths.get(&(process.incarnation, process.pid)) {
             let _ = back.send(rt, answer);
         }

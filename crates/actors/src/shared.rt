@@ -2,7 +2,7 @@
 use crate::desk::Desk;
 use crate::halt::Halt;
 use crate::letter::Letter;
-use crate::place::Place;
+use crate::node_place::NodePlace;
 use crate::rebuilt::Rebuilt;
 use book::book::Book;
 use book::seat::Seat;
@@ -78,7 +78,7 @@ pub(crate) struct Shared<'a, J: Name, G> {
     pub(crate) nodes: u8,
     pub(crate) mailboxes: &'a [Mailbox],
     pub(crate) desks: &'a [Desk<J>],
-    pub(crate) places: &'a [Mutex<Place<J>>],
+    pub(crate) places: &'a [Mutex<NodePlace<J>>],
     pub(crate) rebuilt: &'a [Mutex<Option<Rebuilt<J>>>],
     pub(crate) halt: &'a Halt,
     pub(crate) working: &'a AtomicU64,

@@ -1,7 +1,7 @@
 //! The stage on which the threads of a phase play.
 use crate::cluster::Cluster;
 use crate::gate::Gate;
-use crate::part::Part;
+use crate::phase_calls::PhaseCalls;
 use crate::run_watcher::RunWatcher;
 use lockscript::play_error::PlayError;
 use std::sync::Wait;
@@ -19,7 +19,7 @@ const LONGEST_PAUSE: u64 = 64;
 pub(crate) struct Stage<'s, 'a, J: Name, G: Gate, R> {
     pub(crate) rt: &'s R,
     pub(crate) cluster: &'s Cluster<'a, J, G>,
-    pub(crate) parts: &'s [Part<'a, J, G>],
+    pub(crate) parts: &'s [PhaseCalls<'a, J, G>],
     pub(crate) playing: &'s AtomicU64,
 }
 
@@ -84,7 +84,7 @@ impl<'s, 'a: 's, J: Name + Send + Sync, G: Gate + Sync, R: Threads + Wait + Cloc
 fn play<J: Name, G: Gate, R: Wait>(
     rt: &R,
     cluster: &Cluster<'_, J, G>,
-    part: &Part<'_, J, G>,
+    part: &PhaseCalls<'_, J, G>,
     playing: &AtomicU64,
 ) {
     if !part.play(rt) {

@@ -14,12 +14,12 @@ use std::alloc::{AllocError, Global};
 struct Try {
     node: u8,
     pid: u16,
-    asked: Option<Request>,
+    asked: Option<StuckRequest>,
 }
 
 /// A request for a token: the file of its token server, its call, and whether the call waits where a lock blocks it.
 #[derive(Clone, Copy)]
-struct Request {
+struct StuckRequest {
     file: u16,
     call: CallId,
     waits: bool,
@@ -98,14 +98,14 @@ fn try_of(entry: &Entry) -> Option<Try> {
     }
 }
 
-fn request_of(message: &SharedMessage) -> Option<Request> {
+fn request_of(message: &SharedMessage) -> Option<StuckRequest> {
     match message.get() {
         Message::Request {
             file,
             call,
             blocking,
             ..
-        } => Some(Request {
+        } => Some(StuckRequest {
             file: file.get(),
             call: *call,
             waits: *blocking == Blocking::Yes,

@@ -6,9 +6,9 @@ ghost use Rattle.actors.specs.rule.Denials.{MayAllCome, first_of};
 ghost use Rattle.actors.specs.rule.Lines.{AreLinesOf, ArePhases, Fits, parts, receipt_in, refused_in};
 ghost use Rattle.actors.specs.rule.Runs.{IsOfScript};
 
-use crate::asked::are_made;
 use crate::cut::are_barred;
 use crate::denials::may_all_come;
+use crate::indexed_command::are_made;
 use crate::manner::Manner;
 use crate::phase_order::are_phases;
 use crate::played_line::PlayedLine;

@@ -9,12 +9,12 @@ use crate::desk::Desk;
 use crate::gate::Gate;
 use crate::letter::{Letter, Question};
 use crate::locks::lock;
-use crate::open_calls::{OpenCall, OpenCalls, may_release};
 use crate::outgoing::Outgoing;
 use crate::rebuilt::Rebuilt;
 use crate::resends::Resends;
 use crate::return_paths::ReturnPaths;
 use crate::shared::Shared;
+use crate::unanswered_calls::{UnansweredCall, UnansweredCalls, may_release};
 use crate::weather::Weather;
 use book::mark::Mark;
 use book::prepared::Prepared;
@@ -48,7 +48,7 @@ pub(crate) struct Worker<W: Weather> {
     inbox: Receiver<Letter>,
     has_tick: bool,
     paths: ReturnPaths,
-    waiting: OpenCalls,
+    waiting: UnansweredCalls,
     resends: Resends,
 }
 
@@ -76,7 +76,7 @@ impl<W: Weather> Worker<W> {
             inbox,
             has_tick: true,
             paths: ReturnPaths::new(alloc),
-            waiting: OpenCalls::new(alloc),
+            waiting: UnansweredCalls::new(alloc),
             resends: Resends::new(),
         }
     }
@@ -277,7 +277,7 @@ impl<W: Weather> Worker<W> {
         }
         match Receipt::of(&stamp, &stamp) {
             Some(receipt) => self.paths.answer(rt, process, Ok(receipt)),
-            None => self.waiting.add(OpenCall::new(process, stamp)),
+            None => self.waiting.add(UnansweredCall::new(process, stamp)),
         }
     }
 

@@ -15,8 +15,8 @@ use Rattle.cluster_core.specs.rule.Next.{entry, named_incarnation, is_known, nex
 use Rattle.cluster_core.specs.rule.Actors.{node_step, server_step, made_by_node, made_by_server}
 use Rattle.cluster_core.proofs.common.Choices.{at_number}
 use Rattle.cluster_core.proofs.steps.Actors.{NodeSteps, ServerSteps, node_next, server_next}
-use Rattle.book.specs.declared.edit.Edit.{Edit}
-use Rattle.book.specs.declared.edit.Edit.TheVariants.{Node as OnNode, Server as OnServer}
+use Rattle.book.specs.declared.state_edit.StateEdit.{StateEdit}
+use Rattle.book.specs.declared.state_edit.StateEdit.TheVariants.{Node as OnNode, Server as OnServer}
 use Rattle.book.specs.declared.state.State.{State}
 use Rattle.book.specs.declared.state.State.TheVariants.{OfNode, OfServer}
 use Rattle.book.specs.rule.States.{actor_of, Becomes, Plans, StepsTo, HasState, made_by}
@@ -29,7 +29,7 @@ actor_kept (OfNode n s) event (OfServer g t) o h = absurd h
 actor_kept (OfServer f s) event (OfNode m t) o h = absurd h
 
 -- a planned step leads to what its edit makes
-pub leads : (s : State) (event : Event) (e : Edit) (t : State) (o : Outcome) → Plans s event e o → Becomes s e t → StepsTo s event t o
+pub leads : (s : State) (event : Event) (e : StateEdit) (t : State) (o : Outcome) → Plans s event e o → Becomes s e t → StepsTo s event t o
 leads (OfNode n s) event (OnNode e) (OfNode m t) o h is = (is.0, h ∙ ap (λ (x : NodeState). Ok (x, o)) (sym is.1))
 leads (OfServer f s) event (OnServer e) (OfServer g t) o h is = (is.0, h ∙ ap (λ (x : ServerState). Ok (x, o)) (sym is.1))
 leads (OfNode n s) event (OnNode e) (OfServer g t) o h is = absurd is
@@ -38,7 +38,7 @@ leads (OfNode n s) event (OnServer e) t o h is = absurd h
 leads (OfServer f s) event (OnNode e) t o h is = absurd h
 
 -- where the actor is in the step's state, the world goes on by the step
-pub leads_on : (w : WorldState) (s : State) (event : Event) (e : Edit) (o : Outcome) → is_known w event ≡ true → HasState w s → Plans s event e o → (made : WorldState × Entry) × (next w event ≡ Ok made)
+pub leads_on : (w : WorldState) (s : State) (event : Event) (e : StateEdit) (o : Outcome) → is_known w event ≡ true → HasState w s → Plans s event e o → (made : WorldState × Entry) × (next w event ≡ Ok made)
 leads_on w (OfNode n s) event (OnNode e) o known has h =
     let t : NodeState = reached s.value e.value in
     let steps : NodeSteps w event n t o = record { number = has.number; alive = has.alive; done = ap (λ (x : NodeState). node_step n x event) has.state ∙ h } in

@@ -5,7 +5,6 @@
 pub mod book;
 pub mod commit_error;
 pub mod confirms;
-mod edit;
 mod holds;
 mod last_spots;
 pub mod mark;
@@ -15,4 +14,5 @@ pub mod receipt;
 pub mod seat;
 pub mod stamp;
 mod state;
+mod state_edit;
 mod tests_of;

@@ -3,8 +3,8 @@ ghost use Rattle.std.specs.Prelude.{◌≡◌, ◌<◌, ◌↔◌, IsTrue};
 ghost use Rattle.book.specs.rule.Commits.{Names};
 ghost use Rattle.book.specs.rule.States.{actor_of, incarnation_of};
 
-use crate::edit::Edit;
 use crate::seat::Seat;
+use crate::state_edit::StateEdit;
 use messages::actor::Actor;
 use messages::event::Event;
 use messages::outcome::Outcome;
@@ -21,7 +21,7 @@ pub struct Prepared {
     commits: u64,
     event: Event,
     told: Event,
-    edit: Edit,
+    edit: StateEdit,
     outcome: Outcome,
 }
 
@@ -38,10 +38,10 @@ impl Model for Prepared {
 
 /// The parts of a step: its event twice, its change, and its outcome.
 #[derive(Drop)]
-pub(crate) struct Parts {
+pub(crate) struct PreparedParts {
     pub(crate) event: Event,
     pub(crate) told: Event,
-    pub(crate) edit: Edit,
+    pub(crate) edit: StateEdit,
     pub(crate) outcome: Outcome,
 }
 
@@ -57,7 +57,7 @@ impl Prepared {
     pub(crate) fn new<J: Name>(
         seat: &Seat<J>,
         events: (Event, Event),
-        edit: Edit,
+        edit: StateEdit,
         outcome: Outcome,
     ) -> Prepared
         requires unspent { seat.now.commits < 18446744073709551615 }
@@ -94,7 +94,7 @@ impl Prepared {
     }
 
     /// The parts of the step.
-    pub(crate) fn into_parts(self) -> Parts
+    pub(crate) fn into_parts(self) -> PreparedParts
         ensures event { result.event ≡ self.event }
         ensures told { result.told ≡ self.event }
         ensures edit { result.edit ≡ self.edit }
@@ -107,7 +107,7 @@ impl Prepared {
             outcome,
             ..
         } = self;
-        Parts {
+        PreparedParts {
             event,
             told,
             edit,

@@ -3,9 +3,9 @@ ghost use Rattle.std.specs.Prelude.{◌≡◌, ◌≢◌, ◌<◌, ◌≤◌, �
 ghost use Rattle.book.specs.rule.Commits.{Names, IsStepFrom};
 ghost use Rattle.book.specs.rule.States.{actor_of, incarnation_of, Fits, Becomes, Rejects};
 
-use crate::edit::Edit;
 use crate::prepared::Prepared;
 use crate::state::State;
+use crate::state_edit::StateEdit;
 use messages::actor::Actor;
 use messages::event::Event;
 use messages::outcome::Outcome;
@@ -117,7 +117,7 @@ impl<J: Name> Seat<J> {
     }
 
     /// Makes a planned change of the state, and gives the outcome back. Takes no memory.
-    pub(crate) fn advance(&mut self, edit: Edit, outcome: Outcome) -> Outcome
+    pub(crate) fn advance(&mut self, edit: StateEdit, outcome: Outcome) -> Outcome
         requires unspent { self.old.commits < 18446744073709551615 }
         requires fits { Fits self.old.state edit }
         ensures state { Becomes self.old.state edit self.new.state }

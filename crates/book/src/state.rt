@@ -9,7 +9,7 @@ ghost use Rattle.cluster_core.specs.rule.Actors.{node_step, server_step};
 ghost use Rattle.node_core.specs.code.Plans.{planned as reached, Fits as NodeFits};
 ghost use Rattle.token_server.specs.code.Edits.{planned, Fits as ServerFits};
 
-use crate::edit::Edit;
+use crate::state_edit::StateEdit;
 use cluster_core::world::World;
 use messages::actor::Actor;
 use messages::event::Event;
@@ -122,7 +122,11 @@ impl State {
     ///
     /// # Errors
     /// `Stranger` where the actor takes no such event; then those of the actor's plan.
-    pub(crate) fn plan(&self, alloc: Global, event: &Event) -> Result<(Edit, Outcome), StepError>
+    pub(crate) fn plan(
+        &self,
+        alloc: Global,
+        event: &Event,
+    ) -> Result<(StateEdit, Outcome), StepError>
         ensures fits { IfOk result (λ r. Fits self.now r.0) }
         ensures ok { IfOk result (λ r. Plans self.now event.now r.0 r.1) }
         ensures err { IfErr result (λ e. e ≢ StepError.NoMemory → Rejects self.now event.now e) }
@@ -132,32 +136,32 @@ impl State {
             State::OfNode { number, node } => {
                 let change = planned_node(alloc, *number, node, event)?;
                 let edit = Box::new(alloc, change.edit)?;
-                Ok((Edit::Node(edit), change.outcome))
+                Ok((StateEdit::Node(edit), change.outcome))
             }
             State::OfServer { file, server } => {
                 let change = planned_server(alloc, *file, server, event)?;
-                Ok((Edit::Server(change.edit), change.outcome))
+                Ok((StateEdit::Server(change.edit), change.outcome))
             }
         }
     }
 
     /// Makes a planned change of the state, and gives the outcome back. Takes no memory.
-    pub(crate) fn apply(&mut self, edit: Edit, outcome: Outcome) -> Outcome
+    pub(crate) fn apply(&mut self, edit: StateEdit, outcome: Outcome) -> Outcome
         requires { Fits self.old edit }
         ensures state { Becomes self.old edit self.new }
         ensures outcome { result ≡ outcome }
     {
         match self {
             State::OfNode { node, .. } => match edit {
-                Edit::Node(edit) => {
+                StateEdit::Node(edit) => {
                     let edit = Box::into_inner(edit);
                     node.apply(NodeChange { edit, outcome })
                 }
-                Edit::Server(_) => unreachable!(),
+                StateEdit::Server(_) => unreachable!(),
             },
             State::OfServer { server, .. } => match edit {
-                Edit::Server(edit) => server.apply(ServerChange { edit, outcome }),
-                Edit::Node(_) => unreachable!(),
+                StateEdit::Server(edit) => server.apply(ServerChange { edit, outcome }),
+                StateEdit::Node(_) => unreachable!(),
             },
         }
     }

@@ -4,8 +4,8 @@ use Rattle.std.proofs.Common.{◌≡◌, ℕ, ◌+◌, ◌<◌, ◌≤◌, ◌�
 use Rattle.std.proofs.lemmas.Option.{same_Some, slice_get_within}
 use Rattle.model.specs.rule.Locks.{Locks}
 use Rattle.lock_table.specs.code.Rows.{held}
-use Rattle.client_history.specs.declared.open_call.OpenCall.{OpenCall}
-use Rattle.client_history.specs.declared.front.Front.{Front}
+use Rattle.client_history.specs.declared.open_client_call.OpenClientCall.{OpenClientCall}
+use Rattle.client_history.specs.declared.search_front.SearchFront.{SearchFront}
 use Rattle.client_history.specs.rule.Acts.{ActStep}
 use Rattle.client_history.specs.rule.Explained.{the_file, Stands}
 use Rattle.client_history.specs.code.Moves.{AsksOnly}
@@ -16,7 +16,7 @@ use Rattle.client_history.specs.code.Asked.{IsAsked}
 use Rattle.client_history.proofs.Orders.{last_place}
 use Rattle.client_history.proofs.OwnQuestions.{asks_same}
 
-module _ (one : OpenCall) (old new : Front) (asks : AsksOnly one.call.act) where
+module _ (one : OpenClientCall) (old new : SearchFront) (asks : AsksOnly one.call.act) where
   -- after a front took a call that only asks, it asked the call
   pub taken_asked : ActStep the_file (held old.table) one.call.owner one.call.act (held new.table) → IsAlsoTaken one.index old.taken.items new.taken.items → IsAsked one old new
   taken_asked step also =
@@ -47,7 +47,7 @@ module _ (one : OpenCall) (old new : Front) (asks : AsksOnly one.call.act) where
   asked_by false step also never stays = refused_asked (never refl) (stays refl).0 (stays refl).1
 
 -- a call that is left where more were taken is left where fewer were
-pub left_before : (one : OpenCall) (taken more : List ℕ) → ((i : ℕ) → Stands taken i → Stands more i) → IsLeft one more → IsLeft one taken
+pub left_before : (one : OpenClientCall) (taken more : List ℕ) → ((i : ℕ) → Stands taken i → Stands more i) → IsLeft one more → IsLeft one taken
 left_before one taken more kept left = record {
   stays = λ s. left.stays (kept one.index s);
   lives = by one.exit left.lives;
@@ -58,13 +58,13 @@ left_before one taken more kept left = record {
     by (Some e) lives = λ s. lives (kept e s)
 
 -- the front asked the calls before the n-th
-pub record IsAskedTo (running : List OpenCall) (n : ℕ) (old new : Front) : Type 0 where
+pub record IsAskedTo (running : List OpenClientCall) (n : ℕ) (old new : SearchFront) : Type 0 where
   pub locks : held new.table ≡ held old.table
   pub kept : (i : ℕ) → Stands old.taken.items i → Stands new.taken.items i
-  pub added : (i : ℕ) → Stands new.taken.items i → Stands old.taken.items i ⊎ ((k : ℕ) × (one : OpenCall) × (slice_get running k ≡ Some one) × (one.index ≡ i) × AsksOnly one.call.act × ActStep the_file (held old.table) one.call.owner one.call.act (held old.table))
-  pub asked : (k : ℕ) (one : OpenCall) → k < n → slice_get running k ≡ Some one → IsLeft one new.taken.items → AsksOnly one.call.act → (next : Locks) → ActStep the_file (held old.table) one.call.owner one.call.act next → ⊥
+  pub added : (i : ℕ) → Stands new.taken.items i → Stands old.taken.items i ⊎ ((k : ℕ) × (one : OpenClientCall) × (slice_get running k ≡ Some one) × (one.index ≡ i) × AsksOnly one.call.act × ActStep the_file (held old.table) one.call.owner one.call.act (held old.table))
+  pub asked : (k : ℕ) (one : OpenClientCall) → k < n → slice_get running k ≡ Some one → IsLeft one new.taken.items → AsksOnly one.call.act → (next : Locks) → ActStep the_file (held old.table) one.call.owner one.call.act next → ⊥
 
-module _ (running : List OpenCall) (old new : Front) where
+module _ (running : List OpenClientCall) (old new : SearchFront) where
   -- after the front asked all places, it asked the calls
   pub asked_all : (n : ℕ) → length running ≤ n → IsAskedTo running n old new → IsAskedOf running old new
   asked_all n all to = record {
@@ -75,7 +75,7 @@ module _ (running : List OpenCall) (old new : Front) where
   }
 
   -- the front asks one call more
-  pub asked_more : (mid : Front) (k : ℕ) (call : OpenCall) → slice_get running k ≡ Some call → IsAskedTo running k old mid → IsAsked call mid new → IsAskedTo running (k + 1) old new
+  pub asked_more : (mid : SearchFront) (k : ℕ) (call : OpenClientCall) → slice_get running k ≡ Some call → IsAskedTo running k old mid → IsAsked call mid new → IsAskedTo running (k + 1) old new
   asked_more mid k call there to asks = record {
     locks = asks.locks ∙ to.locks;
     kept = λ i s. asks.kept i (to.kept i s);
@@ -83,7 +83,7 @@ module _ (running : List OpenCall) (old new : Front) where
     asked = λ j one lt at left only next step. ⊎_elim
         (λ before. to.asked j one before at (left_before one mid.taken.items new.taken.items asks.kept left) only next step)
         (λ e. let same : call ≡ one = same_Some call one (sym there ∙ ap (slice_get running) (sym e) ∙ at) in
-        subst (λ (o : OpenCall). IsLeft o new.taken.items → AsksOnly o.call.act → (to_locks : Locks) → ActStep the_file (held old.table) o.call.owner o.call.act to_locks → ⊥) same
+        subst (λ (o : OpenClientCall). IsLeft o new.taken.items → AsksOnly o.call.act → (to_locks : Locks) → ActStep the_file (held old.table) o.call.owner o.call.act to_locks → ⊥) same
         (subst (λ (h : Locks). IsLeft call new.taken.items → AsksOnly call.call.act → (to_locks : Locks) → ActStep the_file h call.call.owner call.call.act to_locks → ⊥) to.locks asks.asked) left only next step)
         (last_place j k lt);
   }

@@ -4,7 +4,7 @@ use Rattle.std.proofs.lemmas.Option.{none-some}
 use Rattle.model.specs.rule.Locks.{Locks, no_locks}
 use Rattle.client_history.specs.declared.act.Act.{Act}
 use Rattle.client_history.specs.declared.client_call.ClientCall.{ClientCall}
-use Rattle.client_history.specs.declared.open_call.OpenCall.{OpenCall}
+use Rattle.client_history.specs.declared.open_client_call.OpenClientCall.{OpenClientCall}
 use Rattle.client_history.specs.rule.Acts.{ActStep}
 use Rattle.client_history.specs.rule.Explained.{the_file, Leads, Stands, IsExplainedBy}
 use Rattle.client_history.specs.code.Moves.{AsksOnly}
@@ -28,10 +28,10 @@ without_question calls h n (x ∷ before) behind i call there asks leads =
     (leads.0, leads.1, leads.2, leads.3, without_question calls leads.1 n before behind i call there asks leads.4)
 
 -- an open call that asks only and may be asked here
-abbrev pub MayBeAsked : List OpenCall → Locks → ℕ → Type 0
-MayBeAsked running h i = (k : ℕ) × (one : OpenCall) × (slice_get running k ≡ Some one) × (one.index ≡ i) × AsksOnly one.call.act × ActStep the_file h one.call.owner one.call.act h
+abbrev pub MayBeAsked : List OpenClientCall → Locks → ℕ → Type 0
+MayBeAsked running h i = (k : ℕ) × (one : OpenClientCall) × (slice_get running k ≡ Some one) × (one.index ≡ i) × AsksOnly one.call.act × ActStep the_file h one.call.owner one.call.act h
 
-module _ (calls : List ClientCall) (begun over : List ℕ) (running : List OpenCall) (time : ℕ) (taken more : List ℕ) (h : Locks) where
+module _ (calls : List ClientCall) (begun over : List ℕ) (running : List OpenClientCall) (time : ℕ) (taken more : List ℕ) (h : Locks) where
   -- the way so far to one with more calls taken: the part of the rest that was met and stays, and the part still to be met
   record IsMetTo (way one two : List ℕ) : Type 0 where
     pub explains : IsExplainedBy time calls (way ++ (one ++ two))

@@ -6,8 +6,8 @@ use Rattle.std.proofs.lemmas.Option.{same_Some, slice_get_within}
 use Rattle.model.specs.rule.Locks.{Locks}
 use Rattle.lock_table.specs.code.Rows.{held}
 use Rattle.client_history.specs.declared.client_call.ClientCall.{ClientCall}
-use Rattle.client_history.specs.declared.open_call.OpenCall.{OpenCall}
-use Rattle.client_history.specs.declared.front.Front.{Front}
+use Rattle.client_history.specs.declared.open_client_call.OpenClientCall.{OpenClientCall}
+use Rattle.client_history.specs.declared.search_front.SearchFront.{SearchFront}
 use Rattle.client_history.specs.declared.moment.Moment.{Moment}
 use Rattle.client_history.specs.rule.Acts.{ActStep}
 use Rattle.client_history.specs.code.Asked.{IsAsked}
@@ -41,7 +41,7 @@ module _ (begins : List Moment) (next : ℕ) (begun : List ℕ) (are : (i : ℕ)
           (λ e. subst (Stands (x ∷ begun)) (is ∙ ap (λ (m : Moment). m.call) (get_one begins next past.0 moment past.1 (sym e) at past.3) ∙ past.4) (stands_first x begun))
           (last_place past.0 next past.2)
 
-module _ (calls : List ClientCall) (begun over : List ℕ) (running : List OpenCall) (one : OpenCall) (opens : AreOpenCalls calls begun over running) (there : slice_get calls one.index ≡ Some one.call) (exits : IfSome one.exit (λ e. IsExitOf calls e one.call)) (stays : Stands over one.index → ⊥) (beside : (j end : ℕ) (b : ClientCall) → slice_get calls j ≡ Some b → (Stands over j → ⊥) → b.end ≡ Some end → one.call.begin ≤ end) where
+module _ (calls : List ClientCall) (begun over : List ℕ) (running : List OpenClientCall) (one : OpenClientCall) (opens : AreOpenCalls calls begun over running) (there : slice_get calls one.index ≡ Some one.call) (exits : IfSome one.exit (λ e. IsExitOf calls e one.call)) (stays : Stands over one.index → ⊥) (beside : (j end : ℕ) (b : ClientCall) → slice_get calls j ≡ Some b → (Stands over j → ⊥) → b.end ≡ Some end → one.call.begin ≤ end) where
   is_in_more : (i : ℕ) → IsIn running i → IsIn (running ++ one ∷ []) i
   is_in_more i is = let has = has_left running (one ∷ []) is.1 (is.0, is.2) in (has.0, is.1, has.1, is.3)
 
@@ -50,15 +50,15 @@ module _ (calls : List ClientCall) (begun over : List ℕ) (running : List OpenC
   opens_more = record {
     there = λ k other at. ⊎_elim
         (λ old. opens.there old.0 other old.1)
-        (λ e. subst (λ (o : OpenCall). slice_get calls o.index ≡ Some o.call) (sym e) there)
+        (λ e. subst (λ (o : OpenClientCall). slice_get calls o.index ≡ Some o.call) (sym e) there)
         (has_push running one other (k, at));
     exits = λ k exit other at is. ⊎_elim
         (λ old. opens.exits old.0 exit other old.1 is)
-        (λ e. subst (λ (x : Option ℕ). IfSome x (λ i. IsExitOf calls i other.call)) is (subst (λ (o : OpenCall). IfSome o.exit (λ i. IsExitOf calls i o.call)) (sym e) exits))
+        (λ e. subst (λ (x : Option ℕ). IfSome x (λ i. IsExitOf calls i other.call)) is (subst (λ (o : OpenClientCall). IfSome o.exit (λ i. IsExitOf calls i o.call)) (sym e) exits))
         (has_push running one other (k, at));
     opened = λ k other at. ⊎_elim
         (λ old. let was = opens.opened old.0 other old.1 in (stands_more one.index begun other.index was.0, was.1))
-        (λ e. subst (λ (o : OpenCall). Stands (one.index ∷ begun) o.index × (Stands over o.index → ⊥)) (sym e) (stands_first one.index begun, stays))
+        (λ e. subst (λ (o : OpenClientCall). Stands (one.index ∷ begun) o.index × (Stands over o.index → ⊥)) (sym e) (stands_first one.index begun, stays))
         (has_push running one other (k, at));
     known = λ i call s at. ⊎_elim
         (λ e. let last = has_last running one in inr (inr (last.0, one, last.1, sym e)))
@@ -70,8 +70,8 @@ module _ (calls : List ClientCall) (begun over : List ℕ) (running : List OpenC
         (stands_cases one.index begun i s);
   }
 
-module _ (calls : List ClientCall) (begun over : List ℕ) (running : List OpenCall) (one : OpenCall) (sound : AreSound calls) (opens : AreOpenCalls calls begun over (running ++ one ∷ [])) (time : ℕ) where
-  module _ (front next : Front) (asks : IsAsked one front next) (on : IsOn calls over running time front.taken.items (held front.table)) where
+module _ (calls : List ClientCall) (begun over : List ℕ) (running : List OpenClientCall) (one : OpenClientCall) (sound : AreSound calls) (opens : AreOpenCalls calls begun over (running ++ one ∷ [])) (time : ℕ) where
+  module _ (front next : SearchFront) (asks : IsAsked one front next) (on : IsOn calls over running time front.taken.items (held front.table)) where
     abbrev h : Locks
     h = held front.table
 
@@ -81,7 +81,7 @@ module _ (calls : List ClientCall) (begun over : List ℕ) (running : List OpenC
     each_asked : AreAsked (running ++ one ∷ []) next.taken.items h
     each_asked k other at left only n step = ⊎_elim
         (λ old. on.asked old.0 other old.1 (left_before other front.taken.items next.taken.items asks.kept left) only n step)
-        (λ e. asks.asked (subst (λ (o : OpenCall). IsLeft o next.taken.items) e left) (subst (λ (o : OpenCall). AsksOnly o.call.act) e only) n (subst (λ (o : OpenCall). ActStep the_file h o.call.owner o.call.act n) e step))
+        (λ e. asks.asked (subst (λ (o : OpenClientCall). IsLeft o next.taken.items) e left) (subst (λ (o : OpenClientCall). AsksOnly o.call.act) e only) n (subst (λ (o : OpenClientCall). ActStep the_file h o.call.owner o.call.act n) e step))
         (has_push running one other (k, at))
 
     -- a front that asked the new call is on a way
@@ -91,12 +91,12 @@ module _ (calls : List ClientCall) (begun over : List ℕ) (running : List OpenC
         subst (λ (l : Locks). IsOn calls over (running ++ one ∷ []) time next.taken.items l) (sym asks.locks) (record { way = goes.0; rest = goes.1; is_way = goes.2; asked = each_asked })
 
   -- after each front asked the call, the fronts cover what they covered
-  covered_asked : (fronts more : List Front) → AreAskedFor one fronts more → IsCovered calls over running time fronts → IsCovered calls over (running ++ one ∷ []) time more
+  covered_asked : (fronts more : List SearchFront) → AreAskedFor one fronts more → IsCovered calls over running time fronts → IsCovered calls over (running ++ one ∷ []) time more
   covered_asked fronts more each is =
       let asked = each is.place is.front is.there in
       record { place = is.place; front = asked.0; there = asked.1; is_on = on_asked is.front asked.0 asked.2 is.is_on }
 
-module _ (calls : List ClientCall) (begins ends : List Moment) (next k : ℕ) (running : List OpenCall) (fronts : List Front) (timed : AreTimed calls begins ends) (reached : IsReached calls begins ends next k running fronts) (moment : Moment) (at : slice_get begins next ≡ Some moment) (x : ℕ) (call : ClientCall) (is : x ≡ moment.call) (there : slice_get calls x ≡ Some call) where
+module _ (calls : List ClientCall) (begins ends : List Moment) (next k : ℕ) (running : List OpenClientCall) (fronts : List SearchFront) (timed : AreTimed calls begins ends) (reached : IsReached calls begins ends next k running fronts) (moment : Moment) (at : slice_get begins next ≡ Some moment) (x : ℕ) (call : ClientCall) (is : x ≡ moment.call) (there : slice_get calls x ≡ Some call) where
   -- a call is not over before it begins
   not_over : Stands reached.over x → ⊥
   not_over s =
@@ -122,13 +122,13 @@ module _ (calls : List ClientCall) (begins ends : List Moment) (next k : ℕ) (r
       let late = timed.are_ends.by_time k n end place.1 behind at_end place.2 in
       omega arith
 
-module _ (time from : ℕ) (running0 : List OpenCall) (fronts0 : List Front) where
-  module _ (next : ℕ) (running : List OpenCall) (fronts : List Front) (calls : List ClientCall) (begins : List Moment) (moment : Moment) (at : slice_get begins next ≡ Some moment) (goes : GoesTo time from running0 fronts0 next running fronts calls begins) where
+module _ (time from : ℕ) (running0 : List OpenClientCall) (fronts0 : List SearchFront) where
+  module _ (next : ℕ) (running : List OpenClientCall) (fronts : List SearchFront) (calls : List ClientCall) (begins : List Moment) (moment : Moment) (at : slice_get begins next ≡ Some moment) (goes : GoesTo time from running0 fronts0 next running fronts calls begins) where
     -- each begin is that of a call
     pub goes_not : length calls ≤ moment.call → GoesTo time from running0 fronts0 (next + 1) running fronts calls begins
     goes_not past = λ ends k end timed at_end same reached. let begin = timed.are_begins.each next moment at in let within = slice_get_within calls moment.call begin.0 begin.1 in absurd (omega arith)
 
-    module _ (low : moment.time ≤ time) (one : OpenCall) (is : one.index ≡ moment.call) (there : slice_get calls moment.call ≡ Some one.call) (exits : IfSome one.exit (λ e. IsExitOf calls e one.call)) (more : List Front) (asked : AreAskedFor one fronts more) where
+    module _ (low : moment.time ≤ time) (one : OpenClientCall) (is : one.index ≡ moment.call) (there : slice_get calls moment.call ≡ Some one.call) (exits : IfSome one.exit (λ e. IsExitOf calls e one.call)) (more : List SearchFront) (asked : AreAskedFor one fronts more) where
       -- after a call has begun, and each front asked it, the search goes on
       pub goes_more : GoesTo time from running0 fronts0 (next + 1) (running ++ one ∷ []) more calls begins
       goes_more ends k end timed at_end same reached0 = record {

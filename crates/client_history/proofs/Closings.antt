@@ -5,7 +5,7 @@ use Rattle.std.proofs.lemmas.Bool.{cases_order}
 use Rattle.std.proofs.lemmas.Option.{none-some, same_Some}
 use Rattle.model.specs.rule.Locks.{Locks}
 use Rattle.client_history.specs.declared.client_call.ClientCall.{ClientCall}
-use Rattle.client_history.specs.declared.open_call.OpenCall.{OpenCall}
+use Rattle.client_history.specs.declared.open_client_call.OpenClientCall.{OpenClientCall}
 use Rattle.client_history.specs.rule.Explained.{EndedBy, Stands, IsAt}
 use Rattle.client_history.specs.code.OpenCalls.{IsLeft, IsIn, AreAsked}
 use Rattle.client_history.specs.code.Search.{AreSound, IsExitOf, IsDropped, AreOpenCalls, IsWay}
@@ -24,10 +24,10 @@ pub record IsSilentOf (calls : List ClientCall) (exit : ClientCall) (i : ℕ) : 
   pub own : exit.owner ≡ call.owner
 
 -- the calls that are gone when a call ends: that call, and, if it is an exit, each open call of its owner without a reply
-pub record AreGone (calls : List ClientCall) (running : List OpenCall) (x : ℕ) (call : ClientCall) (gone : List ℕ) : Type 0 where
+pub record AreGone (calls : List ClientCall) (running : List OpenClientCall) (x : ℕ) (call : ClientCall) (gone : List ℕ) : Type 0 where
   pub has : Stands gone x
   pub only : (i : ℕ) → Stands gone i → (i ≡ x) ⊎ IsSilentOf calls call i
-  pub silent : (k : ℕ) (one : OpenCall) → slice_get running k ≡ Some one → one.exit ≡ Some x → one.call.end ≡ None → Stands gone one.index
+  pub silent : (k : ℕ) (one : OpenClientCall) → slice_get running k ≡ Some one → one.exit ≡ Some x → one.call.end ≡ None → Stands gone one.index
 
 -- of the calls taken the list has those that are not gone
 pub record AreTakenStill (taken gone still : List ℕ) : Type 0 where
@@ -35,9 +35,9 @@ pub record AreTakenStill (taken gone still : List ℕ) : Type 0 where
   pub is : (i : ℕ) → Stands taken i → (Stands gone i → ⊥) → Stands still i
 
 -- of the open calls the list has those that are not gone
-pub record AreOpenStill (running : List OpenCall) (gone : List ℕ) (still : List OpenCall) : Type 0 where
-  pub was : (k : ℕ) (one : OpenCall) → slice_get still k ≡ Some one → (j : ℕ) × (slice_get running j ≡ Some one) × (Stands gone one.index → ⊥)
-  pub is : (j : ℕ) (one : OpenCall) → slice_get running j ≡ Some one → (Stands gone one.index → ⊥) → (k : ℕ) × (slice_get still k ≡ Some one)
+pub record AreOpenStill (running : List OpenClientCall) (gone : List ℕ) (still : List OpenClientCall) : Type 0 where
+  pub was : (k : ℕ) (one : OpenClientCall) → slice_get still k ≡ Some one → (j : ℕ) × (slice_get running j ≡ Some one) × (Stands gone one.index → ⊥)
+  pub is : (j : ℕ) (one : OpenClientCall) → slice_get running j ≡ Some one → (Stands gone one.index → ⊥) → (k : ℕ) × (slice_get still k ≡ Some one)
 
 -- a fact of the exit that there is
 of_exit : (P : ℕ → Type 0) (o : Option ℕ) (e : ℕ) → o ≡ Some e → IfSome o P → P e
@@ -49,7 +49,7 @@ by_end : (P : Type 0) (o : Option ℕ) → (o ≡ None → P) → (o ≢ None �
 by_end P None silent some = silent refl
 by_end P (Some end) silent some = some (λ e. none-some end (sym e))
 
-module _ (calls : List ClientCall) (begun over : List ℕ) (running : List OpenCall) (are : AreOpenCalls calls begun over running) (x : ℕ) (call_x : ClientCall) (there_x : slice_get calls x ≡ Some call_x) (gone : List ℕ) (are_gone : AreGone calls running x call_x gone) where
+module _ (calls : List ClientCall) (begun over : List ℕ) (running : List OpenClientCall) (are : AreOpenCalls calls begun over running) (x : ℕ) (call_x : ClientCall) (there_x : slice_get calls x ≡ Some call_x) (gone : List ℕ) (are_gone : AreGone calls running x call_x gone) where
   -- a call that was dropped stays dropped
   dropped_more : (call : ClientCall) → IsDropped calls over call → IsDropped calls (x ∷ over) call
   dropped_more call d = record { silent = d.silent; exit = d.exit; is_over = stands_more x over d.exit d.is_over; ends = d.ends }
@@ -69,11 +69,11 @@ module _ (calls : List ClientCall) (begun over : List ℕ) (running : List OpenC
   not_over : (i : ℕ) → (Stands gone i → ⊥) → (Stands over i → ⊥) → Stands (x ∷ over) i → ⊥
   not_over i here before s = ⊎_elim (λ e. here (subst (λ (n : ℕ). Stands gone n) (sym e) are_gone.has)) before (stands_cases x over i s)
 
-  module _ (left : List OpenCall) (still : AreOpenStill running gone left) where
+  module _ (left : List OpenClientCall) (still : AreOpenStill running gone left) where
     known_still : (i : ℕ) (call : ClientCall) → Stands begun i → slice_get calls i ≡ Some call → Stands (x ∷ over) i ⊎ (IsDropped calls (x ∷ over) call ⊎ IsIn left i)
     known_still i call begins there = ⊎_elim (λ past. inl (stands_more x over i past)) (λ other. ⊎_elim (λ d. inr (inl (dropped_more call d))) (λ found. by found.0 found.1 found.2 found.3) other) (are.known i call begins there)
       where
-        by : (k : ℕ) (one : OpenCall) → slice_get running k ≡ Some one → one.index ≡ i → Stands (x ∷ over) i ⊎ (IsDropped calls (x ∷ over) call ⊎ IsIn left i)
+        by : (k : ℕ) (one : OpenClientCall) → slice_get running k ≡ Some one → one.index ≡ i → Stands (x ∷ over) i ⊎ (IsDropped calls (x ∷ over) call ⊎ IsIn left i)
         by k one at e = ⊎_elim
             (λ s. ⊎_elim (λ past. inl past) (λ d. inr (inl d)) (gone_is i call there s))
             (λ stays. let now = still.is k one at (λ s. stays (subst (λ (n : ℕ). Stands gone n) e s)) in inr (inr (now.0, one, now.1, e)))
@@ -109,8 +109,8 @@ module _ (calls : List ClientCall) (begun over : List ℕ) (running : List OpenC
         changed = λ i call s. is.changed i call (takes.was i s).0;
       }
 
-      module _ (asked : AreAsked running taken h) (left : List OpenCall) (still : AreOpenStill running gone left) where
-        module _ (k : ℕ) (one : OpenCall) (at : slice_get running k ≡ Some one) (stays : Stands gone one.index → ⊥) (not_taken : Stands fewer one.index → ⊥) where
+      module _ (asked : AreAsked running taken h) (left : List OpenClientCall) (still : AreOpenStill running gone left) where
+        module _ (k : ℕ) (one : OpenClientCall) (at : slice_get running k ≡ Some one) (stays : Stands gone one.index → ⊥) (not_taken : Stands fewer one.index → ⊥) where
           -- a call with a reply that is not gone does not stand on the way
           not_in_way : Stands way one.index → one.call.end ≢ None → ⊥
           not_in_way s some = ⊎_elim
@@ -176,9 +176,9 @@ module _ (calls : List ClientCall) (begun over : List ℕ) (running : List OpenC
             asked was.0 one was.1 (was_left was.0 one was.1 was.2 is_left.stays is_left.lives) asks next step
 
 -- the calls that are gone, where each has the one that ended for its exit
-pub gone_by_exits : (calls : List ClientCall) (begun over : List ℕ) (running : List OpenCall) → AreOpenCalls calls begun over running → (x : ℕ) (call : ClientCall) → slice_get calls x ≡ Some call → (gone : List ℕ) → Stands gone x
-    → ((i : ℕ) → Stands gone i → (i ≡ x) ⊎ ((k : ℕ) × (one : OpenCall) × (slice_get running k ≡ Some one) × (one.index ≡ i) × (one.exit ≡ Some x) × (one.call.end ≡ None)))
-    → ((k : ℕ) (one : OpenCall) → slice_get running k ≡ Some one → one.exit ≡ Some x → one.call.end ≡ None → Stands gone one.index)
+pub gone_by_exits : (calls : List ClientCall) (begun over : List ℕ) (running : List OpenClientCall) → AreOpenCalls calls begun over running → (x : ℕ) (call : ClientCall) → slice_get calls x ≡ Some call → (gone : List ℕ) → Stands gone x
+    → ((i : ℕ) → Stands gone i → (i ≡ x) ⊎ ((k : ℕ) × (one : OpenClientCall) × (slice_get running k ≡ Some one) × (one.index ≡ i) × (one.exit ≡ Some x) × (one.call.end ≡ None)))
+    → ((k : ℕ) (one : OpenClientCall) → slice_get running k ≡ Some one → one.exit ≡ Some x → one.call.end ≡ None → Stands gone one.index)
     → AreGone calls running x call gone
 gone_by_exits calls begun over running are x call there gone has only silent = record {
   has = has;
@@ -186,7 +186,7 @@ gone_by_exits calls begun over running are x call there gone has only silent = r
   silent = silent;
 }
   where
-    by : (i k : ℕ) (one : OpenCall) → slice_get running k ≡ Some one → one.index ≡ i → one.exit ≡ Some x → one.call.end ≡ None → IsSilentOf calls call i
+    by : (i k : ℕ) (one : OpenClientCall) → slice_get running k ≡ Some one → one.index ≡ i → one.exit ≡ Some x → one.call.end ≡ None → IsSilentOf calls call i
     by i k one at e has_exit ends_not =
         let ends = are.exits k x one at has_exit in
         let same : ends.last ≡ call = get_one calls x x ends.last call refl ends.there there in

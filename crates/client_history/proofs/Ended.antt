@@ -7,8 +7,8 @@ use Rattle.std.proofs.lemmas.Option.{none-some, slice_get_within}
 use Rattle.model.specs.rule.Locks.{Locks, no_locks}
 use Rattle.lock_table.specs.code.Rows.{held}
 use Rattle.client_history.specs.declared.client_call.ClientCall.{ClientCall}
-use Rattle.client_history.specs.declared.open_call.OpenCall.{OpenCall}
-use Rattle.client_history.specs.declared.front.Front.{Front}
+use Rattle.client_history.specs.declared.open_client_call.OpenClientCall.{OpenClientCall}
+use Rattle.client_history.specs.declared.search_front.SearchFront.{SearchFront}
 use Rattle.client_history.specs.declared.moment.Moment.{Moment}
 use Rattle.client_history.specs.code.Closings.{AreOver, AreWithout, HasForgotten, AreForgotten}
 use Rattle.client_history.specs.rule.Explained.{EndedBy, Stands, IsExplainedBy}
@@ -76,7 +76,7 @@ module _ (calls : List ClientCall) (begins ends : List Moment) (timed : AreTimed
         (λ another. behind_another another.0 at_time another.1)
         is.latest)
 
-  module _ (running : List OpenCall) (fronts : List Front) (reached : IsReached calls begins ends p k running fronts) where
+  module _ (running : List OpenClientCall) (fronts : List SearchFront) (reached : IsReached calls begins ends p k running fronts) where
     over_is : (i : ℕ) → Stands (end.call ∷ reached.over) i ↔ IsPast ends (k + 1) i
     over_is i = (
       (λ s. ⊎_elim
@@ -104,7 +104,7 @@ module _ (calls : List ClientCall) (begins ends : List Moment) (timed : AreTimed
         (λ other. ⊎_elim (λ d. absurd (none-some end.time (sym d.silent ∙ ends_x))) (λ found. found) other)
         (reached.opens.known end.call call_x ((reached.are_begun end.call).1 (begun_no_later end.call call_x there_x (λ time is. is.before_end end.time ends_x))) there_x)
 
-    module _ (settled more : List Front) (over : List ℕ) (still : List OpenCall) (settles : AreSettled running end.call fronts settled) (is_over : AreOver running end.call over) (without : AreWithout running over still) (forgot : AreForgotten over settled more) where
+    module _ (settled more : List SearchFront) (over : List ℕ) (still : List OpenClientCall) (settles : AreSettled running end.call fronts settled) (is_over : AreOver running end.call over) (without : AreWithout running over still) (forgot : AreForgotten over settled more) where
       gone : AreGone calls running end.call call_x over
       gone = gone_by_exits calls reached.begun reached.over running reached.opens end.call call_x there_x over
           (subst (λ (n : ℕ). Stands over n) is_open.3 (is_over.all is_open.0 is_open.1 is_open.2 (inl is_open.3)))
@@ -132,7 +132,7 @@ module _ (calls : List ClientCall) (begins ends : List Moment) (timed : AreTimed
         covered : IsCovered calls reached.over running time settled
         covered = settles.covered calls reached.begun reached.over time ending (reached.covers time order (λ i call s there. ended i call (stands_more end.call reached.over i s) there) whole)
 
-        next : (next : Front) × (slice_get more covered.place ≡ Some next) × HasForgotten over covered.front next
+        next : (next : SearchFront) × (slice_get more covered.place ≡ Some next) × HasForgotten over covered.front next
         next = forgot covered.place covered.front covered.there
 
         took : Stands covered.front.taken.items end.call
@@ -174,7 +174,7 @@ module _ (calls : List ClientCall) (begins ends : List Moment) (timed : AreTimed
       }
 
 -- after the fronts went on and the calls that are over were dropped, the search has come behind the end
-pub goes_past : (x : ℕ) (running : List OpenCall) (fronts settled more : List Front) (over : List ℕ) (still : List OpenCall) → AreSettled running x fronts settled → AreOver running x over → AreWithout running over still → AreForgotten over settled more → GoesPast x running fronts still more
+pub goes_past : (x : ℕ) (running : List OpenClientCall) (fronts settled more : List SearchFront) (over : List ℕ) (still : List OpenClientCall) → AreSettled running x fronts settled → AreOver running x over → AreWithout running over still → AreForgotten over settled more → GoesPast x running fronts still more
 goes_past x running fronts settled more over still settles is_over without forgot calls begins ends p k end timed at same later reached =
     goes_past_end calls begins ends timed p k end at later running fronts reached settled more over still
     (subst (λ (n : ℕ). AreSettled running n fronts settled) (sym same) settles)
@@ -189,7 +189,7 @@ written_back {X = X} xs ys n long is =
 
 module _ (calls : List ClientCall) (begins ends : List Moment) where
   -- before all calls the one front has no lock
-  pub reached_first : (fronts : List Front) (front : Front) → fronts ≡ front ∷ [] → held front.table ≡ no_locks → front.taken.items ≡ [] → IsReached calls begins ends 0 0 [] fronts
+  pub reached_first : (fronts : List SearchFront) (front : SearchFront) → fronts ≡ front ∷ [] → held front.table ≡ no_locks → front.taken.items ≡ [] → IsReached calls begins ends 0 0 [] fronts
   reached_first fronts front are locks taken = record {
     begun = [];
     over = [];
@@ -205,7 +205,7 @@ module _ (calls : List ClientCall) (begins ends : List Moment) where
     covers = λ time order ended whole. record {
       place = 0;
       front = front;
-      there = ap (λ (fs : List Front). slice_get fs 0) are;
+      there = ap (λ (fs : List SearchFront). slice_get fs 0) are;
       is_on = record {
         way = [];
         rest = order;
@@ -225,7 +225,7 @@ module _ (calls : List ClientCall) (begins ends : List Moment) where
   }
 
   -- where no front is left behind the end of a call, no order explains the calls up to it
-  pub unexplained : AreTimed calls begins ends → (p k : ℕ) (end : Moment) → slice_get ends k ≡ Some end → (running : List OpenCall) (fronts : List Front) → length fronts ≡ 0 → IsReached calls begins ends p (k + 1) running fronts → IsUnexplainedFrom calls end.call
+  pub unexplained : AreTimed calls begins ends → (p k : ℕ) (end : Moment) → slice_get ends k ≡ Some end → (running : List OpenClientCall) (fronts : List SearchFront) → length fronts ≡ 0 → IsReached calls begins ends p (k + 1) running fronts → IsUnexplainedFrom calls end.call
   unexplained timed p k end at running fronts none reached =
       let each = timed.are_ends.each k end at in
       record {
@@ -248,7 +248,7 @@ module _ (calls : List ClientCall) (begins ends : List Moment) where
           (past.1.time, ap (λ (c : ClientCall). c.end) (sym same) ∙ each.2, omega arith)
 
   -- behind the begins up to an end, and that end, the search has come there
-  pub reached_next : AreTimed calls begins ends → (p q k : ℕ) (end : Moment) → slice_get ends k ≡ Some end → (running opened still : List OpenCall) (fronts begun given more : List Front) → IsReached calls begins ends p k running fronts → GoesTo end.time p running fronts q opened begun calls begins
+  pub reached_next : AreTimed calls begins ends → (p q k : ℕ) (end : Moment) → slice_get ends k ≡ Some end → (running opened still : List OpenClientCall) (fronts begun given more : List SearchFront) → IsReached calls begins ends p k running fronts → GoesTo end.time p running fronts q opened begun calls begins
       → (AreByTime begins → (m : ℕ) (moment : Moment) → q ≤ m → slice_get begins m ≡ Some moment → end.time < moment.time) → given ≡ begun → GoesPast end.call opened given still more → IsReached calls begins ends q (k + 1) still more
   reached_next timed p q k end at running opened still fronts begun given more reached to later same past =
-      past calls begins ends q k end timed at refl (later timed.are_begins.by_time) (subst (λ (fs : List Front). IsReached calls begins ends q k opened fs) (sym same) (to ends k end timed at refl reached))
+      past calls begins ends q k end timed at refl (later timed.are_begins.by_time) (subst (λ (fs : List SearchFront). IsReached calls begins ends q k opened fs) (sym same) (to ends k end timed at refl reached))

@@ -3,7 +3,7 @@ use Rattle.std.proofs.Common.{◌≡◌, ℕ, ◌+◌, ◌≤◌, ⊎_elim, true
 use Rattle.std.proofs.lemmas.Option.{none-some, slice_get_within}
 use Rattle.model.specs.rule.Locks.{Locks, no_locks}
 use Rattle.client_history.specs.declared.client_call.ClientCall.{ClientCall}
-use Rattle.client_history.specs.declared.open_call.OpenCall.{OpenCall}
+use Rattle.client_history.specs.declared.open_client_call.OpenClientCall.{OpenClientCall}
 use Rattle.client_history.specs.rule.Acts.{ActStep}
 use Rattle.client_history.specs.rule.Explained.{the_file, EndedBy, Stands, IsAt, IsExplainedBy}
 use Rattle.client_history.specs.code.Moves.{AsksOnly}
@@ -24,12 +24,12 @@ pub for_exit : (P : ℕ → Type 0) (o : Option ℕ) → ((e : ℕ) → o ≡ So
 for_exit P None all = tt
 for_exit P (Some e) all = all e refl
 
-module _ (calls : List ClientCall) (begun over : List ℕ) (running : List OpenCall) (time : ℕ) (taken : List ℕ) (h : Locks) (way rest : List ℕ) (sound : AreSound calls) (are : AreOpenCalls calls begun over running) (is : IsWay calls over time taken h way rest) where
+module _ (calls : List ClientCall) (begun over : List ℕ) (running : List OpenClientCall) (time : ℕ) (taken : List ℕ) (h : Locks) (way rest : List ℕ) (sound : AreSound calls) (are : AreOpenCalls calls begun over running) (is : IsWay calls over time taken h way rest) where
   abbrev Left : Calls
   Left = IsLeftOf running taken
 
   -- an index of an open call is that of its call
-  call_is : (k i : ℕ) (one : OpenCall) → slice_get running k ≡ Some one → one.index ≡ i → slice_get calls i ≡ Some one.call
+  call_is : (k i : ℕ) (one : OpenClientCall) → slice_get running k ≡ Some one → one.index ≡ i → slice_get calls i ≡ Some one.call
   call_is k i one at e = subst (λ (j : ℕ). slice_get calls j ≡ Some one.call) e (are.there k one at)
 
   -- the calls that are left are open
@@ -49,7 +49,7 @@ module _ (calls : List ClientCall) (begun over : List ℕ) (running : List OpenC
   }
 
   -- an open call that may stand behind the way is left
-  is_left : (k : ℕ) (one : OpenCall) → slice_get running k ≡ Some one → (Stands taken one.index → ⊥)
+  is_left : (k : ℕ) (one : OpenClientCall) → slice_get running k ≡ Some one → (Stands taken one.index → ⊥)
       → ((e : ℕ) (last : ClientCall) → Stands way e → slice_get calls e ≡ Some last → last.is_last ≡ true → one.call.owner ≡ last.owner → ⊥) → IsLeft one taken
   is_left k one at stays lives = record {
     stays = stays;
@@ -69,7 +69,7 @@ module _ (calls : List ClientCall) (begun over : List ℕ) (running : List OpenC
       open_still)
       (are.known i call begins there)
     where
-      by : (k : ℕ) (one : OpenCall) → slice_get running k ≡ Some one → one.index ≡ i → Left i call
+      by : (k : ℕ) (one : OpenClientCall) → slice_get running k ≡ Some one → one.index ≡ i → Left i call
       by k one at e =
           let same : one.call ≡ call = get_one calls i i one.call call refl (call_is k i one at e) there in (
             k,
@@ -97,7 +97,7 @@ module _ (calls : List ClientCall) (begun over : List ℕ) (running : List OpenC
           (λ left. left)
           (stands_split way rest x (is.explains.answered x call_x there_x ended))
 
-      module _ (begins : HaveBegunTo calls begun (way ++ rest) x) (first : List OpenCall) (are_first : AreFirst h running taken x first) where
+      module _ (begins : HaveBegunTo calls begun (way ++ rest) x) (first : List OpenClientCall) (are_first : AreFirst h running taken x first) where
         abbrev Set : ℕ → Type 0
         Set = IsIn are_first.set
 
@@ -124,7 +124,7 @@ module _ (calls : List ClientCall) (begun over : List ℕ) (running : List OpenC
             (found.0, found.1, left_asked i found.0 found.1)
 
         module _ (f : ComesFirst calls way rest time h Left Set) where
-          abbrev one : OpenCall
+          abbrev one : OpenClientCall
           one = f.chosen.1
 
           place : (n : ℕ) × (slice_get running n ≡ Some one)
@@ -185,5 +185,5 @@ module _ (calls : List ClientCall) (begun over : List ℕ) (running : List OpenC
               (subst (λ (xs : List ℕ). IsExplainedBy time calls (way ++ xs)) parts.2 is.explains) is.leads (to_end parts.0 parts.1 parts.2 parts.3))
 
           -- one of the first calls comes first on the way
-          pub first_of_way : (one : OpenCall) × (n : ℕ) × (f : ComesFirst calls way rest time h Left Set) × (slice_get first n ≡ Some one) × (f.index ≡ one.index) × (f.call ≡ one.call)
+          pub first_of_way : (one : OpenClientCall) × (n : ℕ) × (f : ComesFirst calls way rest time h Left Set) × (slice_get first n ≡ Some one) × (f.index ≡ one.index) × (f.call ≡ one.call)
           first_of_way = let n = given_first one_first in (one_first.chosen.1, n.0, one_first, n.1, sym one_first.chosen.3, sym (same one_first))

@@ -5,7 +5,7 @@ use Rattle.std.proofs.lemmas.Option.{none-some, same_Some}
 use Rattle.model.specs.declared.owner.Owner.{Owner}
 use Rattle.model.specs.contracts.owner.OwnerPartialEq.TheImpl as derived
 use Rattle.client_history.specs.declared.client_call.ClientCall.{ClientCall}
-use Rattle.client_history.specs.declared.owner_calls.Known.{Known}
+use Rattle.client_history.specs.declared.owner_calls.OwnerFacts.{OwnerFacts}
 use Rattle.client_history.specs.code.Moments.{IsBeginOf}
 use Rattle.client_history.specs.code.OwnerCalls.{IsExitOfOwner, HasAnswerFrom, IsKnownOf}
 use Rattle.client_history.proofs.Owners.{eq_exact}
@@ -36,17 +36,17 @@ latest_known calls owner latest begin before new = ⊎_elim
     (one_of latest begin)
 
 -- the facts stay true where one owner has new ones
-module _ (calls : List ClientCall) (key : Owner) (new : Known) (old now : Owner → Option Known) where
+module _ (calls : List ClientCall) (key : Owner) (new : OwnerFacts) (old now : Owner → Option OwnerFacts) where
   pub one_more_known : ((owner : Owner) → now owner ≡ cond (derived.ghosts.eq key owner) (Some new) (old owner))
       → IsKnownOf calls key new
-      → ((owner : Owner) (known : Known) → old owner ≡ Some known → IsKnownOf calls owner known)
-      → (owner : Owner) (known : Known) → now owner ≡ Some known → IsKnownOf calls owner known
+      → ((owner : Owner) (known : OwnerFacts) → old owner ≡ Some known → IsKnownOf calls owner known)
+      → (owner : Owner) (known : OwnerFacts) → now owner ≡ Some known → IsKnownOf calls owner known
   one_more_known updates is before owner known e = by (derived.ghosts.eq key owner) refl
     where
       by : (b : Bool) → derived.ghosts.eq key owner ≡ b → IsKnownOf calls owner known
       by true same =
           let one : new ≡ known = same_Some new known (sym (updates owner ∙ ap (λ (b : Bool). cond b (Some new) (old owner)) same) ∙ e) in
-          subst (λ (k : Known). IsKnownOf calls owner k) one (subst (λ (o : Owner). IsKnownOf calls o new) (eq_exact key owner same) is)
+          subst (λ (k : OwnerFacts). IsKnownOf calls owner k) one (subst (λ (o : Owner). IsKnownOf calls o new) (eq_exact key owner same) is)
       by false other = before owner known (sym (updates owner ∙ ap (λ (b : Bool). cond b (Some new) (old owner)) other) ∙ e)
 
 -- the begin of a call is one from which it may be looked at

@@ -4,14 +4,14 @@ ghost use Rattle.std.specs.Prelude.{IfOk};
 ghost use Rattle.client_history.specs.code.Asked.{IsAsked};
 ghost use Rattle.client_history.specs.code.Search.{IsAskedOf};
 
-use crate::front::Front;
-use crate::open_call::OpenCall;
+use crate::open_client_call::OpenClientCall;
 use crate::paths::Paths;
+use crate::search_front::SearchFront;
 use std::alloc::AllocError;
 
-impl Front {
+impl SearchFront {
     /// Takes the call at the front, if it only asks, is left, and the table allows it.
-    pub(crate) fn ask(&mut self, open: &OpenCall, paths: &mut Paths) -> Result<(), AllocError>
+    pub(crate) fn ask(&mut self, open: &OpenClientCall, paths: &mut Paths) -> Result<(), AllocError>
         ensures { IfOk result (λ done. IsAsked «open».now self.old self.new) }
     {
         if !open.changes() && open.is_left(&self.taken) {
@@ -21,7 +21,11 @@ impl Front {
     }
 
     /// Takes each of the calls at the front that only asks, is left, and that the table allows.
-    pub(crate) fn ask_all(&mut self, open: &[OpenCall], paths: &mut Paths) -> Result<(), AllocError>
+    pub(crate) fn ask_all(
+        &mut self,
+        open: &[OpenClientCall],
+        paths: &mut Paths,
+    ) -> Result<(), AllocError>
         ensures { IfOk result (λ done. IsAskedOf «open».now self.old self.new) }
     {
         for call in open {

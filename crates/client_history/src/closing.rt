@@ -3,13 +3,13 @@
 ghost use Rattle.std.specs.Prelude.{◌≡◌, IfOk, IsTrue, length, ◌↔◌};
 ghost use Rattle.client_history.specs.code.Closings.{IsOverWith, AreOver, AreWithout, AreForgotten};
 
-use crate::front::Front;
-use crate::open_call::OpenCall;
+use crate::open_client_call::OpenClientCall;
+use crate::search_front::SearchFront;
 use std::alloc::{AllocError, Global};
 
 // Whether the open call is over when the call `end` ends: it is that call, or it has no reply and that call is its
 // owner's exit.
-fn is_over_with(end: usize, call: &OpenCall) -> bool
+fn is_over_with(end: usize, call: &OpenClientCall) -> bool
     ensures { IsTrue result ↔ IsOverWith end call.now }
 {
     call.index == end || (call.exit == Some(end) && call.call.end.is_none())
@@ -18,7 +18,7 @@ fn is_over_with(end: usize, call: &OpenCall) -> bool
 /// The indexes of the open calls that are over when the call `end` ends.
 pub(crate) fn over_of(
     alloc: Global,
-    open: &[OpenCall],
+    open: &[OpenClientCall],
     end: usize,
 ) -> Result<Vec<usize>, AllocError>
     ensures { IfOk result (λ over. AreOver «open».now end over.items) }
@@ -35,9 +35,9 @@ pub(crate) fn over_of(
 /// The open calls without those that are over.
 pub(crate) fn without(
     alloc: Global,
-    open: &[OpenCall],
+    open: &[OpenClientCall],
     over: &[usize],
-) -> Result<Vec<OpenCall>, AllocError>
+) -> Result<Vec<OpenClientCall>, AllocError>
     ensures { IfOk result (λ left. AreWithout «open».now over.now left.items) }
 {
     let mut left = Vec::new(alloc);
@@ -50,7 +50,7 @@ pub(crate) fn without(
 }
 
 /// Drops the calls that are over from each front.
-pub(crate) fn forget_each(fronts: &mut [Front], over: &[usize])
+pub(crate) fn forget_each(fronts: &mut [SearchFront], over: &[usize])
     ensures len { length fronts.new ≡ length fronts.old }
     ensures forgot { AreForgotten over.now fronts.old fronts.new }
 {

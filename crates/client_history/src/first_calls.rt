@@ -3,7 +3,7 @@
 ghost use Rattle.std.specs.Prelude.{◌≡◌, ℕ, true, List, slice_get, Some, IfOk, IsTrue, ◌↔◌};
 ghost use Rattle.model.specs.rule.Locks.{Locks};
 ghost use Rattle.lock_table.specs.code.Rows.{held};
-ghost use Rattle.client_history.specs.declared.open_call.OpenCall.{OpenCall as SomeCall};
+ghost use Rattle.client_history.specs.declared.open_client_call.OpenClientCall.{OpenClientCall as SomeCall};
 ghost use Rattle.client_history.specs.rule.Acts.{ActStep};
 ghost use Rattle.client_history.specs.code.ClosedSets.{IsGrown, IsClosedSet};
 ghost use Rattle.client_history.specs.rule.Explained.{the_file};
@@ -13,7 +13,7 @@ ghost use Rattle.client_history.specs.code.OpenCalls.{IsLeft, IsIn, IsLeftOf, Ar
 use crate::act::Act;
 use crate::follow::is_free;
 use crate::needs::{is_denied, least_kept, needs};
-use crate::open_call::OpenCall;
+use crate::open_client_call::OpenClientCall;
 use lock_table::lock_table::LockTable;
 use std::alloc::{AllocError, Global};
 
@@ -22,10 +22,10 @@ use std::alloc::{AllocError, Global};
 pub(crate) fn first_calls(
     alloc: Global,
     table: &LockTable,
-    open: &[OpenCall],
+    open: &[OpenClientCall],
     taken: &[usize],
     end: usize,
-) -> Result<Vec<OpenCall>, AllocError>
+) -> Result<Vec<OpenClientCall>, AllocError>
     ensures { IfOk result (λ first. AreFirst (held table.now) «open».now taken.now end first.items) }
 {
     let set = closed_set(alloc, table, open, taken, end)?;
@@ -42,10 +42,10 @@ pub(crate) fn first_calls(
 fn closed_set(
     alloc: Global,
     table: &LockTable,
-    open: &[OpenCall],
+    open: &[OpenClientCall],
     taken: &[usize],
     end: usize,
-) -> Result<Vec<OpenCall>, AllocError>
+) -> Result<Vec<OpenClientCall>, AllocError>
     ensures { IfOk result (λ set. IsClosedSet (held table.now) «open».now taken.now end set.items) }
 {
     let mut set = Vec::new(alloc);
@@ -65,9 +65,9 @@ fn closed_set(
 
 // Adds the calls that the call with that index needs, if it is left.
 fn serve(
-    set: &mut Vec<OpenCall>,
+    set: &mut Vec<OpenClientCall>,
     table: &LockTable,
-    open: &[OpenCall],
+    open: &[OpenClientCall],
     taken: &[usize],
     index: usize,
 ) -> Result<(), AllocError>
@@ -84,11 +84,11 @@ fn serve(
 
 // Adds the calls that are left and that the call needs. A call that may be denied here needs none.
 fn add_needed(
-    set: &mut Vec<OpenCall>,
+    set: &mut Vec<OpenClientCall>,
     table: &LockTable,
-    open: &[OpenCall],
+    open: &[OpenClientCall],
     taken: &[usize],
-    call: &OpenCall,
+    call: &OpenClientCall,
 ) -> Result<(), AllocError>
     ensures grown { IsGrown «open».now set.old.items set.new.items }
     ensures served { IfOk result (λ _. AreAsked «open».now taken.now (held table.now) → (k : ℕ) → slice_get «open».now k ≡ Some call.now → IsLeft call.now taken.now → IsServed (held table.now) (IsLeftOf «open».now taken.now) (IsIn set.new.items) call.now.call) }
@@ -106,7 +106,7 @@ fn add_needed(
 }
 
 // Adds the call, unless the list has one of its index.
-fn add(set: &mut Vec<OpenCall>, call: &OpenCall) -> Result<(), AllocError>
+fn add(set: &mut Vec<OpenClientCall>, call: &OpenClientCall) -> Result<(), AllocError>
     ensures grown { (running : List SomeCall) (k : ℕ) → slice_get running k ≡ Some call.now → IsGrown running set.old.items set.new.items }
     ensures there { IfOk result (λ _. IsIn set.new.items call.now.index) }
 {
@@ -117,7 +117,7 @@ fn add(set: &mut Vec<OpenCall>, call: &OpenCall) -> Result<(), AllocError>
 }
 
 // Whether one of the calls has the index.
-fn has_index(calls: &[OpenCall], index: usize) -> bool
+fn has_index(calls: &[OpenClientCall], index: usize) -> bool
     ensures { IsTrue result ↔ IsIn calls.now index }
 {
     for call in calls {
@@ -129,7 +129,12 @@ fn has_index(calls: &[OpenCall], index: usize) -> bool
 }
 
 // Whether the call changes locks, and may come next.
-fn may_come(table: &LockTable, open: &[OpenCall], taken: &[usize], call: &OpenCall) -> bool
+fn may_come(
+    table: &LockTable,
+    open: &[OpenClientCall],
+    taken: &[usize],
+    call: &OpenClientCall,
+) -> bool
     ensures { IsLeft call.now taken.now → Changes call.now.call.act → (next : Locks) → ActStep the_file (held table.now) call.now.call.owner call.now.call.act next → (call.now.call.is_last ≡ true → AreOthersTaken «open».now taken.now call.now) → IsFirstTaken «open».now taken.now call.now → result ≡ true }
 {
     call.changes()
@@ -140,7 +145,7 @@ fn may_come(table: &LockTable, open: &[OpenCall], taken: &[usize], call: &OpenCa
 }
 
 // Whether no other call of its owner has to come before it. Before an exit each that has a reply has to.
-fn may_end_owner(open: &[OpenCall], taken: &[usize], call: &OpenCall) -> bool
+fn may_end_owner(open: &[OpenClientCall], taken: &[usize], call: &OpenClientCall) -> bool
     ensures { (call.now.call.is_last ≡ true → AreOthersTaken «open».now taken.now call.now) → result ≡ true }
 {
     if !call.call.is_last {
@@ -155,7 +160,7 @@ fn may_end_owner(open: &[OpenCall], taken: &[usize], call: &OpenCall) -> bool
 }
 
 // Whether the call that it follows, if that is open, was taken.
-fn is_first_taken(open: &[OpenCall], taken: &[usize], call: &OpenCall) -> bool
+fn is_first_taken(open: &[OpenClientCall], taken: &[usize], call: &OpenClientCall) -> bool
     ensures { IsFirstTaken «open».now taken.now call.now → result ≡ true }
 {
     match call.call.follows {
@@ -165,7 +170,7 @@ fn is_first_taken(open: &[OpenCall], taken: &[usize], call: &OpenCall) -> bool
 }
 
 // Whether no lock of another owner blocks the call, if it changes locks.
-fn is_allowed(table: &LockTable, call: &OpenCall) -> bool
+fn is_allowed(table: &LockTable, call: &OpenClientCall) -> bool
     ensures { (next : Locks) → ActStep the_file (held table.now) call.now.call.owner call.now.call.act next → result ≡ true }
 {
     match call.call.act {

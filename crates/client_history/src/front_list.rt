@@ -3,13 +3,13 @@
 ghost use Rattle.std.specs.Prelude.{◌≡◌, IfOk, IsTrue, length};
 ghost use Rattle.client_history.specs.code.Steps.{HasAll, HasOnly, HasEqual, AreAskedFor};
 
-use crate::front::Front;
-use crate::open_call::OpenCall;
+use crate::open_client_call::OpenClientCall;
 use crate::paths::Paths;
+use crate::search_front::SearchFront;
 use std::alloc::AllocError;
 
 // Whether one of the fronts took the same calls and has the same locks.
-fn has_same(fronts: &[Front], front: &Front) -> bool
+fn has_same(fronts: &[SearchFront], front: &SearchFront) -> bool
     ensures { IsTrue result → HasEqual fronts.now front.now }
 {
     for other in fronts {
@@ -21,7 +21,7 @@ fn has_same(fronts: &[Front], front: &Front) -> bool
 }
 
 /// Adds the front, unless an equal one is in the list.
-pub(crate) fn add_front(fronts: &mut Vec<Front>, front: Front) -> Result<(), AllocError>
+pub(crate) fn add_front(fronts: &mut Vec<SearchFront>, front: SearchFront) -> Result<(), AllocError>
     ensures kept { HasAll fronts.old.items fronts.new.items }
     ensures only { HasOnly fronts.old.items front fronts.new.items }
     ensures there { IfOk result (λ _. HasEqual fronts.new.items front) }
@@ -35,8 +35,8 @@ pub(crate) fn add_front(fronts: &mut Vec<Front>, front: Front) -> Result<(), All
 
 /// Takes the call at each front, if it only asks, is left, and the table allows it.
 pub(crate) fn ask_each(
-    fronts: &mut [Front],
-    call: &OpenCall,
+    fronts: &mut [SearchFront],
+    call: &OpenClientCall,
     paths: &mut Paths,
 ) -> Result<(), AllocError>
     ensures len { length fronts.new ≡ length fronts.old }

@@ -6,14 +6,13 @@
 pub mod act;
 mod answered;
 mod asked;
+mod call_ending;
 pub mod client_call;
 mod closing;
-mod ending;
 mod exits;
 pub mod explains;
 mod first_calls;
 mod follow;
-mod front;
 mod front_list;
 mod halves;
 mod in_time;
@@ -23,10 +22,11 @@ mod legal;
 mod marks;
 mod moment;
 mod needs;
-mod open_call;
+mod open_client_call;
 mod owner_calls;
 mod paths;
 mod search;
+mod search_front;
 mod sound;
 #[cfg(test)]
 mod tests;

@@ -11,7 +11,7 @@ ghost use Rattle.client_history.specs.code.OpenCalls.{IsLeftOf};
 
 use crate::act::Act;
 use crate::follow::{FILE, is_in_way};
-use crate::open_call::OpenCall;
+use crate::open_client_call::OpenClientCall;
 use crate::told_lock::ToldLock;
 use intervals::span::Span;
 use lock_table::lock_table::LockTable;
@@ -21,7 +21,7 @@ use model::owner::Owner;
 use std::alloc::AllocError;
 
 /// Whether the call may be denied here, and its client was told nothing of the lock.
-pub(crate) fn is_denied(table: &LockTable, call: &OpenCall) -> bool
+pub(crate) fn is_denied(table: &LockTable, call: &OpenClientCall) -> bool
     ensures yes { result ≡ true → AsksOnly call.now.call.act × ActStep the_file (held table.now) call.now.call.owner call.now.call.act (held table.now) }
     ensures no { result ≡ false → IsNotDenied (held table.now) call.now.call.owner call.now.call.act }
 {
@@ -51,9 +51,9 @@ fn is_untold(told: &ToldLock) -> bool
 /// `AllocError` where a request for memory was refused.
 pub(crate) fn least_kept(
     table: &LockTable,
-    open: &[OpenCall],
+    open: &[OpenClientCall],
     taken: &[usize],
-    call: &OpenCall,
+    call: &OpenClientCall,
 ) -> Result<Option<LockInfo>, AllocError>
     ensures { IfOk result (λ kept. MatchOption kept (FindsNoLock (held table.now) call.now.call.owner call.now.call.act) (IsHeldUp (held table.now) call.now.call.owner call.now.call.act)) }
 {
@@ -87,7 +87,7 @@ fn is_in_its_way(lock: &LockInfo, owner: Owner, span: Span, mode: Mode) -> bool
 }
 
 // The number of calls that are left and release the lock.
-fn count_of(lock: &LockInfo, open: &[OpenCall], taken: &[usize]) -> usize {
+fn count_of(lock: &LockInfo, open: &[OpenClientCall], taken: &[usize]) -> usize {
     open.iter()
         .filter(|call| releases(lock, call) && call.is_left(taken))
         .count()
@@ -96,11 +96,11 @@ fn count_of(lock: &LockInfo, open: &[OpenCall], taken: &[usize]) -> usize {
 /// Whether the call needs the other one. If a kept lock blocks the call, the other releases that lock; else the other
 /// may have to come before the call.
 pub(crate) fn needs(
-    open: &[OpenCall],
+    open: &[OpenClientCall],
     taken: &[usize],
-    call: &OpenCall,
+    call: &OpenClientCall,
     kept: &Option<LockInfo>,
-    other: &OpenCall,
+    other: &OpenClientCall,
 ) -> bool
     ensures { IsTrue result ↔ IsNeeded (IsLeftOf «open».now taken.now) call.now.call kept.now other.now.index other.now.call }
 {
@@ -111,7 +111,7 @@ pub(crate) fn needs(
 }
 
 // Whether the call takes bytes of the lock from its owner, or lets others read them.
-fn releases(lock: &LockInfo, call: &OpenCall) -> bool
+fn releases(lock: &LockInfo, call: &OpenClientCall) -> bool
     ensures { IsTrue result ↔ LetsGo lock.now call.now.call.owner call.now.call.act }
 {
     if call.call.owner != lock.owner {
@@ -127,7 +127,12 @@ fn releases(lock: &LockInfo, call: &OpenCall) -> bool
 
 // Whether the other call may have to come before the call, which no lock blocks: it is of the same owner, or the
 // call's lock would bar it, or it makes the lock by which the call is denied.
-fn is_met_by(open: &[OpenCall], taken: &[usize], call: &OpenCall, other: &OpenCall) -> bool
+fn is_met_by(
+    open: &[OpenClientCall],
+    taken: &[usize],
+    call: &OpenClientCall,
+    other: &OpenClientCall,
+) -> bool
     ensures { IsTrue result ↔ MayComeBefore (IsLeftOf «open».now taken.now) call.now.call other.now.index other.now.call }
 {
     if other.call.owner == call.call.owner {
@@ -142,7 +147,13 @@ fn is_met_by(open: &[OpenCall], taken: &[usize], call: &OpenCall, other: &OpenCa
 
 // Whether the lock would bar the call: a query that found bytes of it free, or a lock of an owner with another
 // change.
-fn is_barred(open: &[OpenCall], taken: &[usize], call: &OpenCall, span: Span, mode: Mode) -> bool
+fn is_barred(
+    open: &[OpenClientCall],
+    taken: &[usize],
+    call: &OpenClientCall,
+    span: Span,
+    mode: Mode,
+) -> bool
     ensures { IsTrue result ↔ IsBarred (IsLeftOf «open».now taken.now) mode span call.now.index call.now.call.owner call.now.call.act }
 {
     match call.call.act {
@@ -159,7 +170,7 @@ fn is_barred(open: &[OpenCall], taken: &[usize], call: &OpenCall, span: Span, mo
 }
 
 // Whether another change of the call's owner is left.
-fn has_rival(open: &[OpenCall], taken: &[usize], call: &OpenCall) -> bool
+fn has_rival(open: &[OpenClientCall], taken: &[usize], call: &OpenClientCall) -> bool
     ensures { IsTrue result ↔ HasRival (IsLeftOf «open».now taken.now) call.now.index call.now.call.owner }
 {
     for other in open {
@@ -171,7 +182,7 @@ fn has_rival(open: &[OpenCall], taken: &[usize], call: &OpenCall) -> bool
 }
 
 // Whether the call may make the lock that denied another owner, who was told this of it.
-fn may_deny(call: &OpenCall, span: Span, mode: Mode, told: &ToldLock) -> bool
+fn may_deny(call: &OpenClientCall, span: Span, mode: Mode, told: &ToldLock) -> bool
     ensures { IsTrue result ↔ (MayDeny mode span told.now call.now.call.act × ((told.now.owner ≡ None) ⊎ (told.now.owner ≡ Some call.now.call.owner))) }
 {
     if let Some(owner) = told.owner {

@@ -14,7 +14,7 @@ use std::alloc::{AllocError, Global};
 
 // The facts of one owner: the index of its exit, and the latest begin of its calls that have a reply, or 0.
 #[derive(Clone, Copy)]
-struct Known {
+struct OwnerFacts {
     exit: Option<usize>,
     latest: u64,
 }
@@ -22,7 +22,7 @@ struct Known {
 /// The facts of each owner's calls, found before the search.
 #[derive(Drop)]
 pub(crate) struct OwnerCalls {
-    known: IndexMap<Owner, Known>,
+    known: IndexMap<Owner, OwnerFacts>,
 }
 
 impl OwnerCalls {
@@ -52,12 +52,12 @@ impl OwnerCalls {
     }
 
     // The facts of the owner: none where it has no call.
-    fn of(&self, owner: Owner) -> Known
+    fn of(&self, owner: Owner) -> OwnerFacts
         ensures { (calls : List SomeCall) → AreOwnerCalls calls self.now → IsKnownOf calls owner result }
     {
         match self.known.get(&owner) {
             Some(known) => *known,
-            None => Known {
+            None => OwnerFacts {
                 exit: None,
                 latest: 0,
             },
@@ -88,7 +88,7 @@ impl OwnerCalls {
 }
 
 // The facts of an owner with one call more.
-fn with_call(before: Known, index: usize, call: &ClientCall) -> Known
+fn with_call(before: OwnerFacts, index: usize, call: &ClientCall) -> OwnerFacts
     ensures { (calls : List SomeCall) → slice_get calls index ≡ Some call.now → IsKnownOf calls call.now.owner before → IsKnownOf calls call.now.owner result }
 {
     let mut known = before;

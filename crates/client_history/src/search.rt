@@ -3,7 +3,7 @@ ghost use Rattle.std.specs.Prelude.{◌≡◌, ◌<◌, ◌≤◌, ◌++◌, ◌
 ghost use Rattle.model.specs.rule.Locks.{no_locks};
 ghost use Rattle.lock_table.specs.code.Rows.{held};
 ghost use Rattle.client_history.specs.declared.client_call.ClientCall.{ClientCall as SomeCall};
-ghost use Rattle.client_history.specs.declared.front.Front.{Front as SomeFront};
+ghost use Rattle.client_history.specs.declared.search_front.SearchFront.{SearchFront as SomeSearchFront};
 ghost use Rattle.client_history.specs.declared.moment.Moment.{Moment as SomeMoment};
 ghost use Rattle.client_history.specs.code.Moments.{AreByTime};
 ghost use Rattle.client_history.specs.code.OwnerCalls.{AreOwnerCalls};
@@ -11,15 +11,15 @@ ghost use Rattle.client_history.specs.code.Reached.{GoesTo, GoesPast};
 ghost use Rattle.client_history.specs.code.Search.{AreSound};
 ghost use Rattle.client_history.specs.rule.Verdicts.{IsSearched};
 
+use crate::call_ending::{CallEnding, settle};
 use crate::client_call::ClientCall;
 use crate::closing::{forget_each, over_of, without};
-use crate::ending::{Ending, settle};
-use crate::front::Front;
 use crate::front_list::ask_each;
 use crate::moment::{Moment, begins_of, ends_of};
-use crate::open_call::OpenCall;
+use crate::open_client_call::OpenClientCall;
 use crate::owner_calls::OwnerCalls;
 use crate::paths::Paths;
+use crate::search_front::SearchFront;
 use crate::verdict::Verdict;
 use std::alloc::{AllocError, Global};
 
@@ -37,10 +37,10 @@ fn begin_by(
     begins: &Begins,
     from: usize,
     time: u64,
-    open: Vec<OpenCall>,
-    fronts: &mut [Front],
+    open: Vec<OpenClientCall>,
+    fronts: &mut [SearchFront],
     paths: &mut Paths,
-) -> Result<(Vec<OpenCall>, usize), AllocError>
+) -> Result<(Vec<OpenClientCall>, usize), AllocError>
     requires { AreOwnerCalls begins.now.calls.now begins.now.owners.now }
     ensures len { length fronts.new ≡ length fronts.old }
     ensures to { IfOk result (λ r. GoesTo time from «open».items fronts.old r.1 r.0.items fronts.new begins.now.calls.now begins.now.moments.now) }
@@ -53,7 +53,7 @@ fn begin_by(
             break;
         }
         if let Some(call) = begins.calls.get(moment.call) {
-            let one = OpenCall {
+            let one = OpenClientCall {
                 index: moment.call,
                 call: *call,
                 exit: begins.owners.exit_of(call.owner),
@@ -71,15 +71,15 @@ fn begin_by(
 fn end(
     alloc: Global,
     end: usize,
-    open: &[OpenCall],
-    fronts: &mut Vec<Front>,
+    open: &[OpenClientCall],
+    fronts: &mut Vec<SearchFront>,
     paths: &mut Paths,
     left: &mut u64,
-) -> Result<Vec<OpenCall>, AllocError>
+) -> Result<Vec<OpenClientCall>, AllocError>
     ensures { IfOk result (λ still. 0 < left.new → GoesPast end «open».now fronts.old.items still.items fronts.new.items) }
 {
     let old = std::mem::replace(fronts, Vec::new(alloc));
-    let ending = Ending { alloc, open, end };
+    let ending = CallEnding { alloc, open, end };
     let mut new = settle(&ending, old, paths, left)?;
     let over = over_of(alloc, open, end)?;
     forget_each(&mut new, &over);
@@ -89,7 +89,7 @@ fn end(
 }
 
 // The numbers of the last steps of the ways to the first three fronts.
-fn some_ends(fronts: &[Front]) -> [usize; 3] {
+fn some_ends(fronts: &[SearchFront]) -> [usize; 3] {
     let mut ends = [0; 3];
     for place in 0..3 {
         if let Some(front) = fronts.get(place) {
@@ -161,16 +161,16 @@ pub(crate) fn look_for_order(
 }
 
 // The one front before all calls.
-fn first_fronts(alloc: Global) -> Result<Vec<Front>, AllocError>
-    ensures { IfOk result (λ fronts. (front : SomeFront) × (fronts.items ≡ front ∷ []) × (held front.table ≡ no_locks) × (front.taken.items ≡ [])) }
+fn first_fronts(alloc: Global) -> Result<Vec<SearchFront>, AllocError>
+    ensures { IfOk result (λ fronts. (front : SomeSearchFront) × (fronts.items ≡ front ∷ []) × (held front.table ≡ no_locks) × (front.taken.items ≡ [])) }
 {
     let mut fronts = Vec::new(alloc);
-    fronts.push(Front::new(alloc))?;
+    fronts.push(SearchFront::new(alloc))?;
     Ok(fronts)
 }
 
 // The way to one of the fronts that are left, after all calls have ended.
-fn order_of(fronts: &[Front], paths: &Paths, count: usize) -> Result<Verdict, AllocError>
+fn order_of(fronts: &[SearchFront], paths: &Paths, count: usize) -> Result<Verdict, AllocError>
     ensures { IfOk result (λ verdict. (calls : List SomeCall) → IsSearched calls verdict) }
 {
     match fronts.first() {

@@ -19,7 +19,7 @@ ghost use Rattle.cluster_core.specs.rule.Numbers.{LeadsToNumbers};
 ghost use Rattle.cluster_core.specs.rule.Evidence.{DenialsHaveEvidence};
 
 use crate::journal::Journal;
-use crate::world::change::Change;
+use crate::world::world_change::WorldChange;
 use crate::world::{JOURNAL_LIMIT, World};
 use messages::entry::Entry;
 use messages::event::Event;
@@ -96,7 +96,7 @@ impl Run {
     }
 
     // The run takes the event as it was planned. The entry that it makes comes last.
-    fn go_on(&mut self, alloc: Global, event: Event, change: Change) -> Result<(), AllocError>
+    fn go_on(&mut self, alloc: Global, event: Event, change: WorldChange) -> Result<(), AllocError>
         requires { Plans self.old.world event change }
         ensures ok { OnOk result (GoesOn self.old event self.new) }
         ensures unchanged { OnErr result (self.new ≡ self.old) }

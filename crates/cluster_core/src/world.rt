@@ -30,7 +30,7 @@ ghost use Rattle.token_server.specs.rule.State.{first_server};
 
 use crate::journal::Journal;
 use crate::sent::Sent;
-use crate::world::change::Change;
+use crate::world::world_change::WorldChange;
 use members::members::Members;
 use messages::actor::Actor;
 use messages::entry::Entry;
@@ -54,10 +54,10 @@ use token_server::change::Change as ServerChange;
 use token_server::event::ServerEvent;
 use token_server::server::Server;
 
-pub(crate) mod change;
 mod listings;
 mod servers;
 mod states;
+pub(crate) mod world_change;
 
 /// The greatest number of entries of a journal.
 pub const JOURNAL_LIMIT: u32 = 1_048_576;
@@ -362,7 +362,7 @@ impl World {
     }
 
     // The change that what comes to the node makes.
-    fn plan_node(&self, alloc: Global, node: u8, input: &NodeInput) -> Result<Change, Refused>
+    fn plan_node(&self, alloc: Global, node: u8, input: &NodeInput) -> Result<WorldChange, Refused>
         requires node { is_within self.now.shape.nodes node ≡ true }
         requires alive { (world_state self.now).alive node ≡ true }
         ensures ok { IfOk result (λ change. Makes self.now (AtNode node input.now) change (taken (world_state self.now) (AtNode node input.now))) }
@@ -372,7 +372,7 @@ impl World {
         let incarnation = self.named_incarnation(node, input);
         let change = self.node_plan(alloc, node, &NodeEvent::Input(*input))?;
         let boxed = Box::new(alloc, change)?;
-        Ok(Change::OfNode {
+        Ok(WorldChange::OfNode {
             node,
             incarnation,
             change: boxed,
@@ -380,14 +380,19 @@ impl World {
     }
 
     // The change that what comes to the token server makes.
-    fn plan_server(&self, alloc: Global, file: u16, input: &ServerInput) -> Result<Change, Refused>
+    fn plan_server(
+        &self,
+        alloc: Global,
+        file: u16,
+        input: &ServerInput,
+    ) -> Result<WorldChange, Refused>
         requires { is_within self.now.shape.files file ≡ true }
         ensures ok { IfOk result (λ change. Makes self.now (AtServer file input.now) change (taken (world_state self.now) (AtServer file input.now))) }
         ensures err { IfErr result (λ e. e ≢ NoMemory → taken (world_state self.now) (AtServer file input.now) ≡ Err e) }
         ensures refused { (e : Refused) → e ≢ Refused.Spent → taken (world_state self.now) (AtServer file input.now) ≡ Err e → result ≡ Err e }
     {
         let change = self.server_plan(alloc, file, &ServerEvent::Input(*input))?;
-        Ok(Change::OfServer { file, change })
+        Ok(WorldChange::OfServer { file, change })
     }
 
     // The change that the delivery of the message to the node makes.
@@ -396,7 +401,7 @@ impl World {
         alloc: Global,
         node: u8,
         message: &Message,
-    ) -> Result<Change, Refused>
+    ) -> Result<WorldChange, Refused>
         requires node { is_within self.now.shape.nodes node ≡ true }
         requires alive { (world_state self.now).alive node ≡ true }
         requires to { addressee message.now ≡ ANode node }
@@ -406,7 +411,7 @@ impl World {
     {
         let change = self.node_delivery(alloc, node, message)?;
         let boxed = Box::new(alloc, change)?;
-        Ok(Change::OfNode {
+        Ok(WorldChange::OfNode {
             node,
             incarnation: 0,
             change: boxed,
@@ -419,7 +424,7 @@ impl World {
         alloc: Global,
         file: u16,
         message: &Message,
-    ) -> Result<Change, Refused>
+    ) -> Result<WorldChange, Refused>
         requires file { is_within self.now.shape.files file ≡ true }
         requires to { addressee message.now ≡ AServer file }
         ensures ok { IfOk result (λ change. Makes self.now (Deliver message.now) change (delivered (world_state self.now) message.now (AServer file))) }
@@ -427,11 +432,11 @@ impl World {
         ensures refused { (e : Refused) → e ≢ Refused.Spent → delivered (world_state self.now) message.now (AServer file) ≡ Err e → result ≡ Err e }
     {
         let change = self.server_delivery(alloc, file, message)?;
-        Ok(Change::OfServer { file, change })
+        Ok(WorldChange::OfServer { file, change })
     }
 
     // The change that the delivery of the message to its addressee makes.
-    fn plan_delivery(&self, alloc: Global, message: &Message) -> Result<Change, Refused>
+    fn plan_delivery(&self, alloc: Global, message: &Message) -> Result<WorldChange, Refused>
         requires known { has_actor (world_state self.now) (addressee message.now) ≡ true }
         requires free { is_stopped (world_state self.now) (addressee message.now) ≡ false }
         ensures ok { IfOk result (λ change. Makes self.now (Deliver message.now) change (taken (world_state self.now) (Deliver message.now))) }
@@ -445,7 +450,7 @@ impl World {
     }
 
     // The change by which the node is declared failed, or the refusal.
-    fn plan_declare(&self, node: u8) -> Result<Change, Refused>
+    fn plan_declare(&self, node: u8) -> Result<WorldChange, Refused>
         requires { is_within self.now.shape.nodes node ≡ true }
         ensures ok { IfOk result (λ change. Makes self.now (Member (Declare node)) change (declare_rule (world_state self.now) node)) }
         ensures err { IfErr result (λ e. declare_rule (world_state self.now) node ≡ Err e) }
@@ -454,11 +459,11 @@ impl World {
         if !self.is_alive(node) {
             return Err(Refused::NotAlive);
         }
-        Ok(Change::Declared { node })
+        Ok(WorldChange::Declared { node })
     }
 
     // The change by which the node restarts, or the refusal.
-    fn plan_restart(&self, alloc: Global, node: u8) -> Result<Change, Refused>
+    fn plan_restart(&self, alloc: Global, node: u8) -> Result<WorldChange, Refused>
         requires { is_within self.now.shape.nodes node ≡ true }
         ensures ok { IfOk result (λ change. Makes self.now (Member (Restart node)) change (restart_rule (world_state self.now) node)) }
         ensures err { IfErr result (λ e. e ≢ NoMemory → restart_rule (world_state self.now) node ≡ Err e) }
@@ -467,11 +472,11 @@ impl World {
         let incarnation = self.members.next(node)?;
         let first = Node::new(alloc, self.shape, node, incarnation)?;
         let begun = Box::new(alloc, first)?;
-        Ok(Change::Restarted { node, begun })
+        Ok(WorldChange::Restarted { node, begun })
     }
 
     // The change by which a member is declared failed or begins again, or the refusal.
-    fn plan_member(&self, alloc: Global, event: &MemberEvent) -> Result<Change, Refused>
+    fn plan_member(&self, alloc: Global, event: &MemberEvent) -> Result<WorldChange, Refused>
         requires { has_member (world_state self.now) event.now ≡ true }
         ensures ok { IfOk result (λ change. Makes self.now (Member event.now) change (member_rule (world_state self.now) event.now)) }
         ensures err { IfErr result (λ e. e ≢ NoMemory → member_rule (world_state self.now) event.now ≡ Err e) }
@@ -486,7 +491,7 @@ impl World {
     }
 
     // The change that the event makes, whichever actor takes it.
-    fn plan_taken(&self, alloc: Global, event: &Event) -> Result<Change, Refused>
+    fn plan_taken(&self, alloc: Global, event: &Event) -> Result<WorldChange, Refused>
         requires known { is_known (world_state self.now) event.now ≡ true }
         requires free { is_fenced (world_state self.now) event.now ≡ false }
         ensures ok { IfOk result (λ change. Makes self.now event.now change (taken (world_state self.now) event.now)) }
@@ -505,7 +510,7 @@ impl World {
     ///
     /// # Errors
     /// As `step`.
-    pub(crate) fn plan(&self, alloc: Global, event: &Event) -> Result<Change, Refused>
+    pub(crate) fn plan(&self, alloc: Global, event: &Event) -> Result<WorldChange, Refused>
         ensures ok { IfOk result (λ change. Plans self.now event.now change) }
         ensures err { IfErr result (λ e. e ≢ NoMemory → kept_next (world_state self.now) event.now ≡ Err e) }
         ensures refused { (e : Refused) → e ≢ Refused.Spent → kept_next (world_state self.now) event.now ≡ Err e → result ≡ Err e }
@@ -527,7 +532,7 @@ impl World {
     ///
     /// # Errors
     /// As `step`.
-    pub(crate) fn plan_sent(&self, alloc: Global, message: &Message) -> Result<Change, Refused>
+    pub(crate) fn plan_sent(&self, alloc: Global, message: &Message) -> Result<WorldChange, Refused>
         requires { is_among self.now.sent message.now ≡ true }
         ensures ok { IfOk result (λ change. Plans self.now (Deliver message.now) change) }
         ensures err { IfErr result (λ e. e ≢ NoMemory → kept_next (world_state self.now) (Deliver message.now) ≡ Err e) }
@@ -646,7 +651,7 @@ impl World {
         &mut self,
         alloc: Global,
         event: Event,
-        change: Change,
+        change: WorldChange,
     ) -> Result<Entry, AllocError>
         requires { Plans self.old event change }
         ensures ok { IfOk result (λ entry. next (world_state self.old) event ≡ Ok (world_state self.new, entry)) }
@@ -654,16 +659,18 @@ impl World {
         ensures unchanged { OnErr result (self.new ≡ self.old) }
     {
         match change {
-            Change::OfNode {
+            WorldChange::OfNode {
                 node,
                 incarnation,
                 change,
             } => self.change_node(alloc, event, node, incarnation, Box::into_inner(change)),
-            Change::OfServer { file, change } => self.change_server(alloc, event, file, change),
-            Change::Declared { node } => Ok(self.declare(alloc, node)),
-            Change::Restarted { node, begun } => Ok(self.restart(alloc, node, begun)),
-            Change::Failed { file } => Ok(self.fail(alloc, file)),
-            Change::Started { file, begun, sends } => self.start(alloc, file, begun, sends),
+            WorldChange::OfServer { file, change } => self.change_server(
+                alloc, event, file, change,
+            ),
+            WorldChange::Declared { node } => Ok(self.declare(alloc, node)),
+            WorldChange::Restarted { node, begun } => Ok(self.restart(alloc, node, begun)),
+            WorldChange::Failed { file } => Ok(self.fail(alloc, file)),
+            WorldChange::Started { file, begun, sends } => self.start(alloc, file, begun, sends),
         }
     }
 

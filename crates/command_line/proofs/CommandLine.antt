@@ -15,8 +15,8 @@ use Rattle.command_line.specs.rule.Tasks.{Task, run, threads, audit, history, ex
 use Rattle.command_line.specs.rule.Words.{AsksFor, IsRefusal, IsShown}
 use Rattle.command_line.specs.declared.format.Format.{Format}
 use Rattle.command_line.specs.declared.format.Format.TheVariants.{Svg, Mermaid, Trace}
-use Rattle.command_line.specs.declared.rule.Rule.{Rule}
-use Rattle.command_line.specs.declared.rule.Rule.TheVariants.{WaitDrops, CloseOwnDescriptor, NoQuery, StaleReadDenial, LostAt}
+use Rattle.command_line.specs.declared.allowed_rule.AllowedRule.{AllowedRule}
+use Rattle.command_line.specs.declared.allowed_rule.AllowedRule.TheVariants.{WaitDrops, CloseOwnDescriptor, NoQuery, StaleReadDenial, LostAt}
 use Rattle.command_line.specs.declared.refusal.Refusal.{Refusal}
 use Rattle.command_line.specs.declared.refusal.Refusal.TheVariants.{Help, Wrong, NotText, NoMemory}
 
@@ -162,19 +162,19 @@ format_is Svg = refl
 format_is Mermaid = refl
 format_is Trace = refl
 
-abbrev rule_named : Text → Rule
+abbrev rule_named : Text → AllowedRule
 rule_named text =
     cond (bytes_eq text (codes "wait-drops")) WaitDrops (cond (bytes_eq text (codes "close-own-descriptor")) CloseOwnDescriptor (cond (bytes_eq text (codes "no-query")) NoQuery
     (cond (bytes_eq text (codes "stale-read-denial")) StaleReadDenial LostAt)))
 
-rule_is : (rule : Rule) → rule_named (rule_text rule) ≡ rule
+rule_is : (rule : AllowedRule) → rule_named (rule_text rule) ≡ rule
 rule_is WaitDrops = refl
 rule_is CloseOwnDescriptor = refl
 rule_is NoQuery = refl
 rule_is StaleReadDenial = refl
 rule_is LostAt = refl
 
-pub rules_are : (rules : List Rule) → map rule_named (map rule_text rules) ≡ rules
+pub rules_are : (rules : List AllowedRule) → map rule_named (map rule_text rules) ≡ rules
 rules_are [] = refl
 rules_are (rule ∷ rules) = λ i. rule_is rule i ∷ rules_are rules i
 

@@ -12,8 +12,8 @@ use Rattle.clap.proofs.OnLiterals.{clap_on_literals}
 use Rattle.command_line.specs.rule.JudgeTasks.{allow_words, rule_text}
 use Rattle.command_line.specs.rule.Program.{judge_app}
 use Rattle.command_line.specs.rule.Tasks.{greatest_seed, option_words}
-use Rattle.command_line.specs.declared.rule.Rule.{Rule as Allowed}
-use Rattle.command_line.specs.declared.rule.Rule.TheVariants.{WaitDrops, CloseOwnDescriptor, NoQuery, StaleReadDenial, LostAt}
+use Rattle.command_line.specs.declared.allowed_rule.AllowedRule.{AllowedRule}
+use Rattle.command_line.specs.declared.allowed_rule.AllowedRule.TheVariants.{WaitDrops, CloseOwnDescriptor, NoQuery, StaleReadDenial, LostAt}
 use Rattle.command_line.proofs.CommandWords.{begin, behind_words, is_path, none_read, number_row, path_row, read_then, shape, words_row, ArePaths, IsPath, MayBePath, Reads, ReadsAll}
 use Rattle.command_line.proofs.Numbers.{IsNumberText}
 use Rattle.command_line.proofs.WalkEnds.{absent, added, names_one, neither, rows_of_flags, words_of_flags, FlagList, HaveOwnNames}
@@ -128,7 +128,7 @@ allow_read : (seen : List Row) (at : At seen) → Reads judge_app (stand at) (co
 unfolding clap_on_literals
 allow_read seen at = record { step = rw at.settles refl; fine = rw at.fine refl }
 
-rule_read : (seen : List Row) (rule : Allowed) → Reads judge_app (behind_words seen (Some (codes "RULE", [])) (option (codes "RULE"))) (rule_text rule) (behind_words seen (Some (codes "RULE", rule_text rule ∷ [])) idle)
+rule_read : (seen : List Row) (rule : AllowedRule) → Reads judge_app (behind_words seen (Some (codes "RULE", [])) (option (codes "RULE"))) (rule_text rule) (behind_words seen (Some (codes "RULE", rule_text rule ∷ [])) idle)
 unfolding clap_on_literals
 rule_read seen WaitDrops = record { step = refl; fine = refl }
 rule_read seen CloseOwnDescriptor = record { step = refl; fine = refl }
@@ -233,7 +233,7 @@ module _ (number : Text) (steps : ℕ) (n : IsNumberText 1 greatest_seed number 
     fine = rule_fine (base histories explains ++ rule_rows words) word;
   }
 
-  pub rules_read : (histories : List Text) (explains : Option Text) (read : List Text) (allowed : List Allowed) (at : At (base histories explains ++ rule_rows read)) (words : List Text) (seen : List Row)
+  pub rules_read : (histories : List Text) (explains : Option Text) (read : List Text) (allowed : List AllowedRule) (at : At (base histories explains ++ rule_rows read)) (words : List Text) (seen : List Row)
       → ((later : At (base histories explains ++ rule_rows (read ++ map rule_text allowed))) → Ends (stand later) words seen) → Ends (stand at) (allow_words allowed ++ words) seen
   rules_read histories explains read [] at words seen more = more (seen_as at (ap (λ (all : List Text). base histories explains ++ rule_rows all) (sym (append-nil read))))
   rules_read histories explains read (rule ∷ allowed) at words seen more =

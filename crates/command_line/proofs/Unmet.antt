@@ -6,7 +6,7 @@ use Rattle.command_line.specs.rule.JudgeTasks.{JudgeTask, MayJudge, rule_text}
 use Rattle.command_line.specs.rule.Program.{flag_text, judge_values_in, strace_values_in, IsMet, IsNumber, MayBeNumber}
 use Rattle.command_line.specs.rule.Tasks.{Task, from_strace, recorded_history, format_text, greatest_seed, most_files, most_nodes, MayBeQuiet, MayRecord}
 use Rattle.command_line.specs.declared.format.Format.{Format}
-use Rattle.command_line.specs.declared.rule.Rule.{Rule}
+use Rattle.command_line.specs.declared.allowed_rule.AllowedRule.{AllowedRule}
 use Rattle.command_line.proofs.CommandLine.{asked_is, beside_histories, beside_recordings, flag_in, flag_there, given_is, histories_at, is_given, met_is, number_of, number_there, recordings_at, rule_words, task_named, unmet, value_at}
 
 -- it is met as the task that its name and its values tell
@@ -215,7 +215,7 @@ no_scheduled_flag rows none task met = none _ (ap (value_at 2) (as_named (codes 
 pub no_histories : (rows : List Row) → all_of (codes "HISTORY") rows ≡ None → Unmet (codes "judge") rows
 no_histories rows none task met = unmet _ (sym none ∙ ap histories_at (as_named (codes "judge") rows task met).1)
 
-pub no_rules : (rows : List Row) → ((rules : List Rule) → unwrap_or (all_of (codes "RULE") rows) [] ≡ map rule_text rules → ⊥) → Unmet (codes "judge") rows
+pub no_rules : (rows : List Row) → ((rules : List AllowedRule) → unwrap_or (all_of (codes "RULE") rows) [] ≡ map rule_text rules → ⊥) → Unmet (codes "judge") rows
 no_rules rows none task met = none _ (ap rule_words (as_named (codes "judge") rows task met).1)
 
 pub no_steps : (rows : List Row) → NoNumber 1 greatest_seed (codes "N") rows → Unmet (codes "judge") rows

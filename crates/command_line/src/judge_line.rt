@@ -1,5 +1,5 @@
 //! What a line asks of a judgement.
-use crate::rule::Rule;
+use crate::allowed_rule::AllowedRule;
 
 /// `judge HISTORY.. [--steps N] [--explains FILE] [--allow RULE].. [--order] [--go-on] [--stats] [--json] [--picture]`: what is
 /// to be said of histories.
@@ -13,7 +13,7 @@ pub struct JudgeLine<'a> {
     /// `go_on` nor `picture` is asked for.
     pub explains: Option<&'a str>,
     /// The rules that are allowed, as they stand, so that one may stand there twice.
-    pub allowed: Vec<Rule>,
+    pub allowed: Vec<AllowedRule>,
     /// Whether orders that were found are printed.
     pub order: bool,
     /// Whether a call that fits nowhere is left out, and the search goes on behind it.

@@ -4,9 +4,9 @@ ghost use Rattle.clap.specs.Words.{all_of, found_of, rows_of};
 ghost use Rattle.command_line.specs.rule.JudgeTasks.{judge_task_of, rule_text, MayDraw, MayExplain, MayJudge};
 ghost use Rattle.command_line.specs.rule.Kinds.{IsLineOf};
 
+use crate::allowed_rule::{AllowedRule, has_other_word, rules_in};
+use crate::command_line::CommandLine;
 use crate::judge_line::JudgeLine;
-use crate::line::Line;
-use crate::rule::{Rule, has_other_word, rules_in};
 use crate::values::{DEFAULT_STEPS, GREATEST_SEED, flag_in, number_in};
 use clap::ArgMatches;
 use std::alloc::{AllocError, Global};
@@ -15,7 +15,7 @@ use std::alloc::{AllocError, Global};
 pub(crate) fn judge_in<'a>(
     alloc: Global,
     values: &ArgMatches<'a>,
-) -> Result<Option<Line<'a>>, AllocError>
+) -> Result<Option<CommandLine<'a>>, AllocError>
     ensures { IfOk result (IsLineOf (Some (codes "judge", rows_of (found_of values.now)))) }
 {
     let Some(paths) = values.get_strs("HISTORY") else {
@@ -33,8 +33,8 @@ pub(crate) fn judge_in<'a>(
 fn judge_of<'a>(
     values: &ArgMatches<'a>,
     histories: Vec<&'a str>,
-    allowed: Vec<Rule>,
-) -> Option<Line<'a>>
+    allowed: Vec<AllowedRule>,
+) -> Option<CommandLine<'a>>
     requires histories { all_of (codes "HISTORY") (rows_of (found_of values.now)) ≡ Some (map (λ path. path.now) histories.items) }
     requires allowed { unwrap_or (all_of (codes "RULE") (rows_of (found_of values.now))) [] ≡ map rule_text allowed.items }
     ensures { IsLineOf (Some (codes "judge", rows_of (found_of values.now))) result }
@@ -60,7 +60,7 @@ fn judge_of<'a>(
     if !may_judge(&line) {
         return None;
     }
-    Some(Line::Judge(line))
+    Some(CommandLine::Judge(line))
 }
 
 // Whether what is asked for goes together.

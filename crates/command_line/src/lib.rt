@@ -1,7 +1,9 @@
 //! The command line: what its words ask for, and what is shown where they are refused.
 #![tactic(auto)]
 
+pub mod allowed_rule;
 mod argument;
+pub mod command_line;
 mod commands;
 pub mod format;
 mod journal_commands;
@@ -10,11 +12,9 @@ mod journal_notes;
 pub mod judge_line;
 mod judge_words;
 pub mod laws;
-pub mod line;
 mod notes;
 pub mod picture_line;
 pub mod refusal;
-pub mod rule;
 pub mod run_line;
 pub mod state_line;
 mod strace_words;

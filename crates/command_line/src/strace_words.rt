@@ -5,7 +5,7 @@ ghost use Rattle.command_line.specs.rule.Kinds.{IsLineOf};
 ghost use Rattle.command_line.specs.rule.Program.{flag_text};
 ghost use Rattle.command_line.specs.rule.Tasks.{MayRecord};
 
-use crate::line::Line;
+use crate::command_line::CommandLine;
 use crate::values::{MOST_NODES, flag_in, number_in};
 use clap::ArgMatches;
 use std::alloc::{AllocError, Global};
@@ -14,7 +14,7 @@ use std::alloc::{AllocError, Global};
 pub(crate) fn strace_in<'a>(
     alloc: Global,
     values: &ArgMatches<'a>,
-) -> Result<Option<Line<'a>>, AllocError>
+) -> Result<Option<CommandLine<'a>>, AllocError>
     ensures { IfOk result (IsLineOf (Some (codes "from-strace", rows_of (found_of values.now)))) }
 {
     let Some(recordings) = values.get_strs("RECORDING") else {
@@ -28,7 +28,7 @@ pub(crate) fn strace_in<'a>(
 }
 
 // The line of a script of the one recording.
-fn script_of<'a>(values: &ArgMatches<'a>, recordings: &[&'a str]) -> Option<Line<'a>>
+fn script_of<'a>(values: &ArgMatches<'a>, recordings: &[&'a str]) -> Option<CommandLine<'a>>
     requires recordings { all_of (codes "RECORDING") (rows_of (found_of values.now)) ≡ Some (map (λ path. path.now) recordings.now) }
     requires script { one_of (codes "history") (rows_of (found_of values.now)) ≡ Some (flag_text false) }
     ensures { IsLineOf (Some (codes "from-strace", rows_of (found_of values.now))) result }
@@ -38,7 +38,7 @@ fn script_of<'a>(values: &ArgMatches<'a>, recordings: &[&'a str]) -> Option<Line
     }
     let nodes = number_in(values, "N", 1, MOST_NODES)?;
     let places = values.get_str("PLACES");
-    Some(Line::FromStrace {
+    Some(CommandLine::FromStrace {
         recording: recordings[0],
         nodes: nodes as u8,
         places,
@@ -50,7 +50,7 @@ fn history_of<'a>(
     alloc: Global,
     values: &ArgMatches<'a>,
     recordings: &[&'a str],
-) -> Result<Option<Line<'a>>, AllocError>
+) -> Result<Option<CommandLine<'a>>, AllocError>
     requires recordings { all_of (codes "RECORDING") (rows_of (found_of values.now)) ≡ Some (map (λ path. path.now) recordings.now) }
     requires history { one_of (codes "history") (rows_of (found_of values.now)) ≡ Some (flag_text true) }
     ensures { IfOk result (IsLineOf (Some (codes "from-strace", rows_of (found_of values.now)))) }
@@ -63,7 +63,7 @@ fn history_of<'a>(
     }
     let mut named = Vec::new(alloc);
     named.extend_from_slice(recordings)?;
-    Ok(Some(Line::RecordedHistory { recordings: named }))
+    Ok(Some(CommandLine::RecordedHistory { recordings: named }))
 }
 
 // Whether there is a recording, and nothing is said of nodes.

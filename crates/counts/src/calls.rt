@@ -7,7 +7,7 @@ use crate::touch::Touch;
 use client_history::act::Act;
 use intervals::span::Span;
 use model::op::{LockCommand, Op};
-use run_clients::answer::Answer;
+use run_clients::answer_time::AnswerTime;
 use run_clients::file_call::FileCall;
 use std::alloc::AllocError;
 
@@ -71,15 +71,15 @@ fn denied(op: &Op) -> Numbers
 }
 
 // With the entries from the call to its reply, if it has one.
-fn answered(begin: u64, end: Answer, numbers: Numbers) -> Numbers
+fn answered(begin: u64, end: AnswerTime, numbers: Numbers) -> Numbers
     ensures { result ≡ answered begin end numbers }
 {
     match end {
-        Answer::At(end) => Numbers {
+        AnswerTime::At(end) => Numbers {
             waited: end.saturating_sub(begin),
             ..numbers
         },
-        Answer::Never => Numbers {
+        AnswerTime::Never => Numbers {
             open_calls: 1,
             ..numbers
         },

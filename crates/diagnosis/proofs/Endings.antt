@@ -12,7 +12,7 @@ use Rattle.lockscript.proofs.OneReading.{one_reading}
 use Rattle.lockscript.proofs.Passes.{IsSingle, ended}
 use Rattle.diagnosis.specs.rule.BadLines.{AreBadLines, IsBadAt, Tells, TellsBadLines}
 use Rattle.diagnosis.specs.code.Places.{EndsBadly}
-use Rattle.diagnosis.specs.declared.place.Place.{Place}
+use Rattle.diagnosis.specs.declared.line_place.LinePlace.{LinePlace}
 use Rattle.diagnosis.specs.declared.script_fault.ScriptFault.{ScriptFault}
 use Rattle.diagnosis.proofs.Reading.{HasRead, IsPlaceOf, KnowsBad, bad-here, know-bad, know-good}
 
@@ -121,18 +121,18 @@ told-before_end text number is_first rest told others read none behind =
     (λ nothing. whole-script text read.kept read.passed whole some (read.knows.good nothing))
 
 -- no line is left
-abbrev pub StaysAt : Place → List ℕ → List ℕ → Place → Type 0
+abbrev pub StaysAt : LinePlace → List ℕ → List ℕ → LinePlace → Type 0
 StaysAt old rest rest' new = (line_feeds rest ≡ 0) × (rest' ≡ rest) × (new ≡ old)
 
 -- what is left is told
-pub told-refused : (text : List ℕ) (old : Place) (rest : List ℕ) (told : List ScriptFault) (others : ℕ) (rest' : List ℕ) (new : Place) (told' : List ScriptFault) (others' : ℕ)
+pub told-refused : (text : List ℕ) (old : LinePlace) (rest : List ℕ) (told : List ScriptFault) (others : ℕ) (rest' : List ℕ) (new : LinePlace) (told' : List ScriptFault) (others' : ℕ)
     → HasRead text old.number old.is_first rest told others → StaysAt old rest rest' new → EndsBadly new.is_first rest'
     → ((numbers : List ℕ) → Tells numbers told others → Tells (numbers ++ new.number ∷ []) told' others') → HasTold text told' others'
 told-refused text old rest told others rest' new told' others' read stays ends adds =
     told-at_end text old.number old.is_first rest told others told' others' read stays.0 (rw (stays.1, stays.2) at ends) (rw stays.2 at adds)
 
 -- nothing is left
-pub told-taken : (text : List ℕ) (old : Place) (rest : List ℕ) (told : List ScriptFault) (others : ℕ) (rest' : List ℕ) (new : Place)
+pub told-taken : (text : List ℕ) (old : LinePlace) (rest : List ℕ) (told : List ScriptFault) (others : ℕ) (rest' : List ℕ) (new : LinePlace)
     → HasRead text old.number old.is_first rest told others → StaysAt old rest rest' new → (rest' ≡ []) × (new.is_first ≡ false) → HasTold text told others
 told-taken text old rest told others rest' new read stays ends =
-    told-before_end text old.number old.is_first rest told others read (sym stays.1 ∙ ends.0) (ap (λ (p : Place). p.is_first) (sym stays.2) ∙ ends.1)
+    told-before_end text old.number old.is_first rest told others read (sym stays.1 ∙ ends.0) (ap (λ (p : LinePlace). p.is_first) (sym stays.2) ∙ ends.1)

@@ -17,7 +17,7 @@ use Rattle.lockscript.proofs.FirstBadLines.{line-same, passes-of, same-passed}
 use Rattle.lockscript.proofs.Passes.{passes-join, passes-none, passes-said, passes-skipped}
 use Rattle.diagnosis.specs.rule.BadLines.{IsBadAt, Tells}
 use Rattle.diagnosis.specs.code.Places.{IsFit, IsUnfit}
-use Rattle.diagnosis.specs.declared.place.Place.{Place}
+use Rattle.diagnosis.specs.declared.line_place.LinePlace.{LinePlace}
 use Rattle.diagnosis.specs.declared.script_fault.ScriptFault.{ScriptFault}
 
 -- the next line has the place of the cluster's exactly where none was kept before it
@@ -203,11 +203,11 @@ and-true true = refl
 and-true false = refl
 
 -- the place behind the line
-abbrev pub GoesOn : Place → List ℕ → List ℕ → List ℕ → Place → Place → Type 0
+abbrev pub GoesOn : LinePlace → List ℕ → List ℕ → List ℕ → LinePlace → LinePlace → Type 0
 GoesOn old rest line after here new = (here ≡ old) × BeginsWithLine rest line after × (new.number ≡ old.number + 1) × (new.is_first ≡ (old.is_first && is_skipped line))
 
 -- one line more was looked at
-module _ (text : List ℕ) (old : Place) (rest : List ℕ) (told : List ScriptFault) (others : ℕ) (here : Place) (line after : List ℕ) (new : Place)
+module _ (text : List ℕ) (old : LinePlace) (rest : List ℕ) (told : List ScriptFault) (others : ℕ) (here : LinePlace) (line after : List ℕ) (new : LinePlace)
     (read : HasRead text old.number old.is_first rest told others) (on : GoesOn old rest line after here new) where
   abbrev number : ℕ
   number = read.passed + 1

@@ -4,8 +4,8 @@ ghost use Rattle.diagnosis.specs.code.Places.{EndsBadly};
 
 use crate::explanation::flaw_of_line;
 use crate::flaw::Flaw;
-use crate::place::Place;
-use crate::reason::Reason;
+use crate::line_place::LinePlace;
+use crate::line_reason::LineReason;
 use crate::script_fault::ScriptFault;
 use std::alloc::{AllocError, Global};
 
@@ -22,7 +22,7 @@ pub(crate) enum BadLine<'a> {
 
 impl<'a> BadLine<'a> {
     /// The bad line at the end of a text, if one stands there: at this place, with this behind the last line feed.
-    pub(crate) fn at_end(place: Place, rest: &'a str) -> Option<BadLine<'a>>
+    pub(crate) fn at_end(place: LinePlace, rest: &'a str) -> Option<BadLine<'a>>
         ensures { MatchOption result ((rest.entry.now ≡ []) × (place.is_first ≡ false)) (λ _. EndsBadly place.is_first rest.entry.now) }
     {
         if !rest.is_empty() {
@@ -35,13 +35,17 @@ impl<'a> BadLine<'a> {
     }
 
     /// What is wrong with it at this place.
-    pub(crate) fn fault(self, alloc: Global, place: Place) -> Result<ScriptFault<'a>, AllocError>
+    pub(crate) fn fault(
+        self,
+        alloc: Global,
+        place: LinePlace,
+    ) -> Result<ScriptFault<'a>, AllocError>
         ensures { IfOk result (λ fault. fault.line ≡ place.number) }
     {
         let flaw = match self {
             BadLine::Whole(line) => flaw_of_line(alloc, place.expected(), line)?,
-            BadLine::Unended(line) => Flaw::behind(line, Reason::NoLineFeed),
-            BadLine::Missing => Flaw::behind("", Reason::no_cluster()),
+            BadLine::Unended(line) => Flaw::behind(line, LineReason::NoLineFeed),
+            BadLine::Missing => Flaw::behind("", LineReason::no_cluster()),
         };
         Ok(ScriptFault {
             line: place.number,

@@ -1,20 +1,20 @@
 //! Characters of a line that no word has.
 use crate::flaw::Flaw;
-use crate::reason::Reason;
+use crate::line_reason::LineReason;
 
 /// What is wrong at the ends of a line: a byte order mark, a carriage return or a blank.
 pub(crate) fn flaw_of_ends(line: &str) -> Option<Flaw<'static>> {
     if line.starts_with('\u{feff}') {
-        return Some(Flaw::behind("", Reason::ByteOrderMark));
+        return Some(Flaw::behind("", LineReason::ByteOrderMark));
     }
     if let Some(front) = line.strip_suffix('\r') {
-        return Some(Flaw::behind(front, Reason::CarriageReturn));
+        return Some(Flaw::behind(front, LineReason::CarriageReturn));
     }
     if line.starts_with(' ') {
-        return Some(Flaw::behind("", Reason::FirstBlank));
+        return Some(Flaw::behind("", LineReason::FirstBlank));
     }
     if line.ends_with(' ') {
-        return Some(Flaw::behind(line.trim_end_matches(' '), Reason::LastBlank));
+        return Some(Flaw::behind(line.trim_end_matches(' '), LineReason::LastBlank));
     }
     None
 }
@@ -22,13 +22,13 @@ pub(crate) fn flaw_of_ends(line: &str) -> Option<Flaw<'static>> {
 /// What is wrong between the words of a line: a tab, two blanks, or a character that is not seen.
 pub(crate) fn flaw_of_gaps(line: &str) -> Option<Flaw<'static>> {
     if let Some((front, _)) = line.split_once('\t') {
-        return Some(Flaw::behind(front, Reason::Tab));
+        return Some(Flaw::behind(front, LineReason::Tab));
     }
     if let Some((front, _)) = line.split_once("  ") {
-        return Some(Flaw::behind(front, Reason::TwoBlanks));
+        return Some(Flaw::behind(front, LineReason::TwoBlanks));
     }
     let (front, _) = line.split_once(is_odd)?;
-    Some(Flaw::behind(front, Reason::OddCharacter))
+    Some(Flaw::behind(front, LineReason::OddCharacter))
 }
 
 // Whether no word of a script has the character, and no blank is it.

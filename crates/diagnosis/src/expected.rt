@@ -4,8 +4,8 @@ use crate::forms::{
     form_in,
 };
 use crate::hint::Hint;
+use crate::line_reason::LineReason;
 use crate::nearest::nearest;
-use crate::reason::Reason;
 use crate::synonyms::{KIND_SYNONYMS, MODE_SYNONYMS, OPERATION_SYNONYMS, Synonym, meant_by};
 use std::alloc::{AllocError, Global};
 use std::fmt;
@@ -56,9 +56,13 @@ impl Expected {
     }
 
     /// That the word may not stand there.
-    pub(crate) fn reason<'a>(self, alloc: Global, word: &'a str) -> Result<Reason<'a>, AllocError> {
+    pub(crate) fn reason<'a>(
+        self,
+        alloc: Global,
+        word: &'a str,
+    ) -> Result<LineReason<'a>, AllocError> {
         let hint = self.hint(alloc, word)?;
-        Ok(Reason::at_word(self, word, hint))
+        Ok(LineReason::at_word(self, word, hint))
     }
 
     // What may help one who wrote the word there.

@@ -2,7 +2,7 @@
 use crate::blanks::{flaw_of_ends, flaw_of_gaps};
 use crate::expected::Expected;
 use crate::flaw::{Flaw, column_behind};
-use crate::reason::Reason;
+use crate::line_reason::LineReason;
 use std::alloc::{AllocError, Global};
 
 /// What is wrong in a line that is known to be bad where this is expected. It is what stands first of: a byte order
@@ -31,7 +31,7 @@ fn flaw_before_comment<'a>(
     let flaw = flaw_of_body(alloc, first, front.trim_end_matches(' '))?;
     let comment = Flaw {
         column: column_behind(front).saturating_add(1),
-        reason: Reason::Comment,
+        reason: LineReason::Comment,
     };
     Ok(flaw.filter(|flaw| !flaw.is_at_end()).unwrap_or(comment))
 }
@@ -43,7 +43,7 @@ fn flaw_without_comment<'a>(
     line: &'a str,
 ) -> Result<Flaw<'a>, AllocError> {
     let flaw = flaw_of_body(alloc, first, line)?;
-    Ok(flaw.unwrap_or(Flaw::behind("", Reason::unknown(line))))
+    Ok(flaw.unwrap_or(Flaw::behind("", LineReason::unknown(line))))
 }
 
 // What is wrong in what a line says, if that is known.
@@ -82,7 +82,7 @@ fn flaw_of_words<'a>(
     let Some(next) = left.first() else {
         return Ok(None);
     };
-    Ok(Some(Flaw::behind(body, Reason::at_end(*next))))
+    Ok(Some(Flaw::behind(body, LineReason::at_end(*next))))
 }
 
 // What is expected next, and what behind it.

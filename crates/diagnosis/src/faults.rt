@@ -4,9 +4,9 @@ ghost use Rattle.lockscript.specs.rule.Scripts.{HasScript, IsFirstBad};
 ghost use Rattle.diagnosis.specs.rule.BadLines.{Tells, TellsBadLines};
 
 use crate::bad_line::BadLine;
-use crate::place::Place;
-use crate::reader::Reader;
+use crate::line_place::LinePlace;
 use crate::script_fault::ScriptFault;
+use crate::text_reader::TextReader;
 use std::alloc::{AllocError, Global};
 use std::fmt::Write;
 
@@ -38,7 +38,7 @@ impl<'a> Faults<'a> {
             told: Vec::new(alloc),
             more: 0,
         };
-        let mut reader = Reader::new(text);
+        let mut reader = TextReader::new(text);
         while let Some((place, line)) = reader.next_line() {
             if place.refuses(line) {
                 faults.add(alloc, place, BadLine::Whole(line))?;
@@ -69,7 +69,7 @@ impl<'a> Faults<'a> {
     }
 
     // Adds the fault of the line at this place, or counts it where enough are told.
-    fn add(&mut self, alloc: Global, place: Place, line: BadLine<'a>) -> Result<(), AllocError>
+    fn add(&mut self, alloc: Global, place: LinePlace, line: BadLine<'a>) -> Result<(), AllocError>
         requires { self.old.more + 1 < 2 ^ 64 }
         ensures { OnOk result ((numbers : List ℕ) → Tells numbers self.old.told.items self.old.more
             → Tells (numbers ++ place.number ∷ []) self.new.told.items self.new.more) }

@@ -1,17 +1,17 @@
 //! Flaws of lines.
 use crate::found::Found;
-use crate::reason::Reason;
+use crate::line_reason::LineReason;
 
 /// What is wrong in a line, and in which column.
 #[derive(Clone, Copy)]
 pub(crate) struct Flaw<'a> {
     pub(crate) column: u64,
-    pub(crate) reason: Reason<'a>,
+    pub(crate) reason: LineReason<'a>,
 }
 
 impl<'a> Flaw<'a> {
     /// This, behind the front of a line.
-    pub(crate) fn behind(front: &str, reason: Reason<'a>) -> Flaw<'a> {
+    pub(crate) fn behind(front: &str, reason: LineReason<'a>) -> Flaw<'a> {
         Flaw {
             column: column_behind(front),
             reason,
@@ -22,7 +22,7 @@ impl<'a> Flaw<'a> {
     pub(crate) fn is_at_end(&self) -> bool {
         matches!(
             self.reason,
-            Reason::Unexpected {
+            LineReason::Unexpected {
                 found: Found::EndOfLine,
                 ..
             }

@@ -1,5 +1,5 @@
 //! Faults of scripts.
-use crate::reason::Reason;
+use crate::line_reason::LineReason;
 
 /// What is wrong in a line of a text that is to be a script.
 #[derive(Clone, Copy)]
@@ -9,5 +9,5 @@ pub struct ScriptFault<'a> {
     /// Where in the line it is, in characters from 1.
     pub column: u64,
     /// What it is.
-    pub reason: Reason<'a>,
+    pub reason: LineReason<'a>,
 }

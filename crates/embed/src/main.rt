@@ -38,7 +38,7 @@ mod seat;
 mod shown;
 mod wire;
 
-use crate::cluster::Cluster;
+use crate::embedded_cluster::EmbeddedCluster;
 use model::access::Access;
 use model::mode::Mode;
 use model::op::{LockCall, LockCommand, Op, ProcessCall};
@@ -75,13 +75,13 @@ const UNLOCK: Op = Op::Unlock {
 };
 
 fn main(rt: HostRuntime) -> anyhow::Result<()> {
-    let mut cluster = Box::new(rt.alloc(), Cluster::new(rt.alloc(), 2)?)?;
+    let mut cluster = Box::new(rt.alloc(), EmbeddedCluster::new(rt.alloc(), 2)?)?;
     pass_on(&rt, &mut cluster)?;
     outlive(&rt, &mut cluster)
 }
 
 // A call of node 2 waits for a lock of node 1, and gets it.
-fn pass_on(rt: &HostRuntime, cluster: &mut Cluster) -> anyhow::Result<()> {
+fn pass_on(rt: &HostRuntime, cluster: &mut EmbeddedCluster) -> anyhow::Result<()> {
     begin(rt, cluster, 1)?;
     begin(rt, cluster, 2)?;
     cluster.call(rt, 1, SET)?;
@@ -92,7 +92,7 @@ fn pass_on(rt: &HostRuntime, cluster: &mut Cluster) -> anyhow::Result<()> {
 }
 
 // Node 2 dies with a lock that a call of node 1 waits for, and begins again.
-fn outlive(rt: &HostRuntime, cluster: &mut Cluster) -> anyhow::Result<()> {
+fn outlive(rt: &HostRuntime, cluster: &mut EmbeddedCluster) -> anyhow::Result<()> {
     wait(rt, cluster, 1)?;
     cluster.fail(rt, 2)?;
     cluster.pass(rt, 16)?;
@@ -104,13 +104,13 @@ fn outlive(rt: &HostRuntime, cluster: &mut Cluster) -> anyhow::Result<()> {
 }
 
 // The process of the node begins, and opens the file.
-fn begin(rt: &HostRuntime, cluster: &mut Cluster, node: u8) -> anyhow::Result<()> {
+fn begin(rt: &HostRuntime, cluster: &mut EmbeddedCluster, node: u8) -> anyhow::Result<()> {
     cluster.call(rt, node, Op::Process(ProcessCall::Spawn))?;
     cluster.call(rt, node, OPEN)
 }
 
 // The process of the node waits for a lock of the other node: its request is lost, and sent again.
-fn wait(rt: &HostRuntime, cluster: &mut Cluster, node: u8) -> anyhow::Result<()> {
+fn wait(rt: &HostRuntime, cluster: &mut EmbeddedCluster, node: u8) -> anyhow::Result<()> {
     cluster.call(rt, node, WAIT)?;
     cluster.show(rt)?;
     cluster.pass(rt, 16)?;

@@ -8,8 +8,8 @@ use Rattle.std.proofs.lemmas.Option.{none-some, same_Some}
 use Rattle.model.specs.declared.op.Op.{Op}
 use Rattle.messages.specs.code.Entries.{EntryFields}
 use Rattle.cluster_core.specs.rule.World.{WorldState}
-use Rattle.lockscript.specs.declared.script_line.Command.{Command}
-use Rattle.lockscript.specs.declared.script_line.Command.TheVariants.{Call}
+use Rattle.lockscript.specs.declared.script_line.ScriptCommand.{ScriptCommand}
+use Rattle.lockscript.specs.declared.script_line.ScriptCommand.TheVariants.{Call}
 use Rattle.lockscript.specs.rule.Scripts.{IsCommand, LineFields}
 use Rattle.player.specs.rule.Played.{PlayedState}
 use Rattle.explorer.specs.rule.Answers.{tries}
@@ -51,7 +51,7 @@ none-same calls Holds (inl none) = inl (append-nil calls ∙ none)
 none-same calls Holds (inr holds) = inr holds
 
 -- of each process that the lines call so far it holds, of one line more
-pub held-next : (Holds : ℕ → ℕ → Type 0) (node pid : ℕ) (c : Command) (calls : List Op) → HoldsOfCaller Holds c → NoneOr calls (Holds node pid) → NoneOr (calls ++ op_of node pid c) (Holds node pid)
+pub held-next : (Holds : ℕ → ℕ → Type 0) (node pid : ℕ) (c : ScriptCommand) (calls : List Op) → HoldsOfCaller Holds c → NoneOr calls (Holds node pid) → NoneOr (calls ++ op_of node pid c) (Holds node pid)
 held-next Holds node pid (Call n p op) calls here before =
     op-cases (λ (ops : List Op). NoneOr (calls ++ ops) (Holds node pid)) node pid n p op
     (λ e f. inr (subst (λ (k : ℕ). Holds node k) f (subst (λ (k : ℕ). Holds k p) e here)))
@@ -62,7 +62,7 @@ held-next Holds node pid _ calls here before = none-same calls (Holds node pid) 
 abbrev IsServedCall : ℕ → ℕ → Op → Type 0
 IsServedCall node pid op = IsCommand (Call node pid op)
 
-served-op : (node pid : ℕ) (c : Command) → IsCommand c → All (IsServedCall node pid) (op_of node pid c)
+served-op : (node pid : ℕ) (c : ScriptCommand) → IsCommand c → All (IsServedCall node pid) (op_of node pid c)
 served-op node pid (Call n p op) is =
     let here : n ≡ node → p ≡ pid → IsServedCall node pid op = λ e f. subst (λ (k : ℕ). IsCommand (Call node k op)) f (subst (λ (k : ℕ). IsCommand (Call k p op)) e is) in
     op-cases (All (IsServedCall node pid)) node pid n p op (λ e f. All-cons (IsServedCall node pid) op [] (here e f) (All-nil (IsServedCall node pid))) (All-nil (IsServedCall node pid))
@@ -86,12 +86,12 @@ pub left-served : (node pid : ℕ) (lines : List LineFields) (k : ℕ) (op : Op)
 left-served node pid lines k op served at = at-place (IsServedCall node pid) (calls_in node pid lines) k op (served-calls node pid lines served) at
 
 -- what is no call may come next where it may stand
-pub follows-other : (failures : Bool) (lines : List LineFields) (taken : List Command) (c : Command) → IsServedOther c → may_stand failures lines c ≡ true → Follows failures lines taken c
+pub follows-other : (failures : Bool) (lines : List LineFields) (taken : List ScriptCommand) (c : ScriptCommand) → IsServedOther c → may_stand failures lines c ≡ true → Follows failures lines taken c
 follows-other failures lines taken (Call n p op) served stands = absurd served
 follows-other failures lines taken _ served stands = record { is_next = tt; stands = stands; served = served }
 
 -- where a process can't go on, all its calls are made, or the last one is open
-pub none-goes-on : (lines : List LineFields) (commands : List Command) (node pid : ℕ) (made : List (Option ℕ)) (entries : List EntryFields) (world : WorldState) → Begins (calls_of node pid commands) (calls_in node pid lines)
+pub none-goes-on : (lines : List LineFields) (commands : List ScriptCommand) (node pid : ℕ) (made : List (Option ℕ)) (entries : List EntryFields) (world : WorldState) → Begins (calls_of node pid commands) (calls_in node pid lines)
     → calls_in node pid lines ≡ [] ⊎ (slice_get (calls_in node pid lines) (length (calls_of node pid commands)) ≡ None ⊎ IsOpenAfter node pid made entries world)
     → (p : PlayedState) → made ≡ tries p.refused node pid (numbered commands) → entries ≡ p.journal.entries → world ≡ p.world → MakesCallsOf node pid lines commands ⊎ LeavesOpen node pid commands p
 none-goes-on lines commands node pid made entries world begins (inl none) p same_made same_entries same_world = inl (made-none (calls_of node pid commands) (calls_in node pid lines) begins none)

@@ -10,7 +10,7 @@ use Rattle.std.proofs.lemmas.List.Edits.{length-swap, swapped_from_swap}
 use Rattle.std.proofs.lemmas.List.Elements.{All-contains, All-head, All-map, All-push, All-tail, All-weaker, Contains-append_left, Contains-get_or, Contains-push}
 use Rattle.std.proofs.lemmas.List.Quantifiers.{all_pairs_push}
 use Rattle.std.proofs.lemmas.List.Sorted.{All-permutation, Contains-permutation, IsPermutation-keeps, IsPermutation-map}
-use Rattle.explorer.specs.declared.answer.Answer.{Answer}
+use Rattle.explorer.specs.declared.explored_answer.ExploredAnswer.{ExploredAnswer}
 use Rattle.explorer.specs.rule.Outcomes.{AreOutcomesOf, AreSeedsOf, OutcomeParts, answers_of, seed_of, with_seed}
 
 -- no two of a list are the same
@@ -64,7 +64,7 @@ differ-permutation : {X : Type 0} (xs ys : List X) → IsPermutation xs ys → D
 differ-permutation xs ys same differ = IsPermutation-keeps xs Differ differ (λ l i j i_in j_in all. differ-swap l i j i_in j_in all) ys same
 
 -- the seeds of answers, where one seed more comes to them
-seeds-more : (answers : List Answer) (number : ℕ) (came : List (List Answer)) (seeds : List ℕ) → AreSeedsOf answers number came seeds → AreSeedsOf answers number (came ++ answers ∷ []) (seeds ++ seed_of (number + length came) ∷ [])
+seeds-more : (answers : List ExploredAnswer) (number : ℕ) (came : List (List ExploredAnswer)) (seeds : List ℕ) → AreSeedsOf answers number came seeds → AreSeedsOf answers number (came ++ answers ∷ []) (seeds ++ seed_of (number + length came) ∷ [])
 seeds-more answers number [] seeds is =
     let same : number + 0 ≡ number = omega arith in
     inl ([], refl, ap (λ (ns : List ℕ). ns ++ seed_of (number + 0) ∷ []) is ∙ ap (λ (n : ℕ). seed_of n ∷ []) same, refl)
@@ -80,31 +80,31 @@ seeds-more answers number (one ∷ came) seeds (inr is) =
     inr (is.0, subst (λ (n : ℕ). AreSeedsOf answers (number + 1) (came ++ answers ∷ []) (seeds ++ seed_of n ∷ [])) same more)
 
 -- or to others
-seeds-other : (answers other : List Answer) (number : ℕ) (came : List (List Answer)) (seeds : List ℕ) → other ≢ answers → AreSeedsOf answers number came seeds → AreSeedsOf answers number (came ++ other ∷ []) seeds
+seeds-other : (answers other : List ExploredAnswer) (number : ℕ) (came : List (List ExploredAnswer)) (seeds : List ℕ) → other ≢ answers → AreSeedsOf answers number came seeds → AreSeedsOf answers number (came ++ other ∷ []) seeds
 seeds-other answers other number [] seeds differs is = inr (differs, is)
 seeds-other answers other number (one ∷ came) seeds differs (inl is) = inl (is.0, is.1, is.2, seeds-other answers other (number + 1) came is.0 differs is.3)
 seeds-other answers other number (one ∷ came) seeds differs (inr is) = inr (is.0, seeds-other answers other (number + 1) came seeds differs is.1)
 
 -- there is none of answers to which none came
-seeds-none : (answers : List Answer) (number : ℕ) (came : List (List Answer)) → All (λ one. one ≢ answers) came → AreSeedsOf answers number came []
+seeds-none : (answers : List ExploredAnswer) (number : ℕ) (came : List (List ExploredAnswer)) → All (λ one. one ≢ answers) came → AreSeedsOf answers number came []
 seeds-none answers number [] none = refl
 seeds-none answers number (one ∷ came) none =
-    let P : List Answer → Type 0 = λ other. other ≢ answers in
+    let P : List ExploredAnswer → Type 0 = λ other. other ≢ answers in
     inr (All-head P one came none, seeds-none answers (number + 1) came (All-tail P one came none))
 
-abbrev HasSeeds : ℕ → List (List Answer) → OutcomeParts → Type 0
+abbrev HasSeeds : ℕ → List (List ExploredAnswer) → OutcomeParts → Type 0
 HasSeeds first came o = AreSeedsOf o.answers first came o.seeds
 
-abbrev its_answers : OutcomeParts → List Answer
+abbrev its_answers : OutcomeParts → List ExploredAnswer
 its_answers o = o.answers
 
-met-more : (came met : List (List Answer)) (answers : List Answer) → All (Contains came) met → All (Contains (came ++ answers ∷ [])) met
+met-more : (came met : List (List ExploredAnswer)) (answers : List ExploredAnswer) → All (Contains came) met → All (Contains (came ++ answers ∷ [])) met
 met-more came met answers all = All-weaker (Contains came) (Contains (came ++ answers ∷ [])) (λ x is. Contains-append_left came (answers ∷ []) x is) met all
 
 -- one more seed comes to the outcome at an index
-module _ (first seed : ℕ) (came : List (List Answer)) (outcomes : List OutcomeParts) (index : ℕ) (d : OutcomeParts) (answers : List Answer) (within : index < length outcomes) (its : its_answers (get_or outcomes index d) ≡ answers)
+module _ (first seed : ℕ) (came : List (List ExploredAnswer)) (outcomes : List OutcomeParts) (index : ℕ) (d : OutcomeParts) (answers : List ExploredAnswer) (within : index < length outcomes) (its : its_answers (get_or outcomes index d) ≡ answers)
     (next : seed ≡ seed_of (first + length came)) (is : AreOutcomesOf first came outcomes) where
-  abbrev more : List (List Answer)
+  abbrev more : List (List ExploredAnswer)
   more = came ++ answers ∷ []
 
   abbrev with_one : List OutcomeParts
@@ -124,7 +124,7 @@ module _ (first seed : ℕ) (came : List (List Answer)) (outcomes : List Outcome
       let o = get_or outcomes index d in
       let added = seeds-more o.answers first came o.seeds (is.seeds index d within) in
       let numbered = subst (λ (n : ℕ). AreSeedsOf o.answers first (came ++ o.answers ∷ []) (o.seeds ++ n ∷ [])) (sym next) added in
-      subst (λ (a : List Answer). AreSeedsOf o.answers first (came ++ a ∷ []) (o.seeds ++ seed ∷ [])) its numbered
+      subst (λ (a : List ExploredAnswer). AreSeedsOf o.answers first (came ++ a ∷ []) (o.seeds ++ seed ∷ [])) its numbered
 
   seeds-set : All (HasSeeds first more) with_one
   seeds-set k e in_all =
@@ -148,15 +148,15 @@ module _ (first seed : ℕ) (came : List (List Answer)) (outcomes : List Outcome
       record {
         differ = subst Differ (sym same) is.differ;
         met = subst (All (Contains more)) (sym same) (met-more came (answers_of outcomes) answers is.met);
-        each = subst (λ (met : List (List Answer)). All (Contains met) more) (sym same) (All-push (Contains (answers_of outcomes)) came answers is.each has-answers);
+        each = subst (λ (met : List (List ExploredAnswer)). All (Contains met) more) (sym same) (All-push (Contains (answers_of outcomes)) came answers is.each has-answers);
         seeds = seeds-set;
       }
 
 -- or to a new one
-pub outcomes-push : (first : ℕ) (came : List (List Answer)) (outcomes : List OutcomeParts) (o : OutcomeParts) → All (λ p. p.answers ≢ o.answers) outcomes → o.seeds ≡ seed_of (first + length came) ∷ [] → AreOutcomesOf first came outcomes
+pub outcomes-push : (first : ℕ) (came : List (List ExploredAnswer)) (outcomes : List OutcomeParts) (o : OutcomeParts) → All (λ p. p.answers ≢ o.answers) outcomes → o.seeds ≡ seed_of (first + length came) ∷ [] → AreOutcomesOf first came outcomes
     → AreOutcomesOf first (came ++ o.answers ∷ []) (outcomes ++ o ∷ [])
 outcomes-push first came outcomes o others one is =
-    let Other : List Answer → Type 0 = λ answers. answers ≢ o.answers in
+    let Other : List ExploredAnswer → Type 0 = λ answers. answers ≢ o.answers in
     let met = answers_of outcomes in
     let more = came ++ o.answers ∷ [] in
     let same : answers_of (outcomes ++ o ∷ []) ≡ met ++ o.answers ∷ [] = map-append its_answers outcomes (o ∷ []) in
@@ -165,14 +165,14 @@ outcomes-push first came outcomes o others one is =
     let kept : All (HasSeeds first more) outcomes = λ k d within. let p = get_or outcomes k d in seeds-other p.answers o.answers first came p.seeds (λ e. others k d within (sym e)) (is.seeds k d within) in
     let new = subst (λ (ns : List ℕ). AreSeedsOf o.answers first more ns) (sym one) (seeds-more o.answers first came [] (seeds-none o.answers first came none)) in
     record {
-      differ = subst Differ (sym same) (all_pairs_push (λ (a b : List Answer). a ≢ b) met o.answers is.differ fresh);
+      differ = subst Differ (sym same) (all_pairs_push (λ (a b : List ExploredAnswer). a ≢ b) met o.answers is.differ fresh);
       met = subst (All (Contains more)) (sym same) (All-push (Contains more) met o.answers (met-more came met o.answers is.met) (Contains-push came o.answers));
-      each = subst (λ (found : List (List Answer)). All (Contains found) more) (sym same) (All-push (Contains (met ++ o.answers ∷ [])) came o.answers (met-more met came o.answers is.each) (Contains-push met o.answers));
+      each = subst (λ (found : List (List ExploredAnswer)). All (Contains found) more) (sym same) (All-push (Contains (met ++ o.answers ∷ [])) came o.answers (met-more met came o.answers is.each) (Contains-push met o.answers));
       seeds = All-push (HasSeeds first more) outcomes o kept new;
     }
 
 -- in another order they are the same
-pub outcomes-ordered : (first : ℕ) (came : List (List Answer)) (outcomes ordered : List OutcomeParts) → IsPermutation outcomes ordered → AreOutcomesOf first came outcomes → AreOutcomesOf first came ordered
+pub outcomes-ordered : (first : ℕ) (came : List (List ExploredAnswer)) (outcomes ordered : List OutcomeParts) → IsPermutation outcomes ordered → AreOutcomesOf first came outcomes → AreOutcomesOf first came ordered
 outcomes-ordered first came outcomes ordered same is =
     let shuffled = IsPermutation-map its_answers outcomes ordered same in
     record {

@@ -7,9 +7,9 @@ use Rattle.model.specs.declared.reply.Reply.{Reply}
 use Rattle.model.specs.declared.reply.Reply.TheVariants.{Done, Fd, Again, Free, Blocked, Interrupted, NoProcess, Exists, BadFd, TooManyFiles, NoLocks, Invalid, Overflow}
 use Rattle.model.specs.contracts.lock_info.LockInfoPartialEq.TheImpl as derived_of_locks
 use Rattle.model.specs.contracts.reply.ReplyPartialEq.TheImpl as derived_of_replies
-use Rattle.explorer.specs.declared.answer.Answer.{Answer}
-use Rattle.explorer.specs.declared.answer.Answer.TheVariants.{NotMade, Refused, Open, Replied}
-use Rattle.explorer.specs.contracts.answer.AnswerPartialEq.TheImpl as derived
+use Rattle.explorer.specs.declared.explored_answer.ExploredAnswer.{ExploredAnswer}
+use Rattle.explorer.specs.declared.explored_answer.ExploredAnswer.TheVariants.{NotMade, Refused, Open, Replied}
+use Rattle.explorer.specs.contracts.explored_answer.ExploredAnswerPartialEq.TheImpl as derived
 
 -- the derived `==` of locks is equality
 lock_eq-Decides : (a b : LockInfo) → Decides (derived_of_locks.ghosts.eq a b) (a ≡ b)
@@ -33,7 +33,7 @@ reply_eq-Decides Overflow Overflow = (λ h. refl, λ e. refl)
 reply_eq-Decides _ _ = (λ h. absurd (false≢true h), λ e. cc)
 
 -- and that of answers
-pub answer_eq-Decides : (a b : Answer) → Decides (derived.ghosts.eq a b) (a ≡ b)
+pub answer_eq-Decides : (a b : ExploredAnswer) → Decides (derived.ghosts.eq a b) (a ≡ b)
 answer_eq-Decides NotMade NotMade = (λ h. refl, λ e. refl)
 answer_eq-Decides (Refused code) (Refused other) = grind (arith, common_steps)
 answer_eq-Decides Open Open = (λ h. refl, λ e. refl)

@@ -7,11 +7,11 @@ use Rattle.std.proofs.lemmas.List.{append-nil, map-append, take_more}
 use Rattle.model.specs.declared.op.Op.{Op}
 use Rattle.messages.specs.code.Entries.{EntryFields}
 use Rattle.lockscript.specs.declared.refused_line.RefusedLine.{RefusedLine}
-use Rattle.lockscript.specs.declared.script_line.Command.{Command}
-use Rattle.lockscript.specs.declared.script_line.Command.TheVariants.{Call}
+use Rattle.lockscript.specs.declared.script_line.ScriptCommand.{ScriptCommand}
+use Rattle.lockscript.specs.declared.script_line.ScriptCommand.TheVariants.{Call}
 use Rattle.lockscript.specs.rule.Scripts.{LineFields}
 use Rattle.model.specs.declared.call.CallId.{CallId}
-use Rattle.explorer.specs.declared.answer.Answer.{Answer}
+use Rattle.explorer.specs.declared.explored_answer.ExploredAnswer.{ExploredAnswer}
 use Rattle.explorer.specs.rule.Answers.{answer_behind, answers_behind, calls_by, count_taken, is_taken, named_answer, names, refusal_of, tried_answer, tries}
 use Rattle.explorer.specs.code.ByProcess.{ByProcess, list_in}
 use Rattle.explorer.specs.code.Indexes.{answer_by, answer_tried, next_try, KnowsCalls, KnowsTries}
@@ -41,10 +41,10 @@ op-cases P node pid n p op its other = by ((n == node) && (p == pid)) refl
     by true e = its (grind (arith, e)) (grind (arith, e))
     by false e = other
 
-pub calls-push : (node pid : ℕ) (commands : List Command) (c : Command) → calls_of node pid (commands ++ c ∷ []) ≡ calls_of node pid commands ++ op_of node pid c
+pub calls-push : (node pid : ℕ) (commands : List ScriptCommand) (c : ScriptCommand) → calls_of node pid (commands ++ c ∷ []) ≡ calls_of node pid commands ++ op_of node pid c
 calls-push node pid commands c = flat_map-append (op_of node pid) commands (c ∷ []) ∙ ap (λ (ops : List Op). calls_of node pid commands ++ ops) (append-nil (op_of node pid c))
 
-abbrev pub commands_of : List LineFields → List Command
+abbrev pub commands_of : List LineFields → List ScriptCommand
 commands_of lines = map (λ (l : LineFields). l.command) lines
 
 -- the commands of one line more
@@ -106,7 +106,7 @@ unmoved earlier taken ts false before = ap length (append-nil taken) ∙ before 
 abbrev AreTaken : List Op → List Op → List (Option ℕ) → Type 0
 AreTaken taken earlier ts = length taken ≡ count_taken (take (length earlier) ts)
 
-pub taken-next : (made : ByProcess (Option ℕ)) (known : ByProcess Op) (taken : List Op) (node pid : ℕ) (c : Command) → AreTaken taken (list_in known node pid) (list_in made node pid) →
+pub taken-next : (made : ByProcess (Option ℕ)) (known : ByProcess Op) (taken : List Op) (node pid : ℕ) (c : ScriptCommand) → AreTaken taken (list_in known node pid) (list_in made node pid) →
     AreTaken (taken ++ (if option_map_or is_taken (next_try made known c) false then op_of node pid c else [])) (list_in known node pid ++ op_of node pid c) (list_in made node pid)
 taken-next made known taken node pid (Call n p op) before =
     let earlier = list_in known node pid in
@@ -126,7 +126,7 @@ tried-answer None before named entries = refl
 tried-answer (Some (Some code)) before named entries = refl
 tried-answer (Some None) before named entries = refl
 
-pub answer-here : (made : ByProcess (Option ℕ)) (known taken : ByProcess Op) (earlier : List Command) (c : Command) (done : List LineFields) (refused : List RefusedLine) (entries : List EntryFields) →
+pub answer-here : (made : ByProcess (Option ℕ)) (known taken : ByProcess Op) (earlier : List ScriptCommand) (c : ScriptCommand) (done : List LineFields) (refused : List RefusedLine) (entries : List EntryFields) →
     KnowsTries made refused done → KnowsCalls known earlier → ((node pid : ℕ) → AreTaken (list_in taken node pid) (list_in known node pid) (list_in made node pid)) →
     answer_by entries taken (next_try made known c) c ≡ answer_behind earlier c done refused entries
 answer-here made known taken earlier (Call n p op) done refused entries made_is known_is taken_is =
@@ -140,13 +140,13 @@ answer-here made known taken earlier (Call n p op) done refused entries made_is 
 answer-here made known taken earlier _ done refused entries made_is known_is taken_is = refl
 
 -- one line more
-pub answers-next : (earlier more : List Command) (l : LineFields) (rest done : List LineFields) (refused : List RefusedLine) (entries : List EntryFields) (answers new : List Answer) (a : Answer) (all : List Answer) →
+pub answers-next : (earlier more : List ScriptCommand) (l : LineFields) (rest done : List LineFields) (refused : List RefusedLine) (entries : List EntryFields) (answers new : List ExploredAnswer) (a : ExploredAnswer) (all : List ExploredAnswer) →
     new ≡ answers ++ a ∷ [] → a ≡ answer_behind earlier l.command done refused entries → more ≡ earlier ++ l.command ∷ [] →
     answers ++ answers_behind earlier (l ∷ rest) done refused entries ≡ all → new ++ answers_behind more rest done refused entries ≡ all
 answers-next earlier more l rest done refused entries answers new a all is here on before =
     let after = answers_behind (earlier ++ l.command ∷ []) rest done refused entries in
-    ap (λ (cs : List Command). new ++ answers_behind cs rest done refused entries) on
-    ∙ ap (λ (xs : List Answer). xs ++ after) is
+    ap (λ (cs : List ScriptCommand). new ++ answers_behind cs rest done refused entries) on
+    ∙ ap (λ (xs : List ExploredAnswer). xs ++ after) is
     ∙ append_assoc answers (a ∷ []) after
-    ∙ ap (λ (b : Answer). answers ++ b ∷ after) here
+    ∙ ap (λ (b : ExploredAnswer). answers ++ b ∷ after) here
     ∙ before

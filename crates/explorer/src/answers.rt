@@ -9,13 +9,13 @@ ghost use Rattle.explorer.specs.code.ByProcess.{list_in};
 ghost use Rattle.explorer.specs.code.Indexes.{answer_by, answer_tried, next_try, KnowsTries};
 ghost use Rattle.explorer.specs.rule.Schedules.{numbered, op_of};
 
-use crate::answer::Answer;
 use crate::by_process::{count, value_at};
+use crate::call_replies::CallReplies;
 use crate::calls::{Calls, note_call};
-use crate::told::Told;
+use crate::explored_answer::ExploredAnswer;
 use crate::tries::{Tries, line_tries, tries};
 use lockscript::refused_line::RefusedLine;
-use lockscript::script_line::{Command, ScriptLine};
+use lockscript::script_line::{ScriptCommand, ScriptLine};
 use messages::entry::Entry;
 use player::played::Played;
 use std::alloc::{AllocError, Global};
@@ -28,9 +28,9 @@ use std::collections::HashMap;
 pub(crate) fn answers(
     alloc: Global,
     lines: &[ScriptLine],
-    commands: &[Command],
+    commands: &[ScriptCommand],
     played: &Played,
-) -> Result<Vec<Answer>, AllocError>
+) -> Result<Vec<ExploredAnswer>, AllocError>
     ensures { IfOk result (λ answers. answers.items ≡ answers_in lines.now commands.now (state_of played.now)) }
 {
     let entries = played.journal().entries();
@@ -42,10 +42,10 @@ pub(crate) fn answers(
 fn schedule_answers(
     alloc: Global,
     lines: &[ScriptLine],
-    commands: &[Command],
+    commands: &[ScriptCommand],
     refused: &[RefusedLine],
     entries: &[Entry],
-) -> Result<Vec<Answer>, AllocError>
+) -> Result<Vec<ExploredAnswer>, AllocError>
     ensures { IfOk result (λ answers. answers.items ≡ answers_behind [] lines.now (numbered commands.now) refused.now entries.now) }
 {
     let tries = tries(alloc, refused, commands)?;
@@ -62,7 +62,7 @@ pub(crate) fn run_answers(
     lines: &[ScriptLine],
     refused: &[RefusedLine],
     entries: &[Entry],
-) -> Result<Vec<Answer>, AllocError>
+) -> Result<Vec<ExploredAnswer>, AllocError>
     ensures { IfOk result (λ answers. answers.items ≡ answers_behind [] lines.now lines.now refused.now entries.now) }
 {
     let tries = line_tries(alloc, refused, lines)?;
@@ -77,10 +77,10 @@ fn answers_by(
     lines: &[ScriptLine],
     tries: &Tries,
     entries: &[Entry],
-) -> Result<Vec<Answer>, AllocError>
+) -> Result<Vec<ExploredAnswer>, AllocError>
     ensures { IfOk result (λ answers. (made : List LineFields) (refused : List RefusedLine) → KnowsTries tries.now refused made → answers.items ≡ answers_behind [] lines.now made refused entries.now) }
 {
-    let told = Told::of(alloc, entries)?;
+    let told = CallReplies::of(alloc, entries)?;
     let mut earlier = HashMap::new(alloc);
     let mut taken = HashMap::new(alloc);
     let mut answers = Vec::new(alloc);
@@ -99,9 +99,9 @@ fn note_line(
     taken: &mut Calls,
     alloc: Global,
     tries: &Tries,
-    told: &Told<'_>,
-    command: &Command,
-) -> Result<Answer, AllocError>
+    told: &CallReplies<'_>,
+    command: &ScriptCommand,
+) -> Result<ExploredAnswer, AllocError>
     ensures answer { IfOk result (λ answer. answer ≡ answer_by told.now taken.old (next_try tries.now earlier.old command.now) command.now) }
     ensures earlier { OnOk result ((node pid : ℕ) → list_in earlier.new node pid ≡ list_in earlier.old node pid ++ op_of node pid command.now) }
     ensures taken { OnOk result ((node pid : ℕ) → list_in taken.new node pid ≡ list_in taken.old node pid ++ (if option_map_or is_taken (next_try tries.now earlier.old command.now) false then op_of node pid command.now else [])) }
@@ -114,11 +114,11 @@ fn note_line(
 }
 
 // What became of the next call of the command's process behind those, if it is a call and was made.
-fn next_try(tries: &Tries, earlier: &Calls, command: &Command) -> Option<Option<u16>>
+fn next_try(tries: &Tries, earlier: &Calls, command: &ScriptCommand) -> Option<Option<u16>>
     ensures { result ≡ next_try tries.now earlier.now command.now }
 {
     match command {
-        Command::Call { node, pid, .. } => {
+        ScriptCommand::Call { node, pid, .. } => {
             value_at(tries, *node, *pid, count(earlier, *node, *pid))
         }
         _ => None,
@@ -127,29 +127,29 @@ fn next_try(tries: &Tries, earlier: &Calls, command: &Command) -> Option<Option<
 
 // What the command of a line comes to where that became of it, behind those that were taken.
 fn answer_by(
-    told: &Told<'_>,
+    told: &CallReplies<'_>,
     taken: &Calls,
     tried: Option<Option<u16>>,
-    command: &Command,
-) -> Answer
+    command: &ScriptCommand,
+) -> ExploredAnswer
     ensures { result ≡ answer_by told.now taken.now tried command.now }
 {
     match command {
-        Command::Call { node, pid, .. } => {
+        ScriptCommand::Call { node, pid, .. } => {
             let answer = told.answer(*node, *pid, count(taken, *node, *pid));
             answer_tried(tried, answer)
         }
-        _ => Answer::NotMade,
+        _ => ExploredAnswer::NotMade,
     }
 }
 
 // What a call comes to where that became of it, and where it comes to this if it was taken.
-fn answer_tried(tried: Option<Option<u16>>, answer: Answer) -> Answer
+fn answer_tried(tried: Option<Option<u16>>, answer: ExploredAnswer) -> ExploredAnswer
     ensures { result ≡ answer_tried tried answer }
 {
     match tried {
-        None => Answer::NotMade,
-        Some(Some(code)) => Answer::Refused(code),
+        None => ExploredAnswer::NotMade,
+        Some(Some(code)) => ExploredAnswer::Refused(code),
         Some(None) => answer,
     }
 }
@@ -159,7 +159,7 @@ fn note_taken(
     taken: &mut Calls,
     alloc: Global,
     tried: Option<Option<u16>>,
-    command: &Command,
+    command: &ScriptCommand,
 ) -> Result<(), AllocError>
     ensures { OnOk result ((node pid : ℕ) → list_in taken.new node pid ≡ list_in taken.old node pid ++ (if option_map_or is_taken tried false then op_of node pid command.now else [])) }
 {

@@ -6,7 +6,7 @@ ghost use Rattle.explorer.specs.code.Indexes.{KnowsLines};
 ghost use Rattle.explorer.specs.rule.Schedules.{op_of};
 
 use crate::by_process::{ByProcess, add};
-use lockscript::script_line::{Command, ScriptLine};
+use lockscript::script_line::{ScriptCommand, ScriptLine};
 use model::op::Op;
 use std::alloc::{AllocError, Global};
 use std::collections::HashMap;
@@ -36,11 +36,11 @@ pub(crate) fn calls_in(alloc: Global, lines: &[ScriptLine]) -> Result<Calls, All
 pub(crate) fn note_call(
     calls: &mut Calls,
     alloc: Global,
-    command: &Command,
+    command: &ScriptCommand,
 ) -> Result<(), AllocError>
     ensures { OnOk result ((node pid : ℕ) → list_in calls.new node pid ≡ list_in calls.old node pid ++ op_of node pid command.now) }
 {
-    if let Command::Call { node, pid, op } = command {
+    if let ScriptCommand::Call { node, pid, op } = command {
         add(calls, alloc, *node, *pid, *op)?;
     }
     Ok(())

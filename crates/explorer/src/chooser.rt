@@ -1,9 +1,11 @@
 //! What comes next in a schedule.
 use crate::chance::Chance;
 use crate::failed::Failed;
-use crate::part::{Part, add_call, count_ready, next_ready, push_retries, see_all};
+use crate::remaining_calls::{
+    RemainingCalls, add_call, count_ready, next_ready, push_retries, see_all,
+};
 use cluster_core::run::Run;
-use lockscript::script_line::{Command, ScriptLine};
+use lockscript::script_line::{ScriptCommand, ScriptLine};
 use messages::entry::Entry;
 use messages::event::{Event, MemberEvent};
 use model::op::{Op, ProcessCall};
@@ -24,7 +26,7 @@ const ROUNDS: u32 = 4;
 
 /// A message that may come.
 #[derive(Clone, Copy)]
-struct Letter {
+struct PendingMessage {
     number: u32,
     is_repeat: bool,
 }
@@ -39,11 +41,11 @@ pub(crate) struct Chooser<'a> {
     // How many lines have had their turn, and whether all have.
     taken: usize,
     is_over: bool,
-    parts: Vec<Part>,
+    parts: Vec<RemainingCalls>,
     files: Vec<u16>,
-    letters: Vec<Letter>,
-    due: Vec<Command>,
-    queue: VecDeque<Command>,
+    letters: Vec<PendingMessage>,
+    due: Vec<ScriptCommand>,
+    queue: VecDeque<ScriptCommand>,
     // How many entries were seen, and how many messages were sent then.
     seen: usize,
     sent: usize,
@@ -90,13 +92,13 @@ impl<'a> Chooser<'a> {
     ///
     /// # Errors
     /// `AllocError` where a request for memory was refused.
-    pub(crate) fn next(&mut self, run: &Run) -> Result<Option<Command>, AllocError> {
+    pub(crate) fn next(&mut self, run: &Run) -> Result<Option<ScriptCommand>, AllocError> {
         self.see(run)?;
         if self.queue.is_empty() {
             self.fill()?;
         }
         let next = self.queue.pop_front();
-        self.is_settling = matches!(next, Some(Command::Settle));
+        self.is_settling = matches!(next, Some(ScriptCommand::Settle));
         Ok(next)
     }
 
@@ -151,7 +153,7 @@ impl<'a> Chooser<'a> {
 
     // One of all that may come next: a call of a process that is ready, a message, or what is due. None where
     // there is nothing.
-    fn choose(&mut self, ready: usize) -> Result<Option<Command>, AllocError> {
+    fn choose(&mut self, ready: usize) -> Result<Option<ScriptCommand>, AllocError> {
         let letters = self.letters.len();
         let all = ready.saturating_add(letters).saturating_add(self.due.len());
         if all == 0 {
@@ -173,28 +175,28 @@ impl<'a> Chooser<'a> {
 
     // The message at this index is delivered, or lost unless it was asked for again; where it is delivered, it
     // may come again later.
-    fn letter(&mut self, index: usize) -> Result<Option<Command>, AllocError> {
+    fn letter(&mut self, index: usize) -> Result<Option<ScriptCommand>, AllocError> {
         let Some(letter) = take(&mut self.letters, index) else {
             return Ok(None);
         };
         let message = letter.number;
         if letter.is_repeat {
-            return Ok(Some(Command::Deliver { message }));
+            return Ok(Some(ScriptCommand::Deliver { message }));
         }
         if self.rounds == 0 && self.chance.one_in(LOST) {
-            return Ok(Some(Command::Lose { message }));
+            return Ok(Some(ScriptCommand::Lose { message }));
         }
         if self.chance.one_in(REPEATED) {
-            self.letters.push(Letter {
+            self.letters.push(PendingMessage {
                 number: message,
                 is_repeat: true,
             })?;
         }
-        Ok(Some(Command::Deliver { message }))
+        Ok(Some(ScriptCommand::Deliver { message }))
     }
 
     // A failure, if one may come and chance has it: what undoes it is due then.
-    fn failure(&mut self) -> Result<Option<Command>, AllocError> {
+    fn failure(&mut self) -> Result<Option<ScriptCommand>, AllocError> {
         if self.may_fail_node && self.chance.one_in(FAILED) {
             return self.node_failure();
         }
@@ -205,7 +207,7 @@ impl<'a> Chooser<'a> {
     }
 
     // The failure of a node that has a process, unless the script has it failed.
-    fn node_failure(&mut self) -> Result<Option<Command>, AllocError> {
+    fn node_failure(&mut self) -> Result<Option<ScriptCommand>, AllocError> {
         let index = self.chance.below(self.parts.len());
         let Some(part) = self.parts.get(index) else {
             return Ok(None);
@@ -215,12 +217,12 @@ impl<'a> Chooser<'a> {
             return Ok(None);
         }
         self.may_fail_node = false;
-        self.due.push(Command::Restart { node })?;
-        Ok(Some(Command::Declare { node }))
+        self.due.push(ScriptCommand::Restart { node })?;
+        Ok(Some(ScriptCommand::Declare { node }))
     }
 
     // The failure of the server of a file that a process opens, unless the script has it failed.
-    fn server_failure(&mut self) -> Result<Option<Command>, AllocError> {
+    fn server_failure(&mut self) -> Result<Option<ScriptCommand>, AllocError> {
         let index = self.chance.below(self.files.len());
         let Some(file) = self.files.get(index).copied() else {
             return Ok(None);
@@ -229,8 +231,8 @@ impl<'a> Chooser<'a> {
             return Ok(None);
         }
         self.may_fail_server = false;
-        self.due.push(Command::StartServer { file })?;
-        Ok(Some(Command::FailServer { file }))
+        self.due.push(ScriptCommand::StartServer { file })?;
+        Ok(Some(ScriptCommand::FailServer { file }))
     }
 
     // What has no answer is asked for again, if a call is open: by the servers of the files and by the nodes.
@@ -249,7 +251,7 @@ impl<'a> Chooser<'a> {
             return Ok(());
         }
         if !self.is_settling {
-            self.queue.push_back(Command::Settle)?;
+            self.queue.push_back(ScriptCommand::Settle)?;
         }
         match self.lines.get(self.taken) {
             Some(line) => self.change(line.command())?,
@@ -260,15 +262,15 @@ impl<'a> Chooser<'a> {
 
     // A line of the script that is no call has its turn. One that settles has it with all those right behind it,
     // which find nothing that is not settled.
-    fn change(&mut self, command: Command) -> Result<(), AllocError> {
+    fn change(&mut self, command: ScriptCommand) -> Result<(), AllocError> {
         self.taken = self.taken.saturating_add(1);
-        if !matches!(command, Command::Settle) {
+        if !matches!(command, ScriptCommand::Settle) {
             self.queue.push_back(command)?;
             return Ok(());
         }
         let lines = self.lines;
         for line in lines.iter().skip(self.taken) {
-            if !matches!(line.command(), Command::Settle) {
+            if !matches!(line.command(), ScriptCommand::Settle) {
                 break;
             }
             self.taken = self.taken.saturating_add(1);
@@ -284,7 +286,7 @@ impl<'a> Chooser<'a> {
         self.rounds = 0;
         let lines = self.lines;
         for line in lines.iter().skip(self.taken) {
-            let Command::Call { node, pid, op } = line.command() else {
+            let ScriptCommand::Call { node, pid, op } = line.command() else {
                 return Ok(());
             };
             self.taken = self.taken.saturating_add(1);
@@ -296,10 +298,14 @@ impl<'a> Chooser<'a> {
 }
 
 // The messages at these indexes may come.
-fn note_sent(letters: &mut Vec<Letter>, first: usize, end: usize) -> Result<(), AllocError> {
+fn note_sent(
+    letters: &mut Vec<PendingMessage>,
+    first: usize,
+    end: usize,
+) -> Result<(), AllocError> {
     for index in first..end {
         let number = u32::try_from(index).unwrap_or(0).saturating_add(1);
-        letters.push(Letter {
+        letters.push(PendingMessage {
             number,
             is_repeat: false,
         })?;
@@ -309,13 +315,13 @@ fn note_sent(letters: &mut Vec<Letter>, first: usize, end: usize) -> Result<(), 
 
 // The servers of the files are to learn that this incarnation of a node was declared failed.
 fn push_learns(
-    due: &mut Vec<Command>,
+    due: &mut Vec<ScriptCommand>,
     files: &[u16],
     node: u8,
     incarnation: u16,
 ) -> Result<(), AllocError> {
     for file in files {
-        due.push(Command::Learn {
+        due.push(ScriptCommand::Learn {
             file: *file,
             node,
             incarnation,
@@ -325,9 +331,9 @@ fn push_learns(
 }
 
 // The servers of the files ask again for what has no answer.
-fn push_resends(queue: &mut VecDeque<Command>, files: &[u16]) -> Result<(), AllocError> {
+fn push_resends(queue: &mut VecDeque<ScriptCommand>, files: &[u16]) -> Result<(), AllocError> {
     for file in files {
-        queue.push_back(Command::Resend { file: *file })?;
+        queue.push_back(ScriptCommand::Resend { file: *file })?;
     }
     Ok(())
 }

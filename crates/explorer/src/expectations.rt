@@ -2,9 +2,9 @@
 ghost use Rattle.std.specs.Prelude.{◌≡◌, option_map, slice_get, Some, IfOk};
 ghost use Rattle.explorer.specs.rule.Expectations.{begins, breaks, expected, is_broken, is_broken_at, words_in, words_of};
 
-use crate::answer::{Answer, push_answer};
-use crate::reader::{Reader, split_feed};
-use lockscript::script_line::{Command, ScriptLine};
+use crate::explored_answer::{ExploredAnswer, push_answer};
+use crate::script_reader::{ScriptReader, split_feed};
+use lockscript::script_line::{ScriptCommand, ScriptLine};
 use std::alloc::{AllocError, Global};
 use texts::text::after;
 
@@ -13,12 +13,12 @@ const EXPECT: &str = "# expect ";
 
 /// What is expected of a line of a script: the words behind `# expect `, where that begins the next line of the
 /// reader's text behind a call.
-pub(crate) fn expected<'a>(reader: &mut Reader<'a>, line: &ScriptLine) -> Option<&'a str>
+pub(crate) fn expected<'a>(reader: &mut ScriptReader<'a>, line: &ScriptLine) -> Option<&'a str>
     ensures same { reader.new.text.now ≡ reader.old.text.now }
     ensures words { option_map (λ words. words.now) result ≡ expected reader.old.text.now line.now }
 {
     match line.command() {
-        Command::Call { .. } => match reader.pass(line.number()) {
+        ScriptCommand::Call { .. } => match reader.pass(line.number()) {
             Some(rest) => words_in(rest),
             None => None,
         },
@@ -51,11 +51,11 @@ pub(crate) fn breaks(
     alloc: Global,
     text: &str,
     lines: &[ScriptLine],
-    answers: &[Answer],
+    answers: &[ExploredAnswer],
 ) -> Result<bool, AllocError>
     ensures { IfOk result (λ broken. broken ≡ breaks text.now lines.now answers.now) }
 {
-    let mut reader = Reader::new(text);
+    let mut reader = ScriptReader::new(text);
     let mut index = 0usize;
     for line in lines {
         if breaks_at(alloc, &mut reader, line, answers, index)? {
@@ -69,9 +69,9 @@ pub(crate) fn breaks(
 // Whether the answer at the index begins otherwise than is expected of the line.
 fn breaks_at(
     alloc: Global,
-    reader: &mut Reader<'_>,
+    reader: &mut ScriptReader<'_>,
     line: &ScriptLine,
-    answers: &[Answer],
+    answers: &[ExploredAnswer],
     index: usize,
 ) -> Result<bool, AllocError>
     ensures same { reader.new.text.now ≡ reader.old.text.now }
@@ -85,7 +85,7 @@ fn breaks_at(
 fn is_broken_at(
     alloc: Global,
     words: Option<&str>,
-    answer: Option<&Answer>,
+    answer: Option<&ExploredAnswer>,
 ) -> Result<bool, AllocError>
     ensures { IfOk result (λ broken. broken ≡ is_broken_at (option_map (λ w. w.now) words.entry) (option_map (λ a. a.now) answer.entry)) }
 {
@@ -102,7 +102,7 @@ fn is_broken_at(
 pub(crate) fn is_broken(
     alloc: Global,
     words: Option<&str>,
-    answer: &Answer,
+    answer: &ExploredAnswer,
 ) -> Result<bool, AllocError>
     ensures { IfOk result (λ broken. broken ≡ is_broken (option_map (λ w. w.now) words.entry) answer.now) }
 {

@@ -4,19 +4,19 @@ ghost use Rattle.std.specs.List.{list_any};
 ghost use Rattle.std.specs.List.Sorted.{IsPermutation};
 ghost use Rattle.lockscript.specs.declared.play_error.PlayError.TheVariants.{JournalFull, NoMemory};
 ghost use Rattle.player.specs.code.Parts.{state_of};
-ghost use Rattle.explorer.specs.declared.answer.Answer.{Answer};
+ghost use Rattle.explorer.specs.declared.explored_answer.ExploredAnswer.{ExploredAnswer};
 ghost use Rattle.explorer.specs.rule.Answers.{answers_in};
 ghost use Rattle.explorer.specs.rule.Expectations.{breaks};
 ghost use Rattle.explorer.specs.rule.Explores.{Explores};
 ghost use Rattle.explorer.specs.rule.Outcomes.{AreMet, AreOrdered, AreOutcomesOf, ComesIn, IsOutcomeOf, OutcomeParts, seed_of, seeds_of, with_seed};
 ghost use Rattle.explorer.specs.rule.Schedules.{HasFullSchedule};
 
-use crate::answer::Answer;
 use crate::answers::answers;
 use crate::expectations::breaks;
 use crate::explored::Explored;
+use crate::explored_answer::ExploredAnswer;
+use crate::explored_outcome::ExploredOutcome;
 use crate::open_lines::open_in_each;
-use crate::outcome::Outcome;
 use crate::report::report;
 use crate::schedule::schedule;
 use crate::scheduled::Scheduled;
@@ -63,14 +63,14 @@ pub fn explore<W: Watcher>(
 }
 
 // Whether some outcome breaks what is expected.
-fn some_breaks(outcomes: &[Outcome]) -> bool
+fn some_breaks(outcomes: &[ExploredOutcome]) -> bool
     ensures { result ≡ list_any (λ o. o.breaks) outcomes.now }
 {
     outcomes.iter().any(|outcome| outcome.breaks())
 }
 
 // The outcomes by their ranks.
-fn ordered(outcomes: Vec<Outcome>) -> Result<Vec<Outcome>, AllocError>
+fn ordered(outcomes: Vec<ExploredOutcome>) -> Result<Vec<ExploredOutcome>, AllocError>
     ensures same { IfOk result (λ ordered. IsPermutation outcomes.items ordered.items) }
     ensures ordered { IfOk result (λ ordered. AreOrdered ordered.items) }
 {
@@ -88,7 +88,7 @@ fn outcomes<W: Watcher>(
     count: u32,
     failures: bool,
     watcher: &mut W,
-) -> Result<Vec<Outcome>, PlayError>
+) -> Result<Vec<ExploredOutcome>, PlayError>
     ensures come { IfOk result (λ outcomes. All (IsOutcomeOf failures script.now text.now) outcomes.items) }
     ensures met { IfOk result (λ outcomes. AreMet failures script.now first count outcomes.items) }
     ensures counted { IfOk result (λ outcomes. seeds_of outcomes.items ≡ count) }
@@ -111,7 +111,7 @@ fn answers_of(
     script: &Script,
     seed: u32,
     failures: bool,
-) -> Result<Vec<Answer>, PlayError>
+) -> Result<Vec<ExploredAnswer>, PlayError>
     ensures answered { IfOk result (λ answers. ComesIn failures script.now answers.items) }
     ensures full { IfErr result (λ error. error ≡ JournalFull → HasFullSchedule failures script.now) }
 {
@@ -124,7 +124,7 @@ fn answers_under(
     alloc: Global,
     script: &Script,
     scheduled: &Scheduled,
-) -> Result<Vec<Answer>, PlayError>
+) -> Result<Vec<ExploredAnswer>, PlayError>
     ensures answered { IfOk result (λ answers. answers.items ≡ answers_in script.now.lines scheduled.now.commands (state_of scheduled.now.played)) }
     ensures err { IfErr result (λ error. error ≡ NoMemory) }
 {
@@ -139,15 +139,15 @@ fn answers_under(
 
 // A seed comes to these answers: to the outcome that has them, or to a new one, which comes last.
 fn add(
-    outcomes: &mut Vec<Outcome>,
+    outcomes: &mut Vec<ExploredOutcome>,
     alloc: Global,
     text: &str,
     script: &Script,
-    answers: Vec<Answer>,
+    answers: Vec<ExploredAnswer>,
     seed: u32,
 ) -> Result<(), AllocError>
     ensures come { OnOk result ((failures : Bool) → ComesIn failures script.now answers.items → All (IsOutcomeOf failures script.now text.now) outcomes.old.items → All (IsOutcomeOf failures script.now text.now) outcomes.new.items) }
-    ensures met { OnOk result ((first : ℕ) (came : List (List Answer)) → seed ≡ seed_of (first + length came) → AreOutcomesOf first came outcomes.old.items → AreOutcomesOf first (came ++ answers.items ∷ []) outcomes.new.items) }
+    ensures met { OnOk result ((first : ℕ) (came : List (List ExploredAnswer)) → seed ≡ seed_of (first + length came) → AreOutcomesOf first came outcomes.old.items → AreOutcomesOf first (came ++ answers.items ∷ []) outcomes.new.items) }
     ensures counted { OnOk result (seeds_of outcomes.new.items ≡ seeds_of outcomes.old.items + 1) }
 {
     match position_of(outcomes.as_slice(), answers.as_slice()) {
@@ -164,24 +164,24 @@ fn add(
 
 // The outcome of these answers, to which the seed comes, comes last.
 fn add_new(
-    outcomes: &mut Vec<Outcome>,
+    outcomes: &mut Vec<ExploredOutcome>,
     alloc: Global,
     text: &str,
     script: &Script,
-    answers: Vec<Answer>,
+    answers: Vec<ExploredAnswer>,
     seed: u32,
 ) -> Result<(), AllocError>
     ensures { OnOk result (outcomes.new.items ≡ outcomes.old.items ++ record { answers = answers.items; seeds = seed ∷ []; breaks = breaks text.now script.now.lines answers.items } ∷ []) }
 {
     let broken = breaks(alloc, text, script.lines(), answers.as_slice())?;
-    let mut outcome = Outcome::new(alloc, answers, broken);
+    let mut outcome = ExploredOutcome::new(alloc, answers, broken);
     outcome.add_seed(seed)?;
     outcomes.push(outcome)?;
     Ok(())
 }
 
 // Where an outcome with these answers stands; none where each has others.
-fn position_of(outcomes: &[Outcome], answers: &[Answer]) -> Option<usize>
+fn position_of(outcomes: &[ExploredOutcome], answers: &[ExploredAnswer]) -> Option<usize>
     ensures { MatchOption result (All (λ o. o.answers ≢ answers.now) outcomes.now) (λ index. (index < length outcomes.now) × HoldsAt (λ o. o.answers ≡ answers.now) outcomes.now index) }
 {
     outcomes
@@ -190,14 +190,14 @@ fn position_of(outcomes: &[Outcome], answers: &[Answer]) -> Option<usize>
 }
 
 // Whether both are the same answers.
-fn same(one: &[Answer], other: &[Answer]) -> bool
+fn same(one: &[ExploredAnswer], other: &[ExploredAnswer]) -> bool
     ensures { IsTrue result ↔ (one.now ≡ other.now) }
 {
     one == other
 }
 
 // A seed comes to the outcome at the index.
-fn add_to(outcomes: &mut Vec<Outcome>, index: usize, seed: u32) -> Result<(), AllocError>
+fn add_to(outcomes: &mut Vec<ExploredOutcome>, index: usize, seed: u32) -> Result<(), AllocError>
     requires { index < length outcomes.old.items }
     ensures { OnOk result ((other : OutcomeParts) → outcomes.new.items ≡ slice_set outcomes.old.items index (with_seed seed (slice_index_or outcomes.old.items index other))) }
 {

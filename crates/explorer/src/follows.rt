@@ -1,6 +1,6 @@
 //! What may come next in a schedule.
 ghost use Rattle.std.specs.Prelude.{◌≡◌, ◌||◌, true, length, slice_get, Bool, IfSome, List, None};
-ghost use Rattle.lockscript.specs.declared.script_line.Command.{Command};
+ghost use Rattle.lockscript.specs.declared.script_line.ScriptCommand.{ScriptCommand};
 ghost use Rattle.lockscript.specs.rule.Scripts.{LineFields};
 ghost use Rattle.explorer.specs.rule.Ends.{AreServed};
 ghost use Rattle.explorer.specs.code.Indexes.{IsServedOther, KnowsCalls, KnowsLines};
@@ -8,7 +8,7 @@ ghost use Rattle.explorer.specs.rule.Schedules.{calls_in, calls_of, is_among, ma
 
 use crate::by_process::{count, value_at};
 use crate::calls::Calls;
-use lockscript::script_line::{Command, ScriptLine};
+use lockscript::script_line::{ScriptCommand, ScriptLine};
 use messages::shape::MOST_FILES;
 use model::limits::{MOST_NODES, MOST_PROCESSES};
 
@@ -21,31 +21,31 @@ pub(crate) fn following(
     lines: &[ScriptLine],
     calls: &Calls,
     made: &Calls,
-    wanted: Command,
-) -> Option<Command>
+    wanted: ScriptCommand,
+) -> Option<ScriptCommand>
     requires lines { KnowsLines calls.now lines.now }
     requires served { AreServed lines.now }
-    ensures { (taken : List Command) → KnowsCalls made.now taken → IfSome result (Follows failures lines.now taken) }
+    ensures { (taken : List ScriptCommand) → KnowsCalls made.now taken → IfSome result (Follows failures lines.now taken) }
 {
     match wanted {
-        Command::Call { node, pid, .. } => next_call(calls, made, node, pid),
+        ScriptCommand::Call { node, pid, .. } => next_call(calls, made, node, pid),
         other => allowed(failures, lines, other),
     }
 }
 
 /// The next call of the process in a schedule of lines that have these calls, behind commands that made those
 /// calls. None where it has no call left.
-pub(crate) fn next_call(calls: &Calls, made: &Calls, node: u8, pid: u16) -> Option<Command>
-    ensures follows { (failures : Bool) (lines : List LineFields) (taken : List Command) → KnowsLines calls.now lines → KnowsCalls made.now taken → AreServed lines → IfSome result (Follows failures lines taken) }
-    ensures none { result ≡ None → (lines : List LineFields) (taken : List Command) → KnowsLines calls.now lines → KnowsCalls made.now taken → slice_get (calls_in node pid lines) (length (calls_of node pid taken)) ≡ None }
+pub(crate) fn next_call(calls: &Calls, made: &Calls, node: u8, pid: u16) -> Option<ScriptCommand>
+    ensures follows { (failures : Bool) (lines : List LineFields) (taken : List ScriptCommand) → KnowsLines calls.now lines → KnowsCalls made.now taken → AreServed lines → IfSome result (Follows failures lines taken) }
+    ensures none { result ≡ None → (lines : List LineFields) (taken : List ScriptCommand) → KnowsLines calls.now lines → KnowsCalls made.now taken → slice_get (calls_in node pid lines) (length (calls_of node pid taken)) ≡ None }
 {
     let op = value_at(calls, node, pid, count(made, node, pid))?;
-    Some(Command::Call { node, pid, op })
+    Some(ScriptCommand::Call { node, pid, op })
 }
 
 // The command, which is no call, if a schedule of these lines may have it and a line may ask for it.
-fn allowed(failures: bool, lines: &[ScriptLine], command: Command) -> Option<Command>
-    ensures { (taken : List Command) → IfSome result (Follows failures lines.now taken) }
+fn allowed(failures: bool, lines: &[ScriptLine], command: ScriptCommand) -> Option<ScriptCommand>
+    ensures { (taken : List ScriptCommand) → IfSome result (Follows failures lines.now taken) }
 {
     if is_in_limits(&command) && may_stand(failures, lines, &command) {
         Some(command)
@@ -55,21 +55,21 @@ fn allowed(failures: bool, lines: &[ScriptLine], command: Command) -> Option<Com
 }
 
 // Whether a schedule of these lines may have the command.
-fn may_stand(failures: bool, lines: &[ScriptLine], command: &Command) -> bool
+fn may_stand(failures: bool, lines: &[ScriptLine], command: &ScriptCommand) -> bool
     ensures { result ≡ may_stand failures lines.now command.now }
 {
     match command {
-        Command::Interrupt { .. } => false,
-        Command::Declare { .. }
-        | Command::Restart { .. }
-        | Command::FailServer { .. }
-        | Command::StartServer { .. } => failures || is_among(lines, command),
+        ScriptCommand::Interrupt { .. } => false,
+        ScriptCommand::Declare { .. }
+        | ScriptCommand::Restart { .. }
+        | ScriptCommand::FailServer { .. }
+        | ScriptCommand::StartServer { .. } => failures || is_among(lines, command),
         _ => true,
     }
 }
 
 // Whether the failure or the start is one of the lines.
-fn is_among(lines: &[ScriptLine], command: &Command) -> bool
+fn is_among(lines: &[ScriptLine], command: &ScriptCommand) -> bool
     ensures { result ≡ is_among lines.now command.now }
 {
     lines
@@ -78,33 +78,35 @@ fn is_among(lines: &[ScriptLine], command: &Command) -> bool
 }
 
 // Whether both are the same failure or the same start.
-fn same_change(one: &Command, other: &Command) -> bool
+fn same_change(one: &ScriptCommand, other: &ScriptCommand) -> bool
     ensures { result ≡ same_change one.now other.now }
 {
     match (one, other) {
-        (Command::Declare { node: m }, Command::Declare { node: n }) => *m == *n,
-        (Command::Restart { node: m }, Command::Restart { node: n }) => *m == *n,
-        (Command::FailServer { file: m }, Command::FailServer { file: n }) => *m == *n,
-        (Command::StartServer { file: m }, Command::StartServer { file: n }) => *m == *n,
+        (ScriptCommand::Declare { node: m }, ScriptCommand::Declare { node: n }) => *m == *n,
+        (ScriptCommand::Restart { node: m }, ScriptCommand::Restart { node: n }) => *m == *n,
+        (ScriptCommand::FailServer { file: m }, ScriptCommand::FailServer { file: n }) => *m == *n,
+        (ScriptCommand::StartServer { file: m }, ScriptCommand::StartServer { file: n }) => *m
+            == *n,
         _ => false,
     }
 }
 
 // Whether the command is no call, and a line may ask for it.
-fn is_in_limits(command: &Command) -> bool
+fn is_in_limits(command: &ScriptCommand) -> bool
     ensures { result ≡ true → IsServedOther command.now }
 {
     match command {
-        Command::Call { .. } => false,
-        Command::Deliver { message } | Command::Lose { message } => *message >= 1,
-        Command::Settle => true,
-        Command::Interrupt { node, pid } | Command::Retry { node, pid } => {
+        ScriptCommand::Call { .. } => false,
+        ScriptCommand::Deliver { message } | ScriptCommand::Lose { message } => *message >= 1,
+        ScriptCommand::Settle => true,
+        ScriptCommand::Interrupt { node, pid } | ScriptCommand::Retry { node, pid } => {
             is_node(*node) && is_process(*pid)
         }
-        Command::Resend { file } | Command::FailServer { file } | Command::StartServer { file } =>
-            is_file(*file),
-        Command::Declare { node } | Command::Restart { node } => is_node(*node),
-        Command::Learn {
+        ScriptCommand::Resend { file }
+        | ScriptCommand::FailServer { file }
+        | ScriptCommand::StartServer { file } => is_file(*file),
+        ScriptCommand::Declare { node } | ScriptCommand::Restart { node } => is_node(*node),
+        ScriptCommand::Learn {
             file,
             node,
             incarnation,

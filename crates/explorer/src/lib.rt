@@ -2,9 +2,9 @@
 //! messages that are reordered, lost and repeated, and with failures if asked for.
 #![tactic(auto)]
 
-pub mod answer;
 mod answers;
 mod by_process;
+mod call_replies;
 mod calls;
 mod chance;
 mod chooser;
@@ -12,17 +12,17 @@ pub mod compared;
 mod expectations;
 pub mod explore;
 pub mod explored;
+pub mod explored_answer;
+mod explored_outcome;
 mod failed;
 mod follows;
 pub mod laws;
 mod open_lines;
-mod outcome;
-mod part;
-mod reader;
 mod ready;
+mod remaining_calls;
 mod report;
 pub mod schedule;
 pub mod scheduled;
+mod script_reader;
 pub mod text;
-mod told;
 mod tries;

@@ -5,23 +5,23 @@ ghost use Rattle.model.specs.declared.op.Op.{Op};
 ghost use Rattle.messages.specs.rule.Shapes.{ShapeFields};
 ghost use Rattle.cluster_core.specs.rule.Parts.{world_state};
 ghost use Rattle.cluster_core.specs.rule.World.{has_node, was_declared};
-ghost use Rattle.lockscript.specs.declared.script_line.Command.{Command};
+ghost use Rattle.lockscript.specs.declared.script_line.ScriptCommand.{ScriptCommand};
 ghost use Rattle.lockscript.specs.rule.Scripts.{LineFields};
 ghost use Rattle.player.specs.code.Parts.{progress};
 ghost use Rattle.player.specs.rule.Played.{played_of};
-ghost use Rattle.explorer.specs.declared.answer.Answer.TheVariants.{Open};
+ghost use Rattle.explorer.specs.declared.explored_answer.ExploredAnswer.TheVariants.{Open};
 ghost use Rattle.explorer.specs.rule.Answers.{count_taken, names, reply_answer};
 ghost use Rattle.explorer.specs.code.ByProcess.{list_in};
 ghost use Rattle.explorer.specs.rule.Ends.{AreServed, IsOpenAfter, MakesAll};
 ghost use Rattle.explorer.specs.code.Indexes.{CannotGoOn, HoldsOfCaller, KnowsCalls, KnowsLines};
 ghost use Rattle.explorer.specs.rule.Schedules.{calls_in, calls_of, Follows};
 
+use crate::call_replies::CallReplies;
 use crate::calls::Calls;
 use crate::follows::next_call;
-use crate::told::Told;
 use crate::tries::{Tries, tries};
 use cluster_core::world::World;
-use lockscript::script_line::{Command, ScriptLine};
+use lockscript::script_line::{ScriptCommand, ScriptLine};
 use player::player::Player;
 use std::alloc::{AllocError, Global};
 
@@ -36,9 +36,9 @@ pub(crate) fn ready_call(
     lines: &[ScriptLine],
     calls: &Calls,
     made: &Calls,
-    commands: &[Command],
+    commands: &[ScriptCommand],
     player: &Player,
-) -> Result<Option<Command>, AllocError>
+) -> Result<Option<ScriptCommand>, AllocError>
     requires lines { KnowsLines calls.now lines.now }
     requires made { KnowsCalls made.now commands.now }
     requires in_order { (node pid : ℕ) → (rest : List Op) × (calls_in node pid lines.now ≡ calls_of node pid commands.now ++ rest) }
@@ -48,7 +48,7 @@ pub(crate) fn ready_call(
 {
     let run = player.run();
     let tries = tries(alloc, player.refused(), commands)?;
-    let told = Told::of(alloc, run.entries())?;
+    let told = CallReplies::of(alloc, run.entries())?;
     Ok(ready_in(lines, calls, made, &tries, &told, run.world()))
 }
 
@@ -59,11 +59,11 @@ fn ready_in(
     calls: &Calls,
     made: &Calls,
     tries: &Tries,
-    told: &Told<'_>,
+    told: &CallReplies<'_>,
     world: &World,
-) -> Option<Command>
-    ensures follows { (failures : Bool) (taken : List Command) → KnowsLines calls.now lines.now → KnowsCalls made.now taken → AreServed lines.now → IfSome result (Follows failures lines.now taken) }
-    ensures none { result ≡ None → (taken : List Command) → KnowsLines calls.now lines.now → KnowsCalls made.now taken → (node pid : ℕ) → (calls_in node pid lines.now ≡ []) ⊎ CannotGoOn lines.now taken tries.now told.now (world_state world.now) node pid }
+) -> Option<ScriptCommand>
+    ensures follows { (failures : Bool) (taken : List ScriptCommand) → KnowsLines calls.now lines.now → KnowsCalls made.now taken → AreServed lines.now → IfSome result (Follows failures lines.now taken) }
+    ensures none { result ≡ None → (taken : List ScriptCommand) → KnowsLines calls.now lines.now → KnowsCalls made.now taken → (node pid : ℕ) → (calls_in node pid lines.now ≡ []) ⊎ CannotGoOn lines.now taken tries.now told.now (world_state world.now) node pid }
 {
     for line in lines {
         match ready_at(calls, made, tries, told, world, &line.command()) {
@@ -79,14 +79,14 @@ fn ready_at(
     calls: &Calls,
     made: &Calls,
     tries: &Tries,
-    told: &Told<'_>,
+    told: &CallReplies<'_>,
     world: &World,
-    command: &Command,
-) -> Option<Command>
-    ensures follows { (failures : Bool) (lines : List LineFields) (taken : List Command) → KnowsLines calls.now lines → KnowsCalls made.now taken → AreServed lines → IfSome result (Follows failures lines taken) }
-    ensures none { result ≡ None → (lines : List LineFields) (taken : List Command) → KnowsLines calls.now lines → KnowsCalls made.now taken → HoldsOfCaller (CannotGoOn lines taken tries.now told.now (world_state world.now)) command.now }
+    command: &ScriptCommand,
+) -> Option<ScriptCommand>
+    ensures follows { (failures : Bool) (lines : List LineFields) (taken : List ScriptCommand) → KnowsLines calls.now lines → KnowsCalls made.now taken → AreServed lines → IfSome result (Follows failures lines taken) }
+    ensures none { result ≡ None → (lines : List LineFields) (taken : List ScriptCommand) → KnowsLines calls.now lines → KnowsCalls made.now taken → HoldsOfCaller (CannotGoOn lines taken tries.now told.now (world_state world.now)) command.now }
 {
-    let Command::Call { node, pid, .. } = command else {
+    let ScriptCommand::Call { node, pid, .. } = command else {
         return None;
     };
     if waits(tries, told, world, *node, *pid) {
@@ -96,7 +96,7 @@ fn ready_at(
 }
 
 // Whether the last call that was made of the process is open.
-fn waits(tries: &Tries, told: &Told<'_>, world: &World, node: u8, pid: u16) -> bool
+fn waits(tries: &Tries, told: &CallReplies<'_>, world: &World, node: u8, pid: u16) -> bool
     ensures { result ≡ true → IsOpenAfter node pid (list_in tries.now node pid) told.now (world_state world.now) }
 {
     match tries.get(&(node, pid)) {
@@ -106,7 +106,13 @@ fn waits(tries: &Tries, told: &Told<'_>, world: &World, node: u8, pid: u16) -> b
 }
 
 // Whether the last of these calls of the process, to which this became, is open.
-fn is_open_after(made: &[Option<u16>], told: &Told<'_>, world: &World, node: u8, pid: u16) -> bool
+fn is_open_after(
+    made: &[Option<u16>],
+    told: &CallReplies<'_>,
+    world: &World,
+    node: u8,
+    pid: u16,
+) -> bool
     ensures { result ≡ true → IsOpenAfter node pid made.now told.now (world_state world.now) }
 {
     match made.split_last() {
@@ -124,7 +130,7 @@ fn count_taken(made: &[Option<u16>]) -> usize
 
 // Whether the call at the index, of those of the process that were taken, has no reply, and its node was not
 // declared failed since.
-fn is_open(told: &Told<'_>, world: &World, node: u8, pid: u16, index: usize) -> bool
+fn is_open(told: &CallReplies<'_>, world: &World, node: u8, pid: u16, index: usize) -> bool
     ensures { result ≡ true → (call : CallId) × (slice_get (names node pid told.now) index ≡ Some call) × (reply_answer call told.now ≡ Open) × ((has_node (world_state world.now) node && was_declared (world_state world.now) node call.incarnation) ≡ false) }
 {
     match told.open_call(node, pid, index) {

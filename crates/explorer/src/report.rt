@@ -1,10 +1,10 @@
 //! The text of outcomes.
-use crate::answer::{Answer, push_answer};
 use crate::expectations::{expected, is_broken};
-use crate::outcome::Outcome;
-use crate::reader::Reader;
+use crate::explored_answer::{ExploredAnswer, push_answer};
+use crate::explored_outcome::ExploredOutcome;
+use crate::script_reader::ScriptReader;
 use lockscript::operations::Operation;
-use lockscript::script_line::{Command, ScriptLine};
+use lockscript::script_line::{ScriptCommand, ScriptLine};
 use std::alloc::{AllocError, Global};
 use std::fmt::Write;
 use texts::text::Text;
@@ -18,7 +18,7 @@ pub(crate) fn report(
     alloc: Global,
     text: &str,
     lines: &[ScriptLine],
-    outcomes: &[Outcome],
+    outcomes: &[ExploredOutcome],
     open: &[u32],
     seeds: u32,
 ) -> Result<String, AllocError> {
@@ -64,10 +64,10 @@ pub(crate) fn push_lines(
     alloc: Global,
     text: &str,
     lines: &[ScriptLine],
-    outcomes: &[Outcome],
-    answers: &[Answer],
+    outcomes: &[ExploredOutcome],
+    answers: &[ExploredAnswer],
 ) -> Result<(), AllocError> {
-    let mut reader = Reader::new(text);
+    let mut reader = ScriptReader::new(text);
     for (index, (line, answer)) in lines.iter().zip(answers.iter()).enumerate() {
         let words = expected(&mut reader, line);
         let broken = is_broken(alloc, words, answer)?;
@@ -83,7 +83,7 @@ pub(crate) fn push_lines(
 }
 
 // Whether an outcome has another answer at the index.
-fn differs(outcomes: &[Outcome], index: usize, answer: &Answer) -> bool {
+fn differs(outcomes: &[ExploredOutcome], index: usize, answer: &ExploredAnswer) -> bool {
     outcomes.iter().any(|outcome| {
         let its = outcome.answers().get(index);
         its.is_some_and(|its| *its != *answer)
@@ -91,10 +91,14 @@ fn differs(outcomes: &[Outcome], index: usize, answer: &Answer) -> bool {
 }
 
 // Writes the line of a call with its answer, without its end.
-fn push_answered(out: &mut String, line: &ScriptLine, answer: &Answer) -> Result<(), AllocError> {
+fn push_answered(
+    out: &mut String,
+    line: &ScriptLine,
+    answer: &ExploredAnswer,
+) -> Result<(), AllocError> {
     let number = line.number();
     write!(out, "  line {number}: ")?;
-    if let Command::Call { node, pid, op } = line.command() {
+    if let ScriptCommand::Call { node, pid, op } = line.command() {
         write!(out, "{node} {pid} ")?;
         Operation::write(&op, out)?;
     }
@@ -116,7 +120,7 @@ fn push_open(out: &mut String, numbers: &[u32]) -> Result<(), AllocError> {
 
 // Of how many of the lines it is said what is expected.
 fn count_expected(text: &str, lines: &[ScriptLine]) -> usize {
-    let mut reader = Reader::new(text);
+    let mut reader = ScriptReader::new(text);
     let mut count = 0usize;
     for line in lines {
         if expected(&mut reader, line).is_some() {

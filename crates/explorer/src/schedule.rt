@@ -4,7 +4,7 @@ ghost use Rattle.messages.specs.rule.Shapes.{ShapeFields};
 ghost use Rattle.cluster_core.specs.rule.Histories.{HasOneHistory};
 ghost use Rattle.cluster_core.specs.rule.Runs.{Leads};
 ghost use Rattle.cluster_core.specs.rule.World.{first_world};
-ghost use Rattle.lockscript.specs.declared.script_line.Command.{Command};
+ghost use Rattle.lockscript.specs.declared.script_line.ScriptCommand.{ScriptCommand};
 ghost use Rattle.lockscript.specs.declared.play_error.PlayError.TheVariants.{JournalFull};
 ghost use Rattle.player.specs.code.Parts.{progress, state_of};
 ghost use Rattle.player.specs.rule.Played.{played_of, ComesTo};
@@ -22,7 +22,7 @@ use crate::scheduled::Scheduled;
 use cluster_core::run::Run;
 use lockscript::play_error::PlayError;
 use lockscript::script::Script;
-use lockscript::script_line::{Command, ScriptLine};
+use lockscript::script_line::{ScriptCommand, ScriptLine};
 use messages::shape::Shape;
 use player::player::Player;
 use std::alloc::{AllocError, Global};
@@ -82,7 +82,7 @@ pub fn schedule(
 }
 
 // The schedule of these commands, on a cluster of this shape, where the player stands behind them.
-fn finished(shape: Shape, commands: Vec<Command>, player: Player) -> Scheduled
+fn finished(shape: Shape, commands: Vec<ScriptCommand>, player: Player) -> Scheduled
     requires { Leads (first_world shape) (progress player).entries (progress player).world }
     ensures commands { result.commands ≡ commands.items }
     ensures played { state_of result.played ≡ played_of shape (progress player) }
@@ -98,7 +98,7 @@ fn choose(
     lines: &[ScriptLine],
     chooser: &mut Chooser<'_>,
     player: &mut Player,
-) -> Result<Vec<Command>, PlayError>
+) -> Result<Vec<ScriptCommand>, PlayError>
     ensures of_script { IfOk result (λ made. IsScheduleOf failures lines.now made.items) }
     ensures few { IfOk result (λ made. length made.items ≤ most_lines) }
     ensures runs { IfOk result (λ made. RunsTo (progress player.old) (numbered made.items) (Some (progress player.new))) }
@@ -126,10 +126,10 @@ fn choose(
 fn carry_out(
     alloc: Global,
     number: u32,
-    command: Command,
+    command: ScriptCommand,
     player: &mut Player,
     made: &mut Calls,
-    commands: &mut Vec<Command>,
+    commands: &mut Vec<ScriptCommand>,
 ) -> Result<(), PlayError>
     ensures does { OnOk result (Does number command (progress player.old) (Some (progress player.new))) }
     ensures noted { OnOk result ((node pid : ℕ) → list_in made.new node pid ≡ list_in made.old node pid ++ op_of node pid command) }
@@ -144,7 +144,7 @@ fn carry_out(
 }
 
 // The command comes last.
-fn add(commands: &mut Vec<Command>, command: Command) -> Result<(), AllocError>
+fn add(commands: &mut Vec<ScriptCommand>, command: ScriptCommand) -> Result<(), AllocError>
     ensures items { OnOk result (commands.new.items ≡ commands.old.items ++ command ∷ []) }
     ensures len { OnOk result (length commands.new.items ≡ length commands.old.items + 1) }
 {
@@ -160,10 +160,10 @@ fn next_line(
     lines: &[ScriptLine],
     calls: &Calls,
     made: &Calls,
-    commands: &[Command],
+    commands: &[ScriptCommand],
     chooser: &mut Chooser<'_>,
     player: &Player,
-) -> Result<Option<Command>, AllocError>
+) -> Result<Option<ScriptCommand>, AllocError>
     requires lines { KnowsLines calls.now lines.now }
     requires made { KnowsCalls made.now commands.now }
     requires of_script { IsScheduleOf failures lines.now commands.now }
@@ -185,10 +185,10 @@ fn wanted_line(
     made: &Calls,
     chooser: &mut Chooser<'_>,
     run: &Run,
-) -> Result<Option<Command>, AllocError>
+) -> Result<Option<ScriptCommand>, AllocError>
     requires lines { KnowsLines calls.now lines.now }
     requires served { AreServed lines.now }
-    ensures { IfOk result (λ next. (taken : List Command) → KnowsCalls made.now taken → IfSome next (Follows failures lines.now taken)) }
+    ensures { IfOk result (λ next. (taken : List ScriptCommand) → KnowsCalls made.now taken → IfSome next (Follows failures lines.now taken)) }
 {
     match chooser.next(run)? {
         Some(wanted) => Ok(following(failures, lines, calls, made, wanted)),

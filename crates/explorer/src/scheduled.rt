@@ -1,7 +1,7 @@
 //! Schedules that were made.
 ghost use Rattle.std.specs.Prelude.{◌≡◌};
 
-use lockscript::script_line::Command;
+use lockscript::script_line::ScriptCommand;
 use player::played::Played;
 use std::marker::Model;
 
@@ -9,7 +9,7 @@ use std::marker::Model;
 /// them.
 #[derive(Drop)]
 pub struct Scheduled {
-    commands: Vec<Command>,
+    commands: Vec<ScriptCommand>,
     played: Played,
 }
 
@@ -22,14 +22,14 @@ impl Model for Scheduled {
 }
 
 impl Scheduled {
-    pub(crate) fn new(commands: Vec<Command>, played: Played) -> Scheduled
+    pub(crate) fn new(commands: Vec<ScriptCommand>, played: Played) -> Scheduled
         ensures { result ≡ record { commands = commands.items; played = played } }
     {
         Scheduled { commands, played }
     }
 
     /// What the lines ask for, in order. The line of the first has number 2 in the text of the schedule.
-    pub fn commands(&self) -> &[Command]
+    pub fn commands(&self) -> &[ScriptCommand]
         ensures { result.now ≡ self.now.commands }
     {
         self.commands.as_slice()

@@ -3,7 +3,7 @@ ghost use Rattle.std.specs.Prelude.{◌≡◌, ◌++◌, codes, flat_map, string
 ghost use Rattle.lockscript.specs.rule.Scripts.{shape_text};
 ghost use Rattle.explorer.specs.rule.Texts.{command_line, script_text};
 
-use lockscript::script_line::Command;
+use lockscript::script_line::ScriptCommand;
 use lockscript::writing::push_command;
 use messages::shape::Shape;
 use model::policy::Policy;
@@ -16,7 +16,11 @@ use texts::words::Named;
 ///
 /// # Errors
 /// `AllocError` where a request for memory was refused.
-pub fn script_text(alloc: Global, shape: &Shape, commands: &[Command]) -> Result<String, AllocError>
+pub fn script_text(
+    alloc: Global,
+    shape: &Shape,
+    commands: &[ScriptCommand],
+) -> Result<String, AllocError>
     ensures { IfOk result (λ text. string_bytes text ≡ script_text shape.now commands.now) }
 {
     let mut out = String::new(alloc);
@@ -38,7 +42,7 @@ fn push_shape(out: &mut String, shape: &Shape) -> Result<(), AllocError>
 }
 
 // Writes the line of a command.
-fn push_line(out: &mut String, command: &Command) -> Result<(), AllocError>
+fn push_line(out: &mut String, command: &ScriptCommand) -> Result<(), AllocError>
     ensures { OnOk result (string_bytes out.new ≡ string_bytes out.old ++ command_line command.now) }
 {
     push_command(out, command)?;

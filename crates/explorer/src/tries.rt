@@ -8,7 +8,7 @@ ghost use Rattle.explorer.specs.rule.Schedules.{numbered};
 
 use crate::by_process::{ByProcess, add};
 use lockscript::refused_line::RefusedLine;
-use lockscript::script_line::{Command, ScriptLine};
+use lockscript::script_line::{ScriptCommand, ScriptLine};
 use std::alloc::{AllocError, Global};
 use std::collections::HashMap;
 
@@ -25,7 +25,7 @@ type Refusals = HashMap<u64, u16>;
 pub(crate) fn tries(
     alloc: Global,
     refused: &[RefusedLine],
-    commands: &[Command],
+    commands: &[ScriptCommand],
 ) -> Result<Tries, AllocError>
     ensures { IfOk result (λ made. KnowsTries made refused.now (numbered commands.now)) }
 {
@@ -85,11 +85,11 @@ fn add_try(
     tries: &mut Tries,
     alloc: Global,
     refusal: Option<u16>,
-    command: &Command,
+    command: &ScriptCommand,
 ) -> Result<(), AllocError>
     ensures { OnOk result ((node pid : ℕ) → list_in tries.new node pid ≡ list_in tries.old node pid ++ (if calls_by node pid command.now then refusal ∷ [] else [])) }
 {
-    if let Command::Call { node, pid, .. } = command {
+    if let ScriptCommand::Call { node, pid, .. } = command {
         add(tries, alloc, *node, *pid, refusal)?;
     }
     Ok(())

@@ -5,11 +5,11 @@ use Rattle.std.proofs.lemmas.List.Elements.{All-weaker}
 use Rattle.std.proofs.lemmas.Option.{slice_get_cases, slice_get_within}
 use Rattle.client_history.specs.declared.act.Act.TheVariants.{Drops}
 use Rattle.client_history.specs.declared.client_call.ClientCall.{ClientCall}
-use Rattle.history_text.specs.declared.counts.Counts.{Counts}
+use Rattle.history_text.specs.declared.line_counts.LineCounts.{LineCounts}
 use Rattle.history_text.specs.declared.file_calls.FileCalls.{FileCalls}
-use Rattle.history_text.specs.declared.history.History.{History}
+use Rattle.history_text.specs.declared.written_history.WrittenHistory.{WrittenHistory}
 use Rattle.history_text.specs.declared.life.Life.{Life}
-use Rattle.history_text.specs.declared.reader.Reader.{Reader}
+use Rattle.history_text.specs.declared.history_reader.HistoryReader.{HistoryReader}
 use Rattle.history_text.specs.declared.rule.Allowed.{Allowed}
 use Rattle.history_text.specs.rule.Calls.{counted, is_call, with_feed}
 use Rattle.history_text.specs.code.Drops.{AreEndedOf, IsAloneAtEnd, IsCallAtEnd, IsDrop, IsEnded}
@@ -60,7 +60,7 @@ module _ (allowed : Allowed) (names : List (List ℕ)) (lives : List Life) (line
   pub end_with_exits : (first second : FileCalls) → IsEnded allowed lives lines first → IsEnded allowed lives lines second → EndWithExits first second
   end_with_exits first second f s i j exit call p q = begins_in_time exit call (of_all first.calls.items (IsCallAtEnd lives) i exit f.calls p) (of_all second.calls.items (IsCallAtEnd lives) j call s.calls q)
 
-module _ (allowed : Allowed) (text : List ℕ) (count : ℕ) (reader : Reader) (was : HasRead allowed text [] count reader) (history : History)
+module _ (allowed : Allowed) (text : List ℕ) (count : ℕ) (reader : HistoryReader) (was : HasRead allowed text [] count reader) (history : WrittenHistory)
     (names : history.owners ≡ reader.known.owners.names) (files : history.names ≡ reader.known.files) (counts : history.counts ≡ reader.counts)
     (paired : length history.files.items ≡ length reader.files.items)
     (are : AreEndedOf allowed reader.known.owners.lives.items count reader.files.items history.files.items) where
@@ -79,7 +79,7 @@ module _ (allowed : Allowed) (text : List ℕ) (count : ℕ) (reader : Reader) (
     exits = λ i j first second p q.
         end_with_exits allowed history.owners lives count owners first second
         (of_all history.files.items (IsEnded allowed lives count) i first are.files p) (of_all history.files.items (IsEnded allowed lives count) j second are.files q);
-    calls_are = are.calls ∙ was.read.calls ∙ sym (ap (λ (c : Counts). c.calls) counts);
+    calls_are = are.calls ∙ was.read.calls ∙ sym (ap (λ (c : LineCounts). c.calls) counts);
     counted_is = ap counted counts ∙ was.counted_is;
   }
 

@@ -1,6 +1,6 @@
 -- Facts of owners that stay so.
 use Rattle.std.proofs.Common.{◌≡◌, ℕ, ◌≤◌, List, Option, Some, None, IfSome, subst, arith}
-use Rattle.history_text.specs.declared.known.Known.{Known}
+use Rattle.history_text.specs.declared.known_names.KnownNames.{KnownNames}
 use Rattle.history_text.specs.declared.life.Exit.{Exit}
 use Rattle.history_text.specs.declared.life.Life.{Life}
 use Rattle.history_text.specs.rule.Lives.{Extends, Grows, IsExit, IsLife}
@@ -23,7 +23,7 @@ extends_both first last end p q k life at =
     (c.0, c.1, grows_both life b.0 c.0 b.2 c.2)
 
 -- words were read, and then more words of the same line
-pub learns_both : (line : ℕ) (a b c : Known) → Learns line a b → Learns line b c → Learns line a c
+pub learns_both : (line : ℕ) (a b c : KnownNames) → Learns line a b → Learns line b c → Learns line a c
 learns_both line a b c p q = record {
   sound = q.sound;
   extends = extends_both a.owners.lives.items b.owners.lives.items c.owners.lives.items p.extends q.extends;

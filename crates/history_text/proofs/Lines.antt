@@ -5,7 +5,7 @@ use Rattle.std.proofs.lemmas.List.Elements.{All-push}
 use Rattle.std.proofs.lemmas.List.Sums.{sum_by_push}
 use Rattle.texts.specs.rule.LineFeeds.{line_feed}
 use Rattle.texts.specs.rule.Reads.{Lacks}
-use Rattle.history_text.specs.declared.reader.Reader.{Reader}
+use Rattle.history_text.specs.declared.history_reader.HistoryReader.{HistoryReader}
 use Rattle.history_text.specs.declared.rule.Allowed.{Allowed}
 use Rattle.history_text.specs.rule.Calls.{counted, is_call, with_feed}
 use Rattle.history_text.specs.rule.Readings.{HasRead, IsPaired, IsRead}
@@ -17,12 +17,12 @@ lines_fit (line ∷ lines) rest =
     let shown : (line ++ line_feed ∷ []) ++ flat_map with_feed lines ++ rest ≡ (line ++ line_feed ∷ []) ++ (flat_map with_feed lines ++ rest) = append_assoc (line ++ line_feed ∷ []) (flat_map with_feed lines) rest in
     omega (arith, lines_fit lines rest, ap length shown, length-append (line ++ line_feed ∷ []) (flat_map with_feed lines ++ rest), length-append line (line_feed ∷ []))
 
-module _ (allowed : Allowed) (text rest : List ℕ) (count : ℕ) (reader : Reader) (was : HasRead allowed text rest count reader) where
+module _ (allowed : Allowed) (text rest : List ℕ) (count : ℕ) (reader : HistoryReader) (was : HasRead allowed text rest count reader) where
   -- no more lines were counted than the text has bytes
   pub count_fits : count ≤ length text
   count_fits = omega (arith, was.count_is, ap length was.parts, lines_fit was.lines rest)
 
-  module _ (line behind : List ℕ) (next : Reader) (lacks : Lacks line_feed line) (parts : rest ≡ line ++ line_feed ∷ behind)
+  module _ (line behind : List ℕ) (next : HistoryReader) (lacks : Lacks line_feed line) (parts : rest ≡ line ++ line_feed ∷ behind)
       (read : IsRead allowed (count + 1) next) (paired : IsPaired next) (more : counted next.counts ≡ counted reader.counts + (if is_call line then 1 else 0)) where
     -- one more line was read
     pub has_read_more : HasRead allowed text behind (count + 1) next

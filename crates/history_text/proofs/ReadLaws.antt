@@ -8,7 +8,7 @@ use Rattle.std.specs.declared.result.Result.TheVariants.{Ok, Err}
 use Rattle.history_text.specs.declared.life.Exit.{Exit}
 use Rattle.history_text.specs.declared.life.Life.{Life}
 use Rattle.history_text.specs.declared.losses.Losses.{Losses}
-use Rattle.history_text.specs.declared.reader.Reader.{Reader}
+use Rattle.history_text.specs.declared.history_reader.HistoryReader.{HistoryReader}
 use Rattle.history_text.specs.declared.rule.Allowed.{Allowed}
 use Rattle.history_text.specs.rule.Files.{AreFilesOf, IsAlone, lines_in}
 use Rattle.history_text.specs.rule.Lives.{AreLives, AreOwners, IsExit, IsLife}
@@ -24,7 +24,7 @@ kept_losses (Ok value) allowed line old new same = λ are. subst (AreLosses allo
 kept_losses (Err error) allowed line old new same = tt
 
 -- a line that is not one of a call changes at most losses
-pub read_other : (allowed : Allowed) (line : ℕ) (old new : Reader) → new.known.owners ≡ old.known.owners → new.known.files ≡ old.known.files → new.files ≡ old.files → new.counts ≡ old.counts
+pub read_other : (allowed : Allowed) (line : ℕ) (old new : HistoryReader) → new.known.owners ≡ old.known.owners → new.known.files ≡ old.known.files → new.files ≡ old.files → new.counts ≡ old.counts
     → (AreLosses allowed line old.losses → AreLosses allowed line new.losses) → IsRead allowed line old → IsRead allowed line new
 read_other allowed line old new owners names files counts losses read = record {
   sound = record { owners = subst (λ o. AreOwners o.names o.lives.items) (sym owners) read.sound.owners; files = subst AreDistinct (sym names) read.sound.files };
@@ -45,7 +45,7 @@ losses_later allowed m n le losses are = All-weaker (λ here. All (IsLoss allowe
     losses.losses.items are
 
 -- what was read is read of more lines as well
-pub read_later : (allowed : Allowed) (m n : ℕ) → m ≤ n → (reader : Reader) → IsRead allowed m reader → IsRead allowed n reader
+pub read_later : (allowed : Allowed) (m n : ℕ) → m ≤ n → (reader : HistoryReader) → IsRead allowed m reader → IsRead allowed n reader
 read_later allowed m n le reader read =
     let lives : List Life = reader.known.owners.lives.items in
     record {

@@ -1,13 +1,16 @@
 //! A line of a call, as it is read.
-use crate::asked::Asked;
+use crate::operation_with_reply::OperationWithReply;
 
-/// The deed of a call: what it is about.
+/// What a call is about.
 #[derive(Clone, Copy)]
-pub(crate) enum Deed {
+pub(crate) enum CallBody {
     /// The exit of the call's owner.
     Exits,
     /// An operation with its reply, on the file of this number.
-    Asks { file: usize, asked: Asked },
+    Asks {
+        file: usize,
+        asked: OperationWithReply,
+    },
 }
 
 /// A call as its line says it: the number of its owner, its begin, and its end, if that is known.
@@ -16,5 +19,5 @@ pub(crate) struct CallLine {
     pub(crate) owner: usize,
     pub(crate) begin: u64,
     pub(crate) end: Option<u64>,
-    pub(crate) deed: Deed,
+    pub(crate) deed: CallBody,
 }

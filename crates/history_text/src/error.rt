@@ -1,5 +1,5 @@
 //! The reasons why a text is no history.
-use crate::reason::Reason;
+use crate::history_reason::HistoryReason;
 use std::alloc::AllocError;
 use thiserror::Error;
 
@@ -15,7 +15,7 @@ pub enum ReadError {
     BadLine {
         line: u64,
         column: u64,
-        reason: Reason,
+        reason: HistoryReason,
     },
 }
 

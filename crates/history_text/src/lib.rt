@@ -3,30 +3,30 @@
 //! files of the operating system, or of how a history is shown.
 #![tactic(auto)]
 
-mod asked;
 mod call_line;
-pub mod counts;
 mod drops;
 pub mod error;
 pub mod file_calls;
 mod files;
-pub mod history;
-mod known;
+mod history_operation;
+mod history_reader;
+pub mod history_reason;
+mod known_names;
 mod life;
+pub mod line_counts;
 mod line_error;
+mod line_words;
 mod losses;
 pub mod machine;
 pub mod names;
 mod numbers;
-mod operation;
+mod operation_with_reply;
 mod owner_names;
 mod owner_numbers;
 mod owners;
-mod reader;
 pub mod reading;
-pub mod reason;
-mod reply;
+mod reply_word;
 pub mod rule;
 mod steps;
 pub mod unit;
-mod words;
+pub mod written_history;

@@ -4,7 +4,7 @@ ghost use Rattle.texts.specs.rule.Reads.{IsWithin};
 ghost use Rattle.history_text.specs.rule.Times.{IsTimed};
 ghost use Rattle.history_text.specs.rule.Lives.{Grows, IsLife};
 
-use crate::reason::Reason;
+use crate::history_reason::HistoryReason;
 
 /// An exit: the number of its line, its begin, and its end, if that is known.
 #[derive(Clone, Copy)]
@@ -36,13 +36,13 @@ impl Life {
     ///
     /// # Errors
     /// `BehindExit` where the owner's exit ends before that time.
-    pub(crate) fn with_call(&self, begin: u64) -> Result<Life, Reason>
+    pub(crate) fn with_call(&self, begin: u64) -> Result<Life, HistoryReason>
         ensures grows { IfOk result (Grows self.now) }
         ensures begun { IfOk result (λ life. begin ≤ life.latest) }
         ensures life { IfOk result (λ life. (lines : ℕ) → IsLife lines self.now → IsLife lines life) }
     {
         if !may_begin(self.exit, begin) {
-            return Err(Reason::BehindExit);
+            return Err(HistoryReason::BehindExit);
         }
         Ok(Life {
             latest: self.latest.max(begin),
@@ -55,17 +55,17 @@ impl Life {
     /// # Errors
     /// `SecondExit` where the owner has an exit; then `EarlyExit` where the latest of its calls begins behind the end
     /// of this one.
-    pub(crate) fn with_exit(&self, exit: Exit) -> Result<Life, Reason>
+    pub(crate) fn with_exit(&self, exit: Exit) -> Result<Life, HistoryReason>
         requires { exit.begin ≤ self.now.latest }
         ensures grows { IfOk result (Grows self.now) }
         ensures latest { IfOk result (λ life. life.latest ≡ self.now.latest) }
         ensures life { IfOk result (λ life. (lines : ℕ) → IsWithin 1 lines exit.line → IsLife lines life) }
     {
         if self.exit.is_some() {
-            return Err(Reason::SecondExit);
+            return Err(HistoryReason::SecondExit);
         }
         if !is_timed(self.latest, exit.end) {
-            return Err(Reason::EarlyExit);
+            return Err(HistoryReason::EarlyExit);
         }
         Ok(Life {
             latest: self.latest,

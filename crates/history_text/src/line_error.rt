@@ -1,14 +1,14 @@
 //! The reasons why a line is not read.
 use crate::error::ReadError;
-use crate::reason::Reason;
+use crate::history_reason::HistoryReason;
 use std::alloc::AllocError;
 
 /// A fault of a line: the first word that may not stand there, by the number of the line's bytes from its first one
 /// on, and the reason.
 #[derive(Clone, Copy)]
-pub(crate) struct Fault {
+pub(crate) struct WordFault {
     pub(crate) left: usize,
-    pub(crate) reason: Reason,
+    pub(crate) reason: HistoryReason,
 }
 
 /// The reason why a line is not read.
@@ -17,7 +17,7 @@ pub(crate) enum LineError {
     /// A request for memory was refused.
     NoMemory,
     /// The word may not stand there.
-    Bad(Fault),
+    Bad(WordFault),
 }
 
 impl From<AllocError> for LineError {
@@ -26,8 +26,8 @@ impl From<AllocError> for LineError {
     }
 }
 
-impl From<Fault> for LineError {
-    fn from(fault: Fault) -> LineError {
+impl From<WordFault> for LineError {
+    fn from(fault: WordFault) -> LineError {
         LineError::Bad(fault)
     }
 }
@@ -37,7 +37,7 @@ impl LineError {
     pub(crate) fn at(self, line: u64, words: &str) -> ReadError {
         match self {
             LineError::NoMemory => ReadError::NoMemory,
-            LineError::Bad(Fault { left, reason }) => ReadError::BadLine {
+            LineError::Bad(WordFault { left, reason }) => ReadError::BadLine {
                 line,
                 column: column_of(words, left),
                 reason,

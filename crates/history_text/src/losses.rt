@@ -3,11 +3,11 @@ ghost use Rattle.std.specs.Prelude.{◌≡◌, ◌≤◌, ℕ, [], All, IfOk, On
 ghost use Rattle.history_text.specs.declared.rule.Allowed.{Allowed as Rules};
 ghost use Rattle.history_text.specs.rule.Losses.{AreLosses, ArePaired, IsLoss};
 
-use crate::line_error::Fault;
+use crate::history_reason::HistoryReason;
+use crate::line_error::WordFault;
+use crate::line_words::LineWords;
 use crate::names::Names;
 use crate::numbers::time_of;
-use crate::reason::Reason;
-use crate::words::Words;
 use std::alloc::{AllocError, Global};
 
 /// A loss of the locks of a file: the number of its line, and the times between which each owner lost what it had.
@@ -71,7 +71,7 @@ impl Losses {
 ///
 /// # Errors
 /// `Missing` where a word is missing, `NotANumber` and `TooLarge` as in `time_of`, and at END `LossEndsBeforeBegin`.
-pub(crate) fn next_loss(line: u64, words: &mut Words<'_>) -> Result<Loss, Fault>
+pub(crate) fn next_loss(line: u64, words: &mut LineWords<'_>) -> Result<Loss, WordFault>
     ensures line { IfOk result (λ loss. loss.line ≡ line) }
     ensures timed { IfOk result (λ loss. loss.begin ≤ loss.end) }
 {
@@ -80,7 +80,7 @@ pub(crate) fn next_loss(line: u64, words: &mut Words<'_>) -> Result<Loss, Fault>
     let second = words.next_word()?;
     let end = time_of(&second)?;
     if end < begin {
-        return Err(second.fault(Reason::LossEndsBeforeBegin));
+        return Err(second.fault(HistoryReason::LossEndsBeforeBegin));
     }
     Ok(Loss { line, begin, end })
 }

@@ -1,9 +1,9 @@
 //! The times, offsets and modes that words of a line say.
 ghost use Rattle.std.specs.Prelude.{◌≤◌, IfOk, IfSome};
 
-use crate::line_error::Fault;
-use crate::reason::Reason;
-use crate::words::{Word, Words};
+use crate::history_reason::HistoryReason;
+use crate::line_error::WordFault;
+use crate::line_words::{LineWord, LineWords};
 use intervals::span::{GREATEST, Span};
 use model::mode::Mode;
 use texts::number::{number_of, offset_of};
@@ -14,7 +14,7 @@ use texts::words::Named;
 /// # Errors
 /// `NotANumber` where the word is not written as a whole number; `TooLarge` where the number is 2 to the power of 63
 /// or more.
-pub(crate) fn time_of(word: &Word<'_>) -> Result<u64, Fault> {
+pub(crate) fn time_of(word: &LineWord<'_>) -> Result<u64, WordFault> {
     match number_of(word.text, 0, GREATEST) {
         Some(time) => Ok(time),
         None => Err(word.fault(unread_number(word.text))),
@@ -25,7 +25,7 @@ pub(crate) fn time_of(word: &Word<'_>) -> Result<u64, Fault> {
 ///
 /// # Errors
 /// As `time_of`, and `EndsBeforeBegin` where the end is before the begin.
-pub(crate) fn end_of(word: &Word<'_>, begin: u64) -> Result<Option<u64>, Fault>
+pub(crate) fn end_of(word: &LineWord<'_>, begin: u64) -> Result<Option<u64>, WordFault>
     ensures { IfOk result (λ end. IfSome end (λ time. begin ≤ time)) }
 {
     if word.text == "-" {
@@ -33,7 +33,7 @@ pub(crate) fn end_of(word: &Word<'_>, begin: u64) -> Result<Option<u64>, Fault>
     }
     let end = time_of(word)?;
     if end < begin {
-        return Err(word.fault(Reason::EndsBeforeBegin));
+        return Err(word.fault(HistoryReason::EndsBeforeBegin));
     }
     Ok(Some(end))
 }
@@ -42,11 +42,11 @@ pub(crate) fn end_of(word: &Word<'_>, begin: u64) -> Result<Option<u64>, Fault>
 ///
 /// # Errors
 /// `Missing` where there is no word, and `UnknownMode` where it names no mode.
-pub(crate) fn next_mode(words: &mut Words<'_>) -> Result<Mode, Fault> {
+pub(crate) fn next_mode(words: &mut LineWords<'_>) -> Result<Mode, WordFault> {
     let word = words.next_word()?;
     match Mode::of_word(word.text) {
         Some(mode) => Ok(mode),
-        None => Err(word.fault(Reason::UnknownMode)),
+        None => Err(word.fault(HistoryReason::UnknownMode)),
     }
 }
 
@@ -55,19 +55,19 @@ pub(crate) fn next_mode(words: &mut Words<'_>) -> Result<Mode, Fault> {
 /// # Errors
 /// `Missing` where a word is missing, `NotANumber` and `TooLarge` where one is no offset, and at START `NoBytes`
 /// where they name no bytes.
-pub(crate) fn next_span(words: &mut Words<'_>) -> Result<Span, Fault> {
+pub(crate) fn next_span(words: &mut LineWords<'_>) -> Result<Span, WordFault> {
     let first = words.next_word()?;
     let start = offset_in(&first)?;
     let second = words.next_word()?;
     let len = offset_in(&second)?;
     match Span::from_flock(start, len) {
         Ok(span) => Ok(span),
-        Err(error) => Err(first.fault(Reason::NoBytes(error))),
+        Err(error) => Err(first.fault(HistoryReason::NoBytes(error))),
     }
 }
 
 // The offset that the word says.
-fn offset_in(word: &Word<'_>) -> Result<i64, Fault> {
+fn offset_in(word: &LineWord<'_>) -> Result<i64, WordFault> {
     match offset_of(word.text) {
         Some(offset) => Ok(offset),
         None => {
@@ -78,11 +78,11 @@ fn offset_in(word: &Word<'_>) -> Result<i64, Fault> {
 }
 
 // The reason why a word was not read as a number.
-fn unread_number(word: &str) -> Reason {
+fn unread_number(word: &str) -> HistoryReason {
     if is_number(word) {
-        Reason::TooLarge
+        HistoryReason::TooLarge
     } else {
-        Reason::NotANumber
+        HistoryReason::NotANumber
     }
 }
 

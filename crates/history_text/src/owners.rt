@@ -3,12 +3,12 @@ ghost use Rattle.std.specs.Prelude.{◌≡◌, ◌<◌, ◌+◌, ℕ, [], length
 ghost use Rattle.texts.specs.rule.Reads.{IsWithin};
 ghost use Rattle.history_text.specs.rule.Lives.{AreLives, AreOwners, Extends, HasBegun, HasExit, HasLife};
 
+use crate::history_reason::HistoryReason;
 use crate::life::{Exit, Life};
 use crate::line_error::LineError;
+use crate::line_words::LineWord;
 use crate::names::Names;
 use crate::owner_numbers::{MOST_OWNERS, number_of};
-use crate::reason::Reason;
-use crate::words::Word;
 use model::owner::Owner;
 use std::alloc::{AllocError, Global};
 
@@ -36,7 +36,11 @@ impl Owners {
     /// # Errors
     /// `NoMemory` where a request for memory was refused, and `TooManyOwners` where the owner would be one more than
     /// 1,073,725,440.
-    pub(crate) fn number_of(&mut self, alloc: Global, word: &Word<'_>) -> Result<usize, LineError>
+    pub(crate) fn number_of(
+        &mut self,
+        alloc: Global,
+        word: &LineWord<'_>,
+    ) -> Result<usize, LineError>
         requires { AreOwners self.old.names self.old.lives.items }
         ensures owners { OnOk result (AreOwners self.new.names self.new.lives.items) }
         ensures within { IfOk result (λ number. number < length self.new.lives.items) }
@@ -45,7 +49,7 @@ impl Owners {
     {
         let number = self.names.number_of(alloc, word.text)?;
         if number >= MOST_OWNERS {
-            return Err(LineError::Bad(word.fault(Reason::TooManyOwners)));
+            return Err(LineError::Bad(word.fault(HistoryReason::TooManyOwners)));
         }
         if number == self.lives.len() {
             push_life(&mut self.lives)?;
@@ -57,7 +61,7 @@ impl Owners {
     ///
     /// # Errors
     /// `BehindExit` where the owner's exit ends before that time.
-    pub(crate) fn begin_call(&mut self, number: usize, begin: u64) -> Result<(), Reason>
+    pub(crate) fn begin_call(&mut self, number: usize, begin: u64) -> Result<(), HistoryReason>
         requires owners { AreOwners self.old.names self.old.lives.items }
         requires within { number < length self.old.lives.items }
         ensures owners { OnOk result (AreOwners self.new.names self.new.lives.items) }
@@ -75,7 +79,7 @@ impl Owners {
     /// # Errors
     /// `SecondExit` where the owner has an exit; then `EarlyExit` where a call of it begins behind the end of this
     /// one.
-    pub(crate) fn exit(&mut self, number: usize, exit: Exit) -> Result<(), Reason>
+    pub(crate) fn exit(&mut self, number: usize, exit: Exit) -> Result<(), HistoryReason>
         requires owners { AreOwners self.old.names self.old.lives.items }
         requires begun { HasBegun self.old.lives.items number exit.begin }
         ensures owners { OnOk result (AreOwners self.new.names self.new.lives.items) }

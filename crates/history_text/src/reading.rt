@@ -5,12 +5,12 @@ ghost use Rattle.history_text.specs.rule.Readings.{HasRead};
 
 use crate::error::ReadError;
 use crate::files::end_files;
-use crate::history::History;
-use crate::known::Known;
-use crate::line_error::{Fault, LineError};
-use crate::reader::Reader;
-use crate::reason::Reason;
+use crate::history_reader::HistoryReader;
+use crate::history_reason::HistoryReason;
+use crate::known_names::KnownNames;
+use crate::line_error::{LineError, WordFault};
 use crate::rule::Allowed;
+use crate::written_history::WrittenHistory;
 use std::alloc::Global;
 use texts::text::split_at_first;
 
@@ -50,12 +50,12 @@ use texts::text::split_at_first;
 /// # Errors
 /// `BadLine` with the first line that may not stand there; where all may and the first one is missing, with the line after the
 /// last. `NoMemory` where a request for memory was refused before a bad line was seen.
-pub fn read(alloc: Global, text: &str, allowed: Allowed) -> Result<History, ReadError>
+pub fn read(alloc: Global, text: &str, allowed: Allowed) -> Result<WrittenHistory, ReadError>
     ensures { IfOk result (IsHistoryOf allowed text.now) }
 {
-    let mut reader = Reader::new(alloc);
+    let mut reader = HistoryReader::new(alloc);
     let count = read_lines(alloc, &mut reader, text, allowed)?;
-    let Reader {
+    let HistoryReader {
         unit,
         known,
         mut files,
@@ -66,12 +66,12 @@ pub fn read(alloc: Global, text: &str, allowed: Allowed) -> Result<History, Read
         return Err(no_head(count));
     };
     end_files(alloc, &mut files, &known.files, &known.owners, &losses)?;
-    let Known {
+    let KnownNames {
         machines,
         owners,
         files: names,
     } = known;
-    Ok(History {
+    Ok(WrittenHistory {
         unit,
         machines,
         owners: owners.names,
@@ -84,7 +84,7 @@ pub fn read(alloc: Global, text: &str, allowed: Allowed) -> Result<History, Read
 // Takes all lines of the text. Gives their number.
 fn read_lines(
     alloc: Global,
-    reader: &mut Reader,
+    reader: &mut HistoryReader,
     text: &str,
     allowed: Allowed,
 ) -> Result<u64, ReadError>
@@ -110,9 +110,9 @@ fn read_lines(
 
 // The error that the last line, which has this number, has no line feed.
 fn unfinished(number: u64, line: &str) -> ReadError {
-    let fault = Fault {
+    let fault = WordFault {
         left: 0,
-        reason: Reason::Unfinished,
+        reason: HistoryReason::Unfinished,
     };
     LineError::Bad(fault).at(number, line)
 }
@@ -122,6 +122,6 @@ fn no_head(count: u64) -> ReadError {
     ReadError::BadLine {
         line: count.saturating_add(1),
         column: 1,
-        reason: Reason::NoHead,
+        reason: HistoryReason::NoHead,
     }
 }

@@ -2,7 +2,7 @@
 use Rattle.std.proofs.Common.{◌≡◌, ℕ, max, ◌+◌, ◌-◌, ◌<◌, ◌≤◌, length, List, [], ◌∷◌, ◌++◌, Some, sym, ◌∙◌, inl, inr, arith}
 use Rattle.std.proofs.lemmas.Bool.{cases_lt}
 use Rattle.std.proofs.lemmas.Bool.Decides.{nat_tests}
-use Rattle.intervals.specs.declared.run.Run.{Run}
+use Rattle.intervals.specs.declared.byte_run.ByteRun.{ByteRun}
 use Rattle.intervals.specs.rule.Bytes.{put}
 use Rattle.intervals.specs.code.Runs.{value_at, Follows, AreRuns, EndsBelow}
 use Rattle.intervals.proofs.Find.{value_at-none, after-none, before-none, first-some, first-other}
@@ -10,7 +10,7 @@ use Rattle.intervals.proofs.Runs.{ends_below_le, at-past}
 use Rattle.intervals.proofs.Split.{runs-back, at-back, at-first, ends-before}
 
 -- the runs before r with the piece of r below `to` give all values below `to`
-pub cut_below : {V : Type 0} (l m new : List (Run V)) (r : Run V) (to : ℕ) → AreRuns (l ++ r ∷ m) → r.lo < to → to ≤ r.hi → ((b : ℕ) → value_at new b ≡ put (value_at l) (record { lo = r.lo; hi = to - 1 }) (Some r.value) b) → (b : ℕ) → b < to → value_at new b ≡ value_at (l ++ r ∷ m) b
+pub cut_below : {V : Type 0} (l m new : List (ByteRun V)) (r : ByteRun V) (to : ℕ) → AreRuns (l ++ r ∷ m) → r.lo < to → to ≤ r.hi → ((b : ℕ) → value_at new b ≡ put (value_at l) (record { lo = r.lo; hi = to - 1 }) (Some r.value) b) → (b : ℕ) → b < to → value_at new b ≡ value_at (l ++ r ∷ m) b
 cut_below l m new r to runs starts reached bytes b lt = elim (cases_lt b r.lo) [
   | inl below ↦
       let none = before-none r m b (runs-back l (r ∷ m) runs) below in
@@ -24,16 +24,16 @@ cut_below l m new r to runs starts reached bytes b lt = elim (cases_lt b r.lo) [
 ]
 
 -- where the next run begins at `to` or above it the runs before it give all values below `to`
-pub none_cut : {V : Type 0} (l m : List (Run V)) (r : Run V) (to : ℕ) → AreRuns (l ++ r ∷ m) → to ≤ r.lo → (b : ℕ) → b < to → value_at l b ≡ value_at (l ++ r ∷ m) b
+pub none_cut : {V : Type 0} (l m : List (ByteRun V)) (r : ByteRun V) (to : ℕ) → AreRuns (l ++ r ∷ m) → to ≤ r.lo → (b : ℕ) → b < to → value_at l b ≡ value_at (l ++ r ∷ m) b
 none_cut l m r to runs starts b lt = sym (at-first l (r ∷ m) b (before-none r m b (runs-back l (r ∷ m) runs) (omega arith)))
 
 -- where no run is added no byte from `from` on has a value
-pub none_left : {V : Type 0} (l m : List (Run V)) (from : ℕ) → length m ≡ 0 → EndsBelow l from → (b : ℕ) → from ≤ b → value_at l b ≡ value_at m b
+pub none_left : {V : Type 0} (l m : List (ByteRun V)) (from : ℕ) → length m ≡ 0 → EndsBelow l from → (b : ℕ) → from ≤ b → value_at l b ≡ value_at m b
 none_left l [] from none below b le = at-past l b (ends_below_le l from b le below) ∙ sym (value_at-none b)
 none_left l (r ∷ m) from none below b le = absurd (omega arith)
 
 -- runs of which the last ends where r does may be followed by the runs that follow r
-pub runs-moved : {V : Type 0} (l rest : List (Run V)) (r : Run V) → AreRuns l → EndsBelow l (r.hi + 1) → value_at l r.hi ≡ Some r.value → Follows r rest → AreRuns rest → AreRuns (l ++ rest)
+pub runs-moved : {V : Type 0} (l rest : List (ByteRun V)) (r : ByteRun V) → AreRuns l → EndsBelow l (r.hi + 1) → value_at l r.hi ≡ Some r.value → Follows r rest → AreRuns rest → AreRuns (l ++ rest)
 runs-moved [] rest r runs ends last follows made = made
 runs-moved (s ∷ []) [] r runs ends last follows made = runs
 runs-moved (s ∷ []) (t ∷ rest) r runs ends last follows made = (
@@ -52,7 +52,7 @@ runs-moved (s ∷ u ∷ l) rest r runs ends last follows made =
     (runs.0, runs.1, runs-moved (u ∷ l) rest r runs.2 ends.1 (sym (first-other s (u ∷ l) r.hi (inr (omega (arith, runs.1.0, runs.2.0, ends.1.0)))) ∙ last) follows made)
 
 -- the runs after the first one is added, cut at `from`, and the rest follows
-module _ {V : Type 0} (l mid rest : List (Run V)) (r : Run V) (from : ℕ) (runs : AreRuns (r ∷ rest)) (below : EndsBelow l from) (reached : from ≤ r.hi) (made : AreRuns mid) (ends : EndsBelow mid (r.hi + 1)) (bytes : (b : ℕ) → value_at mid b ≡ put (value_at l) (record { lo = max r.lo from; hi = r.hi }) (Some r.value) b) where
+module _ {V : Type 0} (l mid rest : List (ByteRun V)) (r : ByteRun V) (from : ℕ) (runs : AreRuns (r ∷ rest)) (below : EndsBelow l from) (reached : from ≤ r.hi) (made : AreRuns mid) (ends : EndsBelow mid (r.hi + 1)) (bytes : (b : ℕ) → value_at mid b ≡ put (value_at l) (record { lo = max r.lo from; hi = r.hi }) (Some r.value) b) where
   pub moved-runs : AreRuns (mid ++ rest)
   moved-runs =
       let last = bytes r.hi in

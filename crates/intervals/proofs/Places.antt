@@ -3,7 +3,7 @@ use Rattle.std.proofs.Common.{◌≡◌, ℕ, zero, suc, pred, ◌+◌, ◌-◌,
 use Rattle.std.specs.List.{insert, remove}
 use Rattle.std.proofs.lemmas.List.{append_assoc, append-nil, length-append, drop-drop, get_or-drop, take_more, length-drop}
 use Rattle.std.proofs.lemmas.Bool.{cases_lt}
-use Rattle.intervals.specs.declared.run.Run.{Run}
+use Rattle.intervals.specs.declared.byte_run.ByteRun.{ByteRun}
 use Rattle.intervals.specs.declared.row.Row.{Row}
 use Rattle.intervals.specs.rule.Bytes.{Range, greatest, put}
 use Rattle.intervals.specs.code.Runs.{value_at, AreRuns, EndsBelow}
@@ -18,7 +18,7 @@ use Rattle.intervals.proofs.Replaced.{AreReplaced, replaced}
 use Rattle.intervals.proofs.Rows.{all_runs-append, all_runs-push, all_runs-split, some-append, some-take, some-drop, begins_ends, above-back, above_more}
 
 -- the runs from part i on are the ones of part i and the ones of the parts above it
-pub read_all : {V : Type 0} (l : List (List (Run V))) (i : ℕ) → i < length l → all_runs (drop i l) ≡ get_or l i [] ++ all_runs (drop (suc i) l)
+pub read_all : {V : Type 0} (l : List (List (ByteRun V))) (i : ℕ) → i < length l → all_runs (drop i l) ≡ get_or l i [] ++ all_runs (drop (suc i) l)
 read_all [] i lt = absurd (omega arith)
 read_all (p ∷ l) zero lt = refl
 read_all (p ∷ l) (suc i) lt = read_all l i (omega arith)
@@ -41,7 +41,7 @@ row_within row i n le =
 pub runs_to-split : {V : Type 0} (row : Row V) (i : ℕ) → row_runs row ≡ runs_to row i ++ runs_above row i
 runs_to-split row i = ap (λ x. row.first ++ x) (all_runs-split row.rest.items i) ∙ sym (append_assoc row.first (all_runs (take i row.rest.items)) (runs_above row i))
 
-take_read : {V : Type 0} (l : List (List (Run V))) (h n : ℕ) → h < length l → all_runs (take (suc (h + n)) l) ≡ all_runs (take h l) ++ (get_or l h [] ++ all_runs (take n (drop (suc h) l)))
+take_read : {V : Type 0} (l : List (List (ByteRun V))) (h n : ℕ) → h < length l → all_runs (take (suc (h + n)) l) ≡ all_runs (take h l) ++ (get_or l h [] ++ all_runs (take n (drop (suc h) l)))
 take_read [] h n lt = absurd (omega arith)
 take_read (p ∷ l) zero n lt = let none : zero + n ≡ n = omega arith in rw none refl
 take_read (p ∷ l) (suc h) n lt =
@@ -65,12 +65,12 @@ within_more row i n lt =
     let more : take (suc n) (drop i rest) ≡ take n (drop i rest) ++ get_or rest (i + n) [] ∷ [] = rw next (take_more (drop i rest) n [] (omega (arith, left)) ∙ ap (λ x. take n (drop i rest) ++ x ∷ []) (get_or-drop i rest n [])) in
     ap (λ x. part_at row i ++ x) (ap all_runs more ∙ all_runs-push (take n (drop i rest)) (get_or rest (i + n) [])) ∙ sym (append_assoc (part_at row i) (all_runs (take n (drop i rest))) (get_or rest (i + n) []))
 
-pub above-front : {V : Type 0} (l m : List (Run V)) (n : ℕ) → BeginAbove (l ++ m) n → BeginAbove l n
+pub above-front : {V : Type 0} (l m : List (ByteRun V)) (n : ℕ) → BeginAbove (l ++ m) n → BeginAbove l n
 above-front [] m n above = tt
 above-front (r ∷ l) m n above = (above.0, above-front l m n above.1)
 
 -- a list made of the runs of the first and the last of several parts has the new value exactly on the span
-module _ {V : Type 0} (row : Row V) (i n : ℕ) (s : Range) (v : Option V) (new : List (Run V)) where
+module _ {V : Type 0} (row : Row V) (i n : ℕ) (s : Range) (v : Option V) (new : List (ByteRun V)) where
   pub bytes_within : i + n ≤ length row.rest.items → BeginAbove (runs_above row i) (s.lo - 1) → EndsBelow (runs_below row (i + n)) (s.hi + 1) → ((b : ℕ) → b < s.lo → value_at new b ≡ value_at (part_at row i) b) → ((b : ℕ) → s.lo ≤ b → b ≤ s.hi → value_at new b ≡ v) → ((b : ℕ) → s.hi < b → value_at new b ≡ value_at (part_at row (i + n)) b) → (b : ℕ) → value_at new b ≡ put (value_at (runs_within row i n)) s v b
   bytes_within le begin ended below inside above b = elim (cases_lt b s.lo) [
     | inl lt ↦ below b lt ∙ (sym (low lt) ∙ sym (put-below (value_at (runs_within row i n)) s v b lt))
@@ -80,7 +80,7 @@ module _ {V : Type 0} (row : Row V) (i n : ℕ) (s : Range) (v : Option V) (new 
     ]
   ]
     where
-      rest : List (List (Run V))
+      rest : List (List (ByteRun V))
       rest = row.rest.items
 
       later : BeginAbove (all_runs (take n (drop i rest))) (s.lo - 1)
@@ -127,30 +127,30 @@ is_written was is i n s v had has order le made bounded ended above it =
     }
 
 -- the runs of all parts after one part is replaced
-pub all_runs-set : {V : Type 0} (l x : List (List (Run V))) (i : ℕ) (p : List (Run V)) → i < length l → all_runs (set (take (suc i) l ++ x) i p) ≡ all_runs (take i l) ++ (p ++ all_runs x)
+pub all_runs-set : {V : Type 0} (l x : List (List (ByteRun V))) (i : ℕ) (p : List (ByteRun V)) → i < length l → all_runs (set (take (suc i) l ++ x) i p) ≡ all_runs (take i l) ++ (p ++ all_runs x)
 all_runs-set [] x i p lt = absurd (omega arith)
 all_runs-set (q ∷ l) x zero p lt = refl
 all_runs-set (q ∷ l) x (suc i) p lt = ap (λ y. q ++ y) (all_runs-set l x i p (omega arith)) ∙ sym (append_assoc q (all_runs (take i l)) (p ++ all_runs x))
 
-pub some-set : {V : Type 0} (l : List (List (Run V))) (i : ℕ) (p : List (Run V)) → AreSome l → 0 < length p → AreSome (set l i p)
+pub some-set : {V : Type 0} (l : List (List (ByteRun V))) (i : ℕ) (p : List (ByteRun V)) → AreSome l → 0 < length p → AreSome (set l i p)
 some-set [] zero p some has = tt
 some-set [] (suc i) p some has = tt
 some-set (q ∷ l) zero p some has = (has, some.1)
 some-set (q ∷ l) (suc i) p some has = (some.0, some-set l i p some.1 has)
 
-pub all_runs-remove : {V : Type 0} (l x : List (List (Run V))) (i : ℕ) → i < length l → all_runs (remove (take (suc i) l ++ x) i) ≡ all_runs (take i l) ++ all_runs x
+pub all_runs-remove : {V : Type 0} (l x : List (List (ByteRun V))) (i : ℕ) → i < length l → all_runs (remove (take (suc i) l ++ x) i) ≡ all_runs (take i l) ++ all_runs x
 all_runs-remove [] x i lt = absurd (omega arith)
 all_runs-remove (q ∷ l) x zero lt = refl
 all_runs-remove (q ∷ l) x (suc i) lt = ap (λ y. q ++ y) (all_runs-remove l x i (omega arith)) ∙ sym (append_assoc q (all_runs (take i l)) (all_runs x))
 
-pub some-remove : {V : Type 0} (l : List (List (Run V))) (i : ℕ) → AreSome l → AreSome (remove l i)
+pub some-remove : {V : Type 0} (l : List (List (ByteRun V))) (i : ℕ) → AreSome l → AreSome (remove l i)
 some-remove l i some = some-append (take i l) (drop (suc i) l) (some-take l i some) (some-drop l (suc i) some)
 
 -- the runs of all parts after one part is inserted
-pub all_runs-insert : {V : Type 0} (l : List (List (Run V))) (i : ℕ) (p : List (Run V)) → all_runs (insert l i p) ≡ all_runs (take i l) ++ (p ++ all_runs (drop i l))
+pub all_runs-insert : {V : Type 0} (l : List (List (ByteRun V))) (i : ℕ) (p : List (ByteRun V)) → all_runs (insert l i p) ≡ all_runs (take i l) ++ (p ++ all_runs (drop i l))
 all_runs-insert l i p = all_runs-append (take i l) (p ∷ drop i l)
 
-pub some-insert : {V : Type 0} (l : List (List (Run V))) (i : ℕ) (p : List (Run V)) → AreSome l → 0 < length p → AreSome (insert l i p)
+pub some-insert : {V : Type 0} (l : List (List (ByteRun V))) (i : ℕ) (p : List (ByteRun V)) → AreSome l → 0 < length p → AreSome (insert l i p)
 some-insert l i p some has = some-append (take i l) (p ∷ drop i l) (some-take l i some) (has, some-drop l i some)
 
 -- the runs below place i end below byte n where the part there begins at n or below it
@@ -173,7 +173,7 @@ length_near row i le =
     let all : length (row_runs row) ≡ length (runs_below row i) + (length (part_at row i) + length (runs_above row i)) = ap length (row_split row i le) ∙ (length-append (runs_below row i) (part_at row i ++ runs_above row i) ∙ ap (λ m. length (runs_below row i) + m) (length-append (part_at row i) (runs_above row i))) in
     omega (arith, all)
 
-pub not_above : {V : Type 0} (l : List (Run V)) (m n : ℕ) → m ≤ n → BeginsTo l m → BeginAbove l n → ⊥
+pub not_above : {V : Type 0} (l : List (ByteRun V)) (m n : ℕ) → m ≤ n → BeginsTo l m → BeginAbove l n → ⊥
 not_above [] m n le begins above = begins
 not_above (r ∷ l) m n le begins above = omega (arith, begins, above.0)
 
@@ -191,21 +191,21 @@ within_few row i n le =
     omega (arith, all)
 
 -- the runs of the first parts with one more part
-pub take_part : {V : Type 0} (l : List (List (Run V))) (i : ℕ) (part : List (Run V)) → i < length l → part ≡ get_or l i part → all_runs (take (i + 1) l) ≡ all_runs (take i l) ++ part
+pub take_part : {V : Type 0} (l : List (List (ByteRun V))) (i : ℕ) (part : List (ByteRun V)) → i < length l → part ≡ get_or l i part → all_runs (take (i + 1) l) ≡ all_runs (take i l) ++ part
 take_part l i part lt is = ap all_runs (take_more l i part lt ∙ ap (λ x. take i l ++ x ∷ []) (sym is)) ∙ all_runs-push (take i l) part
 
-pub take_few : {V : Type 0} (l : List (List (Run V))) (i : ℕ) → length (all_runs (take i l)) ≤ length (all_runs l)
+pub take_few : {V : Type 0} (l : List (List (ByteRun V))) (i : ℕ) → length (all_runs (take i l)) ≤ length (all_runs l)
 take_few l i =
     let all : length (all_runs l) ≡ length (all_runs (take i l)) + length (all_runs (drop i l)) = ap length (all_runs-split l i) ∙ length-append (all_runs (take i l)) (all_runs (drop i l)) in
     omega (arith, all)
 
 -- a row after runs are put in place of its first part
-pub put_first : {V : Type 0} (row is : Row V) (i n : ℕ) (runs : List (Run V)) → i ≡ 0 → is.first ≡ runs → is.rest.items ≡ take i row.rest.items ++ drop (i + n) row.rest.items → AreSome row.rest.items → IsPut row is i n runs
+pub put_first : {V : Type 0} (row is : Row V) (i n : ℕ) (runs : List (ByteRun V)) → i ≡ 0 → is.first ≡ runs → is.rest.items ≡ take i row.rest.items ++ drop (i + n) row.rest.items → AreSome row.rest.items → IsPut row is i n runs
 put_first row is zero n runs none first rest some = record { whole = λ j. first j ++ all_runs (rest j); some = subst AreSome (sym rest) (some-drop row.rest.items (0 + n) some) }
 put_first row is (suc i) n runs none first rest some = absurd (omega (arith, none))
 
 -- a row after several later parts are taken out
-pub put_none : {V : Type 0} (row is : Row V) (i n : ℕ) (left : List (List (Run V))) (runs : List (Run V)) → (i ≡ 0 → ⊥) → i ≤ length row.rest.items → runs ≡ [] → left ≡ take i row.rest.items ++ drop (i + n) row.rest.items → is.first ≡ row.first → is.rest.items ≡ remove left (i - 1) → AreSome row.rest.items → IsPut row is i n runs
+pub put_none : {V : Type 0} (row is : Row V) (i n : ℕ) (left : List (List (ByteRun V))) (runs : List (ByteRun V)) → (i ≡ 0 → ⊥) → i ≤ length row.rest.items → runs ≡ [] → left ≡ take i row.rest.items ++ drop (i + n) row.rest.items → is.first ≡ row.first → is.rest.items ≡ remove left (i - 1) → AreSome row.rest.items → IsPut row is i n runs
 put_none row is zero n left runs some le none here first rest has = absurd (some refl)
 put_none row is (suc i) n left runs some le none here first rest has =
     let l = row.rest.items in
@@ -217,7 +217,7 @@ put_none row is (suc i) n left runs some le none here first rest has =
     }
 
 -- a row after runs are put in place of several later parts
-pub put_part : {V : Type 0} (row is : Row V) (i n : ℕ) (left : List (List (Run V))) (runs : List (Run V)) → (i ≡ 0 → ⊥) → i ≤ length row.rest.items → 0 < length runs → left ≡ take i row.rest.items ++ drop (i + n) row.rest.items → is.first ≡ row.first → is.rest.items ≡ set left (i - 1) runs → AreSome row.rest.items → IsPut row is i n runs
+pub put_part : {V : Type 0} (row is : Row V) (i n : ℕ) (left : List (List (ByteRun V))) (runs : List (ByteRun V)) → (i ≡ 0 → ⊥) → i ≤ length row.rest.items → 0 < length runs → left ≡ take i row.rest.items ++ drop (i + n) row.rest.items → is.first ≡ row.first → is.rest.items ≡ set left (i - 1) runs → AreSome row.rest.items → IsPut row is i n runs
 put_part row is zero n left runs some le more here first rest has = absurd (some refl)
 put_part row is (suc i) n left runs some le more here first rest has =
     let l = row.rest.items in
@@ -228,12 +228,12 @@ put_part row is (suc i) n left runs some le more here first rest has =
       some = subst AreSome (sym items) (some-set (take (suc i) l ++ drop (suc i + n) l) i runs (some-append (take (suc i) l) (drop (suc i + n) l) (some-take l (suc i) has) (some-drop l (suc i + n) has)) more);
     }
 
-take-set : {V : Type 0} (l x : List (List (Run V))) (i : ℕ) (p : List (Run V)) → i < length l → all_runs (take (suc i) (set (take (suc i) l ++ x) i p)) ≡ all_runs (take i l) ++ p
+take-set : {V : Type 0} (l x : List (List (ByteRun V))) (i : ℕ) (p : List (ByteRun V)) → i < length l → all_runs (take (suc i) (set (take (suc i) l ++ x) i p)) ≡ all_runs (take i l) ++ p
 take-set [] x i p lt = absurd (omega arith)
 take-set (q ∷ l) x zero p lt = append-nil p
 take-set (q ∷ l) x (suc i) p lt = ap (λ y. q ++ y) (take-set l x i p (omega arith)) ∙ sym (append_assoc q (all_runs (take i l)) p)
 
-pub put_to : {V : Type 0} (row : Row V) (i n : ℕ) (left : List (List (Run V))) (runs : List (Run V)) → (i ≡ 0 → ⊥) → i ≤ length row.rest.items → left ≡ take i row.rest.items ++ drop (i + n) row.rest.items → row.first ++ all_runs (take i (set left (i - 1) runs)) ≡ runs_below row i ++ runs
+pub put_to : {V : Type 0} (row : Row V) (i n : ℕ) (left : List (List (ByteRun V))) (runs : List (ByteRun V)) → (i ≡ 0 → ⊥) → i ≤ length row.rest.items → left ≡ take i row.rest.items ++ drop (i + n) row.rest.items → row.first ++ all_runs (take i (set left (i - 1) runs)) ≡ runs_below row i ++ runs
 put_to row zero n left runs some le here = absurd (some refl)
 put_to row (suc i) n left runs some le here =
     let l = row.rest.items in
@@ -247,7 +247,7 @@ below_same was mid zero first rest = refl
 below_same was mid (suc i) first rest = λ j. first j ++ all_runs (take i (rest j))
 
 -- a row after runs are put in place of others in two parts
-pub placed_both : {V : Type 0} (was mid left is : Row V) (i n : ℕ) (lower upper runs : List (Run V)) → mid.first ≡ was.first → mid.rest.items ≡ was.rest.items → lower ++ upper ≡ runs → IsPut mid left i n lower → (0 < length upper → 0 < length lower) → (0 < length lower → runs_to left i ≡ runs_below mid i ++ lower) → (0 < length lower → runs_above left i ≡ runs_above mid (i + n)) → (0 < length upper → row_runs is ≡ runs_to left i ++ (upper ++ runs_above left i)) → (length upper ≡ 0 → row_runs is ≡ row_runs left) → AreSome is.rest.items → IsPut was is i n runs
+pub placed_both : {V : Type 0} (was mid left is : Row V) (i n : ℕ) (lower upper runs : List (ByteRun V)) → mid.first ≡ was.first → mid.rest.items ≡ was.rest.items → lower ++ upper ≡ runs → IsPut mid left i n lower → (0 < length upper → 0 < length lower) → (0 < length lower → runs_to left i ≡ runs_below mid i ++ lower) → (0 < length lower → runs_above left i ≡ runs_above mid (i + n)) → (0 < length upper → row_runs is ≡ runs_to left i ++ (upper ++ runs_above left i)) → (length upper ≡ 0 → row_runs is ≡ row_runs left) → AreSome is.rest.items → IsPut was is i n runs
 placed_both was mid left is i n lower [] runs first rest both put kept below above more none some =
     let all : lower ≡ runs = sym (append-nil lower) ∙ both in
     let before = below_same was mid i first rest in
@@ -270,20 +270,20 @@ take_drop (x ∷ l) (suc i) = ap (λ y. x ∷ y) (take_drop l i)
 pub rejoined : {A : Type 0} (l : List A) (i : ℕ) → l ≡ take i l ++ drop (i + 0) l
 rejoined l i = let none : i + 0 ≡ i = omega arith in rw none (take_drop l i)
 
-read_at : {V : Type 0} (l : List (List (Run V))) (i : ℕ) (x : List (Run V)) → i < length l → x ≡ get_or l i x → x ≡ get_or l i []
+read_at : {V : Type 0} (l : List (List (ByteRun V))) (i : ℕ) (x : List (ByteRun V)) → i < length l → x ≡ get_or l i x → x ≡ get_or l i []
 read_at [] i x lt is = absurd (omega arith)
 read_at (p ∷ l) zero x lt is = is
 read_at (p ∷ l) (suc i) x lt is = read_at l i x (omega arith) is
 
 -- a part that is read at a place other than the first
-pub part_read : {V : Type 0} (row : Row V) (i : ℕ) (x : List (Run V)) → (i ≡ 0 → ⊥) → i ≤ length row.rest.items → x ≡ get_or row.rest.items (i - 1) x → part_at row i ≡ x
+pub part_read : {V : Type 0} (row : Row V) (i : ℕ) (x : List (ByteRun V)) → (i ≡ 0 → ⊥) → i ≤ length row.rest.items → x ≡ get_or row.rest.items (i - 1) x → part_at row i ≡ x
 part_read row zero x some le is = absurd (some refl)
 part_read row (suc i) x some le is =
     let at : suc i - 1 ≡ i = omega arith in
     sym (read_at row.rest.items i x (omega arith) (is ∙ ap (λ k. get_or row.rest.items k x) at))
 
 -- a row after one part is written
-pub rewritten : {V : Type 0} (row is : Row V) (i : ℕ) (s : Range) (v : Option V) (old new : List (Run V)) (had has : ℕ) → IsPut row is i 0 new → part_at row i ≡ old → AreRuns new → EndsBelow new (greatest + 1) → ((b : ℕ) → value_at new b ≡ put (value_at old) s v b) → had ≡ length old → has ≡ length new → IsRewritten row is i 0 s v had has
+pub rewritten : {V : Type 0} (row is : Row V) (i : ℕ) (s : Range) (v : Option V) (old new : List (ByteRun V)) (had has : ℕ) → IsPut row is i 0 new → part_at row i ≡ old → AreRuns new → EndsBelow new (greatest + 1) → ((b : ℕ) → value_at new b ≡ put (value_at old) s v b) → had ≡ length old → has ≡ length new → IsRewritten row is i 0 s v had has
 rewritten row is i s v old new had has placed part made bounded bytes before now =
     let same : runs_within row i 0 ≡ old = append-nil (part_at row i) ∙ part in
     record {
@@ -296,7 +296,7 @@ rewritten row is i s v old new had has placed part made bounded bytes before now
       now = now;
     }
 
-pub no_runs : {V : Type 0} (l : List (Run V)) → length l ≡ 0 → l ≡ []
+pub no_runs : {V : Type 0} (l : List (ByteRun V)) → length l ≡ 0 → l ≡ []
 no_runs [] none = refl
 no_runs (r ∷ l) none = absurd (omega (arith, none))
 
@@ -307,7 +307,7 @@ remove_set (y ∷ l) zero x = refl
 remove_set (y ∷ l) (suc i) x = ap (λ z. y ∷ z) (remove_set l i x)
 
 -- a part that came to have no runs is taken out
-pub put_emptied : {V : Type 0} (row is : Row V) (i : ℕ) (new : List (Run V)) → (i ≡ 0 → ⊥) → i ≤ length row.rest.items → new ≡ [] → is.first ≡ row.first → is.rest.items ≡ remove (set row.rest.items (i - 1) new) (i - 1) → AreSome row.rest.items → IsPut row is i 0 new
+pub put_emptied : {V : Type 0} (row is : Row V) (i : ℕ) (new : List (ByteRun V)) → (i ≡ 0 → ⊥) → i ≤ length row.rest.items → new ≡ [] → is.first ≡ row.first → is.rest.items ≡ remove (set row.rest.items (i - 1) new) (i - 1) → AreSome row.rest.items → IsPut row is i 0 new
 put_emptied row is i new some le none first rest has = put_none row is i 0 row.rest.items new some le none (rejoined row.rest.items i) first (rest ∙ remove_set row.rest.items (i - 1) new) has
 
 -- the runs near a place are some of the row
@@ -317,11 +317,11 @@ near_few row i le =
     omega (arith, all)
 
 -- a part with the runs of the parts above it
-pub part_on : {V : Type 0} (l : List (List (Run V))) (i : ℕ) (part : List (Run V)) → i < length l → part ≡ get_or l i part → all_runs l ≡ all_runs (take i l) ++ (part ++ all_runs (drop (i + 1) l))
+pub part_on : {V : Type 0} (l : List (List (ByteRun V))) (i : ℕ) (part : List (ByteRun V)) → i < length l → part ≡ get_or l i part → all_runs l ≡ all_runs (take i l) ++ (part ++ all_runs (drop (i + 1) l))
 part_on l i part lt is = all_runs-split l i ∙ ap (λ x. all_runs (take i l) ++ all_runs x) (drop_read l i part lt is)
 
-pub part_runs : {V : Type 0} (l : List (List (Run V))) (i : ℕ) (part : List (Run V)) → i < length l → part ≡ get_or l i part → AreRuns (all_runs l) → AreRuns (part ++ all_runs (drop (i + 1) l))
+pub part_runs : {V : Type 0} (l : List (List (ByteRun V))) (i : ℕ) (part : List (ByteRun V)) → i < length l → part ≡ get_or l i part → AreRuns (all_runs l) → AreRuns (part ++ all_runs (drop (i + 1) l))
 part_runs l i part lt is runs = runs-back (all_runs (take i l)) (part ++ all_runs (drop (i + 1) l)) (subst AreRuns (part_on l i part lt is) runs)
 
-pub part_above : {V : Type 0} (l : List (List (Run V))) (i : ℕ) (part : List (Run V)) (n : ℕ) → i < length l → part ≡ get_or l i part → BeginAbove (all_runs l) n → BeginAbove part n
+pub part_above : {V : Type 0} (l : List (List (ByteRun V))) (i : ℕ) (part : List (ByteRun V)) (n : ℕ) → i < length l → part ≡ get_or l i part → BeginAbove (all_runs l) n → BeginAbove part n
 part_above l i part n lt is above = above-front part (all_runs (drop (i + 1) l)) n (above-back (all_runs (take i l)) (part ++ all_runs (drop (i + 1) l)) n (subst (λ x. BeginAbove x n) (part_on l i part lt is) above))

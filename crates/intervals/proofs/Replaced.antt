@@ -2,7 +2,7 @@
 use Rattle.std.proofs.Common.{◌≡◌, ℕ, pred, ◌+◌, ◌<◌, ◌≤◌, ◌≢◌, List, [], ◌∷◌, ◌++◌, Option, Some, None, refl, ap, sym, ◌∙◌, inl, inr, arith}
 use Rattle.std.proofs.lemmas.List.{append-nil}
 use Rattle.std.proofs.lemmas.Bool.{cases_lt}
-use Rattle.intervals.specs.declared.run.Run.{Run}
+use Rattle.intervals.specs.declared.byte_run.ByteRun.{ByteRun}
 use Rattle.intervals.specs.rule.Bytes.{put}
 use Rattle.intervals.specs.code.Runs.{value_at, AreRuns, EndsBelow}
 use Rattle.intervals.specs.code.Entries.{BeginAbove}
@@ -23,7 +23,7 @@ over_nothing None = refl
 over_nothing (Some v) = refl
 
 -- two lists together give the value of the first, or else of the second
-pub at-both : {V : Type 0} (l m : List (Run V)) (b : ℕ) → value_at (l ++ m) b ≡ over (value_at l b) (value_at m b)
+pub at-both : {V : Type 0} (l m : List (ByteRun V)) (b : ℕ) → value_at (l ++ m) b ≡ over (value_at l b) (value_at m b)
 unfolding value_at
 at-both [] m b = refl
 at-both (r ∷ l) m b = elim (cases_lt b r.lo) [
@@ -35,7 +35,7 @@ at-both (r ∷ l) m b = elim (cases_lt b r.lo) [
 ]
 
 -- runs that give no value from byte n on end below it
-ends_if_none : {V : Type 0} (l : List (Run V)) (n : ℕ) → AreRuns l → ((b : ℕ) → n ≤ b → value_at l b ≡ None) → EndsBelow l n
+ends_if_none : {V : Type 0} (l : List (ByteRun V)) (n : ℕ) → AreRuns l → ((b : ℕ) → n ≤ b → value_at l b ≡ None) → EndsBelow l n
 ends_if_none [] n runs none = tt
 ends_if_none (r ∷ l) n runs none =
     let under : r.hi < n = elim (cases_lt r.hi n) [
@@ -45,12 +45,12 @@ ends_if_none (r ∷ l) n runs none =
     (under, ends_if_none l n runs.2 (λ b le. sym (first-other r l b (inr (omega arith))) ∙ none b le))
 
 -- two lists of runs that do not join are a list of runs together
-runs-both : {V : Type 0} (l : List (Run V)) (s : Run V) (m : List (Run V)) → AreRuns l → AreRuns (s ∷ m) → EndsBelow l s.lo → ((b : ℕ) → b + 1 ≡ s.lo → value_at l b ≢ Some s.value) → AreRuns (l ++ s ∷ m)
+runs-both : {V : Type 0} (l : List (ByteRun V)) (s : ByteRun V) (m : List (ByteRun V)) → AreRuns l → AreRuns (s ∷ m) → EndsBelow l s.lo → ((b : ℕ) → b + 1 ≡ s.lo → value_at l b ≢ Some s.value) → AreRuns (l ++ s ∷ m)
 runs-both [] s m runs others ends other = others
 runs-both (r ∷ []) s m runs others ends other = (runs.0, (ends.0, λ beside same. other r.hi beside (first-some r [] r.hi runs.0 (omega arith) ∙ ap Some same)), others)
 runs-both (r ∷ t ∷ l) s m runs others ends other = (runs.0, runs.1, runs-both (t ∷ l) s m runs.2 others ends.1 (λ b beside some. other b beside (first-other r (t ∷ l) b (inr (omega (arith, runs.1.0, runs.2.0, ends.1.0))) ∙ some)))
 
-module _ {V : Type 0} (old new after : List (Run V)) (lo hi : ℕ) (value : Option V) (order : lo ≤ hi) (runs : AreRuns (old ++ after)) (made : AreRuns new) (bytes : (b : ℕ) → value_at new b ≡ put (value_at old) (record { lo = lo; hi = hi }) value b) where
+module _ {V : Type 0} (old new after : List (ByteRun V)) (lo hi : ℕ) (value : Option V) (order : lo ≤ hi) (runs : AreRuns (old ++ after)) (made : AreRuns new) (bytes : (b : ℕ) → value_at new b ≡ put (value_at old) (record { lo = lo; hi = hi }) value b) where
   past : (b : ℕ) → hi < b → value_at new b ≡ value_at old b
   past b lt = bytes b ∙ put-above (value_at old) (record { lo = lo; hi = hi }) value b lt
 
@@ -58,7 +58,7 @@ module _ {V : Type 0} (old new after : List (Run V)) (lo hi : ℕ) (value : Opti
   runs-before : BeginAbove after (hi + 1) → AreRuns (new ++ after)
   runs-before above = by after runs above
     where
-      by : (after : List (Run V)) → AreRuns (old ++ after) → BeginAbove after (hi + 1) → AreRuns (new ++ after)
+      by : (after : List (ByteRun V)) → AreRuns (old ++ after) → BeginAbove after (hi + 1) → AreRuns (new ++ after)
       by [] runs above = rw (append-nil new) made
       by (s ∷ m) runs above =
           let under = ends_before old s m runs in
@@ -78,11 +78,11 @@ module _ {V : Type 0} (old new after : List (Run V)) (lo hi : ℕ) (value : Opti
       ]
 
 -- runs of which some in the middle are rewritten are runs, and have the new value exactly on the span
-pub record AreReplaced {V : Type 0} (before old new after : List (Run V)) (lo hi : ℕ) (value : Option V) : Type 0 where
+pub record AreReplaced {V : Type 0} (before old new after : List (ByteRun V)) (lo hi : ℕ) (value : Option V) : Type 0 where
   pub runs : AreRuns (before ++ (new ++ after))
   pub bytes : (b : ℕ) → value_at (before ++ (new ++ after)) b ≡ put (value_at (before ++ (old ++ after))) (record { lo = lo; hi = hi }) value b
 
-pub replaced : {V : Type 0} (before old new after : List (Run V)) (lo hi : ℕ) (value : Option V) → lo ≤ hi → AreRuns (before ++ (old ++ after)) → EndsBelow before (pred lo) → BeginAbove after (hi + 1) → AreRuns new → ((b : ℕ) → value_at new b ≡ put (value_at old) (record { lo = lo; hi = hi }) value b) → AreReplaced before old new after lo hi value
+pub replaced : {V : Type 0} (before old new after : List (ByteRun V)) (lo hi : ℕ) (value : Option V) → lo ≤ hi → AreRuns (before ++ (old ++ after)) → EndsBelow before (pred lo) → BeginAbove after (hi + 1) → AreRuns new → ((b : ℕ) → value_at new b ≡ put (value_at old) (record { lo = lo; hi = hi }) value b) → AreReplaced before old new after lo hi value
 replaced before old new after lo hi value order runs ends above made bytes =
     let rest : AreRuns (old ++ after) = runs-back before (old ++ after) runs in
     let these : AreRuns (new ++ after) = runs-before old new after lo hi value order rest made bytes above in

@@ -1,7 +1,7 @@
 -- The number of runs of a row that begin below a byte.
 use Rattle.std.proofs.Common.{◌≡◌, ℕ, ◌+◌, ◌<◌, ◌≤◌, length, List, [], ◌∷◌, ◌++◌, subst, refl, ap, ◌∙◌, arith}
 use Rattle.std.proofs.lemmas.Bool.Decides.{nat_tests}
-use Rattle.intervals.specs.declared.run.Run.{Run}
+use Rattle.intervals.specs.declared.byte_run.ByteRun.{ByteRun}
 use Rattle.intervals.specs.code.Runs.{AreRuns, EndsBelow}
 use Rattle.intervals.specs.code.Entries.{BeginAbove}
 use Rattle.intervals.proofs.Starts as starts
@@ -11,36 +11,36 @@ use Rattle.intervals.proofs.Runs.{ends_below_le}
 use Rattle.intervals.proofs.Split.{runs-front}
 use Rattle.intervals.proofs.Places.{row_split}
 
-pub begin_below-both : {V : Type 0} (l m : List (Run V)) (n : ℕ) → starts.begin_below (l ++ m) n ≡ starts.begin_below l n + starts.begin_below m n
+pub begin_below-both : {V : Type 0} (l m : List (ByteRun V)) (n : ℕ) → starts.begin_below (l ++ m) n ≡ starts.begin_below l n + starts.begin_below m n
 begin_below-both [] m n = omega arith
 begin_below-both (r ∷ l) m n = let more = begin_below-both l m n in omega arith
 
 -- runs that end below both bytes begin below both
-pub ended_both : {V : Type 0} (l : List (Run V)) (lo hi : ℕ) → lo ≤ hi → AreRuns l → EndsBelow l lo → starts.begin_below l lo + 0 ≡ starts.begin_below l hi
+pub ended_both : {V : Type 0} (l : List (ByteRun V)) (lo hi : ℕ) → lo ≤ hi → AreRuns l → EndsBelow l lo → starts.begin_below l lo + 0 ≡ starts.begin_below l hi
 ended_both l lo hi order runs ends =
     let first = starts.begin_below_all l lo runs ends in
     let second = starts.begin_below_all l hi runs (ends_below_le l lo hi order ends) in
     omega arith
 
 -- none of the runs begins below byte n where the first begins at it or above it
-none_below : {V : Type 0} (r : Run V) (l : List (Run V)) (n : ℕ) → AreRuns (r ∷ l) → n ≤ r.lo → starts.begin_below (r ∷ l) n ≡ 0
+none_below : {V : Type 0} (r : ByteRun V) (l : List (ByteRun V)) (n : ℕ) → AreRuns (r ∷ l) → n ≤ r.lo → starts.begin_below (r ∷ l) n ≡ 0
 none_below r [] n runs le = grind (arith, nat_tests)
 none_below r (s ∷ l) n runs le = let more = none_below s l n runs.2 (omega (arith, runs.0, runs.1.0)) in grind (arith, nat_tests)
 
 -- none of the runs begins below byte n where all begin above it
-pub none_begin : {V : Type 0} (l : List (Run V)) (n : ℕ) → BeginAbove l n → starts.begin_below l n ≡ 0
+pub none_begin : {V : Type 0} (l : List (ByteRun V)) (n : ℕ) → BeginAbove l n → starts.begin_below l n ≡ 0
 none_begin [] n above = refl
 none_begin (r ∷ l) n above = let more = none_begin l n above.1 in let first : n < r.lo = above.0 in grind (arith, nat_tests)
 
 -- a count up to a run that begins at `hi` or above it is complete
-pub counted_to : {V : Type 0} (l : List (Run V)) (r : Run V) (m : List (Run V)) (lo hi count : ℕ) → AreRuns (r ∷ m) → lo ≤ hi → hi ≤ r.lo → starts.begin_below l lo + count ≡ starts.begin_below l hi → starts.begin_below (l ++ r ∷ m) lo + count ≡ starts.begin_below (l ++ r ∷ m) hi
+pub counted_to : {V : Type 0} (l : List (ByteRun V)) (r : ByteRun V) (m : List (ByteRun V)) (lo hi count : ℕ) → AreRuns (r ∷ m) → lo ≤ hi → hi ≤ r.lo → starts.begin_below l lo + count ≡ starts.begin_below l hi → starts.begin_below (l ++ r ∷ m) lo + count ≡ starts.begin_below (l ++ r ∷ m) hi
 counted_to l r m lo hi count runs order past counted =
     let first = none_below r m lo runs (omega arith) in
     let second = none_below r m hi runs past in
     omega (arith, begin_below-both l (r ∷ m) lo, begin_below-both l (r ∷ m) hi)
 
 -- a count with the runs of one more part
-pub counted_more : {V : Type 0} (l part : List (Run V)) (lo hi count more : ℕ) → starts.begin_below l lo + count ≡ starts.begin_below l hi → starts.begin_below part lo + more ≡ starts.begin_below part hi → starts.begin_below (l ++ part) lo + (count + more) ≡ starts.begin_below (l ++ part) hi
+pub counted_more : {V : Type 0} (l part : List (ByteRun V)) (lo hi count more : ℕ) → starts.begin_below l lo + count ≡ starts.begin_below l hi → starts.begin_below part lo + more ≡ starts.begin_below part hi → starts.begin_below (l ++ part) lo + (count + more) ≡ starts.begin_below (l ++ part) hi
 counted_more l part lo hi count more counted here = omega (arith, begin_below-both l part lo, begin_below-both l part hi)
 
 -- a count near a place is a count of the whole row

@@ -3,20 +3,20 @@ use Rattle.std.proofs.Common.{◌≡◌, ℕ, zero, suc, ◌+◌, ◌-◌, ◌<�
 use Rattle.std.proofs.lemmas.Bool.{cases_lt}
 use Rattle.std.proofs.lemmas.Bool.Decides.{nat_tests}
 use Rattle.std.specs.List.Sorted.{IsNonDecreasingBy}
-use Rattle.intervals.specs.declared.run.Run.{Run}
+use Rattle.intervals.specs.declared.byte_run.ByteRun.{ByteRun}
 use Rattle.intervals.specs.rule.Bytes.{Range, greatest, put, begins_after, is_start, starts_below, all_bytes, number_of_runs}
 use Rattle.intervals.specs.code.Runs.{value_at, AreRuns, EndsBelow}
 use Rattle.intervals.proofs.Runs.{at-below}
 use Rattle.intervals.proofs.Starts.{begin_below, number_of_runs-length}
 
 -- a later run begins above the first
-begins_later : {V : Type 0} (r : Run V) (l : List (Run V)) (j : ℕ) (d : Run V) → AreRuns (r ∷ l) → j < length l → r.lo ≤ (get_or l j d).lo
+begins_later : {V : Type 0} (r : ByteRun V) (l : List (ByteRun V)) (j : ℕ) (d : ByteRun V) → AreRuns (r ∷ l) → j < length l → r.lo ≤ (get_or l j d).lo
 begins_later r [] j d runs lt = absurd (omega arith)
 begins_later r (s ∷ l) zero d runs lt = omega (arith, runs.0, runs.1.0)
 begins_later r (s ∷ l) (suc j) d runs lt = let later = begins_later s l j d runs.2 (omega arith) in omega (arith, later, runs.0, runs.1.0)
 
 -- the first bytes of runs are in ascending order
-pub begins_rise : {V : Type 0} (l : List (Run V)) → AreRuns l → IsNonDecreasingBy (λ (r : Run V). r.lo) l
+pub begins_rise : {V : Type 0} (l : List (ByteRun V)) → AreRuns l → IsNonDecreasingBy (λ (r : ByteRun V). r.lo) l
 begins_rise [] runs i j d le lt = absurd (omega arith)
 begins_rise (r ∷ l) runs zero zero d le lt = omega arith
 begins_rise (r ∷ l) runs zero (suc j) d le lt = begins_later r l j d runs (omega arith)
@@ -24,7 +24,7 @@ begins_rise (r ∷ l) runs (suc i) zero d le lt = absurd (omega arith)
 begins_rise (r ∷ l) runs (suc i) (suc j) d le lt = begins_rise l runs.2 i j d (omega arith) (omega arith)
 
 -- the runs that begin below n are the ones before the first that doesn't
-pub begin_below_point : {V : Type 0} (l : List (Run V)) (p n : ℕ) → p ≤ length l → ((k : ℕ) (d : Run V) → k < p → (get_or l k d).lo < n) → ((k : ℕ) (d : Run V) → p ≤ k → k < length l → n ≤ (get_or l k d).lo) → begin_below l n ≡ p
+pub begin_below_point : {V : Type 0} (l : List (ByteRun V)) (p n : ℕ) → p ≤ length l → ((k : ℕ) (d : ByteRun V) → k < p → (get_or l k d).lo < n) → ((k : ℕ) (d : ByteRun V) → p ≤ k → k < length l → n ≤ (get_or l k d).lo) → begin_below l n ≡ p
 begin_below_point [] zero n le below above = refl
 begin_below_point [] (suc p) n le below above = absurd (omega arith)
 begin_below_point (r ∷ l) zero n le below above =
@@ -187,7 +187,7 @@ module _ {V : Type 0} (eq : V → V → Bool) (exact : (a b : V) → eq a b ≡ 
       rw here (omega arith)
 
   -- the number of runs after the span is written
-  pub number-written : (l : List (Run V)) (s : Range) (v : Option V) (low high first next : ℕ) → AreRuns l → EndsBelow l (greatest + 1) → s.lo ≤ s.hi → s.hi ≤ greatest → low ≡ starts_below eq (value_at l) s.lo → high ≡ starts_below eq (value_at l) (s.hi + 1 + 1) → high ≤ length l → first ≡ one (begins_after eq (before (value_at l) s.lo) v) → next ≡ one (begins_after eq v (value_at l (s.hi + 1))) → low + (length l - high) + first + next ≡ number_of_runs eq (put (value_at l) s v)
+  pub number-written : (l : List (ByteRun V)) (s : Range) (v : Option V) (low high first next : ℕ) → AreRuns l → EndsBelow l (greatest + 1) → s.lo ≤ s.hi → s.hi ≤ greatest → low ≡ starts_below eq (value_at l) s.lo → high ≡ starts_below eq (value_at l) (s.hi + 1 + 1) → high ≤ length l → first ≡ one (begins_after eq (before (value_at l) s.lo) v) → next ≡ one (begins_after eq v (value_at l (s.hi + 1))) → low + (length l - high) + first + next ≡ number_of_runs eq (put (value_at l) s v)
   number-written l s v low high first next runs ends ordered within lows highs few firsts nexts =
       let f : ℕ → Option V = value_at l in
       let none : f all_bytes ≡ None = at-below l all_bytes (greatest + 1) ends (omega (arith, bytes-are)) in

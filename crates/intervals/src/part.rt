@@ -4,7 +4,7 @@ ghost use Rattle.std.specs.Vec.{vec_len, vec_capacity};
 ghost use Rattle.intervals.specs.rule.Bytes.{greatest, put};
 ghost use Rattle.intervals.specs.code.Runs.{begins_at, value_at, AreRuns, EndsBelow};
 
-use crate::run::{Run, append_all, write};
+use crate::byte_run::{ByteRun, append_all, write};
 use crate::span::Span;
 use crate::span_map::Exact;
 use std::alloc::{AllocError, Global};
@@ -15,12 +15,12 @@ use std::marker::Model;
 #[derive(Drop)]
 pub(crate) struct Part<V> {
     first: u64,
-    runs: Vec<Run<V>>,
+    runs: Vec<ByteRun<V>>,
 }
 
 // The byte at which the first of the runs begins; 0 where there is no run.
 #[inline(always)]
-fn first_of<V: Exact>(runs: &[Run<V>]) -> u64
+fn first_of<V: Exact>(runs: &[ByteRun<V>]) -> u64
     ensures { result ≡ begins_at runs.now }
 {
     match runs.first() {
@@ -31,10 +31,10 @@ fn first_of<V: Exact>(runs: &[Run<V>]) -> u64
 
 impl<V> Model for Part<V> {
     ghost use Rattle.std.specs.Prelude.{◌≡◌, List};
-    ghost use Rattle.intervals.specs.declared.run.Run.{Run};
+    ghost use Rattle.intervals.specs.declared.byte_run.ByteRun.{ByteRun};
     ghost use Rattle.intervals.specs.code.Runs.{begins_at};
 
-    ghost Value = { List (Run V) };
+    ghost Value = { List (ByteRun V) };
 
     ghost view = { λ m. m.runs.items };
 
@@ -64,7 +64,7 @@ impl<V: Exact> Part<V> {
 
     // The runs of the part, in ascending order.
     #[inline(always)]
-    pub(crate) fn runs(&self) -> &[Run<V>]
+    pub(crate) fn runs(&self) -> &[ByteRun<V>]
         ensures { result.now ≡ self.now }
     {
         &self.runs
@@ -88,7 +88,7 @@ impl<V: Exact> Part<V> {
 
     // Gives each byte of the span the value, or no value, by `run::write`.
     #[inline]
-    pub(crate) fn write(&mut self, room: Vec<Run<V>>, span: Span, value: Option<V>)
+    pub(crate) fn write(&mut self, room: Vec<ByteRun<V>>, span: Span, value: Option<V>)
         requires empty { room.items ≡ [] }
         requires room { length self.old + length self.old < vec_capacity room }
         requires runs { AreRuns self.old }
@@ -103,7 +103,7 @@ impl<V: Exact> Part<V> {
 
     // Replaces the runs of the part. Where its own memory has room for the new runs they are moved
     // there. Takes no memory.
-    pub(crate) fn put(&mut self, mut runs: Vec<Run<V>>)
+    pub(crate) fn put(&mut self, mut runs: Vec<ByteRun<V>>)
         ensures { self.new ≡ runs.items }
     {
         self.first = first_of(&runs);
@@ -119,7 +119,7 @@ impl<V: Exact> Part<V> {
 
     // Moves the runs behind the first `kept` ones from `runs` to this part, in place of its own
     // runs, if it has room for them; else this part comes back without runs. Takes no memory.
-    pub(crate) fn with_rest(mut self, runs: &mut Vec<Run<V>>, kept: usize) -> Part<V>
+    pub(crate) fn with_rest(mut self, runs: &mut Vec<ByteRun<V>>, kept: usize) -> Part<V>
         requires { kept ≤ vec_len runs.old }
         ensures runs { runs.new.items ++ result ≡ runs.old.items }
         ensures kept { 0 < kept → 0 < length result → 0 < vec_len runs.new }

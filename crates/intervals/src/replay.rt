@@ -11,13 +11,13 @@ use std::alloc::{AllocError, Global};
 
 /// A write of a map: the value that each byte of the span gets, or none.
 #[derive(Clone, Copy)]
-pub struct Command<V> {
+pub struct SpanWrite<V> {
     pub span: Span,
     pub value: Option<V>,
 }
 
 // Makes one write of the map.
-fn perform<V: Exact, S: SpanMap<V>>(map: &mut S, command: &Command<V>) -> Result<(), AllocError>
+fn perform<V: Exact, S: SpanMap<V>>(map: &mut S, command: &SpanWrite<V>) -> Result<(), AllocError>
     ensures { OnOk result (S.at map.new ≡ put (S.at map.old) command.now.span command.now.value) }
 {
     match command.value {
@@ -29,7 +29,7 @@ fn perform<V: Exact, S: SpanMap<V>>(map: &mut S, command: &Command<V>) -> Result
 /// The map that the commands make in turn of one in which no byte has a value.
 pub fn replay<V: Exact, S: SpanMap<V>>(
     alloc: Global,
-    commands: &[Command<V>],
+    commands: &[SpanWrite<V>],
 ) -> Result<S, AllocError>
     ensures { IfOk result (λ map. S.at map ≡ replayed commands.now) }
 {

@@ -6,8 +6,8 @@ ghost use Rattle.intervals.specs.code.Runs.{value_at, AreRuns, EndsBelow};
 ghost use Rattle.intervals.specs.code.Entries.{BeginAbove};
 ghost use Rattle.intervals.specs.code.Parts.{all_runs, AreSome, BeginsTo, row_runs, runs_below, part_at, runs_above, runs_to, runs_within, IsPut, IsRewritten};
 
+use crate::byte_run::{ByteRun, begin_below, splice};
 use crate::part::Part;
-use crate::run::{Run, begin_below, splice};
 use crate::span::Span;
 use crate::span_map::Exact;
 use std::alloc::{AllocError, Global};
@@ -45,9 +45,9 @@ fn begin_to<V: Exact>(parts: &[Part<V>], byte: u64) -> usize
 // The first run of `runs` and then of `parts`, with the runs and parts behind it.
 #[inline]
 pub(crate) fn next_of<'a, V: Exact>(
-    runs: &'a [Run<V>],
+    runs: &'a [ByteRun<V>],
     parts: &'a [Part<V>],
-) -> Option<(Run<V>, &'a [Run<V>], &'a [Part<V>])>
+) -> Option<(ByteRun<V>, &'a [ByteRun<V>], &'a [Part<V>])>
     requires { AreSome parts.now }
     ensures next { MatchOption result (runs.now ++ all_runs parts.now ≡ []) (λ x. runs.now ++ all_runs parts.now ≡ x.0 ∷ (x.1.now ++ all_runs x.2.now)) }
     ensures some { IfSome result (λ x. AreSome x.2.now) }
@@ -77,7 +77,7 @@ fn make_room<V: Exact>(row: &mut Vec<Part<V>>, mut room: Vec<Part<V>>)
 // Of runs that are too many for one part: how many stay in the lower one. It is half of them; one
 // eighth where the write was at their lower end, and seven eighths where it was at their upper end,
 // so that parts are full where runs are written in order.
-fn kept_of<V: Exact>(runs: &[Run<V>], span: Span) -> usize
+fn kept_of<V: Exact>(runs: &[ByteRun<V>], span: Span) -> usize
     requires { 64 < length runs.now }
     ensures some { 0 < result }
     ensures within { result ≤ length runs.now }
@@ -91,7 +91,7 @@ fn kept_of<V: Exact>(runs: &[Run<V>], span: Span) -> usize
 }
 
 // Whether both lists have the same runs in the same order.
-fn are_same<V: Exact>(runs: &[Run<V>], others: &[Run<V>]) -> bool
+fn are_same<V: Exact>(runs: &[ByteRun<V>], others: &[ByteRun<V>]) -> bool
     ensures { result ≡ true → runs.now ≡ others.now }
 {
     runs == others
@@ -212,7 +212,7 @@ impl<V: Exact> Row<V> {
 
     // The runs of the part at place `at`.
     #[inline(always)]
-    pub(crate) fn part(&self, at: usize) -> &[Run<V>]
+    pub(crate) fn part(&self, at: usize) -> &[ByteRun<V>]
         requires { at ≤ vec_len self.now.rest }
         ensures { result.now ≡ part_at self.now at }
     {
@@ -308,7 +308,7 @@ impl<V: Exact> Row<V> {
     fn write_part(
         &mut self,
         at: usize,
-        room: Vec<Run<V>>,
+        room: Vec<ByteRun<V>>,
         span: Span,
         value: Option<V>,
     ) -> (usize, usize)
@@ -337,7 +337,12 @@ impl<V: Exact> Row<V> {
     // Moves the upper ones of the runs to the spare part, if they are too many for one part and
     // there is a spare one; else the result has no runs. Where it has some, the row has a place for
     // it. Takes no memory.
-    fn cut(&mut self, runs: &mut Vec<Run<V>>, spare: Option<Box<Spare<V>>>, span: Span) -> Part<V>
+    fn cut(
+        &mut self,
+        runs: &mut Vec<ByteRun<V>>,
+        spare: Option<Box<Spare<V>>>,
+        span: Span,
+    ) -> Part<V>
         ensures runs { runs.new.items ++ result ≡ runs.old.items }
         ensures first { self.new.first ≡ self.old.first }
         ensures rest { self.new.rest.items ≡ self.old.rest.items }
@@ -362,7 +367,7 @@ impl<V: Exact> Row<V> {
 
     // Replaces the runs of the part at place `at` and of the `more` parts above it by `runs`. Takes
     // no memory.
-    fn put(&mut self, at: usize, more: usize, runs: Vec<Run<V>>)
+    fn put(&mut self, at: usize, more: usize, runs: Vec<ByteRun<V>>)
         requires within { at + more ≤ vec_len self.old.rest }
         requires some { AreSome self.old.rest.items }
         ensures placed { IsPut self.old self.new at more runs.items }
@@ -408,7 +413,7 @@ impl<V: Exact> Row<V> {
         more: usize,
         span: Span,
         value: Option<V>,
-        mut room: Vec<Run<V>>,
+        mut room: Vec<ByteRun<V>>,
         spare: Option<Box<Spare<V>>>,
     ) -> (usize, usize)
         requires within { at + more ≤ vec_len self.old.rest }
@@ -438,7 +443,7 @@ impl<V: Exact> Row<V> {
         &mut self,
         span: Span,
         value: Option<V>,
-        room: Vec<Run<V>>,
+        room: Vec<ByteRun<V>>,
         spare: Option<Box<Spare<V>>>,
     ) -> (usize, usize)
         requires runs { AreRuns (row_runs self.old) }

@@ -2,8 +2,8 @@
 ghost use Rattle.std.specs.Prelude.{◌≡◌, ◌+◌, ◌<◌, []};
 ghost use Rattle.std.specs.Vec.{vec_capacity};
 
+use crate::byte_run::ByteRun;
 use crate::row::Spare;
-use crate::run::Run;
 use crate::span::Span;
 
 /// A planned write of a map: the value, or none, that each byte of the span gets. It holds memory
@@ -14,7 +14,7 @@ pub struct SpanEdit<V> {
     pub span: Span,
     pub value: Option<V>,
     pub runs: usize,
-    pub(crate) room: Vec<Run<V>>,
+    pub(crate) room: Vec<ByteRun<V>>,
     pub(crate) spare: Option<Box<Spare<V>>>,
     ghost empty: { room.items ≡ [] },
     ghost enough: { runs + runs < vec_capacity room },

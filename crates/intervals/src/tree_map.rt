@@ -7,8 +7,8 @@ ghost use Rattle.intervals.specs.code.Runs.{bytes_of, value_at, IsLowestFree, Is
 ghost use Rattle.intervals.specs.code.Edits.{written};
 ghost use Rattle.intervals.specs.code.Entries.{NoneFrom, NoneBelow, IsNext, IsPrevious};
 
+use crate::byte_run::{ByteRun, begin_after, is_barred, last_to, split_before};
 use crate::row::{Row, next_of};
-use crate::run::{Run, begin_after, is_barred, last_to, split_before};
 use crate::span::Span;
 use crate::span_edit::SpanEdit;
 use crate::span_map::{Exact, SpanMap};
@@ -30,12 +30,12 @@ pub struct TreeMap<V> {
 
 impl<V> Model for TreeMap<V> {
     ghost use Rattle.std.specs.Prelude.{◌≡◌, List, ◌+◌, length};
-    ghost use Rattle.intervals.specs.declared.run.Run.{Run};
+    ghost use Rattle.intervals.specs.declared.byte_run.ByteRun.{ByteRun};
     ghost use Rattle.intervals.specs.rule.Bytes.{greatest};
     ghost use Rattle.intervals.specs.code.Runs.{AreRuns, EndsBelow};
     ghost use Rattle.intervals.specs.code.Parts.{row_runs, AreSome};
 
-    ghost Value = { List (Run V) };
+    ghost Value = { List (ByteRun V) };
 
     ghost view = { λ m. row_runs m.row };
 
@@ -102,7 +102,7 @@ impl<V: Exact> TreeMap<V> {
 
     // The run that contains the byte, if the byte has a value.
     #[inline]
-    fn run_of(&self, byte: u64) -> Option<Run<V>>
+    fn run_of(&self, byte: u64) -> Option<ByteRun<V>>
         ensures { MatchOption result (value_at self.now byte ≡ None) (λ run. IsRun (value_at self.now) (bytes_of run) run.value × (run.lo ≤ byte) × (byte ≤ run.hi) × (run.hi ≤ greatest)) }
     {
         let at = self.row.place(byte);
@@ -114,7 +114,7 @@ impl<V: Exact> TreeMap<V> {
     }
 
     /// The first run that ends at the byte or above.
-    pub fn next(&self, byte: u64) -> Option<Run<V>>
+    pub fn next(&self, byte: u64) -> Option<ByteRun<V>>
         ensures { MatchOption result (NoneFrom (value_at self.now) byte) (IsNext (value_at self.now) byte) }
     {
         let at = self.row.place(byte);
@@ -148,7 +148,7 @@ impl<V: Exact> TreeMap<V> {
     }
 
     // The last run that begins below the byte.
-    fn previous(&self, byte: u64) -> Option<Run<V>>
+    fn previous(&self, byte: u64) -> Option<ByteRun<V>>
         ensures { MatchOption result (NoneBelow (value_at self.now) byte) (IsPrevious (value_at self.now) byte) }
     {
         if byte == 0 {

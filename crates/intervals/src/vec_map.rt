@@ -6,8 +6,8 @@ ghost use Rattle.intervals.specs.rule.Bytes.{greatest, nothing, number_of_runs, 
 ghost use Rattle.intervals.specs.code.Runs.{bytes_of, value_at};
 ghost use Rattle.intervals.specs.code.Edits.{written};
 
-use crate::run::{
-    Run, begin_after, begin_below, highest_free, is_barred, lowest_free, split_before, write,
+use crate::byte_run::{
+    ByteRun, begin_after, begin_below, highest_free, is_barred, lowest_free, split_before, write,
 };
 use crate::span::Span;
 use crate::span_edit::SpanEdit;
@@ -21,16 +21,16 @@ use std::marker::Model;
 /// all runs move to memory for twice as many.
 #[derive(Drop)]
 pub struct VecMap<V> {
-    runs: Vec<Run<V>>,
+    runs: Vec<ByteRun<V>>,
 }
 
 impl<V> Model for VecMap<V> {
     ghost use Rattle.std.specs.Prelude.{List, ◌+◌};
-    ghost use Rattle.intervals.specs.declared.run.Run.{Run};
+    ghost use Rattle.intervals.specs.declared.byte_run.ByteRun.{ByteRun};
     ghost use Rattle.intervals.specs.rule.Bytes.{greatest};
     ghost use Rattle.intervals.specs.code.Runs.{AreRuns, EndsBelow};
 
-    ghost Value = { List (Run V) };
+    ghost Value = { List (ByteRun V) };
 
     ghost view = { λ m. m.runs.items };
 
@@ -83,14 +83,14 @@ impl<V: Exact> VecMap<V> {
     }
 
     /// The longest runs of one value, in ascending order.
-    pub fn runs(&self) -> &[Run<V>]
+    pub fn runs(&self) -> &[ByteRun<V>]
         ensures { result.now ≡ self.now }
     {
         &self.runs
     }
 
     // The run that contains the byte, if the byte has a value.
-    fn run_of(&self, byte: u64) -> Option<Run<V>>
+    fn run_of(&self, byte: u64) -> Option<ByteRun<V>>
         ensures { MatchOption result (value_at self.now byte ≡ None) (λ run. IsRun (value_at self.now) (bytes_of run) run.value × (run.lo ≤ byte) × (byte ≤ run.hi) × (run.hi ≤ greatest)) }
     {
         let (_, rest) = split_before(&self.runs, byte);

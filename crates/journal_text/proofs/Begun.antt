@@ -17,8 +17,8 @@ use Rattle.lockscript.proofs.Passes.{IsSingle, ended}
 use Rattle.journal_text.specs.declared.lines.JournalLine.{JournalLine}
 use Rattle.journal_text.specs.declared.lines.JournalLine.TheVariants.{End}
 use Rattle.journal_text.specs.declared.named_entry.NamedEntry.{NamedEntry}
-use Rattle.journal_text.specs.declared.place.Phase.TheVariants.{Ended}
-use Rattle.journal_text.specs.declared.place.Place.{Place}
+use Rattle.journal_text.specs.declared.journal_place.Phase.TheVariants.{Ended}
+use Rattle.journal_text.specs.declared.journal_place.JournalPlace.{JournalPlace}
 use Rattle.journal_text.specs.rule.Journals.{head_text}
 use Rattle.journal_text.specs.rule.Lines.{IsCount, IsServedLine, line_text}
 use Rattle.journal_text.specs.code.Places.{IsMisplaced, IsStuck, StandsNext, place, start}
@@ -68,7 +68,7 @@ begun-first text s rest begins shape_in = record {
 texts-push : (s : ShapeFields) (js : List JournalLine) (j : JournalLine) → texts_of s js ++ line_text s.version j ∷ [] ≡ texts_of s (js ++ j ∷ [])
 texts-push s js j = ap (λ (ls : List (List ℕ)). head_text s ∷ ls) (sym (map-append (line_text s.version) js (j ∷ [])))
 
-pub begun-line : (text : List ℕ) (s : ShapeFields) (r : Reading) (rest : List ℕ) (taken : ℕ) (j : JournalLine) (q : Place) (after : List ℕ)
+pub begun-line : (text : List ℕ) (s : ShapeFields) (r : Reading) (rest : List ℕ) (taken : ℕ) (j : JournalLine) (q : JournalPlace) (after : List ℕ)
     → Begun text s r rest taken → StandsNext s.version (place_of r) rest j q after → (f : Further r j q) → Begun text s f.reading after (taken + 1)
 begun-line text s r rest taken j q after begun stands f =
     let texts = texts-push s (read_lines r) j ∙ ap (texts_of s) (sym f.lines) in
@@ -79,7 +79,7 @@ begun-line text s r rest taken j q after begun stands f =
       shape_in = begun.shape_in;
       lines_in = subst (All (IsServedLine s.version)) (sym f.lines) (All-push (IsServedLine s.version) (read_lines r) j begun.lines_in stands.served);
       fits = f.fits s.version stands.served begun.fits;
-      ran = ap (run (Some start)) f.lines ∙ run-append (Some start) (read_lines r) (j ∷ []) ∙ ap (λ (p : Option Place). run p (j ∷ [])) begun.ran ∙ stands.next ∙ ap (λ (p : Place). Some p) (sym f.stands);
+      ran = ap (run (Some start)) f.lines ∙ run-append (Some start) (read_lines r) (j ∷ []) ∙ ap (λ (p : Option JournalPlace). run p (j ∷ [])) begun.ran ∙ stands.next ∙ ap (λ (p : JournalPlace). Some p) (sym f.stands);
     }
 
 -- a text that ends behind the last line is a journal
@@ -163,10 +163,10 @@ continues v (j ∷ js) (k ∷ ks) line more js_in ks_in e =
     }
 
 -- no journal goes on with a line that may not stand there
-not-next : (v : Version) (js : List JournalLine) (p : Place) (es : List NamedEntry) (line : List ℕ) → run (Some start) js ≡ Some p → IsMisplaced v p line → Continues v js (body_lines es) line → ⊥
+not-next : (v : Version) (js : List JournalLine) (p : JournalPlace) (es : List NamedEntry) (line : List ℕ) → run (Some start) js ≡ Some p → IsMisplaced v p line → Continues v js (body_lines es) line → ⊥
 not-next v js p es line ran wrong c =
-    let stopped = run-append (Some start) js (c.next_line ∷ c.behind) ∙ ap (λ (q : Option Place). run q (c.next_line ∷ c.behind)) ran
-    ∙ ap (λ (q : Option Place). run q c.behind) (wrong c.next_line c.served c.text) ∙ run-none c.behind in
+    let stopped = run-append (Some start) js (c.next_line ∷ c.behind) ∙ ap (λ (q : Option JournalPlace). run q (c.next_line ∷ c.behind)) ran
+    ∙ ap (λ (q : Option JournalPlace). run q c.behind) (wrong c.next_line c.served c.text) ∙ run-none c.behind in
     let ends = sym (run-journal es) ∙ ap (run (Some start)) c.same ∙ stopped in
     none-some (place (length es) Ended) (sym ends)
 
@@ -178,7 +178,7 @@ one-version s t texts ks s_in t_in ks_in e =
       subst (λ (x : ShapeFields). All (IsServedLine x.version) ks) (sym same) ks_in,
     )
 
-not-begun : (s : ShapeFields) (js : List JournalLine) (p : Place) (line : List ℕ) → IsShape s → All (IsServedLine s.version) js → run (Some start) js ≡ Some p → IsMisplaced s.version p line → Begins AreJournal (texts_of s js ++ line ∷ []) → ⊥
+not-begun : (s : ShapeFields) (js : List JournalLine) (p : JournalPlace) (line : List ℕ) → IsShape s → All (IsServedLine s.version) js → run (Some start) js ≡ Some p → IsMisplaced s.version p line → Begins AreJournal (texts_of s js ++ line ∷ []) → ⊥
 not-begun s js p line s_in js_in ran wrong b =
     let t = b.1.0 in
     let es = b.1.1.0 in
@@ -188,15 +188,15 @@ not-begun s js p line s_in js_in ran wrong b =
     not-next s.version js p es line ran wrong (continues s.version js (body_lines es) line b.0 js_in rest.1 rest.0)
 
 -- lines behind which the last line may stand are not yet a journal
-not-whole : (s t : ShapeFields) (js : List JournalLine) (p : Place) (es : List NamedEntry) → IsShape s → All (IsServedLine s.version) js → run (Some start) js ≡ Some p → (p.phase ≡ Ended → ⊥) → Writes (texts_of s js) t es → ⊥
+not-whole : (s t : ShapeFields) (js : List JournalLine) (p : JournalPlace) (es : List NamedEntry) → IsShape s → All (IsServedLine s.version) js → run (Some start) js ≡ Some p → (p.phase ≡ Ended → ⊥) → Writes (texts_of s js) t es → ⊥
 not-whole s t js p es s_in js_in ran unended w =
     let rest = one-version s t (map (line_text s.version) js) (body_lines es) s_in w.shape_in w.lines_in w.texts in
     let same = lines-same s.version js (body_lines es) js_in rest.1 rest.0 in
     let ends = sym ran ∙ ap (run (Some start)) same ∙ run-journal es in
     let here = some-same p (place (length es) Ended) ends in
-    unended (ap (λ (q : Place). q.phase) here)
+    unended (ap (λ (q : JournalPlace). q.phase) here)
 
-bad-begun : (s : ShapeFields) (js : List JournalLine) (p : Place) (rest : List ℕ) → IsShape s → All (IsServedLine s.version) js → run (Some start) js ≡ Some p → IsStuck s.version p rest → IsBadNext AreJournal (texts_of s js) rest
+bad-begun : (s : ShapeFields) (js : List JournalLine) (p : JournalPlace) (rest : List ℕ) → IsShape s → All (IsServedLine s.version) js → run (Some start) js ≡ Some p → IsStuck s.version p rest → IsBadNext AreJournal (texts_of s js) rest
 bad-begun s js p rest s_in js_in ran (no_line none unended) = has_no_line none (λ gone are. not-whole s are.0 js p are.1.0 s_in js_in ran (unended gone) are.1.1)
 bad-begun s js p rest s_in js_in ran (misplaced line after begins wrong) = stands_wrong line after begins (not-begun s js p line s_in js_in ran wrong)
 

@@ -7,23 +7,23 @@ use Rattle.messages.specs.declared.message.Message.{Message}
 use Rattle.journal_text.specs.declared.lines.JournalLine.{JournalLine}
 use Rattle.journal_text.specs.declared.lines.JournalLine.TheVariants.{Entry, Send, End}
 use Rattle.journal_text.specs.declared.named_entry.NamedEntry.{NamedEntry}
-use Rattle.journal_text.specs.declared.place.Phase.{Phase}
-use Rattle.journal_text.specs.declared.place.Phase.TheVariants.{Empty, Begun, Sending, Ended}
-use Rattle.journal_text.specs.declared.place.Place.{Place}
+use Rattle.journal_text.specs.declared.journal_place.Phase.{Phase}
+use Rattle.journal_text.specs.declared.journal_place.Phase.TheVariants.{Empty, Begun, Sending, Ended}
+use Rattle.journal_text.specs.declared.journal_place.JournalPlace.{JournalPlace}
 use Rattle.journal_text.specs.code.Places.{next_place, place, start}
 use Rattle.journal_text.specs.rule.Readings.{answer_lines, body_lines, entry_lines, lines_of}
 use Rattle.journal_text.proofs.Steps.{empty-open, end-open, entry-open, phase_of, phase_of-open}
 
-abbrev pub next : Option Place → JournalLine → Option Place
+abbrev pub next : Option JournalPlace → JournalLine → Option JournalPlace
 next None j = None
 next (Some p) j = next_place p.count p.phase j
 
 -- the place behind lines each of which may stand where it does
-abbrev pub run : Option Place → List JournalLine → Option Place
+abbrev pub run : Option JournalPlace → List JournalLine → Option JournalPlace
 run p [] = p
 run p (j ∷ js) = run (next p j) js
 
-pub run-append : (p : Option Place) (js ks : List JournalLine) → run p (js ++ ks) ≡ run (run p js) ks
+pub run-append : (p : Option JournalPlace) (js ks : List JournalLine) → run p (js ++ ks) ≡ run (run p js) ks
 run-append p [] ks = refl
 run-append p (j ∷ js) ks = run-append (next p j) js ks
 
@@ -50,7 +50,7 @@ next-entry count phase e unended =
 run-entry : (count : ℕ) (phase : Phase) (e : NamedEntry) (more : List JournalLine) → (phase ≡ Ended → ⊥)
     → run (Some (place count phase)) (entry_lines (count + 1) e ++ more) ≡ run (Some (place (count + 1) (phase_of e.reply e.sends))) more
 run-entry count phase e more unended =
-    ap (λ (p : Option Place). run p ((answer_lines e.reply ++ map Send e.sends) ++ more)) (next-entry count phase e unended) ∙ run-rest (count + 1) e.reply e.sends more
+    ap (λ (p : Option JournalPlace). run p ((answer_lines e.reply ++ map Send e.sends) ++ more)) (next-entry count phase e unended) ∙ run-rest (count + 1) e.reply e.sends more
 
 -- the place behind the lines of entries and the last line
 run-entries : (count : ℕ) (phase : Phase) (es : List NamedEntry) (told : ℕ) → (phase ≡ Ended → ⊥) → told ≡ count + length es

@@ -10,9 +10,9 @@ use Rattle.journal_text.specs.declared.lines.JournalLine.{JournalLine}
 use Rattle.journal_text.specs.declared.lines.JournalLine.TheVariants.{Entry, Answer, Send, End}
 use Rattle.journal_text.specs.declared.named_entry.NamedEntry.{NamedEntry}
 use Rattle.journal_text.specs.declared.named_event.NamedEvent.{NamedEvent}
-use Rattle.journal_text.specs.declared.place.Phase.{Phase}
-use Rattle.journal_text.specs.declared.place.Phase.TheVariants.{Empty, Begun, Sending, Ended}
-use Rattle.journal_text.specs.declared.place.Place.{Place}
+use Rattle.journal_text.specs.declared.journal_place.Phase.{Phase}
+use Rattle.journal_text.specs.declared.journal_place.Phase.TheVariants.{Empty, Begun, Sending, Ended}
+use Rattle.journal_text.specs.declared.journal_place.JournalPlace.{JournalPlace}
 use Rattle.journal_text.specs.code.Built.{BuilderFields, built, fields}
 use Rattle.messages.specs.declared.version.Version.{Version}
 use Rattle.journal_text.specs.rule.Lines.{IsCount, IsServedLine}
@@ -43,7 +43,7 @@ phase_of None [] = Begun
 phase_of None (m ∷ ms) = Sending
 phase_of (Some answer) sends = Sending
 
-abbrev pub place_of : Reading → Place
+abbrev pub place_of : Reading → JournalPlace
 place_of nothing = start
 place_of (some es event reply sends) = place (length es + 1) (phase_of reply sends)
 place_of (whole es) = place (length es) Ended
@@ -60,10 +60,10 @@ last-only b (Answer call reply) last same = ap (λ (x : Option NamedEntry). (bui
 last-only b (Send message) last same = ap (λ (x : Option NamedEntry). (built (fields [] x) (Send message)).last) same
 last-only b (End count) last same = refl
 
-pub none-some : (q : Place) → ◌≡◌ {A = Option Place} None (Some q) → ⊥
+pub none-some : (q : JournalPlace) → ◌≡◌ {A = Option JournalPlace} None (Some q) → ⊥
 none-some q e = absurd (cc)
 
-pub some-same : (p q : Place) → ◌≡◌ {A = Option Place} (Some p) (Some q) → p ≡ q
+pub some-same : (p q : JournalPlace) → ◌≡◌ {A = Option JournalPlace} (Some p) (Some q) → p ≡ q
 some-same p q e = cc
 
 pub empty-open : Empty ≡ Ended → ⊥
@@ -120,12 +120,12 @@ send-more event reply sends message k =
     ap (λ (js : List JournalLine). Entry k event ∷ (answer_lines reply ++ js)) (map-append Send sends (message ∷ []))
     ∙ ap (λ (js : List JournalLine). Entry k event ∷ js) (sym (append_assoc (answer_lines reply) (map Send sends) (Send message ∷ [])))
 
-if-some : (b : Bool) (p q : Place) → (if b then Some p else None) ≡ Some q → (b ≡ true) × (p ≡ q)
+if-some : (b : Bool) (p q : JournalPlace) → (if b then Some p else None) ≡ Some q → (b ≡ true) × (p ≡ q)
 if-some true p q e = (refl, some-same p q e)
 if-some false p q e = absurd (none-some q e)
 
 -- the part of a journal that was read, with one more line
-pub record Further (r : Reading) (j : JournalLine) (q : Place) : Type 0 where
+pub record Further (r : Reading) (j : JournalLine) (q : JournalPlace) : Type 0 where
   pub reading : Reading
   pub lines : read_lines reading ≡ read_lines r ++ j ∷ []
   pub stands : place_of reading ≡ q
@@ -137,7 +137,7 @@ entry-further es old position event e =
     let counted : 1 + length (es ++ old ∷ []) ≡ position = omega (arith, e, length-append es (old ∷ [])) in
     lines_of-push 1 (es ++ old ∷ []) (named event None []) ∙ ap (λ (k : ℕ). lines_of 1 (es ++ old ∷ []) ++ Entry k event ∷ []) counted
 
-answer-further : (es : List NamedEntry) (event : NamedEvent) (old : Option (CallId × Reply)) (sends : List Message) (call : CallId) (reply : Reply) (q : Place)
+answer-further : (es : List NamedEntry) (event : NamedEvent) (old : Option (CallId × Reply)) (sends : List Message) (call : CallId) (reply : Reply) (q : JournalPlace)
     → after_answer (length es + 1) (phase_of old sends) ≡ Some q → Further (some es event old sends) (Answer call reply) q
 answer-further es event None [] call reply q e = record {
   reading = some es event (Some (call, reply)) [];
@@ -149,7 +149,7 @@ answer-further es event None [] call reply q e = record {
 answer-further es event None (m ∷ ms) call reply q e = absurd (none-some q e)
 answer-further es event (Some answer) sends call reply q e = absurd (none-some q e)
 
-pub further : (r : Reading) (j : JournalLine) (q : Place) → next_place (place_of r).count (place_of r).phase j ≡ Some q → Further r j q
+pub further : (r : Reading) (j : JournalLine) (q : JournalPlace) → next_place (place_of r).count (place_of r).phase j ≡ Some q → Further r j q
 further nothing (Entry position event) q e =
     let found = if-some (eqb position (0 + 1)) (place position Begun) q e in
     let first : position ≡ 0 + 1 = eqb-true position (0 + 1) found.0 in

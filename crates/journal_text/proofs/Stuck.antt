@@ -4,17 +4,17 @@ use Rattle.messages.specs.declared.version.Version.{Version}
 use Rattle.texts.specs.rule.Reads.{Reads}
 use Rattle.lockscript.specs.declared.error.ParseError.{ParseError}
 use Rattle.journal_text.specs.declared.lines.JournalLine.{JournalLine}
-use Rattle.journal_text.specs.declared.place.Place.{Place}
+use Rattle.journal_text.specs.declared.journal_place.JournalPlace.{JournalPlace}
 use Rattle.journal_text.specs.rule.Lines.{IsServedLine, line_text}
 use Rattle.journal_text.specs.code.Places.{IsMisplaced, next_place}
 use Rattle.journal_text.proofs.LineKinds.{line as line_texts}
 
 -- bytes that are the text of no line are misplaced
-pub misplaced-none : (version : Version) (p : Place) (bytes : List ℕ) → Reads (line_text version) (IsServedLine version) bytes None → IsMisplaced version p bytes
+pub misplaced-none : (version : Version) (p : JournalPlace) (bytes : List ℕ) → Reads (line_text version) (IsServedLine version) bytes None → IsMisplaced version p bytes
 misplaced-none version p bytes none j served e = absurd (none j served e)
 
 -- a line that may not stand here is misplaced
-pub misplaced-line : (version : Version) (p : Place) (bytes : List ℕ) (j : JournalLine) → IsServedLine version j → bytes ≡ line_text version j → next_place p.count p.phase j ≡ None → IsMisplaced version p bytes
+pub misplaced-line : (version : Version) (p : JournalPlace) (bytes : List ℕ) (j : JournalLine) → IsServedLine version j → bytes ≡ line_text version j → next_place p.count p.phase j ≡ None → IsMisplaced version p bytes
 misplaced-line version p bytes j j_in text none k k_in e =
     subst (λ (x : JournalLine). next_place p.count p.phase x ≡ None) ((line_texts version).apart j k j_in k_in (sym text ∙ e)) none
 

@@ -6,7 +6,7 @@ ghost use Rattle.journal_text.specs.rule.Readings.{BeginsAs, HasLength, IsBadLin
 
 use crate::builder::Builder;
 use crate::head::head_of;
-use crate::reader::Reader;
+use crate::journal_reader::JournalReader;
 use crate::sink::Sink;
 use lockscript::error::ParseError;
 use lockscript::lines::split_line;
@@ -45,7 +45,7 @@ pub fn shape_of(text: &str) -> Result<Shape, ParseError>
     ensures shape { IfOk result (BeginsAs text.now) }
     ensures bad { IfErr result (IsBadLine text.now) }
 {
-    Reader::new(text).first_line()
+    JournalReader::new(text).first_line()
 }
 
 /// Whether the first line of the text is that of a journal of version 1, whatever stands behind
@@ -71,7 +71,7 @@ pub fn measure(text: &str) -> Result<(Shape, u32), ParseError>
     ensures journal { IfOk result (λ found. HasLength text.now found.0 found.1) }
     ensures bad { IfErr result (IsBadLine text.now) }
 {
-    let mut reader = Reader::new(text);
+    let mut reader = JournalReader::new(text);
     let shape = reader.first_line()?;
     while reader.pass_line(shape.version())? {}
     Ok((shape, reader.count()))
@@ -87,7 +87,7 @@ pub fn read_each<K: Sink>(alloc: Global, text: &str, sink: &mut K) -> Result<Sha
     ensures journal { IfOk result (λ shape. (es : List EntryFields) × WritesJournal text.now shape es × (K.took sink.old shape [] → K.took sink.new shape es)) }
     ensures bad { IfErr result (λ error. error ≢ NoMemory → IsBadLine text.now error) }
 {
-    let mut reader = Reader::new(text);
+    let mut reader = JournalReader::new(text);
     let shape = reader.first_line()?;
     let mut builder = Builder::new();
     while let Some(line) = reader.next_line(shape.version())? {

@@ -4,15 +4,15 @@ use Rattle.std.specs.Prelude.{◌⊎◌, ⊤, All, Any}
 use Rattle.std.proofs.lemmas.List.{take_all}
 use Rattle.std.proofs.lemmas.List.Elements.{All-more, All-nil}
 use Rattle.history_text.specs.declared.file_calls.FileCalls.{FileCalls}
-use Rattle.history_text.specs.declared.history.History.{History}
+use Rattle.history_text.specs.declared.written_history.WrittenHistory.{WrittenHistory}
 use Rattle.judgements.specs.declared.judged.Judged.{Judged}
 use Rattle.judgements.specs.declared.judged.Judged.TheVariants.{Explained, Contradicted, Unknown}
-use Rattle.judgements.specs.declared.outcome.Outcome.{Outcome}
-use Rattle.judgements.specs.declared.outcome.Outcome.TheVariants as outcome
+use Rattle.judgements.specs.declared.judgement_outcome.JudgementOutcome.{JudgementOutcome}
+use Rattle.judgements.specs.declared.judgement_outcome.JudgementOutcome.TheVariants as outcome
 use Rattle.judgements.specs.rule.Judgements.{HasOneClock, IsContradicted, IsExplained, IsJudged, IsOutcome, outcome_of}
 
 -- the outcome of the first files is true of them, where the history has one clock: each is explained, or one isn't
-pub record SoFar (history : History) (said : Outcome) (count : ℕ) : Type 0 where
+pub record SoFar (history : WrittenHistory) (said : JudgementOutcome) (count : ℕ) : Type 0 where
   pub yes : said ≡ outcome.Yes → HasOneClock history → All IsExplained (take count history.files.items)
   pub no : said ≡ outcome.No → HasOneClock history → Any IsContradicted history.files.items
 
@@ -27,7 +27,7 @@ contradicted-file file (Contradicted misfits unknown) word is = is
 contradicted-file file (Unknown call) word is = absurd (cc)
 
 -- one more file is judged
-pub so-far-more : (history : History) (was now said : Outcome) (count : ℕ) (file : FileCalls) (found : Judged) → count < length history.files.items → file ≡ get_or history.files.items count file
+pub so-far-more : (history : WrittenHistory) (was now said : JudgementOutcome) (count : ℕ) (file : FileCalls) (found : Judged) → count < length history.files.items → file ≡ get_or history.files.items count file
     → (HasOneClock history → IsJudged file found) → now ≡ outcome_of found → (said ≡ outcome.Yes → (was ≡ outcome.Yes) × (now ≡ outcome.Yes)) → (said ≡ outcome.No → (was ≡ outcome.No) ⊎ (now ≡ outcome.No))
     → SoFar history was count → SoFar history said (count + 1)
 so-far-more history was now said count file found lt at judged is explained contradicted before = record {
@@ -41,7 +41,7 @@ so-far-more history was now said count file found lt at judged is explained cont
 }
 
 -- all files are judged
-pub so-far-all : (history : History) (said : Outcome) (count : ℕ) → length history.files.items ≤ count → SoFar history said count → IsOutcome history said
+pub so-far-all : (history : WrittenHistory) (said : JudgementOutcome) (count : ℕ) → length history.files.items ≤ count → SoFar history said count → IsOutcome history said
 so-far-all history outcome.Yes count whole far = λ clock. subst (All IsExplained) (take_all count history.files.items whole) (far.yes refl clock)
 so-far-all history outcome.Unknown count whole far = tt
 so-far-all history outcome.No count whole far = far.no refl

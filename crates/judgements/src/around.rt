@@ -8,7 +8,7 @@ const BESIDE: usize = 10;
 
 // A time, and the index of a call.
 #[derive(Clone, Copy)]
-struct Event {
+struct TimedCall {
     time: u64,
     call: usize,
 }
@@ -48,11 +48,11 @@ fn ended_by(
     calls: &[LineCall],
     call: usize,
     time: u64,
-) -> Result<Vec<Event>, AllocError> {
+) -> Result<Vec<TimedCall>, AllocError> {
     let mut events = Vec::new(alloc);
     for (index, other) in calls.iter().enumerate() {
         if index != call && end_of(other) <= time {
-            events.push(Event {
+            events.push(TimedCall {
                 time: end_of(other),
                 call: index,
             })?;
@@ -68,7 +68,7 @@ fn next_behind(
     calls: &[LineCall],
     call: usize,
     time: u64,
-) -> Result<Vec<Event>, AllocError> {
+) -> Result<Vec<TimedCall>, AllocError> {
     let mut events = Vec::new(alloc);
     for (index, other) in calls.iter().enumerate() {
         if index != call && end_of(other) > time {
@@ -77,7 +77,7 @@ fn next_behind(
             } else {
                 end_of(other)
             };
-            events.push(Event {
+            events.push(TimedCall {
                 time: next,
                 call: index,
             })?;

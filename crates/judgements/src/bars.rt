@@ -1,9 +1,9 @@
 //! The bars of calls in a picture. A function here that gives a `Result` answers `AllocError` where a request for
 //! memory was refused.
 use crate::call_words::{asked, push_answer};
-use crate::drawing::{Bar, Drawing, Look, Row, Words};
 use crate::line_call::LineCall;
 use crate::lines::line_of;
+use crate::misfit_drawing::{BarWords, DrawnBar, DrawnRow, Look, MisfitDrawing};
 use client_history::act::Act;
 use model::owner::Owner;
 use std::alloc::{AllocError, Global};
@@ -12,7 +12,7 @@ use std::alloc::{AllocError, Global};
 /// by their begins, and are in lines of the text. The call in line `misfit` fits nowhere.
 pub(crate) fn add_owner(
     alloc: Global,
-    drawing: &mut Drawing,
+    drawing: &mut MisfitDrawing,
     text: &str,
     calls: &[LineCall],
     owner: &Owner,
@@ -33,11 +33,11 @@ pub(crate) fn add_owner(
 
 // Adds the bar of a call to the row with this index, which is free from the call's begin on.
 fn add_bar(
-    drawing: &mut Drawing,
+    drawing: &mut MisfitDrawing,
     row: usize,
     near: &LineCall,
     look: Look,
-    words: Words,
+    words: BarWords,
 ) -> Result<(), AllocError> {
     let from = drawing.times.place(near.call.begin);
     let to = match near.call.end {
@@ -51,7 +51,7 @@ fn add_bar(
     if let Some(taken) = drawing.rows.get_mut(row) {
         taken.behind = behind;
     }
-    drawing.bars.push(Bar {
+    drawing.bars.push(DrawnBar {
         row,
         from,
         to,
@@ -76,12 +76,12 @@ fn look_of(near: &LineCall, misfit: u64) -> Look {
 }
 
 // The words of a call, which is in a line of the text.
-fn words_of(alloc: Global, text: &str, near: &LineCall) -> Result<Words, AllocError> {
+fn words_of(alloc: Global, text: &str, near: &LineCall) -> Result<BarWords, AllocError> {
     let number = near.line;
     let line = line_of(text, number);
     let mut second = format!(in alloc; "line {number}: ")?;
     push_answer(&mut second, line, &near.call)?;
-    Ok(Words {
+    Ok(BarWords {
         title: format!(in alloc; "line {number}: {line}")?,
         first: asked(alloc, line, &near.call)?,
         second,
@@ -92,7 +92,7 @@ fn words_of(alloc: Global, text: &str, near: &LineCall) -> Result<Words, AllocEr
 // none is.
 fn free_row(
     alloc: Global,
-    rows: &mut Vec<Row>,
+    rows: &mut Vec<DrawnRow>,
     first: usize,
     name: &str,
     place: usize,
@@ -103,7 +103,7 @@ fn free_row(
         }
     }
     let index = rows.len();
-    rows.push(Row {
+    rows.push(DrawnRow {
         name: String::from_str(alloc, name)?,
         behind: 0,
     })?;

@@ -1,8 +1,8 @@
 //! The drawing of the tables below the calls of a picture.
 ghost use Rattle.std.specs.Prelude.{◌<◌, ◌^◌};
 
-use crate::drawing::{Drawing, DrawnSpan, SpanKind, Track};
 use crate::fitting::push_fitting;
+use crate::misfit_drawing::{DrawnSpan, DrawnTrack, MisfitDrawing, SpanKind};
 use crate::scale::Scale;
 use crate::sheet::{track_top, width, x_of_byte};
 use intervals::span::GREATEST;
@@ -20,15 +20,15 @@ use svg::point::Point;
 pub(crate) fn push_tracks(
     out: &mut String,
     alloc: Global,
-    drawing: &Drawing,
+    drawing: &MisfitDrawing,
 ) -> Result<(), AllocError> {
     let right = width(drawing);
     for (index, track) in drawing.tracks.iter().enumerate() {
         let top = track_top(drawing.rows.len(), index);
         match track {
-            Track::Table { words } => push_heading(out, top, right, words)?,
-            Track::Spans { name, spans } => push_spans(out, alloc, top, name, spans)?,
-            Track::Bytes { scale } => push_scale(out, top, scale)?,
+            DrawnTrack::Table { words } => push_heading(out, top, right, words)?,
+            DrawnTrack::Spans { name, spans } => push_spans(out, alloc, top, name, spans)?,
+            DrawnTrack::Bytes { scale } => push_scale(out, top, scale)?,
         }
     }
     Ok(())

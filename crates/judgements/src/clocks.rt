@@ -1,7 +1,7 @@
 //! The times of calls by clocks that may be off.
 use client_history::client_call::ClientCall;
 use history_text::file_calls::FileCalls;
-use history_text::history::History;
+use history_text::written_history::WrittenHistory;
 use indexmap::IndexMap;
 use model::owner::Owner;
 use std::alloc::{AllocError, Global};
@@ -14,7 +14,7 @@ use texts::text::split_at_first;
 /// `AllocError` where a request for memory was refused.
 pub(crate) fn widened(
     alloc: Global,
-    history: &History,
+    history: &WrittenHistory,
     file: &FileCalls,
 ) -> Result<FileCalls, AllocError> {
     let skews = skews_of(alloc, history)?;
@@ -44,7 +44,10 @@ fn wider(call: &ClientCall, skew: u64) -> ClientCall {
 }
 
 // How far the clock of each machine may be off, by the machine's name.
-fn skews_of<'a>(alloc: Global, history: &'a History) -> Result<IndexMap<&'a str, u64>, AllocError> {
+fn skews_of<'a>(
+    alloc: Global,
+    history: &'a WrittenHistory,
+) -> Result<IndexMap<&'a str, u64>, AllocError> {
     let mut skews = IndexMap::new(alloc);
     for machine in &history.machines {
         skews.insert(machine.name.as_str(), machine.skew)?;
@@ -53,7 +56,7 @@ fn skews_of<'a>(alloc: Global, history: &'a History) -> Result<IndexMap<&'a str,
 }
 
 // How far the clock of the owner's machine may be off.
-fn skew_of(history: &History, skews: &IndexMap<&str, u64>, owner: &Owner) -> u64 {
+fn skew_of(history: &WrittenHistory, skews: &IndexMap<&str, u64>, owner: &Owner) -> u64 {
     let Some(name) = history.name_of(owner) else {
         return 0;
     };

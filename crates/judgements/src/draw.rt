@@ -3,15 +3,15 @@
 use crate::bars::add_owner;
 use crate::call_words::{asked, span_of};
 use crate::clocks::widened;
-use crate::drawing::Drawing;
 use crate::judged::{Judged, Misfit};
 use crate::line_call::LineCall;
 use crate::lines::line_of;
 use crate::locks::{file_name, owner_name};
+use crate::misfit_drawing::MisfitDrawing;
 use crate::picture::picture_of;
 use crate::stretch::{calls_around, owners_of, times_of};
-use crate::tracks::{Request, add_table};
-use history_text::history::History;
+use crate::tracks::{RequestedBytes, add_table};
+use history_text::written_history::WrittenHistory;
 use std::alloc::{AllocError, Global};
 
 /// A picture, as SVG, of the first call in the file with this index that was found to fit nowhere, if there is one.
@@ -19,7 +19,7 @@ use std::alloc::{AllocError, Global};
 /// table that there may be before it which owner has which bytes.
 pub(crate) fn drawn(
     alloc: Global,
-    history: &History,
+    history: &WrittenHistory,
     text: &str,
     file: usize,
     found: &Judged,
@@ -40,11 +40,11 @@ pub(crate) fn drawn(
 // made.
 fn drawing_of(
     alloc: Global,
-    history: &History,
+    history: &WrittenHistory,
     text: &str,
     file: usize,
     misfit: &Misfit,
-) -> Result<Drawing, AllocError> {
+) -> Result<MisfitDrawing, AllocError> {
     let calls = match history.files.get(file) {
         Some(of_file) => {
             let wider = widened(alloc, history, of_file)?;
@@ -55,7 +55,7 @@ fn drawing_of(
     let (line, name) = (misfit.line, file_name(history, file));
     let heading = format!(in alloc; "line {line} fits nowhere, file {name}")?;
     let times = times_of(alloc, calls.as_slice())?;
-    let mut drawing = Drawing::new(alloc, heading, times);
+    let mut drawing = MisfitDrawing::new(alloc, heading, times);
     add_bars(alloc, &mut drawing, history, text, calls.as_slice(), line)?;
     add_tables(alloc, &mut drawing, history, text, calls.as_slice(), misfit)?;
     Ok(drawing)
@@ -64,8 +64,8 @@ fn drawing_of(
 // Adds the bars of these calls, owner by owner.
 fn add_bars(
     alloc: Global,
-    drawing: &mut Drawing,
-    history: &History,
+    drawing: &mut MisfitDrawing,
+    history: &WrittenHistory,
     text: &str,
     calls: &[LineCall],
     misfit: u64,
@@ -80,8 +80,8 @@ fn add_bars(
 // Adds the tables before the call that fits nowhere, which is one of these calls.
 fn add_tables(
     alloc: Global,
-    drawing: &mut Drawing,
-    history: &History,
+    drawing: &mut MisfitDrawing,
+    history: &WrittenHistory,
     text: &str,
     calls: &[LineCall],
     misfit: &Misfit,
@@ -90,7 +90,7 @@ fn add_tables(
         return Ok(());
     };
     let words = asked(alloc, line_of(text, near.line), &near.call)?;
-    let request = Request {
+    let request = RequestedBytes {
         span: span_of(&near.call.act),
         words: words.as_str(),
     };

@@ -6,26 +6,26 @@ ghost use Rattle.judgements.specs.rule.Judgements.{HasOneClock, IsJudged, IsOutc
 use crate::clocks::widened;
 use crate::draw::drawn;
 use crate::judged::{Judged, judge_file};
+use crate::judgement_outcome::JudgementOutcome;
 use crate::judging::Judging;
-use crate::outcome::Outcome;
-use crate::told::Told;
+use crate::report_texts::ReportTexts;
 use crate::{json, report};
 use history_text::file_calls::FileCalls;
-use history_text::history::History;
+use history_text::written_history::WrittenHistory;
 use std::alloc::{AllocError, Global};
 
 /// Judges each file of the history, which the text writes. Gives the outcome of all together, and adds what is to be
 /// printed of them.
 pub(crate) fn files_judged(
     alloc: Global,
-    history: &History,
+    history: &WrittenHistory,
     text: &str,
     judging: Judging,
-    told: &mut Told,
-) -> Result<Outcome, AllocError>
+    told: &mut ReportTexts,
+) -> Result<JudgementOutcome, AllocError>
     ensures { IfOk result (IsOutcome history.now) }
 {
-    let mut outcome = Outcome::Yes;
+    let mut outcome = JudgementOutcome::Yes;
     for file in 0..history.files.len() {
         let found = file_judged(alloc, history, &history.files[file], judging)?;
         outcome = outcome.with(found.outcome());
@@ -37,7 +37,7 @@ pub(crate) fn files_judged(
 // Judges the calls of a file, each in all the time in which it may have been made.
 fn file_judged(
     alloc: Global,
-    history: &History,
+    history: &WrittenHistory,
     file: &FileCalls,
     judging: Judging,
 ) -> Result<Judged, AllocError>
@@ -53,8 +53,8 @@ fn file_judged(
 // Adds what is to be printed of a file.
 fn push_found(
     alloc: Global,
-    told: &mut Told,
-    history: &History,
+    told: &mut ReportTexts,
+    history: &WrittenHistory,
     text: &str,
     file: usize,
     found: &Judged,

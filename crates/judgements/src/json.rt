@@ -3,17 +3,17 @@
 use crate::before::Before;
 use crate::json_parts::{push_numbers, push_string};
 use crate::judged::{Judged, Misfit};
+use crate::judgement_outcome::JudgementOutcome;
 use crate::lines::line_of;
 use crate::locks::{file_name, owner_name, segment_of};
 use crate::observed::Observed;
 use crate::orders::mentions_of;
-use crate::outcome::Outcome;
 use crate::places::Mention;
 use crate::report::line_at;
 use crate::stats::{FileStats, Stats};
-use history_text::counts::Counts;
-use history_text::history::History;
+use history_text::line_counts::LineCounts;
 use history_text::rule::{Allowed, RULES};
+use history_text::written_history::WrittenHistory;
 use model::lock_info::LockInfo;
 use std::alloc::{AllocError, Global};
 use std::fmt::Write;
@@ -24,7 +24,7 @@ use texts::words::Named;
 pub(crate) fn push_found(
     alloc: Global,
     out: &mut String,
-    history: &History,
+    history: &WrittenHistory,
     text: &str,
     file: usize,
     found: &Judged,
@@ -63,7 +63,7 @@ fn push_unknown(out: &mut String, line: Option<u64>) -> Result<(), AllocError> {
 fn push_order(
     alloc: Global,
     out: &mut String,
-    history: &History,
+    history: &WrittenHistory,
     file: usize,
     order: &[usize],
 ) -> Result<(), AllocError> {
@@ -94,7 +94,7 @@ fn push_mention(out: &mut String, mention: &Mention) -> Result<(), AllocError> {
 // Adds the calls that fit nowhere.
 fn push_misfits(
     out: &mut String,
-    history: &History,
+    history: &WrittenHistory,
     text: &str,
     misfits: &[Misfit],
 ) -> Result<(), AllocError> {
@@ -111,7 +111,7 @@ fn push_misfits(
 // Adds a call that fits nowhere, and the tables that there may be before it.
 fn push_misfit(
     out: &mut String,
-    history: &History,
+    history: &WrittenHistory,
     text: &str,
     misfit: &Misfit,
 ) -> Result<(), AllocError> {
@@ -129,7 +129,11 @@ fn push_misfit(
 }
 
 // Adds the locks of a table, the one of them that blocks the call, and the calls that are open there.
-fn push_table(out: &mut String, history: &History, table: &Before) -> Result<(), AllocError> {
+fn push_table(
+    out: &mut String,
+    history: &WrittenHistory,
+    table: &Before,
+) -> Result<(), AllocError> {
     out.push_str("{\"locks\":[")?;
     let mut comma = "";
     for lock in &table.locks {
@@ -148,7 +152,11 @@ fn push_table(out: &mut String, history: &History, table: &Before) -> Result<(),
 }
 
 // Adds a lock.
-fn push_lock(out: &mut String, history: &History, lock: &LockInfo) -> Result<(), AllocError> {
+fn push_lock(
+    out: &mut String,
+    history: &WrittenHistory,
+    lock: &LockInfo,
+) -> Result<(), AllocError> {
     let (start, len) = segment_of(lock.span);
     let mode = lock.mode.word();
     write!(
@@ -168,7 +176,7 @@ pub(crate) fn push_head(out: &mut String, path: &str) -> Result<(), AllocError> 
 /// Adds the outcome of a history, and what was found of its files.
 pub(crate) fn push_outcome(
     out: &mut String,
-    outcome: Outcome,
+    outcome: JudgementOutcome,
     found: &str,
 ) -> Result<(), AllocError> {
     let word = outcome.word();
@@ -178,7 +186,7 @@ pub(crate) fn push_outcome(
 /// Adds whether orders explain a history, or the first file whose order doesn't.
 pub(crate) fn push_ordered(
     out: &mut String,
-    history: &History,
+    history: &WrittenHistory,
     unexplained: Option<usize>,
 ) -> Result<(), AllocError> {
     match unexplained {
@@ -207,7 +215,7 @@ pub(crate) fn push_allowed(out: &mut String, allowed: Allowed) -> Result<(), All
 
 /// Adds the counts.
 pub(crate) fn push_stats(out: &mut String, stats: &Stats<'_>) -> Result<(), AllocError> {
-    let Counts {
+    let LineCounts {
         calls,
         exits,
         silent,

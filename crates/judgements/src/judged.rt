@@ -3,7 +3,7 @@ ghost use Rattle.std.specs.Prelude.{◌≡◌, IfOk};
 ghost use Rattle.judgements.specs.rule.Judgements.{IsContradicted, IsJudged, outcome_of};
 
 use crate::before::{Before, tables_before};
-use crate::outcome::Outcome;
+use crate::judgement_outcome::JudgementOutcome;
 use client_history::client_call::ClientCall;
 use client_history::judge::judge;
 use client_history::verdict::Verdict;
@@ -39,13 +39,13 @@ pub struct Misfit {
 
 impl Judged {
     /// The finding in a word.
-    pub fn outcome(&self) -> Outcome
+    pub fn outcome(&self) -> JudgementOutcome
         ensures { result ≡ outcome_of self.now }
     {
         match self {
-            Judged::Explained { .. } => Outcome::Yes,
-            Judged::Contradicted { .. } => Outcome::No,
-            Judged::Unknown { .. } => Outcome::Unknown,
+            Judged::Explained { .. } => JudgementOutcome::Yes,
+            Judged::Contradicted { .. } => JudgementOutcome::No,
+            Judged::Unknown { .. } => JudgementOutcome::Unknown,
         }
     }
 }

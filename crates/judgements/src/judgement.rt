@@ -5,24 +5,24 @@ ghost use Rattle.judgements.specs.rule.Judgements.{IsJudgement, IsOrdered};
 
 use crate::error::JudgeError;
 use crate::file_judgement::files_judged;
+use crate::judgement_outcome::JudgementOutcome;
 use crate::judging::Judging;
 use crate::ordered::first_unexplained;
 use crate::orders::{OrdersError, orders_of};
-use crate::outcome::Outcome;
 use crate::places::Mention;
+use crate::report_texts::ReportTexts;
 use crate::stats::Stats;
-use crate::told::Told;
 use crate::{json, report};
 use history_text::error::ReadError;
-use history_text::history::History;
 use history_text::reading::read;
 use history_text::rule::Allowed;
+use history_text::written_history::WrittenHistory;
 use std::alloc::{AllocError, Global};
 
 /// The judgement of a history: its outcome, and what is printed of it, in lines or as a picture.
 #[derive(Drop)]
 pub struct Judgement {
-    pub outcome: Outcome,
+    pub outcome: JudgementOutcome,
     pub text: String,
 }
 
@@ -41,7 +41,7 @@ pub fn judge_history(
     ensures { IfOk result (λ judgement. IsJudgement judging.allowed text.now judgement.outcome) }
 {
     let history = history_of(alloc, path, text, judging.allowed)?;
-    let mut told = Told::new(alloc);
+    let mut told = ReportTexts::new(alloc);
     let outcome = files_judged(alloc, &history, text, judging, &mut told)?;
     let text = match told.picture.take() {
         Some(picture) => picture,
@@ -71,8 +71,8 @@ pub fn judge_orders(
     let unexplained = first_unexplained(alloc, &history, orders.as_slice())?;
     let text = ordered_text(alloc, path, &history, unexplained, judging)?;
     let outcome = match unexplained {
-        Some(_) => Outcome::No,
-        None => Outcome::Yes,
+        Some(_) => JudgementOutcome::No,
+        None => JudgementOutcome::Yes,
     };
     Ok(Judgement { outcome, text })
 }
@@ -83,7 +83,7 @@ fn history_of(
     path: &str,
     text: &str,
     allowed: Allowed,
-) -> Result<History, JudgeError>
+) -> Result<WrittenHistory, JudgeError>
     ensures { IfOk result (IsHistoryOf allowed text.now) }
 {
     match read(alloc, text, allowed) {
@@ -102,7 +102,7 @@ fn history_of(
 // The orders that the text writes, which is the content of the file at this path.
 fn orders_in(
     alloc: Global,
-    history: &History,
+    history: &WrittenHistory,
     path: &str,
     text: &str,
 ) -> Result<Vec<Vec<Mention>>, JudgeError> {
@@ -119,9 +119,9 @@ fn orders_in(
 fn outcome_text(
     alloc: Global,
     path: &str,
-    history: &History,
-    outcome: Outcome,
-    told: &Told,
+    history: &WrittenHistory,
+    outcome: JudgementOutcome,
+    told: &ReportTexts,
     judging: Judging,
 ) -> Result<String, AllocError> {
     let mut out = String::new(alloc);
@@ -140,7 +140,7 @@ fn outcome_text(
 fn ordered_text(
     alloc: Global,
     path: &str,
-    history: &History,
+    history: &WrittenHistory,
     unexplained: Option<usize>,
     judging: Judging,
 ) -> Result<String, AllocError> {
@@ -159,7 +159,7 @@ fn ordered_text(
 fn push_end(
     alloc: Global,
     out: &mut String,
-    history: &History,
+    history: &WrittenHistory,
     judging: Judging,
 ) -> Result<(), AllocError> {
     if judging.json {

@@ -1,5 +1,5 @@
 //! The locks, owners and files of a history, as histories write them.
-use history_text::history::History;
+use history_text::written_history::WrittenHistory;
 use intervals::span::{GREATEST, Span};
 use model::owner::Owner;
 
@@ -15,11 +15,11 @@ pub(crate) fn segment_of(span: Span) -> (u64, u64) {
 }
 
 /// The name of an owner, or `?`.
-pub(crate) fn owner_name<'a>(history: &'a History, owner: &Owner) -> &'a str {
+pub(crate) fn owner_name<'a>(history: &'a WrittenHistory, owner: &Owner) -> &'a str {
     history.name_of(owner).unwrap_or("?")
 }
 
 /// The name of the file with this index, or `?`.
-pub(crate) fn file_name(history: &History, file: usize) -> &str {
+pub(crate) fn file_name(history: &WrittenHistory, file: usize) -> &str {
     history.names.get(file).unwrap_or("?")
 }

@@ -1,5 +1,5 @@
 //! The count of locks that other owners observed.
-use crate::held::{Held, calls_by_begin, held_in, meet};
+use crate::timed_lock::{TimedLock, calls_by_begin, held_in, meet};
 use client_history::act::Act;
 use client_history::client_call::ClientCall;
 use history_text::file_calls::FileCalls;
@@ -32,9 +32,9 @@ pub(crate) fn observed_in(alloc: Global, file: &FileCalls) -> Result<Observed, A
             continue;
         }
         taken = take_begun(&held, taken, call.end.unwrap_or(u64::MAX), &mut unseen)?;
-        unseen.retain(|lock: &Held| lock.until >= call.begin);
+        unseen.retain(|lock: &TimedLock| lock.until >= call.begin);
         let before = unseen.len();
-        unseen.retain(|lock: &Held| !sees(&call, lock));
+        unseen.retain(|lock: &TimedLock| !sees(&call, lock));
         observed = observed.saturating_add(before.saturating_sub(unseen.len()) as u64);
     }
     Ok(Observed {
@@ -45,10 +45,10 @@ pub(crate) fn observed_in(alloc: Global, file: &FileCalls) -> Result<Observed, A
 
 // Adds the locks from this index on that begin at that time or earlier. Gives the index of the next one.
 fn take_begun(
-    held: &[Held],
+    held: &[TimedLock],
     from: usize,
     time: u64,
-    unseen: &mut Vec<Held>,
+    unseen: &mut Vec<TimedLock>,
 ) -> Result<usize, AllocError> {
     let mut taken = from;
     for lock in held.iter().skip(from) {
@@ -70,7 +70,7 @@ fn is_denied(call: &ClientCall) -> bool {
 }
 
 // Whether the denied call may be denied by this lock, as far as the denial says.
-fn sees(call: &ClientCall, lock: &Held) -> bool {
+fn sees(call: &ClientCall, lock: &TimedLock) -> bool {
     match call.act {
         Act::IsDenied { mode, span, told } => {
             let is_told = match told.owner {

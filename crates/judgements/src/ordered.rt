@@ -8,13 +8,13 @@ use crate::orders::indexes_of;
 use crate::places::Mention;
 use client_history::explains::explains;
 use history_text::file_calls::FileCalls;
-use history_text::history::History;
+use history_text::written_history::WrittenHistory;
 use std::alloc::{AllocError, Global};
 
 /// The index of the first file whose order does not explain its calls, if there is one.
 pub(crate) fn first_unexplained(
     alloc: Global,
-    history: &History,
+    history: &WrittenHistory,
     orders: &[Vec<Mention>],
 ) -> Result<Option<usize>, AllocError>
     ensures { IfOk result (λ file. file ≡ None → HasOneClock history.now → All IsExplained history.now.files.items) }
@@ -34,7 +34,7 @@ pub(crate) fn first_unexplained(
 // Whether the order explains the calls of a file, each in all the time in which it may have been made.
 fn is_explained(
     alloc: Global,
-    history: &History,
+    history: &WrittenHistory,
     file: &FileCalls,
     order: &[Mention],
 ) -> Result<bool, AllocError>

@@ -1,7 +1,7 @@
 //! Orders of calls, as `judge --order` prints them.
 use crate::places::{Mention, Places};
 use history_text::file_calls::FileCalls;
-use history_text::history::History;
+use history_text::written_history::WrittenHistory;
 use indexmap::IndexMap;
 use std::alloc::{AllocError, Global};
 use texts::text::{after, split_field};
@@ -30,7 +30,7 @@ impl From<AllocError> for OrdersError {
 /// that the history doesn't have or that had an order before.
 pub(crate) fn orders_of(
     alloc: Global,
-    history: &History,
+    history: &WrittenHistory,
     text: &str,
 ) -> Result<Vec<Vec<Mention>>, OrdersError> {
     let files = files_by_name(alloc, history)?;
@@ -48,7 +48,7 @@ pub(crate) fn orders_of(
 // The indexes of the history's files, by their names.
 fn files_by_name<'a>(
     alloc: Global,
-    history: &'a History,
+    history: &'a WrittenHistory,
 ) -> Result<IndexMap<&'a str, usize>, AllocError> {
     let mut files = IndexMap::new(alloc);
     for file in 0..history.names.count() {
@@ -60,7 +60,7 @@ fn files_by_name<'a>(
 }
 
 // An empty order for each file.
-fn no_orders(alloc: Global, history: &History) -> Result<Vec<Vec<Mention>>, AllocError> {
+fn no_orders(alloc: Global, history: &WrittenHistory) -> Result<Vec<Vec<Mention>>, AllocError> {
     let mut orders = Vec::new(alloc);
     for _ in &history.files {
         orders.push(Vec::new(alloc))?;

@@ -1,7 +1,7 @@
 //! The drawing of a picture, as SVG.
 use crate::below::push_tracks;
-use crate::drawing::{Bar, Drawing, Look};
 use crate::fitting::push_fitting;
+use crate::misfit_drawing::{DrawnBar, Look, MisfitDrawing};
 use crate::sheet::{height, row_top, width, x_of};
 use crate::style::{LEGEND, STYLE};
 use std::alloc::{AllocError, Global};
@@ -19,7 +19,7 @@ use svg::point::Point;
 ///
 /// # Errors
 /// `AllocError` where a request for memory was refused.
-pub(crate) fn picture_of(alloc: Global, drawing: &Drawing) -> Result<String, AllocError> {
+pub(crate) fn picture_of(alloc: Global, drawing: &MisfitDrawing) -> Result<String, AllocError> {
     let mut out = String::new(alloc);
     push_size(&mut out, width(drawing), height(drawing))?;
     out.push_str(STYLE)?;
@@ -37,7 +37,7 @@ pub(crate) fn picture_of(alloc: Global, drawing: &Drawing) -> Result<String, All
 }
 
 // Draws the times, each second one a line lower, and from each a line through all rows.
-fn push_times(out: &mut String, drawing: &Drawing) -> Result<(), AllocError> {
+fn push_times(out: &mut String, drawing: &MisfitDrawing) -> Result<(), AllocError> {
     let bottom = row_top(drawing.rows.len());
     for (place, time) in drawing.times.marks.iter().enumerate() {
         let middle = x_of(place) + 33;
@@ -55,7 +55,7 @@ fn push_times(out: &mut String, drawing: &Drawing) -> Result<(), AllocError> {
 }
 
 // Draws the rows: the name of each, and a line.
-fn push_rows(out: &mut String, alloc: Global, drawing: &Drawing) -> Result<(), AllocError> {
+fn push_rows(out: &mut String, alloc: Global, drawing: &MisfitDrawing) -> Result<(), AllocError> {
     let right = width(drawing);
     for (index, row) in drawing.rows.iter().enumerate() {
         let top = row_top(index);
@@ -77,8 +77,8 @@ fn push_rows(out: &mut String, alloc: Global, drawing: &Drawing) -> Result<(), A
 fn push_bar(
     out: &mut String,
     alloc: Global,
-    drawing: &Drawing,
-    bar: &Bar,
+    drawing: &MisfitDrawing,
+    bar: &DrawnBar,
 ) -> Result<(), AllocError> {
     let (left, top) = (x_of(bar.from), row_top(bar.row));
     let wide = bar_width(drawing, bar);
@@ -112,7 +112,7 @@ fn push_bar(
 }
 
 // The width of a call's bar.
-fn bar_width(drawing: &Drawing, bar: &Bar) -> u128 {
+fn bar_width(drawing: &MisfitDrawing, bar: &DrawnBar) -> u128 {
     let left = x_of(bar.from);
     match bar.to {
         Some(to) => x_of(to.saturating_add(1)).saturating_sub(left + 2),

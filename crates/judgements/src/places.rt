@@ -41,7 +41,7 @@ impl Mention {
 
 /// The calls of one line: the index of the first one, and which of them was named last, from 1; 0 where none was.
 #[derive(Clone, Copy)]
-struct Place {
+struct CallsAtLine {
     line: u64,
     first: usize,
     named: u64,
@@ -51,7 +51,7 @@ struct Place {
 #[derive(Drop)]
 pub(crate) struct Places<'a> {
     lines: &'a [u64],
-    places: Vec<Place>,
+    places: Vec<CallsAtLine>,
 }
 
 impl<'a> Places<'a> {
@@ -61,7 +61,7 @@ impl<'a> Places<'a> {
         let mut before = 0;
         for (first, line) in file.lines.iter().enumerate() {
             if *line != before {
-                places.push(Place {
+                places.push(CallsAtLine {
                     line: *line,
                     first,
                     named: 0,
@@ -107,7 +107,7 @@ impl<'a> Places<'a> {
     }
 
     // The calls of the line, if it has any.
-    fn place_of(&mut self, line: u64) -> Option<&mut Place> {
+    fn place_of(&mut self, line: u64) -> Option<&mut CallsAtLine> {
         match self.places.binary_search_by(|place| place.line.cmp(&line)) {
             Ok(found) => self.places.get_mut(found),
             Err(_) => None,

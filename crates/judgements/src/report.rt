@@ -2,17 +2,17 @@
 //! for memory was refused.
 use crate::before::Before;
 use crate::judged::{Judged, Misfit};
+use crate::judgement_outcome::JudgementOutcome;
 use crate::judging::Judging;
 use crate::lines::line_of;
 use crate::locks::{file_name, owner_name, segment_of};
 use crate::observed::Observed;
 use crate::orders::mentions_of;
-use crate::outcome::Outcome;
+use crate::report_texts::ReportTexts;
 use crate::stats::Stats;
-use crate::told::Told;
-use history_text::counts::Counts;
-use history_text::history::History;
+use history_text::line_counts::LineCounts;
 use history_text::rule::{Allowed, RULES};
+use history_text::written_history::WrittenHistory;
 use model::lock_info::LockInfo;
 use std::alloc::{AllocError, Global};
 use std::fmt::Write;
@@ -24,8 +24,8 @@ pub(crate) const MOST_TOLD: usize = 20;
 /// Adds what was found of the calls of the file with this index, of a history that the text writes.
 pub(crate) fn push_found(
     alloc: Global,
-    told: &mut Told,
-    history: &History,
+    told: &mut ReportTexts,
+    history: &WrittenHistory,
     text: &str,
     file: usize,
     found: &Judged,
@@ -53,12 +53,12 @@ pub(crate) fn push_found(
 }
 
 /// The line of the call with this index in the file with that index.
-pub(crate) fn line_at(history: &History, file: usize, call: usize) -> Option<u64> {
+pub(crate) fn line_at(history: &WrittenHistory, file: usize, call: usize) -> Option<u64> {
     history.files.get(file)?.lines.get(call).copied()
 }
 
 // Adds the name of the file, where the history has several.
-fn push_heading(out: &mut String, history: &History, file: usize) -> Result<(), AllocError> {
+fn push_heading(out: &mut String, history: &WrittenHistory, file: usize) -> Result<(), AllocError> {
     if history.files.len() < 2 {
         return Ok(());
     }
@@ -78,7 +78,7 @@ fn push_unknown(out: &mut String, line: Option<u64>) -> Result<(), AllocError> {
 fn push_order(
     alloc: Global,
     out: &mut String,
-    history: &History,
+    history: &WrittenHistory,
     file: usize,
     order: &[usize],
 ) -> Result<(), AllocError> {
@@ -97,7 +97,7 @@ fn push_order(
 // Adds the call that fits nowhere, and the tables that there may be before it.
 fn push_misfit(
     out: &mut String,
-    history: &History,
+    history: &WrittenHistory,
     text: &str,
     misfit: &Misfit,
 ) -> Result<(), AllocError> {
@@ -116,7 +116,11 @@ fn push_misfit(
 }
 
 // Adds the locks of a table, the one of them that blocks the call, and the calls that are open there.
-fn push_table(out: &mut String, history: &History, table: &Before) -> Result<(), AllocError> {
+fn push_table(
+    out: &mut String,
+    history: &WrittenHistory,
+    table: &Before,
+) -> Result<(), AllocError> {
     for lock in table.locks.iter().take(MOST_TOLD) {
         out.push_str("  ")?;
         push_lock(out, history, lock)?;
@@ -149,7 +153,7 @@ fn push_more(out: &mut String, what: &str, count: usize) -> Result<(), AllocErro
 /// Adds the lock, as histories write it.
 pub(crate) fn push_lock(
     out: &mut String,
-    history: &History,
+    history: &WrittenHistory,
     lock: &LockInfo,
 ) -> Result<(), AllocError> {
     let (start, len) = segment_of(lock.span);
@@ -161,15 +165,15 @@ pub(crate) fn push_lock(
 /// are asked for, those.
 pub(crate) fn push_outcome(
     out: &mut String,
-    outcome: Outcome,
-    told: &Told,
+    outcome: JudgementOutcome,
+    told: &ReportTexts,
     judging: Judging,
 ) -> Result<(), AllocError> {
     let word = outcome.word();
     write!(out, "history {word}")?;
     push_allowed(out, judging.allowed)?;
     out.push_str("\n")?;
-    if outcome != Outcome::Yes {
+    if outcome != JudgementOutcome::Yes {
         return out.push_str(&told.found);
     }
     if judging.order {
@@ -194,7 +198,7 @@ fn push_allowed(out: &mut String, allowed: Allowed) -> Result<(), AllocError> {
 /// Adds whether orders explain a history, where these rules are allowed, or the first file whose order doesn't.
 pub(crate) fn push_ordered(
     out: &mut String,
-    history: &History,
+    history: &WrittenHistory,
     unexplained: Option<usize>,
     allowed: Allowed,
 ) -> Result<(), AllocError> {
@@ -214,7 +218,7 @@ pub(crate) fn push_ordered(
 /// Adds the counts: in the first line the numbers of calls, owners and machines, and then for each file the number of
 /// locks that were got, and of those that another owner observed.
 pub(crate) fn push_stats(out: &mut String, stats: &Stats<'_>) -> Result<(), AllocError> {
-    let Counts {
+    let LineCounts {
         calls,
         exits,
         silent,

@@ -1,7 +1,7 @@
 //! The measures of a picture: where its parts stand.
 ghost use Rattle.std.specs.Prelude.{◌<◌, ◌^◌};
 
-use crate::drawing::{Drawing, Track};
+use crate::misfit_drawing::{DrawnTrack, MisfitDrawing};
 
 // The widths and heights, in pixels: of the left margin, the columns of times and of bytes, the top, the rows, the
 // lines below, and the margins.
@@ -48,12 +48,12 @@ pub(crate) fn track_top(rows: usize, track: usize) -> u128
 }
 
 /// The width of a picture.
-pub(crate) fn width(drawing: &Drawing) -> u128
+pub(crate) fn width(drawing: &MisfitDrawing) -> u128
     ensures { result < 2 ^ 73 }
 {
     let mut bytes = 0;
     for track in &drawing.tracks {
-        if let Track::Bytes { scale } = track {
+        if let DrawnTrack::Bytes { scale } = track {
             bytes = scale.marks.len().max(bytes);
         }
     }
@@ -61,7 +61,7 @@ pub(crate) fn width(drawing: &Drawing) -> u128
 }
 
 /// The height of a picture.
-pub(crate) fn height(drawing: &Drawing) -> u128
+pub(crate) fn height(drawing: &MisfitDrawing) -> u128
     ensures { result < 2 ^ 74 }
 {
     track_top(drawing.rows.len(), drawing.tracks.len()) + MARGIN

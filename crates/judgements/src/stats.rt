@@ -1,14 +1,14 @@
 //! The counts of a history.
 use crate::locks::file_name;
 use crate::observed::{Observed, observed_in};
-use history_text::counts::Counts;
-use history_text::history::History;
+use history_text::line_counts::LineCounts;
+use history_text::written_history::WrittenHistory;
 use std::alloc::{AllocError, Global};
 
 /// The counts of a history: its calls, the owners and machines that it names, and the locks of its files.
 #[derive(Drop)]
 pub(crate) struct Stats<'a> {
-    pub(crate) counts: Counts,
+    pub(crate) counts: LineCounts,
     pub(crate) owners: usize,
     pub(crate) machines: usize,
     pub(crate) files: Vec<FileStats<'a>>,
@@ -26,7 +26,7 @@ impl<'a> Stats<'a> {
     ///
     /// # Errors
     /// `AllocError` where a request for memory was refused.
-    pub(crate) fn of(alloc: Global, history: &'a History) -> Result<Stats<'a>, AllocError> {
+    pub(crate) fn of(alloc: Global, history: &'a WrittenHistory) -> Result<Stats<'a>, AllocError> {
         let mut files = Vec::new(alloc);
         for (file, of_file) in history.files.iter().enumerate() {
             files.push(FileStats {

@@ -1,11 +1,11 @@
 //! The lines of a picture below the calls: which owner has which bytes before a call that fits nowhere.
 use crate::before::Before;
 use crate::call_words::push_region;
-use crate::drawing::{DrawnSpan, SpanKind, Track};
 use crate::locks::owner_name;
+use crate::misfit_drawing::{DrawnSpan, DrawnTrack, SpanKind};
 use crate::report::{MOST_TOLD, push_lock};
 use crate::scale::Scale;
-use history_text::history::History;
+use history_text::written_history::WrittenHistory;
 use intervals::span::Span;
 use model::lock_info::LockInfo;
 use model::mode::Mode;
@@ -16,7 +16,7 @@ use std::fmt::Write;
 
 /// The bytes that a call asks for, if it names some, and its words.
 #[derive(Clone, Copy)]
-pub(crate) struct Request<'a> {
+pub(crate) struct RequestedBytes<'a> {
     pub(crate) span: Option<Span>,
     pub(crate) words: &'a str,
 }
@@ -28,24 +28,24 @@ pub(crate) struct Request<'a> {
 /// `AllocError` where a request for memory was refused.
 pub(crate) fn add_table(
     alloc: Global,
-    tracks: &mut Vec<Track>,
-    history: &History,
+    tracks: &mut Vec<DrawnTrack>,
+    history: &WrittenHistory,
     number: u64,
     table: &Before,
-    request: &Request<'_>,
+    request: &RequestedBytes<'_>,
 ) -> Result<(), AllocError> {
     let locks = drawn_locks(alloc, table)?;
     let scale = bytes_of(alloc, locks.as_slice(), request)?;
-    tracks.push(Track::Table {
+    tracks.push(DrawnTrack::Table {
         words: heading(alloc, number, table)?,
     })?;
     add_request(alloc, tracks, &scale, request)?;
     for owner in &owners_of(alloc, locks.as_slice())? {
         let name = String::from_str(alloc, owner_name(history, owner))?;
         let spans = spans_of(alloc, history, &scale, locks.as_slice(), owner, table)?;
-        tracks.push(Track::Spans { name, spans })?;
+        tracks.push(DrawnTrack::Spans { name, spans })?;
     }
-    tracks.push(Track::Bytes { scale })?;
+    tracks.push(DrawnTrack::Bytes { scale })?;
     Ok(())
 }
 
@@ -88,7 +88,11 @@ fn drawn_locks(alloc: Global, table: &Before) -> Result<Vec<LockInfo>, AllocErro
 }
 
 // The bytes at which these locks, and the bytes that the call asks for, begin, and the bytes behind their ends.
-fn bytes_of(alloc: Global, locks: &[LockInfo], request: &Request<'_>) -> Result<Scale, AllocError> {
+fn bytes_of(
+    alloc: Global,
+    locks: &[LockInfo],
+    request: &RequestedBytes<'_>,
+) -> Result<Scale, AllocError> {
     let mut bytes = BTreeSet::new(alloc);
     if let Some(span) = &request.span {
         insert_ends(&mut bytes, *span)?;
@@ -109,9 +113,9 @@ fn insert_ends(bytes: &mut BTreeSet<u64>, span: Span) -> Result<(), AllocError> 
 // Adds the bytes that the call asks for, if it names some.
 fn add_request(
     alloc: Global,
-    tracks: &mut Vec<Track>,
+    tracks: &mut Vec<DrawnTrack>,
     scale: &Scale,
-    request: &Request<'_>,
+    request: &RequestedBytes<'_>,
 ) -> Result<(), AllocError> {
     let Some(span) = request.span else {
         return Ok(());
@@ -121,7 +125,7 @@ fn add_request(
     let mut spans = Vec::new(alloc);
     spans.push(span_at(scale, span, SpanKind::Asked, title, words))?;
     let name = String::from_str(alloc, "asked for")?;
-    tracks.push(Track::Spans { name, spans })?;
+    tracks.push(DrawnTrack::Spans { name, spans })?;
     Ok(())
 }
 
@@ -139,7 +143,7 @@ fn owners_of(alloc: Global, locks: &[LockInfo]) -> Result<Vec<Owner>, AllocError
 // The runs of bytes of those locks that the owner has.
 fn spans_of(
     alloc: Global,
-    history: &History,
+    history: &WrittenHistory,
     scale: &Scale,
     locks: &[LockInfo],
     owner: &Owner,
@@ -157,7 +161,7 @@ fn spans_of(
 // The run of bytes of a lock of the table.
 fn lock_at(
     alloc: Global,
-    history: &History,
+    history: &WrittenHistory,
     scale: &Scale,
     lock: &LockInfo,
     table: &Before,

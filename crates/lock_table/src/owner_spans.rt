@@ -8,7 +8,7 @@ ghost use Rattle.intervals.specs.code.Edits.{written};
 ghost use Rattle.intervals.specs.code.Entries.{NoneFrom, IsNext};
 ghost use Rattle.model.specs.rule.Locks.{regions};
 
-use intervals::run::Run;
+use intervals::byte_run::ByteRun;
 use intervals::span::Span;
 use intervals::span_edit::SpanEdit;
 use intervals::span_map::SpanMap;
@@ -28,12 +28,12 @@ pub(crate) struct OwnerSpans {
 
 impl Model for OwnerSpans {
     ghost use Rattle.std.specs.Prelude.{◌≡◌, List, true};
-    ghost use Rattle.intervals.specs.declared.run.Run.{Run};
+    ghost use Rattle.intervals.specs.declared.byte_run.ByteRun.{ByteRun};
     ghost use Rattle.model.specs.declared.mode.Mode.{Mode as SomeMode};
     ghost use Rattle.intervals.specs.code.Runs.{value_at};
     ghost use Rattle.lock_table.specs.code.SharedSpans.{IsShared};
 
-    ghost Value = { List (Run SomeMode) };
+    ghost Value = { List (ByteRun SomeMode) };
 
     ghost view = { λ s. s.spans };
 
@@ -86,7 +86,7 @@ impl OwnerSpans {
     }
 
     /// The first run that ends at the byte or above it.
-    pub(crate) fn next(&self, byte: u64) -> Option<Run<Mode>>
+    pub(crate) fn next(&self, byte: u64) -> Option<ByteRun<Mode>>
         ensures { MatchOption result (NoneFrom (value_at self.now) byte) (IsNext (value_at self.now) byte) }
     {
         self.spans.next(byte)

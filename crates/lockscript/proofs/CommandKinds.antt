@@ -3,7 +3,7 @@ use Rattle.std.proofs.Common.{ℕ, List, [], ◌∷◌, inl, inr, refl, arith, c
 use Rattle.model.specs.rule.Limits.{IsNumber}
 use Rattle.cluster_core.specs.rule.World.{most_incarnations}
 use Rattle.texts.proofs.FirstWords.{BeginsWithWord}
-use Rattle.lockscript.specs.declared.script_line.Command.TheVariants.{Call, Deliver, Lose, Settle, Interrupt, Retry, Resend, Declare, Restart, Learn, FailServer, StartServer}
+use Rattle.lockscript.specs.declared.script_line.ScriptCommand.TheVariants.{Call, Deliver, Lose, Settle, Interrupt, Retry, Resend, Declare, Restart, Learn, FailServer, StartServer}
 use Rattle.lockscript.specs.rule.Scripts.{IsCommand, command_text, greatest_message}
 use Rattle.message_text.proofs.AreTexts.{AreTexts, both, up_to}
 use Rattle.message_text.proofs.FieldTexts.{file, pid}

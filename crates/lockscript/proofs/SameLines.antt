@@ -2,7 +2,7 @@
 use Rattle.std.proofs.Common.{◌≡◌, ℕ, List, [], ◌∷◌, map, refl, ap, ◌∙◌}
 use Rattle.std.specs.List.{All}
 use Rattle.std.proofs.lemmas.List.Elements.{All-head, All-tail}
-use Rattle.lockscript.specs.declared.script_line.Command.{Command}
+use Rattle.lockscript.specs.declared.script_line.ScriptCommand.{ScriptCommand}
 use Rattle.lockscript.specs.rule.Scripts.{IsLine, LineFields, line_text}
 use Rattle.lockscript.proofs.CommandKinds.{command}
 
@@ -11,7 +11,7 @@ line-same l m l_in m_in e =
     let number = ap (λ (x : ℕ × List ℕ). x.0) e in
     let asked = command.apart l.command m.command l_in.within m_in.within (ap (λ (x : ℕ × List ℕ). x.1) e) in
     let with_number : ℕ → LineFields = λ n. record { number = n; command = l.command } in
-    let with_command : Command → LineFields = λ c. record { number = m.number; command = c } in
+    let with_command : ScriptCommand → LineFields = λ c. record { number = m.number; command = c } in
     ap with_number number ∙ ap with_command asked
 
 pub first-same : (k m : ℕ × List ℕ) (ks ms : List (ℕ × List ℕ)) → k ∷ ks ≡ m ∷ ms → k ≡ m

@@ -31,7 +31,7 @@ impl Front for PolicyWord {
 }
 
 /// The operands of the cluster line: `N files F policy P`.
-type Counts = (
+type ClusterCounts = (
     NodeField,
     After<FilesWord, (FileField, After<PolicyWord, Policy>)>,
 );
@@ -50,6 +50,6 @@ pub fn shape_of(line: &str) -> Option<Shape>
 pub fn shape_operands(version: Version, text: &str) -> Option<Shape>
     ensures { Reads counts_text (IsShapeOf version) text.now result }
 {
-    let (nodes, (files, policy)) = Counts::read(text)?;
+    let (nodes, (files, policy)) = ClusterCounts::read(text)?;
     Shape::of(version, nodes, files, policy).ok()
 }

@@ -12,7 +12,7 @@ use crate::refused_line::RefusedLine;
 use crate::replies::push_reply;
 use cluster_core::held_lock::HeldLock;
 use cluster_core::item::Item;
-use cluster_core::token_run::TokenRun;
+use cluster_core::node_token_run::NodeTokenRun;
 use message_text::names::{OwnerName, push_host};
 use messages::entry::Entry;
 use model::call::CallId;
@@ -32,7 +32,7 @@ pub fn listing(
     alloc: Global,
     refused: &[RefusedLine],
     entries: &[Entry],
-    tokens: &[TokenRun],
+    tokens: &[NodeTokenRun],
     locks: &[HeldLock],
     history: &[Item],
 ) -> Result<String, AllocError>
@@ -48,7 +48,7 @@ pub fn listing_start(
     alloc: Global,
     refused: &[RefusedLine],
     entries: &[Entry],
-    tokens: &[TokenRun],
+    tokens: &[NodeTokenRun],
     locks: &[HeldLock],
 ) -> Result<String, AllocError>
     ensures { IfOk result (λ text. string_bytes text ≡ listing_start refused.now entries.now tokens.now locks.now) }
@@ -99,7 +99,7 @@ fn push_replied(
     out.push_str("\n")
 }
 
-fn push_tokens(out: &mut String, tokens: &[TokenRun]) -> Result<(), AllocError>
+fn push_tokens(out: &mut String, tokens: &[NodeTokenRun]) -> Result<(), AllocError>
     ensures { OnOk result (string_bytes out.new ≡ string_bytes out.old ++ codes "tokens\n" ++ flat_map token_line tokens.now) }
 {
     out.push_str("tokens\n")?;
@@ -109,7 +109,7 @@ fn push_tokens(out: &mut String, tokens: &[TokenRun]) -> Result<(), AllocError>
     Ok(())
 }
 
-fn push_token(out: &mut String, token: &TokenRun) -> Result<(), AllocError>
+fn push_token(out: &mut String, token: &NodeTokenRun) -> Result<(), AllocError>
     ensures { OnOk result (string_bytes out.new ≡ string_bytes out.old ++ token_line token.now) }
 {
     push_host_column(out, token.node, token.incarnation)?;

@@ -15,7 +15,7 @@ use std::alloc::AllocError;
 use texts::text::{Text, split_field};
 
 /// The operands of `open`: `FILE ACCESS`.
-type Opened = (FileField, Access);
+type OpenOperands = (FileField, Access);
 
 /// A segment: `START LEN`.
 type Segment = (i64, i64);
@@ -70,7 +70,7 @@ fn write_process_call(call: ProcessCall, out: &mut String) -> Result<(), AllocEr
     match call {
         ProcessCall::Spawn => out.push_str("spawn"),
         ProcessCall::Fork { child } => push::<PidField>(out, "fork ", &child),
-        ProcessCall::Open { file, access } => push::<Opened>(out, "open ", &(file, access)),
+        ProcessCall::Open { file, access } => push::<OpenOperands>(out, "open ", &(file, access)),
         ProcessCall::Dup { fd } => push::<DescriptorField>(out, "dup ", &fd),
     }
 }
@@ -109,7 +109,7 @@ fn op_with(word: &str, operands: &str) -> Option<Op>
 {
     match word {
         "fork" => { PidField::read(operands).map(|child| Op::Process(ProcessCall::Fork { child })) }
-        "open" => Opened::read(operands).map(|(file, access)| Op::Process(ProcessCall::Open {
+        "open" => OpenOperands::read(operands).map(|(file, access)| Op::Process(ProcessCall::Open {
             file,
             access,
         })),

@@ -4,7 +4,7 @@ use std::marker::Model;
 
 /// The command of a line of a script.
 #[derive(Clone, Copy, Debug, PartialEq, Eq)]
-pub enum Command {
+pub enum ScriptCommand {
     /// A process of a node makes a call.
     Call {
         node: u8,
@@ -62,7 +62,7 @@ pub enum Command {
     },
 }
 
-impl Command {
+impl ScriptCommand {
     ghost use Rattle.std.specs.Prelude.{◌≡◌};
     ghost use Rattle.lockscript.specs.rule.ThreadLines.{is_for_threads};
 
@@ -74,12 +74,12 @@ impl Command {
     {
         matches!(
             self,
-            Command::Call { .. }
-                | Command::Settle
-                | Command::Declare { .. }
-                | Command::Restart { .. }
-                | Command::FailServer { .. }
-                | Command::StartServer { .. }
+            ScriptCommand::Call { .. }
+                | ScriptCommand::Settle
+                | ScriptCommand::Declare { .. }
+                | ScriptCommand::Restart { .. }
+                | ScriptCommand::FailServer { .. }
+                | ScriptCommand::StartServer { .. }
         )
     }
 }
@@ -90,7 +90,7 @@ impl Command {
 #[derive(Clone, Copy, Debug, PartialEq, Eq)]
 pub struct ScriptLine {
     number: u32,
-    command: Command,
+    command: ScriptCommand,
 }
 
 impl Model for ScriptLine {
@@ -111,7 +111,7 @@ impl ScriptLine {
     ghost use Rattle.lockscript.specs.rule.Scripts.{IsCommand, greatest_line};
 
     /// The line with this number and this command.
-    pub(crate) fn new(number: u32, command: Command) -> ScriptLine
+    pub(crate) fn new(number: u32, command: ScriptCommand) -> ScriptLine
         requires counted { 1 ≤ number }
         requires within { IsCommand command }
         ensures { result ≡ record { number = number; command = command } }
@@ -128,7 +128,7 @@ impl ScriptLine {
     }
 
     /// The command of the line.
-    pub fn command(&self) -> Command
+    pub fn command(&self) -> ScriptCommand
         ensures value { result ≡ self.now.command }
         ensures within { IsCommand result }
     {

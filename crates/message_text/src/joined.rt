@@ -11,7 +11,7 @@ use texts::text::Text;
 use texts::unsigned::Unsigned;
 
 /// A character that is no digit and stands between two parts.
-pub(crate) trait Mark {
+pub(crate) trait Separator {
     ghost mark: { ℕ };
 
     fn mark() -> char
@@ -22,7 +22,7 @@ pub(crate) trait Mark {
 
 pub(crate) struct Dot;
 
-impl Mark for Dot {
+impl Separator for Dot {
     ghost mark = { dot };
 
     fn mark() -> char {
@@ -32,7 +32,7 @@ impl Mark for Dot {
 
 pub(crate) struct AtSign;
 
-impl Mark for AtSign {
+impl Separator for AtSign {
     ghost mark = { at_sign };
 
     fn mark() -> char {
@@ -56,7 +56,7 @@ pub(crate) struct Joined<A, M, B> {
     of: PhantomData<(A, M, B)>,
 }
 
-impl<A: Digits, M: Mark, B: Text> Text for Joined<A, M, B> {
+impl<A: Digits, M: Separator, B: Text> Text for Joined<A, M, B> {
     type Value = (A::Value, B::Value);
 
     ghost text_of = { joined_text M.mark A.text_of B.text_of };
@@ -79,7 +79,7 @@ impl<A: Digits, M: Mark, B: Text> Text for Joined<A, M, B> {
 }
 
 // The text before the first mark, and the text behind it.
-fn split_mark<M: Mark>(text: &str) -> Option<(&str, &str)>
+fn split_mark<M: Separator>(text: &str) -> Option<(&str, &str)>
     ensures no_digit { IsNoDigit M.mark }
     ensures parts { MatchOption result
         ((front rest : List ℕ) → Lacks M.mark front → text.now ≢ front ++ M.mark ∷ rest)

@@ -24,12 +24,12 @@ type Total = Within<u64, 0, 18_446_744_073_709_551_615>;
 
 /// The remaining words of a text.
 #[derive(Drop)]
-struct Words<'a> {
+struct RemainingWords<'a> {
     rest: &'a str,
     ended: bool,
 }
 
-impl<'a> Model for Words<'a> {
+impl<'a> Model for RemainingWords<'a> {
     ghost use Rattle.std.specs.Prelude.{ℕ, List, [], if◌then◌else◌};
     ghost use Rattle.message_text.specs.code.Reports.{words_of};
 
@@ -38,12 +38,12 @@ impl<'a> Model for Words<'a> {
     ghost view = { λ w. if w.ended then [] else words_of w.rest.now };
 }
 
-impl<'a> Words<'a> {
+impl<'a> RemainingWords<'a> {
     // The words of the text.
-    fn new(text: &'a str) -> Words<'a>
+    fn new(text: &'a str) -> RemainingWords<'a>
         ensures { result ≡ words_of text.entry.now }
     {
-        Words {
+        RemainingWords {
             rest: text,
             ended: false,
         }
@@ -104,7 +104,7 @@ fn may_stand(last: Option<TokenRun>, run: &TokenRun) -> bool
 }
 
 // The run that the next three words name, if it may come next behind the run `last`.
-fn next_standing(words: &mut Words<'_>, last: Option<TokenRun>) -> Option<TokenRun>
+fn next_standing(words: &mut RemainingWords<'_>, last: Option<TokenRun>) -> Option<TokenRun>
     ensures { MatchOption result ((run : Run) (more : List (List ℕ)) → IsServedSpan run.span → may_stand last run ≡ true → words.old ≢ run_words run ++ more) (λ run. IsServedSpan run.span × (may_stand last run ≡ true) × (words.old ≡ run_words run ++ words.new)) }
 {
     let run = words.next_run()?;
@@ -118,7 +118,7 @@ fn next_standing(words: &mut Words<'_>, last: Option<TokenRun>) -> Option<TokenR
 pub(crate) fn are_runs(text: &str) -> bool
     ensures { IsTrue result ↔ IsRunsText text.now }
 {
-    let mut words = Words::new(text);
+    let mut words = RemainingWords::new(text);
     let Some(count) = words.next_count() else {
         return false;
     };
@@ -137,7 +137,7 @@ pub(crate) fn read_runs(alloc: Global, text: &str) -> Result<TokenRuns, AllocErr
     requires { IsRunsText text.now }
     ensures { IfOk result (λ runs. runs ≡ runs_in text.now) }
 {
-    let mut words = Words::new(text);
+    let mut words = RemainingWords::new(text);
     let _count = words.next_count();
     let mut runs = Vec::new(alloc);
     while let Some(run) = words.next_run() {

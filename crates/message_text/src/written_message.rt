@@ -14,7 +14,7 @@ use std::marker::Model;
 
 // The runs of a report stay a text, so that reading it takes no memory.
 #[derive(Drop)]
-enum Form<'a> {
+enum WrittenForm<'a> {
     Whole(Message),
     Report {
         file: FileNumber,
@@ -24,15 +24,15 @@ enum Form<'a> {
     },
 }
 
-impl Form<'_> {
+impl WrittenForm<'_> {
     // The message, with the runs of a report read.
     fn message(self, alloc: Global) -> Result<Message, AllocError>
         requires { IsForm self }
         ensures { IfOk result (λ message. message ≡ message_in self.entry) }
     {
         match self {
-            Form::Whole(message) => Ok(message),
-            Form::Report {
+            WrittenForm::Whole(message) => Ok(message),
+            WrittenForm::Report {
                 file,
                 number,
                 holder,
@@ -50,7 +50,7 @@ impl Form<'_> {
 /// A message that was read from its text. Of a report, the runs may still be a text.
 #[derive(Drop)]
 pub struct WrittenMessage<'a> {
-    form: Form<'a>,
+    form: WrittenForm<'a>,
 }
 
 impl<'a> Model for WrittenMessage<'a> {
@@ -70,7 +70,7 @@ impl<'a> WrittenMessage<'a> {
         ensures { result ≡ message }
     {
         WrittenMessage {
-            form: Form::Whole(message),
+            form: WrittenForm::Whole(message),
         }
     }
 
@@ -85,7 +85,7 @@ impl<'a> WrittenMessage<'a> {
         ensures { result ≡ message.Report file number holder (runs_in runs.entry.now) }
     {
         WrittenMessage {
-            form: Form::Report {
+            form: WrittenForm::Report {
                 file,
                 number,
                 holder,

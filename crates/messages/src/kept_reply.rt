@@ -11,7 +11,7 @@ use std::marker::Model;
 
 // Most entries have no reply, or the reply `Done`: these need no memory of their own.
 #[derive(Drop)]
-enum Kept {
+enum CompactReply {
     Nothing,
     Done(CallId),
     Other(Box<(CallId, Reply)>),
@@ -21,7 +21,7 @@ enum Kept {
 /// memory of its own. Contracts see the call and the reply.
 #[derive(Drop)]
 pub struct KeptReply {
-    kept: Kept,
+    kept: CompactReply,
 }
 
 impl Model for KeptReply {
@@ -41,7 +41,7 @@ impl KeptReply {
         ensures { result ≡ None }
     {
         KeptReply {
-            kept: Kept::Nothing,
+            kept: CompactReply::Nothing,
         }
     }
 
@@ -50,9 +50,9 @@ impl KeptReply {
         ensures { IfOk result (λ kept. kept ≡ reply) }
     {
         let kept = match reply {
-            None => Kept::Nothing,
-            Some((call, Reply::Done)) => Kept::Done(call),
-            Some(other) => Kept::Other(Box::new(alloc, other)?),
+            None => CompactReply::Nothing,
+            Some((call, Reply::Done)) => CompactReply::Done(call),
+            Some(other) => CompactReply::Other(Box::new(alloc, other)?),
         };
         Ok(KeptReply { kept })
     }
@@ -62,9 +62,9 @@ impl KeptReply {
         ensures { result ≡ self.now }
     {
         match &self.kept {
-            Kept::Nothing => None,
-            Kept::Done(call) => Some((*call, Reply::Done)),
-            Kept::Other(reply) => Some(**reply),
+            CompactReply::Nothing => None,
+            CompactReply::Done(call) => Some((*call, Reply::Done)),
+            CompactReply::Other(reply) => Some(**reply),
         }
     }
 }

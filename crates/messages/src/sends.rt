@@ -13,7 +13,7 @@ use std::marker::Model;
 
 // Most entries send no message, or one.
 #[derive(Drop)]
-enum Kept {
+enum CompactSends {
     Nothing,
     One(SharedMessage),
     Many(Box<Items<SharedMessage>>),
@@ -23,7 +23,7 @@ enum Kept {
 /// list.
 #[derive(Drop)]
 pub struct Sends {
-    kept: Kept,
+    kept: CompactSends,
 }
 
 impl Model for Sends {
@@ -60,7 +60,7 @@ impl Sends {
         ensures { result ≡ [] }
     {
         Sends {
-            kept: Kept::Nothing,
+            kept: CompactSends::Nothing,
         }
     }
 
@@ -69,9 +69,9 @@ impl Sends {
         ensures { IfOk result (λ sends. sends ≡ messages.now) }
     {
         let kept = match messages {
-            [] => Kept::Nothing,
-            [message] => Kept::One(shared(alloc, message)?),
-            _ => Kept::Many(Box::new(alloc, all_shared(alloc, messages)?.fitted())?),
+            [] => CompactSends::Nothing,
+            [message] => CompactSends::One(shared(alloc, message)?),
+            _ => CompactSends::Many(Box::new(alloc, all_shared(alloc, messages)?.fitted())?),
         };
         Ok(Sends { kept })
     }
@@ -81,9 +81,9 @@ impl Sends {
         ensures { result.now ≡ self.now }
     {
         match &self.kept {
-            Kept::Nothing => &[],
-            Kept::One(message) => array::from_ref(message),
-            Kept::Many(items) => items.as_slice(),
+            CompactSends::Nothing => &[],
+            CompactSends::One(message) => array::from_ref(message),
+            CompactSends::Many(items) => items.as_slice(),
         }
     }
 }

@@ -48,7 +48,7 @@ use Rattle.model.specs.rule.Step.{IsPossible}
 use Rattle.messages.specs.rule.Messages.{is_within}
 use Rattle.node_core.specs.rule.Calls.{is_in_shape}
 use Rattle.node_core.specs.code.Plans.{table_after, TableFits}
-use Rattle.node_core.specs.declared.edit.TableEdit.TheVariants.{OfProcess as OfProcessEdit}
+use Rattle.node_core.specs.declared.node_edit.NodeTableEdit.TheVariants.{OfProcess as OfProcessEdit}
 
 -- a node's own numbers pass the test for them
 own_host : (node incarnation : ℕ) → ((node == node) && (incarnation == incarnation)) ≡ true

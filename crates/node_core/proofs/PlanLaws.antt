@@ -26,9 +26,9 @@ use Rattle.node_core.proofs.AnchorLaws.{rule-anchored}
 use Rattle.descriptors.specs.declared.process_entry.ProcessEntry.{ProcessEntry}
 use Rattle.descriptors.specs.declared.edit.ProcessEdit.{ProcessEdit}
 use Rattle.descriptors.specs.code.Edits.{edited}
-use Rattle.node_core.specs.declared.edit.Edit.{Edit}
-use Rattle.node_core.specs.declared.edit.TableEdit.{TableEdit}
-use Rattle.node_core.specs.declared.edit.TableEdit.TheVariants.{Nothing, OfProcess, OfLocks, Closes, Exits}
+use Rattle.node_core.specs.declared.node_edit.NodeEdit.{NodeEdit}
+use Rattle.node_core.specs.declared.node_edit.NodeTableEdit.{NodeTableEdit}
+use Rattle.node_core.specs.declared.node_edit.NodeTableEdit.TheVariants.{Nothing, OfProcess, OfLocks, Closes, Exits}
 use Rattle.node_core.specs.declared.effect.Effect.{Effect as EffectFields}
 use Rattle.node_core.specs.declared.file_row.FileRow.{FileRow}
 use Rattle.node_core.specs.declared.open_call.OpenCall.{OpenCall}
@@ -114,7 +114,7 @@ abbrev changed : NodeParts → ℕ → List ProcessEntry → TableParts → List
 changed p calls rows locks pending files = record p { calls = calls; processes = rows; locks = locks; pending = pending; files = files }
 
 -- the processes and locks of a host after a change
-abbrev pub Leaves : Host → List ProcessEntry → TableParts → TableEdit → List ProcessEntry → TableParts → Type 0
+abbrev pub Leaves : Host → List ProcessEntry → TableParts → NodeTableEdit → List ProcessEntry → TableParts → Type 0
 Leaves h rows locks e rows_left locks_left = (on : ℕ → ℕ → Processes) → shown on h rows_left locks_left ≡ table_after h (shown on h rows locks) e
 
 pub processes-left : (h : Host) (rows left : List ProcessEntry) (locks : TableParts) (e : ProcessEdit) → processes left ≡ edited (processes rows) e → Leaves h rows locks (OfProcess e) left locks
@@ -124,7 +124,7 @@ processes-left h rows left locks e made on =
     (λ i. record { limit = locks.limit; on = with_host on h (is i); locks = held locks })
     ∙ sym (λ i. record { limit = locks.limit; on = λ n k. if-if ((n == h.node) && (k == h.incarnation)) (edited own e) (processes rows) (on n k) i; locks = held locks })
 
-pub node-planned : (p : NodeParts) (e : Edit) (calls : ℕ) (rows : List ProcessEntry) (locks : TableParts) (pending : List OpenCall) (files : List FileRow) → calls ≡ calls_after p.calls e.draft.numbered → Leaves (host (node_state p)) p.processes p.locks e.table rows locks → pending ≡ pending_after p.pending e.calls → file_state files ≡ files_told (files_after (file_state p.files) p.files e.draft.command) e.freed → node_state (changed p calls rows locks pending files) ≡ planned p e
+pub node-planned : (p : NodeParts) (e : NodeEdit) (calls : ℕ) (rows : List ProcessEntry) (locks : TableParts) (pending : List OpenCall) (files : List FileRow) → calls ≡ calls_after p.calls e.draft.numbered → Leaves (host (node_state p)) p.processes p.locks e.table rows locks → pending ≡ pending_after p.pending e.calls → file_state files ≡ files_told (files_after (file_state p.files) p.files e.draft.command) e.freed → node_state (changed p calls rows locks pending files) ≡ planned p e
 unfolding node_state
 node-planned p e calls rows locks pending files counted made left known =
     let table = made (λ n k. no_processes) in
@@ -144,7 +144,7 @@ unfolding node_state
 opened-before p h pid fd o is = h.opened_in pid fd o (ap (λ (ps : Processes). ps.opened pid fd) (sym (around-own p 0)) ∙ is)
 
 -- the open descriptors are of files of the shape after the change
-opened-after : (p : NodeParts) (e : TableEdit) → TableFits p e → IsNode p → (pid fd : ℕ) (o : Opened) → ((table_after (host (node_state p)) (node_state p).table e).on p.node p.incarnation).opened pid fd ≡ Some o → IsNumber p.shape.files o.file
+opened-after : (p : NodeParts) (e : NodeTableEdit) → TableFits p e → IsNode p → (pid fd : ℕ) (o : Opened) → ((table_after (host (node_state p)) (node_state p).table e).on p.node p.incarnation).opened pid fd ≡ Some o → IsNumber p.shape.files o.file
 unfolding node_state
 opened-after p Nothing fit h pid fd o is = opened-before p h pid fd o is
 opened-after p (OfProcess e) fit h pid fd o is =
@@ -168,7 +168,7 @@ calls-edited p (Left pid number) fit h =
     All-filter (λ c. not (c.number == number)) (IsOwnCall p.shape.files p.node p.incarnation) (filter theirs p.pending) (All-filter theirs (IsOwnCall p.shape.files p.node p.incarnation) p.pending h.calls_in)
 
 -- the node is sound after a change that fits
-pub node-edited : (p : NodeParts) (e : Edit) (calls : ℕ) (rows : List ProcessEntry) (locks : TableParts) (pending : List OpenCall) (files : List FileRow) → pending ≡ pending_after p.pending e.calls → length files ≡ length p.files → node_state (changed p calls rows locks pending files) ≡ planned p e → Fits p e → IsNode p → IsNode (changed p calls rows locks pending files)
+pub node-edited : (p : NodeParts) (e : NodeEdit) (calls : ℕ) (rows : List ProcessEntry) (locks : TableParts) (pending : List OpenCall) (files : List FileRow) → pending ≡ pending_after p.pending e.calls → length files ≡ length p.files → node_state (changed p calls rows locks pending files) ≡ planned p e → Fits p e → IsNode p → IsNode (changed p calls rows locks pending files)
 unfolding node_state
 node-edited p e calls rows locks pending files left count is fit h = record {
   host = h.host;

@@ -15,7 +15,7 @@ use Rattle.descriptors.specs.declared.error.FdError.{FdError}
 use Rattle.descriptors.specs.declared.error.FdError.TheVariants.{NoProcess, BadFd}
 use Rattle.descriptors.specs.code.Rows.{processes, resolved, fd_reply}
 use Rattle.fcntl_table.proofs.TableLaws.{found_there, closes_there, refused_there}
-use Rattle.node_core.specs.declared.edit.TableEdit.TheVariants.{Closes, Exits}
+use Rattle.node_core.specs.declared.node_edit.NodeTableEdit.TheVariants.{Closes, Exits}
 use Rattle.node_core.specs.rule.State.{NodeState, Effect, without_call_of, host, process}
 use Rattle.node_core.specs.rule.Try.{may_free, settled, with_freed, with_freed_of}
 use Rattle.node_core.specs.rule.Calls.{called, shut_by}

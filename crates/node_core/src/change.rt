@@ -1,13 +1,13 @@
 //! A planned step of a node: its change and its outcome.
 ghost use Rattle.std.specs.Prelude.{◌≡◌};
 
-use crate::edit::Edit;
+use crate::node_edit::NodeEdit;
 use messages::outcome::Outcome;
 
 /// A planned step of a node: what it changes, and its outcome.
 #[derive(Drop)]
 pub struct Change {
-    pub edit: Edit,
+    pub edit: NodeEdit,
     pub outcome: Outcome,
 }
 

@@ -4,7 +4,7 @@
 ghost use Rattle.std.specs.Prelude.{◌≡◌, Some, None, [], ◌∷◌, ◌++◌, IfOk};
 
 use crate::change::Change;
-use crate::edit::Edit;
+use crate::node_edit::NodeEdit;
 use messages::items::Items;
 use messages::message::Message;
 use messages::outcome::Outcome;
@@ -15,14 +15,14 @@ use std::alloc::{AllocError, Global};
 /// The effect of a step: what it changes, at most one reply, and messages in their order.
 #[derive(Drop)]
 pub struct Effect {
-    pub edit: Edit,
+    pub edit: NodeEdit,
     pub reply: Option<(CallId, Reply)>,
     pub sends: Items<Message>,
 }
 
 impl Effect {
     /// The effect without a reply and without messages.
-    pub fn quiet(alloc: Global, edit: Edit) -> Effect
+    pub fn quiet(alloc: Global, edit: NodeEdit) -> Effect
         ensures { result ≡ record { edit = edit; reply = None; sends = [] } }
     {
         Effect {
@@ -33,7 +33,7 @@ impl Effect {
     }
 
     /// The effect of sending one message, without a reply.
-    pub fn sent(alloc: Global, edit: Edit, message: Message) -> Result<Effect, AllocError>
+    pub fn sent(alloc: Global, edit: NodeEdit, message: Message) -> Result<Effect, AllocError>
         ensures { IfOk result (λ effect. effect ≡ record { edit = edit; reply = None; sends = message ∷ [] }) }
     {
         Ok(Effect {
@@ -44,7 +44,7 @@ impl Effect {
     }
 
     /// The effect of a reply to a call, without messages.
-    pub fn answered(alloc: Global, edit: Edit, call: CallId, reply: Reply) -> Effect
+    pub fn answered(alloc: Global, edit: NodeEdit, call: CallId, reply: Reply) -> Effect
         ensures { result ≡ record { edit = edit; reply = Some (call, reply); sends = [] } }
     {
         Effect {

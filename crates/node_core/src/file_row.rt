@@ -10,8 +10,8 @@ ghost use Rattle.node_core.specs.rule.Parts.{granted_file, revoked_file};
 ghost use Rattle.node_core.specs.code.Plans.{file_after};
 
 use crate::answer::Answer;
-use crate::command::Command;
 use crate::numbers::begin_of;
+use crate::token_command::TokenCommand;
 use intervals::span::Span;
 use model::host::Host;
 use std::alloc::{AllocError, Global};
@@ -99,7 +99,7 @@ impl FileRow {
     }
 
     /// The change by a grant: the token is raised, and the answer is remembered.
-    pub fn plan_grant(&self, command: &Command, span: Span) -> Result<FileEdit, AllocError>
+    pub fn plan_grant(&self, command: &TokenCommand, span: Span) -> Result<FileEdit, AllocError>
         ensures file { IfOk result (λ edit. edit.file ≡ command.now.file) }
         ensures state { IfOk result (λ edit. file_after self.now edit ≡ granted_file (state_of self.now) command.now span) }
     {
@@ -116,7 +116,7 @@ impl FileRow {
     /// in the token; the answer is remembered; and a Freed is owed if the answer names a lock.
     pub fn plan_revoke(
         &self,
-        command: &Command,
+        command: &TokenCommand,
         holder: Host,
         gives: &GaveUp,
     ) -> Result<FileEdit, AllocError>

@@ -5,8 +5,6 @@
 
 pub mod answer;
 pub mod change;
-pub mod command;
-pub mod edit;
 pub mod effect;
 pub mod event;
 pub mod file_row;
@@ -15,7 +13,9 @@ mod hints;
 pub mod laws;
 mod locks;
 pub mod node;
+pub mod node_edit;
 mod numbers;
 pub mod open_call;
 pub mod open_calls;
 mod report;
+pub mod token_command;

@@ -10,10 +10,10 @@ ghost use Rattle.node_core.specs.rule.Parts.{node_state, IsCallOf};
 ghost use Rattle.node_core.specs.code.Plans.{planned, Fits};
 
 use crate::change::Change;
-use crate::edit::{Draft, Edit, apply_table};
 use crate::event::NodeEvent;
 use crate::file_row::FileRow;
 use crate::files::{apply_command, clear_owed, copy_files, file_of, new_files, same_files};
+use crate::node_edit::{NodeDraft, NodeEdit, apply_table};
 use crate::numbers::calls_after;
 use crate::open_call::OpenCall;
 use crate::open_calls::OpenCalls;
@@ -246,17 +246,17 @@ impl Node {
 
     // Makes a planned change of each part of the node.
     #[tactic(auto, unfolding(crate::specs::rule::Parts::node_state))]
-    fn apply_edit(&mut self, edit: Edit)
+    fn apply_edit(&mut self, edit: NodeEdit)
         requires { Fits self.old edit }
         ensures { node_state self.new ≡ planned self.old edit }
     {
-        let Edit {
+        let NodeEdit {
             draft,
             table,
             calls,
             freed,
         } = edit;
-        let Draft { numbered, command } = draft;
+        let NodeDraft { numbered, command } = draft;
         let host = self.host();
         self.calls = calls_after(self.calls, numbered);
         apply_table(&mut self.processes, &mut self.locks, host, table);

@@ -5,9 +5,9 @@
 mod answers;
 mod call_index;
 pub mod history;
+mod indexed_call;
 pub mod legal;
 mod made;
-mod made_call;
 pub mod placed;
 pub mod placed_entries;
 pub mod placed_run;

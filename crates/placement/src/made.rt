@@ -4,7 +4,7 @@ ghost use Rattle.std.specs.List.Sorted.{IsNonDecreasingBy};
 ghost use Rattle.cluster_core.specs.rule.World.{journal_limit};
 ghost use Rattle.placement.specs.code.CallsMade.{called_by_entry};
 
-use crate::made_call::MadeCall;
+use crate::indexed_call::IndexedCall;
 use model::op::Op;
 use std::alloc::{AllocError, Global};
 use std::marker::Model;
@@ -13,7 +13,7 @@ use std::marker::Model;
 #[derive(Drop)]
 pub(crate) struct Made {
     // The calls, in the order of the entries that make them.
-    calls: Vec<MadeCall>,
+    calls: Vec<IndexedCall>,
     // The number of entries, with or without a call.
     entries: u32,
 }
@@ -62,7 +62,7 @@ impl Made {
         ensures unchanged { OnErr result (self.new ≡ self.old) }
     {
         if let Some((pid, op)) = called {
-            self.calls.push(MadeCall {
+            self.calls.push(IndexedCall {
                 entry: self.entries,
                 pid,
                 op,
@@ -74,7 +74,7 @@ impl Made {
 }
 
 // The process and the operation of the call that the entry with that index makes, if it makes one. A binary search.
-fn called_by_entry(calls: &[MadeCall], index: usize) -> Option<(u16, Op)>
+fn called_by_entry(calls: &[IndexedCall], index: usize) -> Option<(u16, Op)>
     requires { IsNonDecreasingBy (λ call. call.entry) calls.now }
     ensures { result ≡ called_by_entry calls.now index }
 {

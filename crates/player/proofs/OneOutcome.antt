@@ -16,8 +16,8 @@ use Rattle.messages.specs.declared.entry.Entry.{Entry}
 use Rattle.cluster_core.specs.rule.World.{WorldState}
 use Rattle.cluster_core.specs.rule.Next.{kept_next}
 use Rattle.cluster_core.specs.rule.Journals.{delivery}
-use Rattle.lockscript.specs.declared.script_line.Command.{Command}
-use Rattle.lockscript.specs.declared.script_line.Command.TheVariants.{Call, Deliver, Lose, Settle, Interrupt, Retry, Resend, Declare, Restart, Learn, FailServer, StartServer}
+use Rattle.lockscript.specs.declared.script_line.ScriptCommand.{ScriptCommand}
+use Rattle.lockscript.specs.declared.script_line.ScriptCommand.TheVariants.{Call, Deliver, Lose, Settle, Interrupt, Retry, Resend, Declare, Restart, Learn, FailServer, StartServer}
 use Rattle.lockscript.specs.rule.Scripts.{LineFields}
 use Rattle.player.specs.rule.Progress.{Progress, End, first_progress, after_delivery, index_of, settling, Ends, InTurn, Passes, IsLeastUnsettled, IsNextMessage, Delivers, IsSettled, Does}
 use Rattle.player.specs.rule.Played.{played_of}
@@ -77,7 +77,7 @@ settles_one line (Some p) q s (m ∷ ms) (n ∷ ns) a q_settled b s_settled =
     let P : End → Type 0 = λ x. InTurn (Delivers line) x ns s in
     settles_one line a.0 q s ms ns a.2 q_settled (subst P (sym (delivers_one line p a.0 b.0 m n a.1 b.1)) b.2) s_settled
 
-does_one : (line : ℕ) (c : Command) (p : Progress) (q s : End) → Does line c p q → Does line c p s → q ≡ s
+does_one : (line : ℕ) (c : ScriptCommand) (p : Progress) (q s : End) → Does line c p q → Does line c p s → q ≡ s
 does_one line (Call node pid op) p q s a b = ends_one line p q s (kept_next p.world (event.AtNode node (input.Call pid op))) a b
 does_one line (Deliver number) p q s a b =
     let made = delivery p.world (slice_get p.world.sent (index_of number)) in

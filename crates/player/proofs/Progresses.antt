@@ -19,8 +19,8 @@ use Rattle.cluster_core.specs.rule.Journals.{delivery}
 use Rattle.cluster_core.specs.rule.Runs.{Leads}
 use Rattle.cluster_core.proofs.runs.JournalRuns.{leads_push, entry_event}
 use Rattle.cluster_core.proofs.steps.Steps.{kept_taken}
-use Rattle.lockscript.specs.declared.script_line.Command.{Command}
-use Rattle.lockscript.specs.declared.script_line.Command.TheVariants.{Call, Deliver, Lose, Settle, Interrupt, Retry, Resend, Declare, Restart, Learn, FailServer, StartServer}
+use Rattle.lockscript.specs.declared.script_line.ScriptCommand.{ScriptCommand}
+use Rattle.lockscript.specs.declared.script_line.ScriptCommand.TheVariants.{Call, Deliver, Lose, Settle, Interrupt, Retry, Resend, Declare, Restart, Learn, FailServer, StartServer}
 use Rattle.lockscript.specs.rule.Scripts.{LineFields}
 use Rattle.player.specs.rule.Progress.{Progress, End, after_entry, after_refusal, index_of, lost, settling, Comes, Ends, Happens, InTurn, Passes, IsLeastUnsettled, IsNextMessage, Delivers, Does, RunsTo}
 
@@ -77,7 +77,7 @@ lost_leads : (w : WorldState) (line index : ℕ) (p : Progress) (b : Bool) → L
 lost_leads w line index p true leads = leads
 lost_leads w line index p false leads = leads
 
-does_leads : (w : WorldState) (line : ℕ) (c : Command) (p : Progress) (end : End) → LeadsFrom w p → Does line c p end → EndLeads w end
+does_leads : (w : WorldState) (line : ℕ) (c : ScriptCommand) (p : Progress) (end : End) → LeadsFrom w p → Does line c p end → EndLeads w end
 does_leads w line (Call node pid op) p end leads does = happens_leads w line (event.AtNode node (input.Call pid op)) p end leads does
 does_leads w line (Deliver number) p end leads does = comes_leads w line (index_of number) p end (slice_get p.world.sent (index_of number)) leads does
 does_leads w line (Lose number) p end leads does = end_leads w (Some (lost line (index_of number) p)) end does (lost_leads w line (index_of number) p (nat_lt (index_of number) (length p.world.sent)) leads)

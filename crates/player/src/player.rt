@@ -17,7 +17,7 @@ use cluster_core::journal::Journal;
 use cluster_core::run::Run;
 use lockscript::play_error::PlayError;
 use lockscript::refused_line::RefusedLine;
-use lockscript::script_line::{Command, ScriptLine};
+use lockscript::script_line::{ScriptCommand, ScriptLine};
 use messages::event::{Event, MemberEvent, NodeInput, ServerInput};
 use messages::refusal::Refused;
 use messages::shape::Shape;
@@ -115,42 +115,42 @@ impl Player {
         &mut self,
         alloc: Global,
         number: u32,
-        command: Command,
+        command: ScriptCommand,
     ) -> Result<(), PlayError>
         ensures ok { OnOk result (Does number command (progress self.old) (Some (progress self.new))) }
         ensures full { IfErr result (λ error. error ≡ JournalFull → Does number command (progress self.old) None) }
     {
         match command {
-            Command::Call { node, pid, op } => {
+            ScriptCommand::Call { node, pid, op } => {
                 self.step(
                     alloc,
                     number,
                     Event::AtNode(node, NodeInput::Call { pid, op }),
                 )
             }
-            Command::Deliver { message } => self.deliver(alloc, number, message),
-            Command::Lose { message } => self.lose(number, message),
-            Command::Settle => self.settle(alloc, number),
-            Command::Interrupt { node, pid } => {
+            ScriptCommand::Deliver { message } => self.deliver(alloc, number, message),
+            ScriptCommand::Lose { message } => self.lose(number, message),
+            ScriptCommand::Settle => self.settle(alloc, number),
+            ScriptCommand::Interrupt { node, pid } => {
                 self.step(
                     alloc,
                     number,
                     Event::AtNode(node, NodeInput::Interrupt { pid }),
                 )
             }
-            Command::Retry { node, pid } => {
+            ScriptCommand::Retry { node, pid } => {
                 self.step(alloc, number, Event::AtNode(node, NodeInput::Retry { pid }))
             }
-            Command::Resend { file } => {
+            ScriptCommand::Resend { file } => {
                 self.step(alloc, number, Event::AtServer(file, ServerInput::Resend))
             }
-            Command::Declare { node } => {
+            ScriptCommand::Declare { node } => {
                 self.step(alloc, number, Event::Member(MemberEvent::Declare { node }))
             }
-            Command::Restart { node } => {
+            ScriptCommand::Restart { node } => {
                 self.step(alloc, number, Event::Member(MemberEvent::Restart { node }))
             }
-            Command::Learn {
+            ScriptCommand::Learn {
                 file,
                 node,
                 incarnation,
@@ -158,14 +158,14 @@ impl Player {
                 let input = ServerInput::Learn { node, incarnation };
                 self.step(alloc, number, Event::AtServer(file, input))
             }
-            Command::FailServer { file } => {
+            ScriptCommand::FailServer { file } => {
                 self.step(
                     alloc,
                     number,
                     Event::Member(MemberEvent::FailServer { file }),
                 )
             }
-            Command::StartServer { file } => {
+            ScriptCommand::StartServer { file } => {
                 self.step(
                     alloc,
                     number,
@@ -207,8 +207,8 @@ impl Player {
 
     // Delivers the message with this number, which is settled then, unless its delivery is refused.
     fn deliver(&mut self, alloc: Global, line: u32, number: u32) -> Result<(), PlayError>
-        ensures ok { OnOk result (Does line (Command.Deliver number) (progress self.old) (Some (progress self.new))) }
-        ensures full { IfErr result (λ error. error ≡ JournalFull → Does line (Command.Deliver number) (progress self.old) None) }
+        ensures ok { OnOk result (Does line (ScriptCommand.Deliver number) (progress self.old) (Some (progress self.new))) }
+        ensures full { IfErr result (λ error. error ≡ JournalFull → Does line (ScriptCommand.Deliver number) (progress self.old) None) }
     {
         let index = (number as usize).saturating_sub(1);
         match self.run.deliver(alloc, index) {
@@ -220,7 +220,7 @@ impl Player {
 
     // Loses the message with this number: it is settled, and no event happens.
     fn lose(&mut self, line: u32, number: u32) -> Result<(), PlayError>
-        ensures ok { OnOk result (Does line (Command.Lose number) (progress self.old) (Some (progress self.new))) }
+        ensures ok { OnOk result (Does line (ScriptCommand.Lose number) (progress self.old) (Some (progress self.new))) }
         ensures err { IfErr result (λ error. error ≡ NoMemory) }
     {
         let index = (number as usize).saturating_sub(1);

@@ -1,16 +1,16 @@
 //! Calls as `strace` writes them.
-use crate::answer::Answer;
-use crate::asked::{Asked, Wish};
 use crate::described::{Described, bracketed};
-use crate::reason::Reason;
-use crate::recorded::Happening;
+use crate::omission_reason::OmissionReason;
+use crate::recorded_answer::RecordedAnswer;
+use crate::recorded_event::Happening;
+use crate::recorded_lock_call::{RecordedLockCall, Wish};
 use model::access::Access;
 use model::mode::Mode;
 use model::owner::Kind;
 
 /// What kind of `fcntl` call a word such as F_SETLKW names.
 #[derive(Clone, Copy)]
-pub(crate) enum Command {
+pub(crate) enum FcntlCommand {
     /// A lock or none is set; `waits` where the call does.
     Sets { kind: Kind, waits: bool },
     /// What is in the way is asked.
@@ -24,24 +24,24 @@ pub(crate) enum Command {
 }
 
 /// The command of an `fcntl` call on this descriptor.
-pub(crate) fn command_in(file: &Described<'_>) -> Command {
+pub(crate) fn command_in(file: &Described<'_>) -> FcntlCommand {
     command_of(argument(file.rest, 1).unwrap_or(""))
 }
 
 // The call that the word names.
-fn command_of(word: &str) -> Command {
+fn command_of(word: &str) -> FcntlCommand {
     let kind = if word.starts_with("F_OFD_") {
         Kind::OfDescription
     } else {
         Kind::OfProcess
     };
     match word.strip_suffix("64").unwrap_or(word) {
-        "F_SETLK" | "F_OFD_SETLK" => Command::Sets { kind, waits: false },
-        "F_SETLKW" | "F_OFD_SETLKW" => Command::Sets { kind, waits: true },
-        "F_GETLK" | "F_OFD_GETLK" => Command::Asks(kind),
-        "F_DUPFD" | "F_DUPFD_CLOEXEC" => Command::Duplicates,
-        "F_SETFD" => Command::Marks,
-        _ => Command::Other,
+        "F_SETLK" | "F_OFD_SETLK" => FcntlCommand::Sets { kind, waits: false },
+        "F_SETLKW" | "F_OFD_SETLKW" => FcntlCommand::Sets { kind, waits: true },
+        "F_GETLK" | "F_OFD_GETLK" => FcntlCommand::Asks(kind),
+        "F_DUPFD" | "F_DUPFD_CLOEXEC" => FcntlCommand::Duplicates,
+        "F_SETFD" => FcntlCommand::Marks,
+        _ => FcntlCommand::Other,
     }
 }
 
@@ -80,8 +80,12 @@ fn mode_of(structure: &str) -> Option<Option<Mode>> {
 /// # Errors
 /// `Whence` where its segment is not counted from the beginning of the file; `NotUnderstood` where a field is missing or
 /// can't be read.
-pub(crate) fn set_of(kind: Kind, waits: bool, structure: &str) -> Result<Asked, Reason> {
-    let wish = match mode_of(structure).ok_or(Reason::NotUnderstood)? {
+pub(crate) fn set_of(
+    kind: Kind,
+    waits: bool,
+    structure: &str,
+) -> Result<RecordedLockCall, OmissionReason> {
+    let wish = match mode_of(structure).ok_or(OmissionReason::NotUnderstood)? {
         Some(mode) if waits => Wish::Wait(mode),
         Some(mode) => Wish::Set(mode),
         None => Wish::Unlock,
@@ -95,8 +99,8 @@ pub(crate) fn set_of(kind: Kind, waits: bool, structure: &str) -> Result<Asked, 
 ///
 /// # Errors
 /// As `set_of` has it.
-pub(crate) fn query_of(kind: Kind, structure: &str) -> Result<Asked, Reason> {
-    let wish = match mode_of(structure).ok_or(Reason::NotUnderstood)? {
+pub(crate) fn query_of(kind: Kind, structure: &str) -> Result<RecordedLockCall, OmissionReason> {
+    let wish = match mode_of(structure).ok_or(OmissionReason::NotUnderstood)? {
         Some(_) => Wish::Query(Mode::Write),
         None => Wish::Query(Mode::Read),
     };
@@ -104,14 +108,14 @@ pub(crate) fn query_of(kind: Kind, structure: &str) -> Result<Asked, Reason> {
 }
 
 // The lock call with the segment of a `struct flock`.
-fn asked_of(kind: Kind, wish: Wish, structure: &str) -> Result<Asked, Reason> {
-    let whence = field(structure, "l_whence=").ok_or(Reason::NotUnderstood)?;
+fn asked_of(kind: Kind, wish: Wish, structure: &str) -> Result<RecordedLockCall, OmissionReason> {
+    let whence = field(structure, "l_whence=").ok_or(OmissionReason::NotUnderstood)?;
     if whence != "SEEK_SET" {
-        return Err(Reason::Whence);
+        return Err(OmissionReason::Whence);
     }
-    let start = offset(structure, "l_start=").ok_or(Reason::NotUnderstood)?;
-    let len = offset(structure, "l_len=").ok_or(Reason::NotUnderstood)?;
-    Ok(Asked {
+    let start = offset(structure, "l_start=").ok_or(OmissionReason::NotUnderstood)?;
+    let len = offset(structure, "l_len=").ok_or(OmissionReason::NotUnderstood)?;
+    Ok(RecordedLockCall {
         kind,
         wish,
         start,
@@ -125,17 +129,17 @@ fn offset(structure: &str, name: &str) -> Option<i64> {
 }
 
 /// What a lock call that set a lock or none answered, where it returned this, as far as a reply of a script says it.
-pub(crate) fn answer_of(wish: Wish, gave: &str) -> Option<Answer> {
+pub(crate) fn answer_of(wish: Wish, gave: &str) -> Option<RecordedAnswer> {
     if gave == "0" {
-        return Some(Answer::Done);
+        return Some(RecordedAnswer::Done);
     }
     match (wish, error_in(gave)?) {
-        (Wish::Set(_), "EAGAIN" | "EACCES") => Some(Answer::Again),
-        (Wish::Wait(_), "EINTR" | "ERESTARTSYS") => Some(Answer::Interrupted),
-        (_, "ENOLCK") => Some(Answer::NoLocks),
-        (_, "EBADF") => Some(Answer::BadFd),
-        (_, "EINVAL") => Some(Answer::Invalid),
-        (_, "EOVERFLOW") => Some(Answer::Overflow),
+        (Wish::Set(_), "EAGAIN" | "EACCES") => Some(RecordedAnswer::Again),
+        (Wish::Wait(_), "EINTR" | "ERESTARTSYS") => Some(RecordedAnswer::Interrupted),
+        (_, "ENOLCK") => Some(RecordedAnswer::NoLocks),
+        (_, "EBADF") => Some(RecordedAnswer::BadFd),
+        (_, "EINVAL") => Some(RecordedAnswer::Invalid),
+        (_, "EOVERFLOW") => Some(RecordedAnswer::Overflow),
         _ => None,
     }
 }
@@ -153,13 +157,16 @@ pub(crate) fn error_in(gave: &str) -> Option<&str> {
 ///
 /// # Errors
 /// As `set_of` has it.
-pub(crate) fn found_of(asked: &Asked, structure: &str) -> Result<Answer, Reason> {
-    match mode_of(structure).ok_or(Reason::NotUnderstood)? {
-        None => Ok(Answer::Free),
-        Some(Mode::Read) => Ok(Answer::BlockedByRead),
+pub(crate) fn found_of(
+    asked: &RecordedLockCall,
+    structure: &str,
+) -> Result<RecordedAnswer, OmissionReason> {
+    match mode_of(structure).ok_or(OmissionReason::NotUnderstood)? {
+        None => Ok(RecordedAnswer::Free),
+        Some(Mode::Read) => Ok(RecordedAnswer::BlockedByRead),
         Some(Mode::Write) => {
-            let (first, last) = span_of(asked).ok_or(Reason::NotUnderstood)?;
-            Ok(Answer::BlockedByWrite { first, last })
+            let (first, last) = span_of(asked).ok_or(OmissionReason::NotUnderstood)?;
+            Ok(RecordedAnswer::BlockedByWrite { first, last })
         }
     }
 }
@@ -186,7 +193,7 @@ pub(crate) fn flag_in(name: &str, arguments: &str) -> Option<bool> {
 }
 
 // The first and the last byte of the segment of a lock.
-fn span_of(asked: &Asked) -> Option<(u64, u64)> {
+fn span_of(asked: &RecordedLockCall) -> Option<(u64, u64)> {
     let first = u64::try_from(asked.start).ok()?;
     let last = if asked.len == 0 {
         i64::MAX
@@ -200,7 +207,7 @@ fn span_of(asked: &Asked) -> Option<(u64, u64)> {
 pub(crate) fn close_of(arguments: &str) -> Happening {
     match number_in(arguments) {
         Some(fd) => Happening::Closes { fd },
-        None => Happening::Unserved(Reason::NotUnderstood),
+        None => Happening::Unserved(OmissionReason::NotUnderstood),
     }
 }
 
@@ -212,7 +219,7 @@ pub(crate) fn close_range_of(arguments: &str) -> Happening {
     }
     match range_of(arguments) {
         Some((first, last)) => Happening::ClosesRange { first, last },
-        None => Happening::Unserved(Reason::NotUnderstood),
+        None => Happening::Unserved(OmissionReason::NotUnderstood),
     }
 }
 
@@ -242,22 +249,22 @@ pub(crate) fn open_of<'a>(
     name: &str,
     arguments: &'a str,
     told: Option<&'a str>,
-) -> Result<(&'a str, Access), Reason> {
+) -> Result<(&'a str, Access), OmissionReason> {
     let (directory, rest) = if name == "openat" || name == "openat2" {
-        directory_of(arguments).ok_or(Reason::NotUnderstood)?
+        directory_of(arguments).ok_or(OmissionReason::NotUnderstood)?
     } else {
         ("AT_FDCWD", arguments)
     };
-    let (path, flags) = quoted(rest).ok_or(Reason::NotUnderstood)?;
+    let (path, flags) = quoted(rest).ok_or(OmissionReason::NotUnderstood)?;
     let path = match told {
         Some(told) => told,
         None if is_whole(directory, path, flags) => path,
-        None => return Err(Reason::Relative),
+        None => return Err(OmissionReason::Relative),
     };
     let access = if name == "creat" {
         Access::WriteOnly
     } else {
-        access_of(flags).ok_or(Reason::NotUnderstood)?
+        access_of(flags).ok_or(OmissionReason::NotUnderstood)?
     };
     Ok((path, access))
 }

@@ -1,10 +1,10 @@
 //! Histories of clients from recordings.
-use crate::client_call::{Act, Client, ClientCall};
 use crate::client_writing::Style;
 use crate::clients::Clients;
-use crate::history_error::HistoryError;
-use crate::reader::events_of;
-use crate::times::{Times, times_of};
+use crate::line_times::{LineTimes, times_of};
+use crate::recorded_call::{RecordedAct, RecordedCall, RecordedClient};
+use crate::recorded_history_error::RecordedHistoryError;
+use crate::recording_reader::events_of;
 use crate::writing::push_notes;
 use std::alloc::{AllocError, Global};
 use std::collections::HashSet;
@@ -19,7 +19,7 @@ pub struct Traced<'a> {
 /// What is made of recordings: the text of a history of clients, and notes on what is left out of it, a line each.
 /// Where machines are named, a line `machine NAME:` stands before the notes on its recording.
 #[derive(Drop)]
-pub struct Told {
+pub struct HistoryAndNotes {
     pub history: String,
     pub notes: String,
 }
@@ -33,9 +33,12 @@ pub struct Told {
 /// `Machines` where one of several recordings has no machine, two have the same one, or a name is no word; `NoTime` for
 /// the first line without a time since 1970, and `Backwards` for the first whose time is before that of a line above it, whichever comes first; `NoLocks`
 /// where no lock call is told; `NoMemory` where a request for memory was refused.
-pub fn history_of(alloc: Global, traces: &[Traced<'_>]) -> Result<Told, HistoryError> {
+pub fn history_of(
+    alloc: Global,
+    traces: &[Traced<'_>],
+) -> Result<HistoryAndNotes, RecordedHistoryError> {
     if !are_apart(traces) {
-        return Err(HistoryError::Machines);
+        return Err(RecordedHistoryError::Machines);
     }
     let times = all_times(alloc, traces)?;
     let step = step_of(&times);
@@ -43,7 +46,7 @@ pub fn history_of(alloc: Global, traces: &[Traced<'_>]) -> Result<Told, HistoryE
     let calls = all_calls(alloc, traces, &times, step, &mut notes)?;
     let askers = askers_of(alloc, &calls)?;
     if askers.is_empty() {
-        return Err(HistoryError::NoLocks);
+        return Err(RecordedHistoryError::NoLocks);
     }
     let files = files_of(alloc, &calls)?;
     let machines = machines_of(alloc, traces)?;
@@ -58,7 +61,7 @@ pub fn history_of(alloc: Global, traces: &[Traced<'_>]) -> Result<Told, HistoryE
             style.push_call(&mut history, call)?;
         }
     }
-    Ok(Told { history, notes })
+    Ok(HistoryAndNotes { history, notes })
 }
 
 // Whether each recording has a machine of its own, or there is one, which has none.
@@ -93,7 +96,7 @@ fn is_name(name: Option<&str>) -> bool {
 }
 
 // The times of all recordings.
-fn all_times(alloc: Global, traces: &[Traced<'_>]) -> Result<Vec<Times>, HistoryError> {
+fn all_times(alloc: Global, traces: &[Traced<'_>]) -> Result<Vec<LineTimes>, RecordedHistoryError> {
     let mut all = Vec::new(alloc);
     for (recording, traced) in traces.iter().enumerate() {
         let times = times_of(alloc, recording, traced.text)?;
@@ -103,7 +106,7 @@ fn all_times(alloc: Global, traces: &[Traced<'_>]) -> Result<Vec<Times>, History
 }
 
 // What the times of the history count, in nanoseconds: these, or microseconds where no time counts less.
-fn step_of(times: &[Times]) -> u64 {
+fn step_of(times: &[LineTimes]) -> u64 {
     if times.iter().any(|times| times.are_fine()) {
         1
     } else {
@@ -115,10 +118,10 @@ fn step_of(times: &[Times]) -> u64 {
 fn all_calls<'a>(
     alloc: Global,
     traces: &[Traced<'a>],
-    times: &[Times],
+    times: &[LineTimes],
     step: u64,
     notes: &mut String,
-) -> Result<Vec<ClientCall<'a>>, AllocError> {
+) -> Result<Vec<RecordedCall<'a>>, AllocError> {
     let is_alone = traces.len() == 1;
     let mut calls = Vec::new(alloc);
     for ((recording, traced), times) in traces.iter().enumerate().zip(times.iter()) {
@@ -175,7 +178,7 @@ fn machines_of<'a>(
 }
 
 // Writes what stands before the calls.
-fn push_front(out: &mut String, style: Style<'_>, times: &[Times]) -> Result<(), AllocError> {
+fn push_front(out: &mut String, style: Style<'_>, times: &[LineTimes]) -> Result<(), AllocError> {
     style.push_head(out)?;
     for (machine, times) in style.machines.iter().zip(times.iter()) {
         style.push_machine(out, *machine, times.cut())?;
@@ -184,10 +187,13 @@ fn push_front(out: &mut String, style: Style<'_>, times: &[Times]) -> Result<(),
 }
 
 // Those who made a lock call.
-fn askers_of(alloc: Global, calls: &[ClientCall<'_>]) -> Result<HashSet<Client>, AllocError> {
+fn askers_of(
+    alloc: Global,
+    calls: &[RecordedCall<'_>],
+) -> Result<HashSet<RecordedClient>, AllocError> {
     let mut askers = HashSet::new(alloc);
     for call in calls {
-        if let Act::Asks { .. } = call.act {
+        if let RecordedAct::Asks { .. } = call.act {
             askers.insert(call.client)?;
         }
     }
@@ -195,10 +201,10 @@ fn askers_of(alloc: Global, calls: &[ClientCall<'_>]) -> Result<HashSet<Client>,
 }
 
 // The files on which there was one.
-fn files_of<'a>(alloc: Global, calls: &[ClientCall<'a>]) -> Result<HashSet<&'a str>, AllocError> {
+fn files_of<'a>(alloc: Global, calls: &[RecordedCall<'a>]) -> Result<HashSet<&'a str>, AllocError> {
     let mut files = HashSet::new(alloc);
     for call in calls {
-        if let Act::Asks { file, .. } = call.act {
+        if let RecordedAct::Asks { file, .. } = call.act {
             files.insert(file)?;
         }
     }
@@ -206,10 +212,14 @@ fn files_of<'a>(alloc: Global, calls: &[ClientCall<'a>]) -> Result<HashSet<&'a s
 }
 
 // Whether the call may touch a lock: one of a client that made no lock call has none to touch.
-fn matters(call: &ClientCall<'_>, askers: &HashSet<Client>, files: &HashSet<&str>) -> bool {
+fn matters(
+    call: &RecordedCall<'_>,
+    askers: &HashSet<RecordedClient>,
+    files: &HashSet<&str>,
+) -> bool {
     match call.act {
-        Act::Asks { .. } => true,
-        Act::Closes { file } => askers.contains(&call.client) && files.contains(&file),
-        Act::Exits => askers.contains(&call.client),
+        RecordedAct::Asks { .. } => true,
+        RecordedAct::Closes { file } => askers.contains(&call.client) && files.contains(&file),
+        RecordedAct::Exits => askers.contains(&call.client),
     }
 }

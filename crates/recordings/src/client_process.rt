@@ -1,5 +1,5 @@
 //! Processes whose calls are told.
-use crate::client_call::{Client, Locker};
+use crate::recorded_call::{Locker, RecordedClient};
 use std::alloc::{AllocError, Global};
 
 /// An open descriptor: its number, the line where the process got it, the open file description that it refers to, by its place, and
@@ -52,8 +52,8 @@ impl ClientProcess {
     }
 
     /// It, as an owner of locks.
-    pub(crate) fn client(&self, recording: usize) -> Client {
-        Client {
+    pub(crate) fn client(&self, recording: usize) -> RecordedClient {
+        RecordedClient {
             recording,
             locker: Locker::Process {
                 pid: self.pid,

@@ -1,6 +1,6 @@
 //! The text of a history of clients.
-use crate::asked::{Asked, Wish};
-use crate::client_call::{Act, Client, ClientCall, Locker, Outcome};
+use crate::recorded_call::{Locker, RecordedAct, RecordedCall, RecordedClient, RecordedOutcome};
+use crate::recorded_lock_call::{RecordedLockCall, Wish};
 use model::mode::Mode;
 use std::alloc::AllocError;
 use std::fmt::Write;
@@ -53,7 +53,7 @@ impl Style<'_> {
     pub(crate) fn push_call(
         &self,
         out: &mut String,
-        call: &ClientCall<'_>,
+        call: &RecordedCall<'_>,
     ) -> Result<(), AllocError> {
         let begin = self.time(call.stretch.begin);
         write!(out, "call {begin} ")?;
@@ -66,7 +66,7 @@ impl Style<'_> {
         }
         self.push_client(out, call.client)?;
         match call.act {
-            Act::Asks {
+            RecordedAct::Asks {
                 file,
                 asked,
                 outcome,
@@ -76,12 +76,12 @@ impl Style<'_> {
                     self.push_outcome(out, &asked, outcome)?;
                 }
             }
-            Act::Closes { file } => {
+            RecordedAct::Closes { file } => {
                 out.push_str(" close ")?;
                 push_word(out, file)?;
                 self.push_done(out, call)?;
             }
-            Act::Exits => {
+            RecordedAct::Exits => {
                 out.push_str(" exit")?;
                 self.push_done(out, call)?;
             }
@@ -95,7 +95,7 @@ impl Style<'_> {
     }
 
     // Writes whose locks a call is about.
-    fn push_client(&self, out: &mut String, client: Client) -> Result<(), AllocError> {
+    fn push_client(&self, out: &mut String, client: RecordedClient) -> Result<(), AllocError> {
         match client.locker {
             Locker::Process { pid, life: 1 } => write!(out, "p{pid}")?,
             Locker::Process { pid, life } => write!(out, "p{pid}.{life}")?,
@@ -109,7 +109,7 @@ impl Style<'_> {
     }
 
     // Writes that a call is done, where that is known.
-    fn push_done(&self, out: &mut String, call: &ClientCall<'_>) -> Result<(), AllocError> {
+    fn push_done(&self, out: &mut String, call: &RecordedCall<'_>) -> Result<(), AllocError> {
         if call.stretch.end.is_none() {
             return Ok(());
         }
@@ -120,20 +120,20 @@ impl Style<'_> {
     fn push_outcome(
         &self,
         out: &mut String,
-        asked: &Asked,
-        outcome: Outcome<'_>,
+        asked: &RecordedLockCall,
+        outcome: RecordedOutcome<'_>,
     ) -> Result<(), AllocError> {
         out.push_str(" -> ")?;
         match outcome {
-            Outcome::Done => out.push_str("done"),
-            Outcome::Again => out.push_str("again"),
-            Outcome::Interrupted => out.push_str("interrupted"),
-            Outcome::Free => out.push_str("free"),
-            Outcome::Refused(error) => {
+            RecordedOutcome::Done => out.push_str("done"),
+            RecordedOutcome::Again => out.push_str("again"),
+            RecordedOutcome::Interrupted => out.push_str("interrupted"),
+            RecordedOutcome::Free => out.push_str("free"),
+            RecordedOutcome::Refused(error) => {
                 out.push_str("refused ")?;
                 push_word(out, error)
             }
-            Outcome::Blocked { mode, holder } => {
+            RecordedOutcome::Blocked { mode, holder } => {
                 out.push_str("blocked ")?;
                 out.push_str(mode.word())?;
                 let start = asked.start;
@@ -149,7 +149,7 @@ impl Style<'_> {
 }
 
 // Writes what a lock call asks for.
-fn push_asked(out: &mut String, file: &str, asked: &Asked) -> Result<(), AllocError> {
+fn push_asked(out: &mut String, file: &str, asked: &RecordedLockCall) -> Result<(), AllocError> {
     let (word, mode) = match asked.wish {
         Wish::Set(mode) => (" set ", Some(mode)),
         Wish::Wait(mode) => (" wait ", Some(mode)),

@@ -1,19 +1,23 @@
 //! What the clients of a recording did.
-use crate::answer::Answer;
-use crate::asked::{Asked, Wish};
-use crate::calls::{Command, command_in, flag_in, gives_closing, holder_of, number_in, range_of};
-use crate::client_call::{Act, Client, ClientCall, Locker, Outcome, Stretch};
+use crate::calls::{
+    FcntlCommand, command_in, flag_in, gives_closing, holder_of, number_in, range_of,
+};
 use crate::client_process::Descriptor;
 use crate::client_processes::ClientProcesses;
 use crate::described::Described;
 use crate::description::Description;
+use crate::line_times::LineTimes;
 use crate::note::Note;
+use crate::omission_reason::OmissionReason;
 use crate::outcome::{found_outcome, outcome_of};
-use crate::passed::Passed;
-use crate::reason::Reason;
-use crate::recorded::{Happening, Recorded};
+use crate::recorded_answer::RecordedAnswer;
+use crate::recorded_call::{
+    Locker, RecordedAct, RecordedCall, RecordedClient, RecordedOutcome, Stretch,
+};
+use crate::recorded_event::{Happening, RecordedEvent};
+use crate::recorded_lock_call::{RecordedLockCall, Wish};
 use crate::strace_line::is_kill;
-use crate::times::Times;
+use crate::system_call::SystemCall;
 use intervals::span::Span;
 use model::owner::Kind;
 use std::alloc::{AllocError, Global};
@@ -33,14 +37,14 @@ pub(crate) struct Clients<'t, 'a> {
     // The place of the recording, and whether there is no other.
     recording: usize,
     is_alone: bool,
-    times: &'t Times,
+    times: &'t LineTimes,
     // What times of the history count, in nanoseconds.
     step: u64,
     processes: ClientProcesses,
     descriptions: Vec<Description<'a>>,
     // The last lock calls that got their locks, by the PIDs of who made them.
     asking: HashMap<u32, Asking>,
-    calls: Vec<ClientCall<'a>>,
+    calls: Vec<RecordedCall<'a>>,
     notes: Vec<Note>,
 }
 
@@ -50,7 +54,7 @@ impl<'t, 'a> Clients<'t, 'a> {
         alloc: Global,
         recording: usize,
         is_alone: bool,
-        times: &'t Times,
+        times: &'t LineTimes,
         step: u64,
     ) -> Clients<'t, 'a> {
         Clients {
@@ -67,7 +71,7 @@ impl<'t, 'a> Clients<'t, 'a> {
     }
 
     /// What the clients did.
-    pub(crate) fn calls(&self) -> &[ClientCall<'a>] {
+    pub(crate) fn calls(&self) -> &[RecordedCall<'a>] {
         self.calls.as_slice()
     }
 
@@ -83,8 +87,8 @@ impl<'t, 'a> Clients<'t, 'a> {
     pub(crate) fn take(
         &mut self,
         paths: &[&'a str],
-        event: &Recorded,
-        passed: &Passed<'a>,
+        event: &RecordedEvent,
+        passed: &SystemCall<'a>,
     ) -> Result<(), AllocError> {
         let line = event.line;
         match event.happening {
@@ -106,8 +110,8 @@ impl<'t, 'a> Clients<'t, 'a> {
         &mut self,
         process: usize,
         paths: &[&'a str],
-        event: &Recorded,
-        passed: &Passed<'a>,
+        event: &RecordedEvent,
+        passed: &SystemCall<'a>,
     ) -> Result<(), AllocError> {
         let line = event.line;
         match event.happening {
@@ -144,7 +148,7 @@ impl<'t, 'a> Clients<'t, 'a> {
     }
 
     // It is noted that something in this line is left out.
-    fn push_note(&mut self, line: u64, reason: Reason) -> Result<(), AllocError> {
+    fn push_note(&mut self, line: u64, reason: OmissionReason) -> Result<(), AllocError> {
         self.notes.push(Note { line, reason })?;
         Ok(())
     }
@@ -152,11 +156,11 @@ impl<'t, 'a> Clients<'t, 'a> {
     // A client did this.
     fn push_call(
         &mut self,
-        client: Client,
-        act: Act<'a>,
+        client: RecordedClient,
+        act: RecordedAct<'a>,
         stretch: Stretch,
     ) -> Result<(), AllocError> {
-        self.calls.push(ClientCall {
+        self.calls.push(RecordedCall {
             client,
             act,
             stretch,
@@ -165,7 +169,7 @@ impl<'t, 'a> Clients<'t, 'a> {
     }
 
     // When a call was made that passed so.
-    fn stretch_of(&self, passed: &Passed<'_>) -> Stretch {
+    fn stretch_of(&self, passed: &SystemCall<'_>) -> Stretch {
         let end = match passed.end {
             Some(end) if passed.gave != "?" => self.times.end(passed.begin, end, self.step),
             _ => None,
@@ -177,7 +181,7 @@ impl<'t, 'a> Clients<'t, 'a> {
     }
 
     // The process lived when a call began that returned.
-    fn see(&mut self, process: usize, passed: &Passed<'_>) {
+    fn see(&mut self, process: usize, passed: &SystemCall<'_>) {
         if passed.end.is_none() || passed.gave == "?" {
             return;
         }
@@ -199,7 +203,7 @@ impl<'t, 'a> Clients<'t, 'a> {
         process: usize,
         fd: u32,
         file: &'a str,
-        passed: &Passed<'a>,
+        passed: &SystemCall<'a>,
         opened: Option<u64>,
     ) -> Result<(), AllocError> {
         let now = self.stretch_of(passed);
@@ -227,7 +231,7 @@ impl<'t, 'a> Clients<'t, 'a> {
         process: usize,
         fd: u32,
         file: &'a str,
-        passed: &Passed<'a>,
+        passed: &SystemCall<'a>,
     ) -> Result<(), AllocError> {
         match self.processes.descriptor(process, fd) {
             Some(_) => Ok(()),
@@ -241,7 +245,7 @@ impl<'t, 'a> Clients<'t, 'a> {
         process: usize,
         fd: u32,
         to: u32,
-        passed: &Passed<'a>,
+        passed: &SystemCall<'a>,
     ) -> Result<(), AllocError> {
         if fd == to {
             return Ok(());
@@ -285,14 +289,14 @@ impl<'t, 'a> Clients<'t, 'a> {
     // The client has no locks on the file of the description from then on.
     fn push_close(
         &mut self,
-        client: Client,
+        client: RecordedClient,
         description: usize,
         stretch: Stretch,
     ) -> Result<(), AllocError> {
         match self.descriptions.get(description) {
             Some(description) => {
                 let file = description.file;
-                self.push_call(client, Act::Closes { file }, stretch)
+                self.push_call(client, RecordedAct::Closes { file }, stretch)
             }
             None => Ok(()),
         }
@@ -315,8 +319,8 @@ impl<'t, 'a> Clients<'t, 'a> {
     }
 
     // An owner of locks in this recording.
-    fn client(&self, locker: Locker) -> Client {
-        Client {
+    fn client(&self, locker: Locker) -> RecordedClient {
+        RecordedClient {
             recording: self.recording,
             locker,
         }
@@ -329,7 +333,7 @@ impl<'t, 'a> Clients<'t, 'a> {
         first: u32,
         last: u32,
         executes: bool,
-        passed: &Passed<'a>,
+        passed: &SystemCall<'a>,
     ) -> Result<(), AllocError> {
         let stretch = self.stretch_of(passed);
         for one in self.processes.copied(process)? {
@@ -341,7 +345,7 @@ impl<'t, 'a> Clients<'t, 'a> {
     }
 
     // Whether descriptors of the process close where a program is executed is set.
-    fn mark(&mut self, process: usize, passed: &Passed<'_>) {
+    fn mark(&mut self, process: usize, passed: &SystemCall<'_>) {
         if passed.gave != "0" {
             return;
         }
@@ -416,7 +420,7 @@ impl<'t, 'a> Clients<'t, 'a> {
         for one in self.processes.copied(place)? {
             self.release(one.description, stretch)?;
         }
-        self.push_call(client, Act::Exits, stretch)
+        self.push_call(client, RecordedAct::Exits, stretch)
     }
 
     // Through which descriptor the process makes a lock call that gets its lock, which is told where that returns. The descriptor may be another then.
@@ -424,14 +428,14 @@ impl<'t, 'a> Clients<'t, 'a> {
         &mut self,
         process: usize,
         by: u32,
-        passed: &Passed<'_>,
+        passed: &SystemCall<'_>,
     ) -> Result<(), AllocError> {
         let Some(file) = Described::of(passed.arguments).filter(|_| passed
             .name
             .starts_with("fcntl")) else {
             return Ok(());
         };
-        if let (Command::Sets { .. }, Some(descriptor)) = (
+        if let (FcntlCommand::Sets { .. }, Some(descriptor)) = (
             command_in(&file),
             self.processes.descriptor(process, file.number),
         ) {
@@ -447,7 +451,7 @@ impl<'t, 'a> Clients<'t, 'a> {
         process: usize,
         by: u32,
         fd: u32,
-        passed: &Passed<'_>,
+        passed: &SystemCall<'_>,
     ) -> Option<Descriptor> {
         match self.asking.get(&by) {
             Some(asking) if asking.begin == passed.begin => Some(asking.descriptor),
@@ -461,12 +465,12 @@ impl<'t, 'a> Clients<'t, 'a> {
         process: usize,
         line: u64,
         through: Option<Descriptor>,
-        asked: Asked,
-        answer: Option<Answer>,
-        passed: &Passed<'a>,
+        asked: RecordedLockCall,
+        answer: Option<RecordedAnswer>,
+        passed: &SystemCall<'a>,
     ) -> Result<(), AllocError> {
         let Some((file, client)) = self.asker(process, through, asked.kind) else {
-            return self.push_note(line, Reason::NotOpen);
+            return self.push_note(line, OmissionReason::NotOpen);
         };
         if Span::from_flock(asked.start, asked.len).is_err() {
             return Ok(());
@@ -478,7 +482,7 @@ impl<'t, 'a> Clients<'t, 'a> {
         let stretch = self.stretch_of(passed);
         self.push_call(
             client,
-            Act::Asks {
+            RecordedAct::Asks {
                 file,
                 asked,
                 outcome,
@@ -493,7 +497,7 @@ impl<'t, 'a> Clients<'t, 'a> {
         process: usize,
         through: Option<Descriptor>,
         kind: Kind,
-    ) -> Option<(&'a str, Client)> {
+    ) -> Option<(&'a str, RecordedClient)> {
         let description = self.descriptions.get(through?.description)?;
         let client = match kind {
             Kind::OfProcess => self.processes.get(process)?.client(self.recording),
@@ -506,7 +510,11 @@ impl<'t, 'a> Clients<'t, 'a> {
     }
 
     // What a lock call found that asked what is in the way.
-    fn found(&self, answer: Option<Answer>, passed: &Passed<'a>) -> Option<Outcome<'a>> {
+    fn found(
+        &self,
+        answer: Option<RecordedAnswer>,
+        passed: &SystemCall<'a>,
+    ) -> Option<RecordedOutcome<'a>> {
         let structure = if passed.more.is_empty() {
             passed.arguments
         } else {
@@ -516,7 +524,7 @@ impl<'t, 'a> Clients<'t, 'a> {
     }
 
     // The process that has the lock which F_GETLK tells of. Of several machines each has PIDs of its own, so none is known.
-    fn holder(&self, structure: &str) -> Option<Client> {
+    fn holder(&self, structure: &str) -> Option<RecordedClient> {
         if !self.is_alone {
             return None;
         }
@@ -535,7 +543,7 @@ fn file_at<'a>(paths: &[&'a str], number: u32) -> &'a str {
 }
 
 // The descriptors from the first to the last that a call marks so.
-fn marked_in(passed: &Passed<'_>) -> Option<(u32, u32, bool)> {
+fn marked_in(passed: &SystemCall<'_>) -> Option<(u32, u32, bool)> {
     let closes = flag_in(passed.name, passed.arguments)?;
     let fd = number_in(passed.arguments)?;
     Some((fd, fd, closes))

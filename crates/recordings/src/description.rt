@@ -1,5 +1,5 @@
 //! Open file descriptions.
-use crate::client_call::Stretch;
+use crate::recorded_call::Stretch;
 
 /// An open file description: its file, the line where it was opened, if that is recorded, how many descriptors refer to it, and
 /// when those went that did: from the latest begin of that on, and by the latest end.

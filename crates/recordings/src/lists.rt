@@ -7,14 +7,14 @@ ghost use Rattle.recordings.specs.rule.Known.{fds_within, file_of, free_place, f
 ghost use Rattle.recordings.specs.rule.Places.{has_placed, is_at, placing_of};
 ghost use Rattle.recordings.specs.rule.Steps.{has_room, in_child, retry_of};
 
-use crate::held::Held;
-use crate::line::Line;
 use crate::numbered_file::NumberedFile;
-use crate::place::Place;
 use crate::placing::Placing;
+use crate::recorded_descriptor::RecordedDescriptor;
 use crate::running::Running;
 use crate::said::Said;
+use crate::script_process::ScriptProcess;
 use crate::thread::Thread;
+use crate::written_line::WrittenLine;
 use std::alloc::{AllocError, Global};
 
 /// The process of this PID.
@@ -30,7 +30,11 @@ pub(crate) fn running_of(running: &[Running], pid: u32) -> Option<Running>
 }
 
 /// The descriptor of the process.
-pub(crate) fn held_by(held: &[Held], place: Place, fd: u32) -> Option<Held>
+pub(crate) fn held_by(
+    held: &[RecordedDescriptor],
+    place: ScriptProcess,
+    fd: u32,
+) -> Option<RecordedDescriptor>
     ensures { result ≡ held_by held.now place fd }
 {
     for one in held {
@@ -68,28 +72,28 @@ fn is_file(file: &NumberedFile, path: u32) -> bool
 }
 
 // Whether it is that descriptor of that process.
-fn is_held(held: &Held, place: Place, fd: u32) -> bool
+fn is_held(held: &RecordedDescriptor, place: ScriptProcess, fd: u32) -> bool
     ensures { result ≡ is_held place fd held.now }
 {
     held.place.is_at(place) && held.fd == fd
 }
 
 // Whether it is a descriptor of that process, from the first number to the last.
-fn is_within(held: &Held, place: Place, first: u32, last: u32) -> bool
+fn is_within(held: &RecordedDescriptor, place: ScriptProcess, first: u32, last: u32) -> bool
     ensures { result ≡ is_within place first last held.now }
 {
     held.place.is_at(place) && first <= held.fd && held.fd <= last
 }
 
 // Whether that process has it in the script.
-fn is_scripted(held: &Held, place: Place) -> bool
+fn is_scripted(held: &RecordedDescriptor, place: ScriptProcess) -> bool
     ensures { result ≡ is_scripted place held.now }
 {
     held.place.is_at(place) && held.slot.is_some()
 }
 
 // Whether it is that descriptor of that process in the script.
-fn has_slot(held: &Held, place: Place, slot: u8) -> bool
+fn has_slot(held: &RecordedDescriptor, place: ScriptProcess, slot: u8) -> bool
     ensures { result ≡ has_slot place slot held.now }
 {
     held.place.is_at(place) && is_slot(held.slot, slot)
@@ -106,26 +110,26 @@ fn is_slot(held: Option<u8>, slot: u8) -> bool
 }
 
 // Whether that process runs.
-fn is_running(running: &[Running], place: Place) -> bool
+fn is_running(running: &[Running], place: ScriptProcess) -> bool
     ensures { result ≡ list_any (runs_at place) running.now }
 {
     running.iter().any(|one| one.place.is_at(place))
 }
 
 // Whether the process has that descriptor in the script.
-fn is_used(held: &[Held], place: Place, slot: u8) -> bool
+fn is_used(held: &[RecordedDescriptor], place: ScriptProcess, slot: u8) -> bool
     ensures { result ≡ list_any (has_slot place slot) held.now }
 {
     held.iter().any(|one| has_slot(one, place, slot))
 }
 
 /// The process of the node with the lowest number that none that runs has, if there is one.
-pub(crate) fn free_place(running: &[Running], node: u8) -> Option<Place>
+pub(crate) fn free_place(running: &[Running], node: u8) -> Option<ScriptProcess>
     requires { IsNumber most_nodes node }
     ensures { result ≡ free_place running.now node }
 {
     for number in 1..=256 {
-        let place = Place::new(node, number);
+        let place = ScriptProcess::new(node, number);
         if !is_running(running, place) {
             return Some(place);
         }
@@ -134,7 +138,7 @@ pub(crate) fn free_place(running: &[Running], node: u8) -> Option<Place>
 }
 
 /// The lowest descriptor of the process in the script that is free, if there is one.
-pub(crate) fn free_slot(held: &[Held], place: Place) -> Option<u8>
+pub(crate) fn free_slot(held: &[RecordedDescriptor], place: ScriptProcess) -> Option<u8>
     ensures { result ≡ free_slot held.now place }
 {
     for slot in 0..64 {
@@ -146,7 +150,7 @@ pub(crate) fn free_slot(held: &[Held], place: Place) -> Option<u8>
 }
 
 /// Whether the process has a descriptor in the script.
-pub(crate) fn has_scripted(held: &[Held], place: Place) -> bool
+pub(crate) fn has_scripted(held: &[RecordedDescriptor], place: ScriptProcess) -> bool
     ensures { result ≡ list_any (is_scripted place) held.now }
 {
     held.iter().any(|one| is_scripted(one, place))
@@ -156,8 +160,8 @@ pub(crate) fn has_scripted(held: &[Held], place: Place) -> bool
 /// them.
 pub(crate) fn fds_within(
     alloc: Global,
-    held: &[Held],
-    place: Place,
+    held: &[RecordedDescriptor],
+    place: ScriptProcess,
     first: u32,
     last: u32,
 ) -> Result<Vec<u32>, AllocError>
@@ -173,28 +177,28 @@ pub(crate) fn fds_within(
 }
 
 /// The descriptor goes.
-pub(crate) fn remove_held(held: &mut Vec<Held>, place: Place, fd: u32)
+pub(crate) fn remove_held(held: &mut Vec<RecordedDescriptor>, place: ScriptProcess, fd: u32)
     ensures { held.new.items ≡ filter (λ h. not (is_held place fd h)) held.old.items }
 {
     held.retain(|one| !is_held(one, place, fd));
 }
 
 /// All descriptors of the process go.
-pub(crate) fn remove_all_held(held: &mut Vec<Held>, place: Place)
+pub(crate) fn remove_all_held(held: &mut Vec<RecordedDescriptor>, place: ScriptProcess)
     ensures { held.new.items ≡ filter (λ h. not (is_of place h)) held.old.items }
 {
     held.retain(|one| !one.place.is_at(place));
 }
 
 /// The process goes.
-pub(crate) fn remove_process(running: &mut Vec<Running>, place: Place)
+pub(crate) fn remove_process(running: &mut Vec<Running>, place: ScriptProcess)
     ensures { running.new.items ≡ filter (λ r. not (runs_at place r)) running.old.items }
 {
     running.retain(|one| !one.place.is_at(place));
 }
 
 /// The waits of the process are open no more.
-pub(crate) fn remove_waiting(waiting: &mut Vec<Place>, place: Place)
+pub(crate) fn remove_waiting(waiting: &mut Vec<ScriptProcess>, place: ScriptProcess)
     ensures { waiting.new.items ≡ filter (λ p. not (is_at place p)) waiting.old.items }
 {
     waiting.retain(|one| !one.is_at(place));
@@ -270,11 +274,14 @@ pub(crate) fn remove_threads_of(threads: &mut Vec<Thread>, pid: u32)
 }
 
 /// Lines that try the open waits of these processes again come last.
-pub(crate) fn push_retries(lines: &mut Vec<Line>, waiting: &[Place]) -> Result<(), AllocError>
+pub(crate) fn push_retries(
+    lines: &mut Vec<WrittenLine>,
+    waiting: &[ScriptProcess],
+) -> Result<(), AllocError>
     ensures { OnOk result (lines.new.items ≡ lines.old.items ++ map retry_of waiting.now) }
 {
     for place in waiting {
-        lines.push(Line::Says(Said::retry(*place)))?;
+        lines.push(WrittenLine::Says(Said::retry(*place)))?;
     }
     Ok(())
 }
@@ -294,7 +301,11 @@ pub(crate) fn remove_left(left: &mut Vec<u32>, pid: u32)
 }
 
 /// The child gets the descriptors that its parent has.
-pub(crate) fn inherit(held: &mut Vec<Held>, parent: Place, child: Place) -> Result<(), AllocError>
+pub(crate) fn inherit(
+    held: &mut Vec<RecordedDescriptor>,
+    parent: ScriptProcess,
+    child: ScriptProcess,
+) -> Result<(), AllocError>
     ensures { OnOk result (held.new.items ≡ held.old.items ++ map (in_child child) (filter (is_of parent) held.old.items)) }
 {
     let mut inherited = Vec::new(*held.allocator());
@@ -307,10 +318,10 @@ pub(crate) fn inherit(held: &mut Vec<Held>, parent: Place, child: Place) -> Resu
 }
 
 // The same descriptor of the child.
-fn in_child(held: Held, child: Place) -> Held
+fn in_child(held: RecordedDescriptor, child: ScriptProcess) -> RecordedDescriptor
     ensures { result ≡ in_child child held }
 {
-    Held {
+    RecordedDescriptor {
         place: child,
         fd: held.fd,
         path: held.path,

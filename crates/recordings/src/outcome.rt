@@ -1,20 +1,20 @@
 //! What lock calls of clients answered.
-use crate::answer::Answer;
-use crate::asked::Wish;
 use crate::calls::error_in;
-use crate::client_call::{Client, Outcome};
+use crate::recorded_answer::RecordedAnswer;
+use crate::recorded_call::{RecordedClient, RecordedOutcome};
+use crate::recorded_lock_call::Wish;
 use model::mode::Mode;
 
 /// What a lock call answered that set a lock or none, where it returned this.
-pub(crate) fn outcome_of(wish: Wish, gave: &str) -> Option<Outcome<'_>> {
+pub(crate) fn outcome_of(wish: Wish, gave: &str) -> Option<RecordedOutcome<'_>> {
     if gave == "0" {
-        return Some(Outcome::Done);
+        return Some(RecordedOutcome::Done);
     }
     let error = error_in(gave).filter(|error| !error.is_empty())?;
     let outcome = match wish {
-        Wish::Set(_) if error == "EAGAIN" || error == "EACCES" => Outcome::Again,
-        Wish::Set(_) | Wish::Wait(_) if is_signal(error) => Outcome::Interrupted,
-        _ => Outcome::Refused(error),
+        Wish::Set(_) if error == "EAGAIN" || error == "EACCES" => RecordedOutcome::Again,
+        Wish::Set(_) | Wish::Wait(_) if is_signal(error) => RecordedOutcome::Interrupted,
+        _ => RecordedOutcome::Refused(error),
     };
     Some(outcome)
 }
@@ -25,16 +25,19 @@ fn is_signal(error: &str) -> bool {
 }
 
 /// What a lock call answered that asked what is in the way, where this is what it found, and this process has the lock.
-pub(crate) fn found_outcome<'a>(answer: Answer, holder: Option<Client>) -> Option<Outcome<'a>> {
+pub(crate) fn found_outcome<'a>(
+    answer: RecordedAnswer,
+    holder: Option<RecordedClient>,
+) -> Option<RecordedOutcome<'a>> {
     match answer {
-        Answer::Free => Some(Outcome::Free),
-        Answer::BlockedByRead => Some(blocked(Mode::Read, holder)),
-        Answer::BlockedByWrite { .. } => Some(blocked(Mode::Write, holder)),
+        RecordedAnswer::Free => Some(RecordedOutcome::Free),
+        RecordedAnswer::BlockedByRead => Some(blocked(Mode::Read, holder)),
+        RecordedAnswer::BlockedByWrite { .. } => Some(blocked(Mode::Write, holder)),
         _ => None,
     }
 }
 
 // That a lock of the mode is in the way.
-fn blocked<'a>(mode: Mode, holder: Option<Client>) -> Outcome<'a> {
-    Outcome::Blocked { mode, holder }
+fn blocked<'a>(mode: Mode, holder: Option<RecordedClient>) -> RecordedOutcome<'a> {
+    RecordedOutcome::Blocked { mode, holder }
 }

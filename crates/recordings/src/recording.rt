@@ -9,11 +9,11 @@ ghost use Rattle.recordings.specs.rule.Steps.{is_full, known, known_at_end};
 ghost use Rattle.recordings.specs.declared.error.RecordingError.TheVariants.{Nodes, Placed, TooLong};
 
 use crate::error::RecordingError;
-use crate::known::Known;
+use crate::known_processes::KnownProcesses;
 use crate::numbered_file::NumberedFile;
 use crate::placing::Placing;
-use crate::reader::events_of;
-use crate::recorded::Recorded;
+use crate::recorded_event::RecordedEvent;
+use crate::recording_reader::events_of;
 use crate::writing::{push_cluster, push_empties, push_files, push_lines, push_notes};
 use lockscript::error::ParseError;
 use lockscript::script::Script;
@@ -87,7 +87,7 @@ fn is_past(placing: &Placing, nodes: u8) -> bool
 fn script_from(
     alloc: Global,
     paths: &[&str],
-    events: &[Recorded],
+    events: &[RecordedEvent],
     nodes: u8,
     placings: &[Placing],
 ) -> Result<Recording, RecordingError>
@@ -126,8 +126,8 @@ fn known_at_end<'a>(
     alloc: Global,
     nodes: u8,
     placings: &'a [Placing],
-    events: &[Recorded],
-) -> Result<Known<'a>, AllocError>
+    events: &[RecordedEvent],
+) -> Result<KnownProcesses<'a>, AllocError>
     requires { IsNumber most_nodes nodes }
     ensures { IfOk result (λ made. made ≡ known_at_end nodes placings.now events.now) }
 {
@@ -149,12 +149,12 @@ fn known_after<'a>(
     placings: &'a [Placing],
     every: bool,
     files: Vec<NumberedFile>,
-    events: &[Recorded],
-) -> Result<Known<'a>, AllocError>
+    events: &[RecordedEvent],
+) -> Result<KnownProcesses<'a>, AllocError>
     requires { IsNumber most_nodes nodes }
     ensures { IfOk result (λ made. made ≡ known nodes placings.now every files.items events.now) }
 {
-    let mut made = Known::new(alloc, nodes, placings, every, files);
+    let mut made = KnownProcesses::new(alloc, nodes, placings, every, files);
     for event in events {
         made.take(event)?;
     }
@@ -167,7 +167,7 @@ fn push_script(
     out: &mut String,
     paths: &[&str],
     nodes: u8,
-    known: &Known<'_>,
+    known: &KnownProcesses<'_>,
 ) -> Result<(), AllocError>
     ensures { OnOk result (string_bytes out.new ≡ string_bytes out.old ++ script_text paths.now nodes known.now.files known.now.lines) }
 {

@@ -1,20 +1,20 @@
 //! What lines of a script that is made ask for.
-use crate::place::Place;
-use lockscript::script_line::Command;
+use crate::script_process::ScriptProcess;
+use lockscript::script_line::ScriptCommand;
 use model::op::Op;
 use std::marker::Model;
 
 /// What a line asks for, within the limits of scripts.
 #[derive(Clone, Copy)]
 pub(crate) struct Said {
-    command: Command,
+    command: ScriptCommand,
 }
 
 impl Model for Said {
-    ghost use Rattle.lockscript.specs.declared.script_line.Command.{Command};
+    ghost use Rattle.lockscript.specs.declared.script_line.ScriptCommand.{ScriptCommand};
     ghost use Rattle.lockscript.specs.rule.Scripts.{IsCommand};
 
-    ghost Value = { Command };
+    ghost Value = { ScriptCommand };
 
     ghost view = { λ s. s.command };
 
@@ -27,17 +27,17 @@ impl Said {
     ghost use Rattle.std.specs.Prelude.{◌≡◌};
     ghost use Rattle.lockscript.specs.rule.Scripts.{IsCommand};
     ghost use Rattle.lockscript.specs.rule.Served.{IsServedOp};
-    ghost use Rattle.lockscript.specs.declared.script_line.Command.TheVariants.{Call, Settle, Interrupt, Retry};
+    ghost use Rattle.lockscript.specs.declared.script_line.ScriptCommand.TheVariants.{Call, Settle, Interrupt, Retry};
 
     /// A process makes a call.
-    pub(crate) fn call(place: Place, op: Op) -> Said
+    pub(crate) fn call(place: ScriptProcess, op: Op) -> Said
         requires { IsServedOp op }
         ensures { result ≡ Call place.node place.number op }
     {
         let node = place.node();
         let pid = place.number();
         Said {
-            command: Command::Call { node, pid, op },
+            command: ScriptCommand::Call { node, pid, op },
         }
     }
 
@@ -46,34 +46,34 @@ impl Said {
         ensures { result ≡ Settle }
     {
         Said {
-            command: Command::Settle,
+            command: ScriptCommand::Settle,
         }
     }
 
     /// The wait of a process is interrupted.
-    pub(crate) fn interrupt(place: Place) -> Said
+    pub(crate) fn interrupt(place: ScriptProcess) -> Said
         ensures { result ≡ Interrupt place.node place.number }
     {
         let node = place.node();
         let pid = place.number();
         Said {
-            command: Command::Interrupt { node, pid },
+            command: ScriptCommand::Interrupt { node, pid },
         }
     }
 
     /// The wait of a process is tried again.
-    pub(crate) fn retry(place: Place) -> Said
+    pub(crate) fn retry(place: ScriptProcess) -> Said
         ensures { result ≡ Retry place.node place.number }
     {
         let node = place.node();
         let pid = place.number();
         Said {
-            command: Command::Retry { node, pid },
+            command: ScriptCommand::Retry { node, pid },
         }
     }
 
     /// What it asks for.
-    pub(crate) fn command(&self) -> Command
+    pub(crate) fn command(&self) -> ScriptCommand
         ensures value { result ≡ self.now }
         ensures within { IsCommand result }
     {

@@ -1,5 +1,5 @@
 //! Beginnings of calls.
-use crate::asked::Asked;
+use crate::recorded_lock_call::RecordedLockCall;
 
 /// What became of a call when it began.
 #[derive(Clone, Copy)]
@@ -7,7 +7,11 @@ pub(crate) enum Start {
     /// It matters where it returns.
     Nothing,
     /// It is a lock call through this descriptor, which the event at this index tells of.
-    Asked { fd: u32, asked: Asked, index: usize },
+    Asked {
+        fd: u32,
+        asked: RecordedLockCall,
+        index: usize,
+    },
     /// It makes a process or thread, which the event at this index is to tell of.
     Made(usize),
     /// It does what the event at this index tells of, unless it fails.

@@ -1,14 +1,14 @@
 //! What is read of a recording.
-use crate::passed::Passed;
-use crate::recorded::{Happening, Recorded};
+use crate::recorded_event::{Happening, RecordedEvent};
+use crate::system_call::SystemCall;
 use std::alloc::{AllocError, Global};
 use std::collections::HashMap;
 
 /// The events of a recording, how the calls passed that they are of, and the paths in them, by their numbers.
 #[derive(Drop)]
 pub(crate) struct Trace<'a> {
-    events: Vec<Recorded>,
-    passed: Vec<Passed<'a>>,
+    events: Vec<RecordedEvent>,
+    passed: Vec<SystemCall<'a>>,
     paths: Vec<&'a str>,
     numbers: HashMap<&'a str, u32>,
 }
@@ -25,12 +25,12 @@ impl<'a> Trace<'a> {
     }
 
     /// The events, in order.
-    pub(crate) fn events(&self) -> &[Recorded] {
+    pub(crate) fn events(&self) -> &[RecordedEvent] {
         self.events.as_slice()
     }
 
     /// How the calls of the events passed, in the same order.
-    pub(crate) fn passed(&self) -> &[Passed<'a>] {
+    pub(crate) fn passed(&self) -> &[SystemCall<'a>] {
         self.passed.as_slice()
     }
 
@@ -50,12 +50,12 @@ impl<'a> Trace<'a> {
         happening: Happening,
     ) -> Result<usize, AllocError> {
         let index = self.events.len();
-        self.events.push(Recorded {
+        self.events.push(RecordedEvent {
             line,
             pid,
             happening,
         })?;
-        self.passed.push(Passed {
+        self.passed.push(SystemCall {
             name: "",
             arguments: "",
             more: "",
@@ -67,14 +67,14 @@ impl<'a> Trace<'a> {
     }
 
     /// The event at this index is of a call that passed so.
-    pub(crate) fn pass(&mut self, index: usize, how: Passed<'a>) {
+    pub(crate) fn pass(&mut self, index: usize, how: SystemCall<'a>) {
         if let Some(passed) = self.passed.get_mut(index) {
             *passed = how;
         }
     }
 
     /// So are the events from this index on.
-    pub(crate) fn pass_from(&mut self, index: usize, how: Passed<'a>) {
+    pub(crate) fn pass_from(&mut self, index: usize, how: SystemCall<'a>) {
         for place in index..self.passed.len() {
             self.pass(place, how);
         }

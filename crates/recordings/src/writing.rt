@@ -7,10 +7,10 @@ ghost use Rattle.messages.specs.declared.version.Version.TheVariants.{Second};
 ghost use Rattle.texts.specs.rule.Reads.{pair_text};
 ghost use Rattle.recordings.specs.rule.Texts.{answer_text, at_least_one, begins_on, empties_text, empty_text, file_text, first_line, line_text, note_text, notes_text, others_text, shape_of, shown, told, with_feed};
 
-use crate::answer::Answer;
-use crate::line::Line;
 use crate::note::Note;
 use crate::numbered_file::NumberedFile;
+use crate::recorded_answer::RecordedAnswer;
+use crate::written_line::WrittenLine;
 use lockscript::lines::split_line;
 use lockscript::writing::push_command;
 use model::policy::Policy;
@@ -115,7 +115,7 @@ fn first_line(text: &str) -> &str
 ///
 /// # Errors
 /// `AllocError` where a request for memory was refused.
-pub(crate) fn push_lines(out: &mut String, lines: &[Line]) -> Result<(), AllocError>
+pub(crate) fn push_lines(out: &mut String, lines: &[WrittenLine]) -> Result<(), AllocError>
     ensures { OnOk result (string_bytes out.new ≡ string_bytes out.old ++ flat_map (λ l. with_feed (line_text l)) lines.now) }
 {
     for line in lines {
@@ -126,20 +126,20 @@ pub(crate) fn push_lines(out: &mut String, lines: &[Line]) -> Result<(), AllocEr
 
 // Writes a line.
 #[tactic(auto, unfolding(crate::specs::rule::Texts::line_text))]
-fn push_line(out: &mut String, line: &Line) -> Result<(), AllocError>
+fn push_line(out: &mut String, line: &WrittenLine) -> Result<(), AllocError>
     ensures { OnOk result (string_bytes out.new ≡ string_bytes out.old ++ with_feed (line_text line.now)) }
 {
     match line {
-        Line::Begins { place, pid } => {
+        WrittenLine::Begins { place, pid } => {
             let number = place.number();
             let node = place.node();
             writeln!(out, "# process {number} of node {node} is PID {pid}")
         }
-        Line::Says(said) => {
+        WrittenLine::Says(said) => {
             push_command(out, &said.command())?;
             out.push_str("\n")
         }
-        Line::Expects(answer) => {
+        WrittenLine::Expects(answer) => {
             out.push_str("# expect ")?;
             push_answer(out, *answer)?;
             out.push_str("\n")
@@ -149,20 +149,20 @@ fn push_line(out: &mut String, line: &Line) -> Result<(), AllocError>
 
 // Writes an answer.
 #[tactic(auto, unfolding(crate::specs::rule::Texts::answer_text))]
-fn push_answer(out: &mut String, answer: Answer) -> Result<(), AllocError>
+fn push_answer(out: &mut String, answer: RecordedAnswer) -> Result<(), AllocError>
     ensures { OnOk result (string_bytes out.new ≡ string_bytes out.old ++ answer_text answer) }
 {
     match answer {
-        Answer::Done => out.push_str("done"),
-        Answer::Again => out.push_str("again"),
-        Answer::Interrupted => out.push_str("interrupted"),
-        Answer::Free => out.push_str("free"),
-        Answer::BlockedByRead => out.push_str("blocked read"),
-        Answer::BlockedByWrite { first, last } => push_blocked(out, first, last),
-        Answer::NoLocks => out.push_str("no-locks"),
-        Answer::BadFd => out.push_str("bad-fd"),
-        Answer::Invalid => out.push_str("invalid"),
-        Answer::Overflow => out.push_str("overflow"),
+        RecordedAnswer::Done => out.push_str("done"),
+        RecordedAnswer::Again => out.push_str("again"),
+        RecordedAnswer::Interrupted => out.push_str("interrupted"),
+        RecordedAnswer::Free => out.push_str("free"),
+        RecordedAnswer::BlockedByRead => out.push_str("blocked read"),
+        RecordedAnswer::BlockedByWrite { first, last } => push_blocked(out, first, last),
+        RecordedAnswer::NoLocks => out.push_str("no-locks"),
+        RecordedAnswer::BadFd => out.push_str("bad-fd"),
+        RecordedAnswer::Invalid => out.push_str("invalid"),
+        RecordedAnswer::Overflow => out.push_str("overflow"),
     }
 }
 
@@ -177,7 +177,11 @@ fn push_blocked(out: &mut String, first: u64, last: u64) -> Result<(), AllocErro
 ///
 /// # Errors
 /// `AllocError` where a request for memory was refused.
-pub(crate) fn push_empties(out: &mut String, lines: &[Line], nodes: u8) -> Result<(), AllocError>
+pub(crate) fn push_empties(
+    out: &mut String,
+    lines: &[WrittenLine],
+    nodes: u8,
+) -> Result<(), AllocError>
     requires { IsNumber most_nodes nodes }
     ensures { OnOk result (string_bytes out.new ≡ string_bytes out.old ++ empties_text lines.now nodes) }
 {
@@ -189,7 +193,7 @@ pub(crate) fn push_empties(out: &mut String, lines: &[Line], nodes: u8) -> Resul
 
 // Writes that the node has no process, if it has none.
 #[tactic(auto, unfolding(crate::specs::rule::Texts::empty_text))]
-fn push_empty(out: &mut String, lines: &[Line], node: u8) -> Result<(), AllocError>
+fn push_empty(out: &mut String, lines: &[WrittenLine], node: u8) -> Result<(), AllocError>
     ensures { OnOk result (string_bytes out.new ≡ string_bytes out.old ++ empty_text lines.now node) }
 {
     if has_process(lines, node) {
@@ -206,19 +210,19 @@ fn push_lack(out: &mut String, node: u8) -> Result<(), AllocError>
 }
 
 // Whether a process begins on the node.
-fn has_process(lines: &[Line], node: u8) -> bool
+fn has_process(lines: &[WrittenLine], node: u8) -> bool
     ensures { result ≡ list_any (begins_on node) lines.now }
 {
     lines.iter().any(|line| begins_on(line, node))
 }
 
 // Whether a process begins on the node by this line.
-fn begins_on(line: &Line, node: u8) -> bool
+fn begins_on(line: &WrittenLine, node: u8) -> bool
     ensures { result ≡ begins_on node line.now }
 {
     match line {
-        Line::Begins { place, pid: _ } => place.node() == node,
-        Line::Says(_) | Line::Expects(_) => false,
+        WrittenLine::Begins { place, pid: _ } => place.node() == node,
+        WrittenLine::Says(_) | WrittenLine::Expects(_) => false,
     }
 }
 

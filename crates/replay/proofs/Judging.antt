@@ -5,8 +5,8 @@ use Rattle.std.specs.Global.{Global}
 use Rattle.std.proofs.lemmas.List.{take_all}
 use Rattle.std.proofs.lemmas.List.Elements.{All-more, All-weaker}
 use Rattle.history_text.specs.declared.rule.Allowed.{Allowed}
-use Rattle.judgements.specs.declared.outcome.Outcome.{Outcome}
-use Rattle.judgements.specs.declared.outcome.Outcome.TheVariants as outcome
+use Rattle.judgements.specs.declared.judgement_outcome.JudgementOutcome.{JudgementOutcome}
+use Rattle.judgements.specs.declared.judgement_outcome.JudgementOutcome.TheVariants as outcome
 use Rattle.replay.specs.declared.shown.Shown.{Shown}
 use Rattle.replay.specs.declared.shown.Shown.TheVariants.{Text, Wanting, Partial, Noted, Undecided, Yes, No}
 use Rattle.replay.specs.rule.Judging.{AreJudged, HasHistoryAt, IsSaidIn, IsSaidOf, shown_of}
@@ -14,22 +14,22 @@ use Rattle.replay.specs.rule.Stores.{Files, SameFiles}
 use Rattle.replay.proofs.Stores.{had-text, same-after}
 
 -- what is said of a text is said of a history
-history-said : (allowed : Allowed) (orders : Option (List ℕ)) (old : Files) (said : Outcome) (path : List ℕ) → IsSaidOf allowed orders old said path → HasHistoryAt allowed old path
+history-said : (allowed : Allowed) (orders : Option (List ℕ)) (old : Files) (said : JudgementOutcome) (path : List ℕ) → IsSaidOf allowed orders old said path → HasHistoryAt allowed old path
 history-said allowed None old said path is = (is.0, is.1, is.2, (is.3.0, is.3.1))
 history-said allowed (Some orders) old said path is = (is.0, is.1, is.2, (is.3.0, is.3.1))
 
-had-said : (allowed : Allowed) (orders : Option (List ℕ)) (old new : Files) (said : Outcome) (path : List ℕ) → SameFiles old new → IsSaidOf allowed orders new said path → IsSaidOf allowed orders old said path
+had-said : (allowed : Allowed) (orders : Option (List ℕ)) (old new : Files) (said : JudgementOutcome) (path : List ℕ) → SameFiles old new → IsSaidOf allowed orders new said path → IsSaidOf allowed orders old said path
 had-said allowed orders old new said path same is = had-text old new path (λ text. IsSaidIn allowed orders text said) same is
 
 -- so many histories were judged: no file changed, each has one, and what is said of them is so
-pub record SoFar (allowed : Allowed) (orders : Option (List ℕ)) (old new : Files) (said : Outcome) (count : ℕ) (paths : List (List ℕ)) : Type 0 where
+pub record SoFar (allowed : Allowed) (orders : Option (List ℕ)) (old new : Files) (said : JudgementOutcome) (count : ℕ) (paths : List (List ℕ)) : Type 0 where
   pub same : SameFiles old new
   pub read : All (HasHistoryAt allowed old) (take count paths)
   pub explained : said ≡ outcome.Yes → All (IsSaidOf allowed orders old outcome.Yes) (take count paths)
   pub contradicted : said ≡ outcome.No → Any (IsSaidOf allowed orders old outcome.No) paths
 
 -- one more
-pub so-far-more : (allowed : Allowed) (orders : Option (List ℕ)) (old mid new : Files) (was now said : Outcome) (count : ℕ) (paths : List (List ℕ)) (path : List ℕ) → count < length paths → path ≡ get_or paths count path
+pub so-far-more : (allowed : Allowed) (orders : Option (List ℕ)) (old mid new : Files) (was now said : JudgementOutcome) (count : ℕ) (paths : List (List ℕ)) (path : List ℕ) → count < length paths → path ≡ get_or paths count path
     → IsSaidOf allowed orders mid now path → (said ≡ outcome.Yes → (was ≡ outcome.Yes) × (now ≡ outcome.Yes)) → (said ≡ outcome.No → (was ≡ outcome.No) ⊎ (now ≡ outcome.No)) → SameFiles mid new
     → SoFar allowed orders old mid was count paths → SoFar allowed orders old new said (count + 1) paths
 so-far-more allowed orders old mid new was now said count paths path lt at is explained contradicted after before = record {
@@ -37,16 +37,16 @@ so-far-more allowed orders old mid new was now said count paths path lt at is ex
   read = All-more (HasHistoryAt allowed old) paths count path lt before.read (subst (HasHistoryAt allowed old) at (history-said allowed orders old now path (had-said allowed orders old mid now path before.same is)));
   explained = λ word.
       let both = explained word in
-      let here = subst (λ (o : Outcome). IsSaidOf allowed orders mid o path) both.1 is in
+      let here = subst (λ (o : JudgementOutcome). IsSaidOf allowed orders mid o path) both.1 is in
       All-more (IsSaidOf allowed orders old outcome.Yes) paths count path lt (before.explained both.0) (subst (IsSaidOf allowed orders old outcome.Yes) at (had-said allowed orders old mid outcome.Yes path before.same here));
   contradicted = λ word. elim (contradicted word) [
     | inl earlier ↦ before.contradicted earlier
-    | inr here ↦ (count, path, lt, sym at, had-said allowed orders old mid outcome.No path before.same (subst (λ (o : Outcome). IsSaidOf allowed orders mid o path) here is))
+    | inr here ↦ (count, path, lt, sym at, had-said allowed orders old mid outcome.No path before.same (subst (λ (o : JudgementOutcome). IsSaidOf allowed orders mid o path) here is))
   ];
 }
 
 -- all of them
-pub judged-all : (allowed : Allowed) (orders : Option (List ℕ)) (old new : Files) (said : Outcome) (count : ℕ) (paths : List (List ℕ)) (text : String Global) → length paths ≤ count → SoFar allowed orders old new said count paths
+pub judged-all : (allowed : Allowed) (orders : Option (List ℕ)) (old new : Files) (said : JudgementOutcome) (count : ℕ) (paths : List (List ℕ)) (text : String Global) → length paths ≤ count → SoFar allowed orders old new said count paths
     → AreJudged old allowed paths orders (shown_of said text)
 judged-all allowed orders old new outcome.Yes count paths text whole far = subst (All (IsSaidOf allowed orders old outcome.Yes)) (take_all count paths whole) (far.explained refl)
 judged-all allowed orders old new outcome.Unknown count paths text whole far = subst (All (HasHistoryAt allowed old)) (take_all count paths whole) far.read

@@ -5,7 +5,7 @@ use Rattle.std.specs.List.{cons_option}
 use Rattle.messages.specs.declared.entry.Entry.{Entry}
 use Rattle.cluster_core.specs.declared.held_lock.HeldLock.{HeldLock}
 use Rattle.cluster_core.specs.declared.item.Item.{Item}
-use Rattle.cluster_core.specs.declared.token_run.TokenRun.{TokenRun}
+use Rattle.cluster_core.specs.declared.node_token_run.NodeTokenRun.{NodeTokenRun}
 use Rattle.cluster_core.specs.rule.Journals.{JournalFields}
 use Rattle.cluster_core.specs.code.Placement.{items_in}
 use Rattle.lockscript.specs.declared.refused_line.RefusedLine.{RefusedLine}
@@ -16,7 +16,7 @@ use Rattle.replay.specs.rule.Commands.{IsRunText}
 use Rattle.replay.specs.rule.Scripts.{IsListing, IsListingBegun}
 
 -- what begins as a listing does, and goes on with the history, is the listing
-whole_listing : (refused : List RefusedLine) (entries : List Entry) (tokens : List TokenRun) (locks : List HeldLock) (history : List Item) (start text : List ℕ) → start ≡ listing_start refused entries tokens locks → text ≡ start ++ history_text history → text ≡ listing_text refused entries tokens locks history
+whole_listing : (refused : List RefusedLine) (entries : List Entry) (tokens : List NodeTokenRun) (locks : List HeldLock) (history : List Item) (start text : List ℕ) → start ≡ listing_start refused entries tokens locks → text ≡ start ++ history_text history → text ≡ listing_text refused entries tokens locks history
 whole_listing refused entries tokens locks history start text begun whole =
     whole ∙ (ap (λ (bytes : List ℕ). bytes ++ history_text history) begun ∙ simp append_assoc refl)
 

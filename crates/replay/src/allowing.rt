@@ -2,11 +2,11 @@
 ghost use Rattle.std.specs.Prelude.{◌≡◌};
 ghost use Rattle.replay.specs.rule.Judging.{allowed_of, rule_of};
 
-use command_line::rule as asked;
+use command_line::allowed_rule::AllowedRule;
 use history_text::rule::{Allowed, Rule};
 
 /// The rules that these words of a command line allow.
-pub(crate) fn allowed_of(rules: &[asked::Rule]) -> Allowed
+pub(crate) fn allowed_of(rules: &[AllowedRule]) -> Allowed
     ensures { result ≡ allowed_of rules.now }
 {
     let mut allowed = Allowed::nothing();
@@ -17,14 +17,14 @@ pub(crate) fn allowed_of(rules: &[asked::Rule]) -> Allowed
 }
 
 // The rule of a history that the word of a command line asks for.
-fn rule_of(rule: asked::Rule) -> Rule
+fn rule_of(rule: AllowedRule) -> Rule
     ensures { result ≡ rule_of rule }
 {
     match rule {
-        asked::Rule::WaitDrops => Rule::WaitDrops,
-        asked::Rule::CloseOwnDescriptor => Rule::CloseOwnDescriptor,
-        asked::Rule::NoQuery => Rule::NoQuery,
-        asked::Rule::StaleReadDenial => Rule::StaleReadDenial,
-        asked::Rule::LostAt => Rule::LostAt,
+        AllowedRule::WaitDrops => Rule::WaitDrops,
+        AllowedRule::CloseOwnDescriptor => Rule::CloseOwnDescriptor,
+        AllowedRule::NoQuery => Rule::NoQuery,
+        AllowedRule::StaleReadDenial => Rule::StaleReadDenial,
+        AllowedRule::LostAt => Rule::LostAt,
     }
 }

@@ -11,11 +11,11 @@ ghost use Rattle.replay.specs.rule.Stores.{SameFiles};
 use crate::audit::{Audited, checked_new};
 use crate::drafted::committed;
 use crate::fault::Fault;
+use crate::listing_options::ListingOptions;
 use crate::ran::{Ran, run_behind_of, shown_beside};
 use crate::run::{run_text, text_and_journal};
 use crate::shown::Shown;
 use crate::store::Store;
-use crate::wanted::Wanted;
 use player::watcher::Watcher;
 use std::alloc::Global;
 
@@ -34,7 +34,7 @@ pub(crate) fn run_behind<'a, S: Store, V: Watcher>(
     store: &mut S,
     path: &'a str,
     after: &'a str,
-    wanted: Wanted,
+    wanted: ListingOptions,
     watcher: &mut V,
 ) -> Result<Shown, Fault<'a>>
     ensures done { IfOk result (Does (S.holds store.old) (run path.now (Some after.now) None wanted.expect wanted.open wanted.quiet wanted.calm) (S.holds store.new)) }
@@ -56,7 +56,7 @@ pub(crate) fn run_behind_with_journal<'a, S: Store, V: Watcher>(
     path: &'a str,
     after: &'a str,
     file: &'a str,
-    wanted: Wanted,
+    wanted: ListingOptions,
     watcher: &mut V,
 ) -> Result<Shown, Fault<'a>>
     ensures done { IfOk result (Does (S.holds store.old) (run path.now (Some after.now) (Some file.now) wanted.expect wanted.open wanted.quiet wanted.calm) (S.holds store.new)) }
@@ -78,7 +78,7 @@ fn played_behind<'a, S: Store, V: Watcher>(
     store: &mut S,
     path: &'a str,
     after: &'a str,
-    wanted: Wanted,
+    wanted: ListingOptions,
     watcher: &mut V,
 ) -> Result<Behind, Fault<'a>>
     ensures behind { IfOk result (λ behind. (j : JournalFields) × HasNewJournal (S.holds store.old after.now) j × IsBehind (S.holds store.old path.now) j wanted.expect wanted.calm behind) }

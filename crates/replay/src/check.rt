@@ -9,7 +9,7 @@ ghost use Rattle.replay.specs.rule.ToolFaults.{IsReportOf, IsToolFault};
 
 use crate::check_reports::{push_fault, push_reason};
 use crate::fault::Fault;
-use crate::reason::Reason;
+use crate::file_reason::FileReason;
 use crate::several::all_checked;
 use crate::shown::Shown;
 use crate::store::{Store, StoreError};
@@ -100,7 +100,7 @@ fn tried<'a, S: Store>(
 fn refusal_text(
     alloc: Global,
     file: &str,
-    reason: Reason,
+    reason: FileReason,
     found: Option<&Fault<'_>>,
 ) -> Result<String, AllocError> {
     let mut told = String::new(alloc);

@@ -1,6 +1,6 @@
 //! What is told of several files, one behind the other.
 use crate::fault::Fault;
-use crate::reason::Reason;
+use crate::file_reason::FileReason;
 use itoa::Buffer;
 use std::alloc::AllocError;
 use std::fmt::Write;
@@ -27,7 +27,7 @@ pub(crate) fn push_reason(
     out: &mut String,
     start: &str,
     path: &str,
-    reason: Reason,
+    reason: FileReason,
 ) -> Result<(), AllocError> {
     let mut line_room = Buffer::new();
     let mut column_room = Buffer::new();

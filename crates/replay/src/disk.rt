@@ -4,7 +4,7 @@ ghost use Rattle.std.specs.IoError.{error_kind};
 ghost use Rattle.replay.specs.declared.store.StoreError.TheVariants.{NoMemory};
 
 use crate::disk_draft::DiskDraft;
-use crate::reason::Reason;
+use crate::file_reason::FileReason;
 use crate::store::{Store, StoreError};
 use std::alloc::Global;
 use std::fs::{File, Metadata, OpenFile, OpenOptions};
@@ -81,25 +81,25 @@ fn unwritten(error: &Error) -> StoreError
 {
     match error.kind() {
         ErrorKind::OutOfMemory => StoreError::NoMemory,
-        ErrorKind::NotFound => StoreError::Failed(Reason::NoFolder),
+        ErrorKind::NotFound => StoreError::Failed(FileReason::NoFolder),
         kind => StoreError::Failed(reason_of(kind)),
     }
 }
 
-fn reason_of(kind: ErrorKind) -> Reason {
+fn reason_of(kind: ErrorKind) -> FileReason {
     match kind {
-        ErrorKind::NotFound => Reason::Missing,
-        ErrorKind::IsADirectory => Reason::IsDirectory,
-        ErrorKind::NotADirectory => Reason::NotADirectory,
-        ErrorKind::PermissionDenied => Reason::NoPermission,
+        ErrorKind::NotFound => FileReason::Missing,
+        ErrorKind::IsADirectory => FileReason::IsDirectory,
+        ErrorKind::NotADirectory => FileReason::NotADirectory,
+        ErrorKind::PermissionDenied => FileReason::NoPermission,
         ErrorKind::StorageFull | ErrorKind::QuotaExceeded | ErrorKind::FileTooLarge => {
-            Reason::NoSpace
+            FileReason::NoSpace
         }
-        ErrorKind::ReadOnlyFilesystem => Reason::ReadOnlyDisk,
-        ErrorKind::InvalidFilename | ErrorKind::InvalidInput => Reason::BadName,
-        ErrorKind::FilesystemLoop => Reason::LinksInACircle,
-        ErrorKind::ResourceBusy | ErrorKind::ExecutableFileBusy => Reason::InUse,
-        _ => Reason::Refused,
+        ErrorKind::ReadOnlyFilesystem => FileReason::ReadOnlyDisk,
+        ErrorKind::InvalidFilename | ErrorKind::InvalidInput => FileReason::BadName,
+        ErrorKind::FilesystemLoop => FileReason::LinksInACircle,
+        ErrorKind::ResourceBusy | ErrorKind::ExecutableFileBusy => FileReason::InUse,
+        _ => FileReason::Refused,
     }
 }
 

@@ -1,5 +1,5 @@
 //! Files of the system that are made piece by piece.
-use crate::draft::Draft;
+use crate::file_draft::FileDraft;
 use std::alloc::AllocError;
 use std::io;
 use std::io::{BufWriter, Error, Write};
@@ -22,7 +22,7 @@ pub enum DiskDraft<F: Write + Drop> {
     Refused(Error),
 }
 
-impl<F: Write + Drop> Draft for DiskDraft<F> {
+impl<F: Write + Drop> FileDraft for DiskDraft<F> {
     fn add(&mut self, bytes: &[u8]) -> Result<(), AllocError> {
         match self {
             DiskDraft::Beside { file, written, .. } => {

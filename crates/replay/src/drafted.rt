@@ -4,7 +4,7 @@ ghost use Rattle.replay.specs.rule.Faults.{IsUnwritten};
 ghost use Rattle.replay.specs.rule.Stores.{SameOthers};
 
 use crate::fault::Fault;
-use crate::reason::Reason;
+use crate::file_reason::FileReason;
 use crate::store::{Store, StoreError};
 use std::alloc::AllocError;
 
@@ -26,7 +26,7 @@ pub(crate) fn committed<'a, S: Store, T: Drop>(
     };
     match store.commit(file, draft) {
         Ok(()) => Ok(value),
-        Err(StoreError::NoMemory) => Err(Fault::CannotWrite(file, Reason::NoMemory)),
+        Err(StoreError::NoMemory) => Err(Fault::CannotWrite(file, FileReason::NoMemory)),
         Err(StoreError::Failed(reason)) => Err(Fault::CannotWrite(file, reason)),
     }
 }

@@ -5,8 +5,8 @@ ghost use Rattle.replay.specs.rule.Faults.{fault_line, fault_of_parse, fault_of_
 ghost use Rattle.replay.specs.rule.Outputs.{Writes};
 ghost use Rattle.replay.specs.rule.Statuses.{status_of};
 
+use crate::file_reason::FileReason;
 use crate::output::{Output, WriteFailed, put_line};
-use crate::reason::Reason;
 use itoa::Buffer;
 use lockscript::error::ParseError;
 use lockscript::play_error::PlayError;
@@ -18,9 +18,9 @@ pub enum Fault<'a> {
     /// The first line of the script or the journal that may not stand there, by its number, from 1.
     BadLine(u64),
     /// A file, by its path, that can't be read, or that isn't UTF-8, and why.
-    CannotRead(&'a str, Reason),
+    CannotRead(&'a str, FileReason),
     /// A file, by its path, that can't be written, and why.
-    CannotWrite(&'a str, Reason),
+    CannotWrite(&'a str, FileReason),
     /// Standard output didn't take all of the text.
     CannotWriteOutput,
     /// A request for memory was refused.
@@ -89,7 +89,7 @@ fn put_reason<E: Output>(
     err: &mut E,
     start: &str,
     path: &str,
-    reason: Reason,
+    reason: FileReason,
 ) -> Result<(), WriteFailed> {
     let mut line_room = Buffer::new();
     let mut column_room = Buffer::new();

@@ -4,7 +4,7 @@ ghost use Rattle.replay.specs.rule.Faults.{IsTextless};
 ghost use Rattle.replay.specs.rule.Stores.{SameFiles};
 
 use crate::fault::Fault;
-use crate::reason::{Reason, not_text_behind};
+use crate::file_reason::{FileReason, not_text_behind};
 use crate::store::{Store, StoreError};
 use std::alloc::Global;
 use std::string::FromUtf8Error;
@@ -31,7 +31,7 @@ pub(crate) fn text_of<'a, S: Store>(
 }
 
 // Where the bytes are not UTF-8.
-fn not_text_in(error: &FromUtf8Error<Global>) -> Reason {
+fn not_text_in(error: &FromUtf8Error<Global>) -> FileReason {
     let valid = error.utf8_error().valid_up_to();
     not_text_behind(error.as_bytes().get(..valid).unwrap_or(&[]))
 }

@@ -3,7 +3,7 @@ ghost use Rattle.std.specs.Prelude.{◌≡◌, ◌++◌, codes, reverse as rever
 ghost use Rattle.journal_text.specs.rule.Journals.{end_text, entries_text, entry_text, head_text, journal_text};
 ghost use Rattle.replay.specs.rule.Stores.{Adds};
 
-use crate::draft::Draft;
+use crate::file_draft::FileDraft;
 use cluster_core::journal::Journal;
 use journal_text::journal::{push_end, push_entry, push_head};
 use messages::entry::Entry;
@@ -18,7 +18,7 @@ const ENTRIES_AT_ONCE: usize = 16_384;
 ///
 /// # Errors
 /// `AllocError` where a request for memory was refused; the journal is gone then too.
-pub(crate) fn add_journal<D: Draft>(
+pub(crate) fn add_journal<D: FileDraft>(
     draft: &mut D,
     alloc: Global,
     journal: Journal,
@@ -38,7 +38,7 @@ pub(crate) fn add_journal<D: Draft>(
 ///
 /// # Errors
 /// `AllocError` where a request for memory was refused.
-pub(crate) fn add_head<D: Draft>(
+pub(crate) fn add_head<D: FileDraft>(
     draft: &mut D,
     alloc: Global,
     shape: &Shape,
@@ -52,7 +52,7 @@ pub(crate) fn add_head<D: Draft>(
 
 // Writes the lines of entries as this version has them, the last of them first, at position 1. Each goes
 // once it is written.
-fn add_from_last<D: Draft>(
+fn add_from_last<D: FileDraft>(
     draft: &mut D,
     alloc: Global,
     version: Version,
@@ -77,7 +77,7 @@ fn add_from_last<D: Draft>(
 ///
 /// # Errors
 /// `AllocError` where a request for memory was refused.
-pub(crate) fn add_entry<D: Draft>(
+pub(crate) fn add_entry<D: FileDraft>(
     draft: &mut D,
     lines: &mut String,
     version: Version,
@@ -95,7 +95,7 @@ pub(crate) fn add_entry<D: Draft>(
 ///
 /// # Errors
 /// `AllocError` where a request for memory was refused.
-pub(crate) fn add_end<D: Draft>(
+pub(crate) fn add_end<D: FileDraft>(
     draft: &mut D,
     alloc: Global,
     count: usize,

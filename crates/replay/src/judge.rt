@@ -9,12 +9,12 @@ use crate::allowing::allowed_of;
 use crate::check_reports::push_named;
 use crate::fault::Fault;
 use crate::input::text_of;
-use crate::judge_text::{Given, judged_at};
+use crate::judge_text::{OrdersFile, judged_at};
 use crate::shown::Shown;
 use crate::store::Store;
 use command_line::judge_line::JudgeLine;
+use judgements::judgement_outcome::JudgementOutcome;
 use judgements::judging::Judging;
-use judgements::outcome::Outcome;
 use std::alloc::Global;
 
 /// What is said of the history of each file, by the orders of a file, if one is named; of several histories each line of that
@@ -64,7 +64,7 @@ fn judged_by<'a, S: Store>(
     ensures files { SameFiles (S.holds store.old) (S.holds store.new) }
 {
     let text = text_of(alloc, store, orders)?;
-    let given = Given {
+    let given = OrdersFile {
         path: orders,
         text: text.as_str(),
     };
@@ -76,14 +76,14 @@ fn all_judged<'a, S: Store>(
     alloc: Global,
     store: &mut S,
     paths: &[&'a str],
-    given: Option<Given<'_>>,
+    given: Option<OrdersFile<'_>>,
     judging: Judging,
 ) -> Result<Shown, Fault<'a>>
     ensures done { IfOk result (AreJudged (S.holds store.old) judging.allowed (map (λ path. path.now) paths.now) (option_map (λ g. g.path.now) given.entry)) }
     ensures fault { IfErr result (IsToolFault (S.holds store.old) (IsJudgedWith (map (λ path. path.now) paths.now) (option_map (λ g. g.path.now) given.entry)) ⊤) }
     ensures files { SameFiles (S.holds store.old) (S.holds store.new) }
 {
-    let mut outcome = Outcome::Yes;
+    let mut outcome = JudgementOutcome::Yes;
     let mut told = String::new(alloc);
     let named = paths.len() > 1 && !judging.json;
     for path in paths {
@@ -95,12 +95,12 @@ fn all_judged<'a, S: Store>(
 }
 
 // The text, with the status of what is said.
-fn shown_as(outcome: Outcome, text: String) -> Shown
+fn shown_as(outcome: JudgementOutcome, text: String) -> Shown
     ensures { result ≡ shown_of outcome text }
 {
     match outcome {
-        Outcome::Yes => Shown::Text(text),
-        Outcome::Unknown => Shown::Undecided(text),
-        Outcome::No => Shown::Wanting(text),
+        JudgementOutcome::Yes => Shown::Text(text),
+        JudgementOutcome::Unknown => Shown::Undecided(text),
+        JudgementOutcome::No => Shown::Wanting(text),
     }
 }

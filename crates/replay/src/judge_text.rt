@@ -14,7 +14,7 @@ use std::alloc::Global;
 
 /// Orders that are given, with the path of their file.
 #[derive(Clone, Copy)]
-pub(crate) struct Given<'a> {
+pub(crate) struct OrdersFile<'a> {
     pub(crate) path: &'a str,
     pub(crate) text: &'a str,
 }
@@ -24,7 +24,7 @@ pub(crate) fn judged_at<'a, S: Store>(
     alloc: Global,
     store: &mut S,
     path: &'a str,
-    given: Option<Given<'_>>,
+    given: Option<OrdersFile<'_>>,
     judging: Judging,
 ) -> Result<Judgement, Fault<'a>>
     ensures done { IfOk result (λ judgement. IsSaidOf judging.allowed (option_map (λ g. g.path.now) given.entry) (S.holds store.old) judgement.outcome path.now) }
@@ -40,7 +40,7 @@ fn judged_in<'a>(
     alloc: Global,
     path: &str,
     text: &str,
-    given: Option<Given<'_>>,
+    given: Option<OrdersFile<'_>>,
     judging: Judging,
 ) -> Result<Judgement, Fault<'a>>
     ensures done { IfOk result (λ judgement. IsSaidIn judging.allowed (option_map (λ g. g.path.now) given.entry) text.now judgement.outcome) }

@@ -13,12 +13,12 @@ ghost use Rattle.replay.specs.rule.Audits.{IsHistoryText};
 ghost use Rattle.replay.specs.rule.Scripts.{IsListing, IsListingBegun};
 ghost use Rattle.replay.specs.rule.Stores.{Adds};
 
-use crate::draft::Draft;
+use crate::file_draft::FileDraft;
 use crate::journal_draft::{add_end, add_entry, add_head};
 use cluster_core::held_lock::HeldLock;
 use cluster_core::item::Item;
 use cluster_core::journal::Journal;
-use cluster_core::token_run::TokenRun;
+use cluster_core::node_token_run::NodeTokenRun;
 use cluster_core::world::World;
 use lockscript::listing::{listing, listing_start, push_item};
 use lockscript::refused_line::RefusedLine;
@@ -81,7 +81,7 @@ pub(crate) fn listing_begun(
 }
 
 // The tokens and the locks of a world, which goes.
-fn ends_of(alloc: Global, world: World) -> Result<(Vec<TokenRun>, Vec<HeldLock>), AllocError>
+fn ends_of(alloc: Global, world: World) -> Result<(Vec<NodeTokenRun>, Vec<HeldLock>), AllocError>
     ensures tokens { IfOk result (λ ends. IsTokenListing (world_state world) ends.0.items) }
     ensures locks { IfOk result (λ ends. IsLockListing (world_state world) ends.1.items) }
 {
@@ -119,7 +119,7 @@ fn push_items(out: &mut String, entries: PlacedEntries) -> Result<(), AllocError
 ///
 /// # Errors
 /// `AllocError` where a request for memory was refused.
-pub(crate) fn push_history_and_journal<D: Draft>(
+pub(crate) fn push_history_and_journal<D: FileDraft>(
     out: &mut String,
     draft: &mut D,
     alloc: Global,
@@ -137,7 +137,7 @@ pub(crate) fn push_history_and_journal<D: Draft>(
 }
 
 // Writes the lines of what stands at these entries, and to a draft those of the entries, the first of which has position 1.
-fn push_items_and_entries<D: Draft>(
+fn push_items_and_entries<D: FileDraft>(
     out: &mut String,
     draft: &mut D,
     alloc: Global,

@@ -14,7 +14,7 @@ use crate::showing::shown_of;
 use crate::shown::Shown;
 use crate::store::Store;
 use actors::run_watcher::RunWatcher;
-use command_line::line::Line;
+use command_line::command_line::CommandLine;
 use player::watcher::Watcher;
 use std::alloc::Global;
 use std::sync::Wait;
@@ -52,7 +52,7 @@ pub fn perform<
 >(
     rt: &R,
     alloc: Global,
-    line: &Line<'_>,
+    line: &CommandLine<'_>,
     store: &mut S,
     out: &mut O,
     err: &mut E,
@@ -90,7 +90,7 @@ pub fn perform<
 }
 
 // Writes why the line was not done, with the reason where such lines say it, and answers the exit status.
-fn report_of<E: Output>(line: &Line<'_>, fault: &Fault<'_>, err: &mut E) -> u8
+fn report_of<E: Output>(line: &CommandLine<'_>, fault: &Fault<'_>, err: &mut E) -> u8
     ensures status { result ≡ status_of fault.now }
     ensures told { says_why (task_of line.now) ≡ false → WritesOrFails (E.taken err.old) (E.taken err.new) (E.has_failed err.new) (fault_line fault.now) }
 {
@@ -102,23 +102,23 @@ fn report_of<E: Output>(line: &Line<'_>, fault: &Fault<'_>, err: &mut E) -> u8
 }
 
 // Whether reasons are said of files that can't be read or written.
-fn says_why(line: &Line<'_>) -> bool
+fn says_why(line: &CommandLine<'_>) -> bool
     ensures { result ≡ says_why (task_of line.now) }
 {
     match line {
-        Line::Run(_) | Line::Threads(_) | Line::History { .. } => false,
-        Line::Audit { why, .. } => *why,
-        Line::Explain { .. }
-        | Line::Open { .. }
-        | Line::State(_)
-        | Line::Check { .. }
-        | Line::Picture(_)
-        | Line::Stats { .. }
-        | Line::FromStrace { .. }
-        | Line::RecordedHistory { .. }
-        | Line::Explore { .. }
-        | Line::Schedule { .. }
-        | Line::Judge(_) => true,
+        CommandLine::Run(_) | CommandLine::Threads(_) | CommandLine::History { .. } => false,
+        CommandLine::Audit { why, .. } => *why,
+        CommandLine::Explain { .. }
+        | CommandLine::Open { .. }
+        | CommandLine::State(_)
+        | CommandLine::Check { .. }
+        | CommandLine::Picture(_)
+        | CommandLine::Stats { .. }
+        | CommandLine::FromStrace { .. }
+        | CommandLine::RecordedHistory { .. }
+        | CommandLine::Explore { .. }
+        | CommandLine::Schedule { .. }
+        | CommandLine::Judge(_) => true,
     }
 }
 
@@ -143,7 +143,7 @@ fn report_with_reason<E: Output>(fault: &Fault<'_>, err: &mut E) -> u8
 fn done<'a, R: Threads + Wait + Clock + Sync, S: Store, O: Output, V: Watcher + RunWatcher>(
     rt: &R,
     alloc: Global,
-    line: &Line<'a>,
+    line: &CommandLine<'a>,
     store: &mut S,
     out: &mut O,
     watcher: &mut V,

@@ -9,8 +9,8 @@ use crate::input::text_of;
 use crate::recorded::told;
 use crate::shown::Shown;
 use crate::store::Store;
-use recordings::client_history::{Told, Traced, history_of};
-use recordings::history_error::HistoryError;
+use recordings::client_history::{HistoryAndNotes, Traced, history_of};
+use recordings::recorded_history_error::RecordedHistoryError;
 use std::alloc::{AllocError, Global};
 use texts::text::split_at_first;
 
@@ -27,15 +27,15 @@ const NO_LOCKS: &str =
 
 /// A word that names a recording: its machine, if it stands beside others, and its path.
 #[derive(Clone, Copy)]
-struct Named<'a> {
+struct NamedRecording<'a> {
     machine: Option<&'a str>,
     path: &'a str,
 }
 
 /// A recording that was read.
 #[derive(Drop)]
-struct Recorded<'a> {
-    named: Named<'a>,
+struct ReadRecording<'a> {
+    named: NamedRecording<'a>,
     text: String,
 }
 
@@ -59,7 +59,7 @@ fn all_read<'a, S: Store>(
     alloc: Global,
     store: &mut S,
     words: &[&'a str],
-) -> Result<Vec<Recorded<'a>>, Fault<'a>>
+) -> Result<Vec<ReadRecording<'a>>, Fault<'a>>
     ensures done { IfOk result (λ recordings. AreRecorded (S.holds store.old) (map (λ word. word.now) words.now)) }
     ensures fault { IfErr result (IsToolFault (S.holds store.old) (IsRecordingOf (map (λ word. word.now) words.now)) ⊤) }
     ensures files { SameFiles (S.holds store.old) (S.holds store.new) }
@@ -79,7 +79,7 @@ fn read_at<'a, S: Store>(
     store: &mut S,
     word: &'a str,
     is_alone: bool,
-) -> Result<Recorded<'a>, Fault<'a>>
+) -> Result<ReadRecording<'a>, Fault<'a>>
     ensures done { OnOk result (HasRecordingIn (S.holds store.old) is_alone word.now) }
     ensures fault { IfErr result (IsToolFault (S.holds store.old) (IsPathIn is_alone word.now) ⊤) }
     ensures files { SameFiles (S.holds store.old) (S.holds store.new) }
@@ -88,28 +88,28 @@ fn read_at<'a, S: Store>(
         return Err(told(alloc, NO_MACHINE));
     };
     let text = text_of(alloc, store, named.path)?;
-    Ok(Recorded { named, text })
+    Ok(ReadRecording { named, text })
 }
 
 // What the word names.
-fn named_in<'a>(word: &'a str, is_alone: bool) -> Option<Named<'a>>
+fn named_in<'a>(word: &'a str, is_alone: bool) -> Option<NamedRecording<'a>>
     ensures { IfSome result (λ named. IsPathIn is_alone word.entry.now named.path.now) }
 {
     if is_alone {
-        return Some(Named {
+        return Some(NamedRecording {
             machine: None,
             path: word,
         });
     }
     let (machine, path) = split_at_first(word, b'=')?;
-    Some(Named {
+    Some(NamedRecording {
         machine: Some(machine),
         path,
     })
 }
 
 // The history of these recordings, as it is shown.
-fn history_shown<'a>(alloc: Global, recordings: &[Recorded<'_>]) -> Result<Shown, Fault<'a>>
+fn history_shown<'a>(alloc: Global, recordings: &[ReadRecording<'_>]) -> Result<Shown, Fault<'a>>
     ensures done { IfOk result IsRecordedShown }
     ensures fault { IfErr result (IsReportOf ⊤) }
 {
@@ -121,7 +121,7 @@ fn history_shown<'a>(alloc: Global, recordings: &[Recorded<'_>]) -> Result<Shown
 }
 
 // The history, with what is noted of it beside, if anything is.
-fn noted(made: Told) -> Shown
+fn noted(made: HistoryAndNotes) -> Shown
     ensures { IsRecordedShown result }
 {
     if made.notes.is_empty() {
@@ -137,7 +137,7 @@ fn noted(made: Told) -> Shown
 // The recordings as a history is made of them.
 fn traces_of<'r>(
     alloc: Global,
-    recordings: &'r [Recorded<'_>],
+    recordings: &'r [ReadRecording<'_>],
 ) -> Result<Vec<Traced<'r>>, AllocError> {
     let mut traces = Vec::new(alloc);
     for recorded in recordings {
@@ -150,21 +150,25 @@ fn traces_of<'r>(
 }
 
 // The line of why no history is made of these recordings.
-fn fault_of<'a>(alloc: Global, recordings: &[Recorded<'_>], error: HistoryError) -> Fault<'a>
+fn fault_of<'a>(
+    alloc: Global,
+    recordings: &[ReadRecording<'_>],
+    error: RecordedHistoryError,
+) -> Fault<'a>
     ensures { IsReportOf ⊤ result }
 {
     match error {
-        HistoryError::NoMemory => Fault::NoMemory,
-        HistoryError::Machines => told(alloc, NO_NAMES),
-        HistoryError::NoLocks => told(alloc, NO_LOCKS),
-        HistoryError::NoTime { recording, line } => told_at(
+        RecordedHistoryError::NoMemory => Fault::NoMemory,
+        RecordedHistoryError::Machines => told(alloc, NO_NAMES),
+        RecordedHistoryError::NoLocks => told(alloc, NO_LOCKS),
+        RecordedHistoryError::NoTime { recording, line } => told_at(
             alloc,
             recordings,
             recording,
             line,
             "expected a time since 1970, as strace -ttt writes it",
         ),
-        HistoryError::Backwards { recording, line } => told_at(
+        RecordedHistoryError::Backwards { recording, line } => told_at(
             alloc,
             recordings,
             recording,
@@ -177,7 +181,7 @@ fn fault_of<'a>(alloc: Global, recordings: &[Recorded<'_>], error: HistoryError)
 // What is wrong in a line of one of these recordings.
 fn told_at<'a>(
     alloc: Global,
-    recordings: &[Recorded<'_>],
+    recordings: &[ReadRecording<'_>],
     recording: usize,
     line: u64,
     reason: &str,

@@ -16,7 +16,7 @@ use crate::output::{Output, put_all, put_line};
 use crate::perform::{perform, report};
 use crate::store::Store;
 use actors::run_watcher::RunWatcher;
-use command_line::line::Line;
+use command_line::command_line::CommandLine;
 use command_line::refusal::Refusal;
 use player::watcher::Watcher;
 use std::alloc::Global;
@@ -78,7 +78,7 @@ pub fn respond<
     ensures files { (path : List ℕ) (file : Option (List ℕ)) → ((task : Task) → AsksFor (map W.text words.now) task → journal_path task ≢ Some path)
         → S.holds store.new path file ↔ S.holds store.old path file }
 {
-    match Line::read(alloc, words) {
+    match CommandLine::read(alloc, words) {
         Ok(line) => perform(rt, alloc, &line, store, out, err, watcher),
         Err(refusal) => refuse(&refusal, out, err),
     }

@@ -9,16 +9,16 @@ ghost use Rattle.player.specs.code.Parts.{state_of};
 ghost use Rattle.replay.specs.rule.Scripts.{IsListingBegun};
 ghost use Rattle.replay.specs.rule.Stores.{Adds};
 
-use crate::draft::Draft;
 use crate::drafted::committed;
 use crate::explain::open_in;
 use crate::fault::Fault;
+use crate::file_draft::FileDraft;
 use crate::journal_draft::add_journal;
 use crate::listing::{listing_begun, push_history_and_journal, push_history_of};
+use crate::listing_options::ListingOptions;
 use crate::ran::{Ran, run_of, shown_beside};
 use crate::shown::Shown;
 use crate::store::Store;
-use crate::wanted::Wanted;
 use cluster_core::journal::Journal;
 use journal_text::laws::each_journal_is_read;
 use placement::placed_run::PlacedRun;
@@ -31,7 +31,7 @@ pub(crate) fn run_script<'a, S: Store, V: Watcher>(
     alloc: Global,
     store: &mut S,
     path: &'a str,
-    wanted: Wanted,
+    wanted: ListingOptions,
     watcher: &mut V,
 ) -> Result<Shown, Fault<'a>>
     ensures done { IfOk result (Does (S.holds store.old) (run path.now None None wanted.expect wanted.open wanted.quiet wanted.calm) (S.holds store.new)) }
@@ -49,7 +49,7 @@ pub(crate) fn run_with_journal<'a, S: Store, V: Watcher>(
     store: &mut S,
     path: &'a str,
     file: &'a str,
-    wanted: Wanted,
+    wanted: ListingOptions,
     watcher: &mut V,
 ) -> Result<Shown, Fault<'a>>
     ensures done { IfOk result (Does (S.holds store.old) (run path.now None (Some file.now) wanted.expect wanted.open wanted.quiet wanted.calm) (S.holds store.new)) }
@@ -63,7 +63,11 @@ pub(crate) fn run_with_journal<'a, S: Store, V: Watcher>(
 }
 
 // What is shown of a run.
-pub(crate) fn run_text(alloc: Global, played: Played, wanted: Wanted) -> Result<String, AllocError>
+pub(crate) fn run_text(
+    alloc: Global,
+    played: Played,
+    wanted: ListingOptions,
+) -> Result<String, AllocError>
     ensures { IfOk result (λ text. IsRunText (state_of played) wanted.open wanted.quiet (string_bytes text)) }
 {
     if wanted.quiet {
@@ -74,11 +78,11 @@ pub(crate) fn run_text(alloc: Global, played: Played, wanted: Wanted) -> Result<
 }
 
 // What is shown of a run, whose journal is written to a draft.
-pub(crate) fn text_and_journal<D: Draft>(
+pub(crate) fn text_and_journal<D: FileDraft>(
     draft: &mut D,
     alloc: Global,
     played: Played,
-    wanted: Wanted,
+    wanted: ListingOptions,
 ) -> Result<String, AllocError>
     ensures shown { IfOk result (λ text. IsRunText (state_of played) wanted.open wanted.quiet (string_bytes text)) }
     ensures journal { OnOk result (Adds (D.has draft.old) (D.has draft.new) (journal_text played.journal.shape played.journal.entries)) }
@@ -104,7 +108,7 @@ fn listing_of(alloc: Global, played: Played, with_open: bool) -> Result<String, 
 }
 
 // The same, with the journal of the run written to a draft.
-fn listing_and_journal<D: Draft>(
+fn listing_and_journal<D: FileDraft>(
     draft: &mut D,
     alloc: Global,
     played: Played,
@@ -131,7 +135,7 @@ fn open_of(alloc: Global, played: Played, with_open: bool) -> Result<String, All
 }
 
 // The same, with the journal of the run written to a draft.
-fn open_and_journal<D: Draft>(
+fn open_and_journal<D: FileDraft>(
     draft: &mut D,
     alloc: Global,
     played: Played,

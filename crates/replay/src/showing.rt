@@ -14,6 +14,7 @@ use crate::explain::{explain, open_calls};
 use crate::explored::{explored, scheduled};
 use crate::fault::Fault;
 use crate::judge::judge;
+use crate::listing_options::ListingOptions;
 use crate::reasoned::audit_shown;
 use crate::recorded::recorded;
 use crate::recorded_history::recorded_history;
@@ -22,10 +23,9 @@ use crate::shown::Shown;
 use crate::state::state;
 use crate::store::Store;
 use crate::threads::play_on_threads;
-use crate::wanted::Wanted;
 use actors::manner::Manner;
 use actors::run_watcher::RunWatcher;
-use command_line::line::Line;
+use command_line::command_line::CommandLine;
 use command_line::run_line::{RunLine, ThreadsLine};
 use player::watcher::Watcher;
 use std::alloc::Global;
@@ -40,7 +40,7 @@ use std::time::Clock;
 pub(crate) fn shown_of<'a, R: Threads + Wait + Clock + Sync, S: Store, V: Watcher + RunWatcher>(
     rt: &R,
     alloc: Global,
-    line: &Line<'a>,
+    line: &CommandLine<'a>,
     store: &mut S,
     watcher: &mut V,
 ) -> Result<Shown, Fault<'a>>
@@ -49,42 +49,42 @@ pub(crate) fn shown_of<'a, R: Threads + Wait + Clock + Sync, S: Store, V: Watche
         × IsFault (S.holds store.old) (S.ran_short store.new) (S.refuses store.new) (task_of line.now) (S.holds store.new) fault) }
 {
     match *line {
-        Line::Run(asked) => run_shown(alloc, store, asked, watcher),
-        Line::Threads(asked) => threads_shown(rt, alloc, store, asked, watcher),
-        Line::Audit { journal, why } => audit_shown(alloc, store, journal, why, watcher),
-        Line::History {
+        CommandLine::Run(asked) => run_shown(alloc, store, asked, watcher),
+        CommandLine::Threads(asked) => threads_shown(rt, alloc, store, asked, watcher),
+        CommandLine::Audit { journal, why } => audit_shown(alloc, store, journal, why, watcher),
+        CommandLine::History {
             journal,
             as_clients,
         } => history(alloc, store, journal, as_clients),
-        Line::Explain { journal, call } => explain(alloc, store, journal, call),
-        Line::Open { journal } => open_calls(alloc, store, journal),
-        Line::State(asked) => state(alloc, store, asked),
-        Line::Check {
+        CommandLine::Explain { journal, call } => explain(alloc, store, journal, call),
+        CommandLine::Open { journal } => open_calls(alloc, store, journal),
+        CommandLine::State(asked) => state(alloc, store, asked),
+        CommandLine::Check {
             ref scripts,
             journal,
         } => check(alloc, store, scripts.as_slice(), journal, watcher),
-        Line::Picture(asked) => draw(alloc, store, asked),
-        Line::Stats { journal } => counted(alloc, store, journal),
-        Line::FromStrace {
+        CommandLine::Picture(asked) => draw(alloc, store, asked),
+        CommandLine::Stats { journal } => counted(alloc, store, journal),
+        CommandLine::FromStrace {
             recording,
             nodes,
             places,
         } => recorded(alloc, store, recording, nodes, places),
-        Line::RecordedHistory { ref recordings } => {
+        CommandLine::RecordedHistory { ref recordings } => {
             recorded_history(alloc, store, recordings.as_slice())
         }
-        Line::Explore {
+        CommandLine::Explore {
             script,
             seeds,
             first,
             failures,
         } => explored(alloc, store, script, seeds, first, failures, watcher),
-        Line::Schedule {
+        CommandLine::Schedule {
             script,
             seed,
             failures,
         } => scheduled(alloc, store, script, seed, failures),
-        Line::Judge(ref asked) => judge(alloc, store, asked),
+        CommandLine::Judge(ref asked) => judge(alloc, store, asked),
     }
 }
 
@@ -100,7 +100,7 @@ fn run_shown<'a, S: Store, V: Watcher>(
     ensures fault { IfErr result (λ fault. (fault ≢ CannotWriteOutput)
         × IsFault (S.holds store.old) (S.ran_short store.new) (S.refuses store.new) (run_task_of asked.entry) (S.holds store.new) fault) }
 {
-    let wanted = Wanted {
+    let wanted = ListingOptions {
         expect: asked.expect,
         open: asked.open,
         quiet: asked.quiet,
@@ -119,7 +119,7 @@ fn run_alone_shown<'a, S: Store, V: Watcher>(
     store: &mut S,
     script: &'a str,
     journal: Option<&'a str>,
-    wanted: Wanted,
+    wanted: ListingOptions,
     watcher: &mut V,
 ) -> Result<Shown, Fault<'a>>
     ensures done { IfOk result (Does (S.holds store.old) (run script.now None (option_map (λ file. file.now) journal.entry) wanted.expect wanted.open wanted.quiet wanted.calm) (S.holds store.new)) }
@@ -139,7 +139,7 @@ fn run_behind_shown<'a, S: Store, V: Watcher>(
     script: &'a str,
     after: &'a str,
     journal: Option<&'a str>,
-    wanted: Wanted,
+    wanted: ListingOptions,
     watcher: &mut V,
 ) -> Result<Shown, Fault<'a>>
     ensures done { IfOk result (Does (S.holds store.old) (run script.now (Some after.now) (option_map (λ file. file.now) journal.entry) wanted.expect wanted.open wanted.quiet wanted.calm) (S.holds store.new)) }

@@ -1,11 +1,11 @@
 //! Files.
 ghost use Rattle.std.specs.Prelude.{◌≡◌, ℕ, List, [], ⊤, IfOk, OnErr, OnOk, Option, Result, Err, None, Some};
 ghost use Rattle.replay.specs.rule.Stores.{SameFiles, SameOthers};
-ghost use Rattle.replay.specs.declared.reason.Reason.{Reason};
+ghost use Rattle.replay.specs.declared.file_reason.FileReason.{FileReason};
 ghost use Rattle.replay.specs.declared.store.StoreError.TheVariants.{Failed, NoMemory};
 
-use crate::draft::Draft;
-use crate::reason::Reason;
+use crate::file_draft::FileDraft;
+use crate::file_reason::FileReason;
 use std::alloc::Global;
 
 /// Why a file was not read, or not written.
@@ -14,13 +14,13 @@ pub enum StoreError {
     /// A request for memory was refused.
     NoMemory,
     /// The system refused it, for this reason.
-    Failed(Reason),
+    Failed(FileReason),
 }
 
 /// Files by their paths.
 pub trait Store {
     /// A file that is made piece by piece.
-    type Draft: Draft + Drop;
+    type Draft: FileDraft + Drop;
 
     // The file of a path has these bytes, or can't be read, where that is known.
     ghost holds: { Self → List ℕ → Option (List ℕ) → Type 0 } = { λ _ _ _. ⊤ };
@@ -37,7 +37,7 @@ pub trait Store {
     /// `Failed` where the file can't be read; `NoMemory` where a request for memory was refused.
     fn read(&mut self, alloc: Global, path: &str) -> Result<Vec<u8>, StoreError>
         ensures bytes { IfOk result (λ bytes. holds self.old path.now (Some bytes.items)) }
-        ensures failed { (reason : Reason) → result ≡ Err (Failed reason) → holds self.old path.now None }
+        ensures failed { (reason : FileReason) → result ≡ Err (Failed reason) → holds self.old path.now None }
         ensures short { result ≡ Err NoMemory → ran_short self.new }
 
         // No file changes.
@@ -71,7 +71,7 @@ pub trait Store {
     /// # Errors
     /// `Failed` where none could; `NoMemory` where a request for memory was refused.
     fn try_write(&mut self, path: &str) -> Result<(), StoreError>
-        ensures refused { (reason : Reason) → result ≡ Err (Failed reason) → refuses self.new path.now }
+        ensures refused { (reason : FileReason) → result ≡ Err (Failed reason) → refuses self.new path.now }
         ensures short { result ≡ Err NoMemory → ran_short self.new }
 
         // No file changes.

@@ -15,7 +15,7 @@ use Rattle.client_history.specs.declared.client_call.ClientCall.{ClientCall}
 use Rattle.client_history.specs.rule.Acts.{ActStep}
 use Rattle.client_history.specs.rule.Explained.{the_file}
 use Rattle.run_clients.specs.declared.deed.Deed.{Deed}
-use Rattle.run_clients.specs.declared.answer.Answer.{Answer}
+use Rattle.run_clients.specs.declared.answer_time.AnswerTime.{AnswerTime}
 use Rattle.run_clients.specs.declared.file_call.FileCall.{FileCall}
 use Rattle.run_clients.specs.rule.Deeds.{DeedsLead}
 use Rattle.run_clients.specs.rule.Seen.{call_of, client_call, calls_about}
@@ -30,7 +30,7 @@ abbrev pub LeadAlone : Locks → List ClientCall → Locks → Type 0
 LeadAlone old [] new = old ≡ new
 LeadAlone old (c ∷ cs) new = (mid : Locks) × ActStep the_file old c.owner c.act mid × LeadAlone mid cs new
 
-pub deeds_call : (op : Op) (begin : ℕ) (end : Answer) (a b c : Locks) (ds : List Deed) (ss : List FileCall) → DeedsLead a ds b → CallsLead b ss c → CallsLead a (map (call_of op begin end) ds ++ ss) c
+pub deeds_call : (op : Op) (begin : ℕ) (end : AnswerTime) (a b c : Locks) (ds : List Deed) (ss : List FileCall) → DeedsLead a ds b → CallsLead b ss c → CallsLead a (map (call_of op begin end) ds ++ ss) c
 deeds_call op begin end a b c [] ss one two = subst (λ (h : Locks). CallsLead h ss c) (sym one) two
 deeds_call op begin end a b c (d ∷ ds) ss one two = (one.0, one.1, deeds_call op begin end one.0 b c ds ss one.2 two)
 

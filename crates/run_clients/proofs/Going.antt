@@ -9,7 +9,7 @@ use Rattle.messages.specs.declared.entry.Entry.{Entry}
 use Rattle.cluster_core.specs.declared.item.Item.{Item}
 use Rattle.cluster_core.specs.rule.Histories.{ItemStep, IsLegal}
 use Rattle.placement.proofs.Replays.{Follows}
-use Rattle.run_clients.specs.declared.answer.Answer.TheVariants.{At}
+use Rattle.run_clients.specs.declared.answer_time.AnswerTime.TheVariants.{At}
 use Rattle.run_clients.specs.declared.file_call.FileCall.{FileCall}
 use Rattle.run_clients.specs.code.Times.{IsTimed}
 use Rattle.run_clients.specs.rule.Seen.{op_of, item_deeds, call_of, AreSeen, HasOpened, IsOpenCall}

@@ -22,12 +22,12 @@ use Rattle.cluster_core.specs.declared.item.Item.{Item}
 use Rattle.cluster_core.specs.declared.item.Item.TheVariants.{Answered, Gone}
 use Rattle.cluster_core.specs.rule.Histories.{caller, EntryAt, IsCalledAt, IsRepliedAt, IsOpenAt, IsPlaced, OneCall, OneReply}
 use Rattle.run_clients.specs.declared.deed.Deed.{Deed}
-use Rattle.run_clients.specs.declared.answer.Answer.TheVariants.{Never}
+use Rattle.run_clients.specs.declared.answer_time.AnswerTime.TheVariants.{Never}
 use Rattle.run_clients.specs.declared.file_call.FileCall.{FileCall}
 use Rattle.run_clients.specs.rule.Deeds.{listed, lock_deed}
 use Rattle.run_clients.specs.rule.Seen.{call_of, HasOpened, IsOpenCall}
 use Rattle.run_clients.proofs.Runs.{within}
-use Rattle.run_clients.specs.declared.times.Times.{Times}
+use Rattle.run_clients.specs.declared.call_times.CallTimes.{CallTimes}
 use Rattle.run_clients.specs.code.Times.{IsTimed, Positions, position_of_call, Notes, IsMade, IsAnswered, AreFound, AreTimes, IsKnown, IsKept}
 
 -- a list has one entry at a position
@@ -81,7 +81,7 @@ after_first es at e there =
     let is = there.1 in
     omega arith
 
-pub times_at_first : (es : List Entry) (times : Times) → times.begins.entries ≡ [] → times.ends.entries ≡ [] → AreTimes es times 0
+pub times_at_first : (es : List Entry) (times : CallTimes) → times.begins.entries ≡ [] → times.ends.entries ≡ [] → AreTimes es times 0
 times_at_first es times begins ends = record {
   begins = none_found (IsMade es) times.begins begins (λ id at is. after_first es at is.2.calling is.2.there);
   ends = none_found (IsAnswered es) times.ends ends (λ id at is. after_first es at is.1.replying is.1.there);
@@ -125,7 +125,7 @@ module _ (es : List Entry) (at : ℕ) (e : Entry) (there : EntryAt es at e) wher
       none-some (x, is.0) (sym none ∙ (ap (λ (d : Entry). d.reply) (sym same) ∙ is.1.is_reply))
 
 -- the positions that an item of a history needs are noted
-module _ (es : List Entry) (times : Times) (are : AreTimes es times (length es)) where
+module _ (es : List Entry) (times : CallTimes) (are : AreTimes es times (length es)) where
   place_within : (at : ℕ) (e : Entry) → EntryAt es at e → at ≤ length es
   place_within at e there = within es at e there
 
@@ -146,7 +146,7 @@ module _ (es : List Entry) (times : Times) (are : AreTimes es times (length es))
   item_timed one_call one_reply (Gone at node incarnation) begin end placed kept = (placed, kept.0, kept.1)
 
 -- a lock call that has no reply
-module _ (es : List Entry) (last : Table) (times : Times) (at : ℕ) (e : Entry) (id : CallId) (node pid : ℕ) (op : Op) (there : EntryAt es at e) (are : AreTimes es times (length es)) (named : e.call ≡ Some id) (its : NamesItsCall e.event (Some id)) (event : e.event ≡ AtNode node (Call pid op)) (none : is_some (position_of_call times.ends id) ≡ false) where
+module _ (es : List Entry) (last : Table) (times : CallTimes) (at : ℕ) (e : Entry) (id : CallId) (node pid : ℕ) (op : Op) (there : EntryAt es at e) (are : AreTimes es times (length es)) (named : e.call ≡ Some id) (its : NamesItsCall e.event (Some id)) (event : e.event ≡ AtNode node (Call pid op)) (none : is_some (position_of_call times.ends id) ≡ false) where
   one_opened : (d : Deed) → lock_deed last (caller id pid) op Done ≡ Some d → IsOpenCall es last (call_of op at Never d)
   one_opened d does = record {
     id = id;

@@ -18,7 +18,7 @@ use Rattle.client_history.specs.declared.client_call.ClientCall.{ClientCall}
 use Rattle.client_history.specs.rule.Explained.{IsExplainedBy, always}
 use Rattle.run_clients.specs.code.Anchored.{AreAnchored}
 use Rattle.run_clients.specs.code.Times.{IsTimed}
-use Rattle.run_clients.specs.declared.answer.Answer.TheVariants.{At}
+use Rattle.run_clients.specs.declared.answer_time.AnswerTime.TheVariants.{At}
 use Rattle.run_clients.specs.declared.file_call.FileCall.{FileCall}
 use Rattle.run_clients.specs.rule.Deeds.{DeedsLead, exits_to}
 use Rattle.run_clients.specs.rule.Seen.{op_of, item_deeds, call_of, client_call, end_of, AreSeen, IsOpenCall, IsSeen, about, calls_about, indexes_from, AreExplained}

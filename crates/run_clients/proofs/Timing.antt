@@ -6,7 +6,7 @@ use Rattle.std.proofs.lemmas.Option.{same_Some, none-some}
 use Rattle.client_history.specs.declared.client_call.ClientCall.{ClientCall}
 use Rattle.client_history.specs.rule.Explained.{EndsBefore}
 use Rattle.run_clients.specs.declared.deed.Deed.{Deed}
-use Rattle.run_clients.specs.declared.answer.Answer.TheVariants.{At}
+use Rattle.run_clients.specs.declared.answer_time.AnswerTime.TheVariants.{At}
 use Rattle.run_clients.specs.declared.file_call.FileCall.{FileCall}
 use Rattle.model.specs.declared.op.Op.{Op}
 use Rattle.run_clients.specs.rule.Seen.{call_of, client_call, calls_about}

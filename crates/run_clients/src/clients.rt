@@ -8,16 +8,16 @@ ghost use Rattle.messages.specs.declared.entry.Entry.{Entry};
 ghost use Rattle.cluster_core.specs.rule.Histories.{EntryAt, ItemStep};
 ghost use Rattle.fcntl_table.specs.rule.Tables.{table_of};
 ghost use Rattle.run_clients.specs.code.Anchored.{AreAnchored};
-ghost use Rattle.run_clients.specs.declared.answer.Answer.TheVariants.{At};
+ghost use Rattle.run_clients.specs.declared.answer_time.AnswerTime.TheVariants.{At};
 ghost use Rattle.run_clients.specs.code.Times.{AreTimes, IsKept, IsKnown};
 ghost use Rattle.run_clients.specs.rule.Seen.{AreExplained, IsOpenCall, IsSeen, call_of, item_deeds, op_of};
 
-use crate::answer::Answer;
+use crate::answer_time::AnswerTime;
+use crate::call_times::CallTimes;
 use crate::deed::Deed;
 use crate::file_call::FileCall;
 use crate::follow::take;
 use crate::open_calls::push_open_calls;
-use crate::times::Times;
 use cluster_core::item::Item;
 use cluster_core::journal::Journal;
 use fcntl_table::table::FcntlTable;
@@ -38,7 +38,7 @@ pub fn clients_of(alloc: Global, journal: &Journal) -> Result<Vec<FileCall>, All
     ensures explained { IfOk result (λ seen. AreExplained seen.items) }
 {
     let history = placed(alloc, journal)?;
-    let times = Times::of(alloc, journal.entries())?;
+    let times = CallTimes::of(alloc, journal.entries())?;
     let mut table = FcntlTable::new(alloc, history.version().most_regions());
     let mut seen = Vec::new(alloc);
     for item in history.items() {
@@ -52,7 +52,7 @@ pub fn clients_of(alloc: Global, journal: &Journal) -> Result<Vec<FileCall>, All
 fn see(
     alloc: Global,
     table: &mut FcntlTable,
-    times: &Times,
+    times: &CallTimes,
     item: &Item,
     seen: &mut Vec<FileCall>,
 ) -> Result<(), AllocError>
@@ -69,7 +69,7 @@ fn see(
         seen,
         op_of(item),
         begin,
-        Answer::At(u64::from(end)),
+        AnswerTime::At(u64::from(end)),
         deeds.as_slice(),
     )
 }
@@ -89,7 +89,7 @@ pub(crate) fn push_calls(
     seen: &mut Vec<FileCall>,
     op: Op,
     begin: u32,
-    end: Answer,
+    end: AnswerTime,
     deeds: &[Deed],
 ) -> Result<(), AllocError>
     ensures { OnOk result (seen.new.items ≡ seen.old.items ++ map (call_of op begin end) deeds.now) }
@@ -105,7 +105,7 @@ fn push_call(
     seen: &mut Vec<FileCall>,
     op: Op,
     begin: u32,
-    end: Answer,
+    end: AnswerTime,
     deed: Deed,
 ) -> Result<(), AllocError>
     ensures { OnOk result (seen.new.items ≡ seen.old.items ++ call_of op begin end deed ∷ []) }

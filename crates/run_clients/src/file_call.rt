@@ -1,5 +1,5 @@
 //! A call about a file, as its client saw it.
-use crate::answer::Answer;
+use crate::answer_time::AnswerTime;
 use client_history::act::Act;
 use model::op::Op;
 use model::owner::Owner;
@@ -13,6 +13,6 @@ pub struct FileCall {
     pub op: Op,
     pub owner: Owner,
     pub begin: u64,
-    pub end: Answer,
+    pub end: AnswerTime,
     pub act: Act,
 }

@@ -3,7 +3,8 @@
 //! threads.
 #![tactic(auto)]
 
-pub mod answer;
+pub mod answer_time;
+mod call_times;
 pub mod clients;
 mod closing;
 mod deed;
@@ -15,4 +16,3 @@ mod open_calls;
 mod references;
 pub mod text;
 mod text_of_call;
-mod times;

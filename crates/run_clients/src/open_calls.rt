@@ -8,11 +8,11 @@ ghost use Rattle.fcntl_table.specs.rule.Tables.{table_of};
 ghost use Rattle.run_clients.specs.code.Times.{AreTimes};
 ghost use Rattle.run_clients.specs.rule.Seen.{HasOpened};
 
-use crate::answer::Answer;
+use crate::answer_time::AnswerTime;
+use crate::call_times::CallTimes;
 use crate::clients::push_calls;
 use crate::deeds::push_lock_deed;
 use crate::file_call::FileCall;
-use crate::times::Times;
 use fcntl_table::table::FcntlTable;
 use messages::entry::Entry;
 use messages::event::{Event, NodeInput};
@@ -28,7 +28,7 @@ pub(crate) fn push_open_calls(
     alloc: Global,
     seen: &mut Vec<FileCall>,
     table: &FcntlTable,
-    times: &Times,
+    times: &CallTimes,
     entries: &[Entry],
 ) -> Result<(), AllocError>
     requires few { length entries.now ≤ journal_limit }
@@ -46,7 +46,7 @@ fn push_open_call(
     alloc: Global,
     seen: &mut Vec<FileCall>,
     table: &FcntlTable,
-    times: &Times,
+    times: &CallTimes,
     position: u32,
     entry: &Entry,
 ) -> Result<(), AllocError>
@@ -69,7 +69,7 @@ fn push_open_call(
     };
     let mut deeds = Vec::new(alloc);
     push_lock_deed(&mut deeds, table, process, op, &Reply::Done)?;
-    push_calls(seen, *op, position, Answer::Never, deeds.as_slice())
+    push_calls(seen, *op, position, AnswerTime::Never, deeds.as_slice())
 }
 
 // The process that makes the call, if a node can have a process of that number.

@@ -1,5 +1,5 @@
 //! The line of a call in a client history.
-use crate::answer::Answer;
+use crate::answer_time::AnswerTime;
 use crate::file_call::FileCall;
 use client_history::act::Act;
 use client_history::told_lock::ToldLock;
@@ -19,16 +19,16 @@ pub(crate) fn push_call(out: &mut String, call: &FileCall) -> Result<(), AllocEr
     push_times(out, call.begin, call.end)?;
     push_client(out, &call.owner)?;
     push_asked(out, call.file, &call.op, &call.act)?;
-    if let Answer::At(_) = call.end {
+    if let AnswerTime::At(_) = call.end {
         push_answer(out, &call.op, &call.act)?;
     }
     out.push_str("\n")
 }
 
-fn push_times(out: &mut String, begin: u64, end: Answer) -> Result<(), AllocError> {
+fn push_times(out: &mut String, begin: u64, end: AnswerTime) -> Result<(), AllocError> {
     match end {
-        Answer::At(end) => write!(out, "call {begin} {end} "),
-        Answer::Never => write!(out, "call {begin} - "),
+        AnswerTime::At(end) => write!(out, "call {begin} {end} "),
+        AnswerTime::Never => write!(out, "call {begin} - "),
     }
 }
 

@@ -12,7 +12,7 @@ use trail::name::Name;
 
 /// A book and the seats of its actors.
 #[derive(Drop)]
-pub struct Opened<J: Name> {
+pub struct BookWithSeats<J: Name> {
     pub book: Book<J>,
     pub seats: Vec<Seat<J>>,
 }
@@ -22,11 +22,11 @@ pub fn open<J: Name>(
     alloc: Global,
     shape: Shape,
     trail: Option<NewTrail>,
-) -> Result<Box<Opened<J>>, AllocError>
+) -> Result<Box<BookWithSeats<J>>, AllocError>
     requires { IfSome trail (λ trail. trail ≡ J.trail) }
 {
     let (book, seats) = Book::new(alloc, shape, trail)?;
-    Ok(Box::new(alloc, Opened { book, seats })?)
+    Ok(Box::new(alloc, BookWithSeats { book, seats })?)
 }
 
 /// Where a step's entry stands, from 1, if it was taken.

@@ -1,5 +1,5 @@
 //! Gates that hold actors, at most 10,000 turns of one millisecond.
-use actors::gate::{Gate, Point};
+use actors::gate::{Gate, GatePoint};
 use messages::actor::Actor;
 use std::sync::atomic::{AtomicU64, Ordering};
 use std::thread;
@@ -45,8 +45,8 @@ impl Counter {
 }
 
 impl Gate for Counter {
-    fn at(&self, point: Point) {
-        if let Point::Committed(..) = point {
+    fn at(&self, point: GatePoint) {
+        if let GatePoint::Committed(..) = point {
             self.committed.fetch_add(1, Ordering::SeqCst);
         }
     }
@@ -114,15 +114,15 @@ impl<'a, R: Clock> Holder<'a, R> {
 }
 
 impl<R: Clock> Gate for Holder<'_, R> {
-    fn at(&self, point: Point) {
+    fn at(&self, point: GatePoint) {
         match point {
-            Point::Prepared(Actor::Node(1)) if self.is_armed() => {
+            GatePoint::Prepared(Actor::Node(1)) if self.is_armed() => {
                 self.came.store(1, Ordering::SeqCst);
                 self.armed.store(0, Ordering::SeqCst);
                 self.hold(&self.let_go);
             }
-            Point::Prepared(Actor::Node(2)) if self.is_armed() => self.hold(&self.came),
-            Point::Committed(Actor::Node(2), _) => {
+            GatePoint::Prepared(Actor::Node(2)) if self.is_armed() => self.hold(&self.came),
+            GatePoint::Committed(Actor::Node(2), _) => {
                 if self.came.load(Ordering::SeqCst) == 1 {
                     self.let_go();
                 }

@@ -9,7 +9,7 @@ use std::alloc::{AllocError, Global};
 use std::test::Fail;
 
 /// What takes one event after the other.
-pub trait Machine: Drop {
+pub trait StateMachine: Drop {
     /// What it takes.
     type Taken: Drop;
 
@@ -27,7 +27,12 @@ pub trait Machine: Drop {
 }
 
 // Whether the event gives what the entry says, and leaves the machine as it is, or not.
-fn takes<M: Machine>(alloc: Global, machine: &mut M, entry: &Entry, stays: bool) -> Option<bool> {
+fn takes<M: StateMachine>(
+    alloc: Global,
+    machine: &mut M,
+    entry: &Entry,
+    stays: bool,
+) -> Option<bool> {
     let event = M::taken(alloc, entry.event())?;
     let (next, outcome) = machine.step(alloc, &event).ok()?;
     let is_right = next.same(machine) == stays && is_of(entry, &outcome);
@@ -36,7 +41,11 @@ fn takes<M: Machine>(alloc: Global, machine: &mut M, entry: &Entry, stays: bool)
 }
 
 /// Whether the first machine of the journal's shape takes its entries, and stays as it is at those of these numbers alone.
-pub fn takes_all<M: Machine>(alloc: Global, text: &str, staying: &[usize]) -> Result<bool, Fail> {
+pub fn takes_all<M: StateMachine>(
+    alloc: Global,
+    text: &str,
+    staying: &[usize],
+) -> Result<bool, Fail> {
     let (shape, entries) = read(alloc, text)?;
     let mut machine = M::first(alloc, shape)?;
     for place in 0..entries.len() {
@@ -49,7 +58,7 @@ pub fn takes_all<M: Machine>(alloc: Global, text: &str, staying: &[usize]) -> Re
 }
 
 /// Whether the machine refuses the event as one of a stranger.
-pub fn is_foreign<M: Machine>(alloc: Global, machine: &M, event: &Event) -> bool {
+pub fn is_foreign<M: StateMachine>(alloc: Global, machine: &M, event: &Event) -> bool {
     match M::taken(alloc, event) {
         Some(event) => machine.step(alloc, &event).err() == Some(StepError::Stranger),
         None => false,
@@ -57,7 +66,7 @@ pub fn is_foreign<M: Machine>(alloc: Global, machine: &M, event: &Event) -> bool
 }
 
 /// Whether the first machine of the journal's shape refuses each of its events so.
-pub fn are_foreign<M: Machine>(alloc: Global, text: &str) -> Result<bool, Fail> {
+pub fn are_foreign<M: StateMachine>(alloc: Global, text: &str) -> Result<bool, Fail> {
     let (shape, entries) = read(alloc, text)?;
     let machine = M::first(alloc, shape)?;
     for entry in &entries {

@@ -1,7 +1,7 @@
 //! Commits, and why they are refused.
 ghost use Rattle.std.specs.Prelude.{◌≡◌, IfSome};
 
-use crate::books::{Opened, commits, open, position, put};
+use crate::books::{BookWithSeats, commits, open, position, put};
 use book::book::Book;
 use book::commit_error::CommitError;
 use book::confirms::Confirms;
@@ -23,7 +23,7 @@ use trail::trail::Trail;
 use trail::unnamed::Unnamed;
 
 // The book of a cluster of two nodes and one file, with its seats.
-fn begins<J: Name>(alloc: Global, trail: Option<NewTrail>) -> Result<Box<Opened<J>>, Fail>
+fn begins<J: Name>(alloc: Global, trail: Option<NewTrail>) -> Result<Box<BookWithSeats<J>>, Fail>
     requires { IfSome trail (λ trail. trail ≡ J.trail) }
 {
     Ok(open(alloc, Shape::new(2, 1, Policy::Exact)?, trail)?)
@@ -79,8 +79,8 @@ fn is_confirmed<J: Name>(book: &Book<J>, first: &Stamp, second: &Stamp) -> bool 
 }
 
 // Whether a process of each node begins, the second once the first did, and there is a receipt of the second.
-fn begin_both<J: Name>(opened: &mut Opened<J>, alloc: Global) -> Option<bool> {
-    let Opened { book, seats } = opened;
+fn begin_both<J: Name>(opened: &mut BookWithSeats<J>, alloc: Global) -> Option<bool> {
+    let BookWithSeats { book, seats } = opened;
     let first = begin(book, alloc, seats.first_mut()?, 1, None)?;
     let seen = first.mark();
     let second = begin(book, alloc, seats.get_mut(1)?, 2, Some(&seen))?;
@@ -88,8 +88,8 @@ fn begin_both<J: Name>(opened: &mut Opened<J>, alloc: Global) -> Option<bool> {
 }
 
 // Whether an actor prepares no event of another, and a book takes no step that names an incarnation that was not declared.
-fn keeps_strangers_out<J: Name>(opened: &mut Opened<J>, alloc: Global) -> Option<bool> {
-    let Opened { book, seats } = opened;
+fn keeps_strangers_out<J: Name>(opened: &mut BookWithSeats<J>, alloc: Global) -> Option<bool> {
+    let BookWithSeats { book, seats } = opened;
     let foreign = seats.first()?.prepare(alloc, spawn(2)).err();
     let news = ServerInput::Learn {
         node: 1,
@@ -100,15 +100,19 @@ fn keeps_strangers_out<J: Name>(opened: &mut Opened<J>, alloc: Global) -> Option
 }
 
 // Whether the first step of a seat of another book is not taken behind that of the node.
-fn is_stale<J: Name>(opened: &mut Opened<J>, alloc: Global, other: &mut Opened<J>) -> Option<bool> {
+fn is_stale<J: Name>(
+    opened: &mut BookWithSeats<J>,
+    alloc: Global,
+    other: &mut BookWithSeats<J>,
+) -> Option<bool> {
     let refused = refusal(&mut opened.book, alloc, other.seats.first_mut()?, spawn(1));
     Some(refused == Some(CommitError::Stale))
 }
 
 // Whether the server, once it was declared failed, is not again, and takes no step that was prepared before. (That a node's is not taken, too,
 // is looked at on threads.)
-fn is_fenced<J: Name>(opened: &mut Opened<J>, alloc: Global) -> Option<bool> {
-    let Opened { book, seats } = opened;
+fn is_fenced<J: Name>(opened: &mut BookWithSeats<J>, alloc: Global) -> Option<bool> {
+    let BookWithSeats { book, seats } = opened;
     let seat = seats.last_mut()?;
     let resend = Event::AtServer(1, ServerInput::Resend);
     let prepared = seat.prepare(alloc, resend).ok()?;
@@ -160,11 +164,11 @@ fn each_item_of_a_trail_has_its_place(rt: HostRuntime) -> Result<(), Fail> {
 
 // Whether a book takes steps of its own seat, and refuses one of a seat of another book that made as many, and whose state is another.
 fn refuses_other<J: Name>(
-    opened: &mut Opened<J>,
+    opened: &mut BookWithSeats<J>,
     alloc: Global,
-    other: &mut Opened<J>,
+    other: &mut BookWithSeats<J>,
 ) -> Option<bool> {
-    let Opened { book, seats } = opened;
+    let BookWithSeats { book, seats } = opened;
     let own = seats.first_mut()?;
     let strange = other.seats.first_mut()?;
     let began = takes(book, alloc, own, spawn(1))
@@ -174,8 +178,8 @@ fn refuses_other<J: Name>(
 }
 
 // Whether the node fails, a step of it is refused, and it begins again and takes steps.
-fn begins_again<J: Name>(opened: &mut Opened<J>, alloc: Global) -> Option<bool> {
-    let Opened { book, seats } = opened;
+fn begins_again<J: Name>(opened: &mut BookWithSeats<J>, alloc: Global) -> Option<bool> {
+    let BookWithSeats { book, seats } = opened;
     let own = seats.first_mut()?;
     position(book.declare(alloc, 1))?;
     let refused = refusal(book, alloc, own, spawn_of(1, 4));

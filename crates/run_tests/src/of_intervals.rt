@@ -3,7 +3,7 @@
 ghost use Rattle.std.specs.Prelude.{◌≤◌};
 ghost use Rattle.intervals.specs.rule.Bytes.{greatest};
 
-use intervals::replay::{Command, replay};
+use intervals::replay::{SpanWrite, replay};
 use intervals::span::{GREATEST, Span};
 use intervals::span_map::{Exact, SpanMap};
 use intervals::tree_map::TreeMap;
@@ -17,9 +17,9 @@ const A: Option<Mode> = Some(Mode::Read);
 const B: Option<Mode> = Some(Mode::Write);
 
 // A write of the bytes from the first to the second, how many runs there are then, and a byte with its run, if it is in one.
-type Step = (u64, u64, Option<Mode>, usize, u64, Option<(u64, u64, Mode)>);
+type IntervalStep = (u64, u64, Option<Mode>, usize, u64, Option<(u64, u64, Mode)>);
 
-const STEPS: [Step; 11] = [
+const STEPS: [IntervalStep; 11] = [
     (0, 9, A, 1, 0, Some((0, 9, Mode::Read))),
     (4, 5, B, 3, 6, Some((6, 9, Mode::Read))),
     (4, 5, A, 1, 4, Some((0, 9, Mode::Read))),
@@ -66,7 +66,7 @@ fn write<S: SpanMap<Mode>>(
 }
 
 // Whether the map has those runs behind the step.
-fn takes<S: SpanMap<Mode>>(map: &mut S, step: &Step) -> Result<bool, AllocError> {
+fn takes<S: SpanMap<Mode>>(map: &mut S, step: &IntervalStep) -> Result<bool, AllocError> {
     let (lo, hi, value, starts, byte, run) = *step;
     if lo > hi || hi > GREATEST {
         return Ok(false);
@@ -76,7 +76,7 @@ fn takes<S: SpanMap<Mode>>(map: &mut S, step: &Step) -> Result<bool, AllocError>
 }
 
 // Whether the map has them behind each step.
-fn takes_each<S: SpanMap<Mode>>(map: &mut S, steps: &[Step]) -> Result<bool, AllocError> {
+fn takes_each<S: SpanMap<Mode>>(map: &mut S, steps: &[IntervalStep]) -> Result<bool, AllocError> {
     for step in steps {
         if !takes(map, step)? {
             return Ok(false);
@@ -116,16 +116,16 @@ fn copies<S: SpanMap<Mode>>(map: &S) -> Result<bool, AllocError> {
     Ok(was_same && is_set && !map.same(&copy) && map.get(3) == A)
 }
 
-const WRITES: [Command<Mode>; 3] = [
-    Command {
+const WRITES: [SpanWrite<Mode>; 3] = [
+    SpanWrite {
         span: Span { lo: 0, hi: 9 },
         value: A,
     },
-    Command {
+    SpanWrite {
         span: Span { lo: 4, hi: 5 },
         value: B,
     },
-    Command {
+    SpanWrite {
         span: Span { lo: 2, hi: 3 },
         value: None,
     },

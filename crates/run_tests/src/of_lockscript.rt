@@ -1,7 +1,7 @@
 //! A listing with the greatest numbers, which no script brings about.
 use cluster_core::held_lock::HeldLock;
 use cluster_core::item::Item;
-use cluster_core::token_run::TokenRun;
+use cluster_core::node_token_run::NodeTokenRun;
 use intervals::span::{GREATEST, Span};
 use lockscript::listing::listing;
 use lockscript::refused_line::RefusedLine;
@@ -33,8 +33,8 @@ fn refused() -> RefusedLine {
     }
 }
 
-fn token() -> TokenRun {
-    TokenRun {
+fn token() -> NodeTokenRun {
+    NodeTokenRun {
         node: 1,
         incarnation: 65_535,
         file: 256,

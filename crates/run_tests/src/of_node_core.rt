@@ -1,5 +1,5 @@
 //! Nodes, by messages that no server sends and calls that no script has.
-use crate::machines::{Machine, are_foreign, is_foreign, takes_all};
+use crate::machines::{StateMachine, are_foreign, is_foreign, takes_all};
 use messages::event::{Event, NodeInput};
 use messages::outcome::Outcome;
 use messages::refusal::StepError;
@@ -11,7 +11,7 @@ use node_core::node::Node;
 use std::alloc::{AllocError, Global};
 use std::test::Fail;
 
-impl Machine for Node {
+impl StateMachine for Node {
     type Taken = NodeEvent;
 
     fn first(alloc: Global, shape: Shape) -> Result<Node, AllocError> {
@@ -93,7 +93,7 @@ end 2
 ";
 
 // Whether the node has no process of that number.
-fn lacks<M: Machine>(alloc: Global, node: &M, pid: u16) -> bool {
+fn lacks<M: StateMachine>(alloc: Global, node: &M, pid: u16) -> bool {
     let op = Op::Process(ProcessCall::Spawn);
     let spawn = Event::AtNode(1, NodeInput::Call { pid, op });
     is_foreign(alloc, node, &spawn)
@@ -102,7 +102,7 @@ fn lacks<M: Machine>(alloc: Global, node: &M, pid: u16) -> bool {
 }
 
 // Whether it has none outside 1 to 256.
-fn lacks_strangers<M: Machine>(alloc: Global) -> Result<bool, Fail> {
+fn lacks_strangers<M: StateMachine>(alloc: Global) -> Result<bool, Fail> {
     let node = M::first(alloc, Shape::new(1, 1, Policy::Exact)?)?;
     Ok(lacks(alloc, &node, 0) && lacks(alloc, &node, 257))
 }

@@ -2,7 +2,7 @@
 //! one journal.
 ghost use Rattle.std.specs.Prelude.{◌≡◌};
 
-use crate::books::{Opened, commits, open, position, put, put_first};
+use crate::books::{BookWithSeats, commits, open, position, put, put_first};
 use crate::journals::{actor_of, read};
 use book::book::Book;
 use book::new_trail::NewTrail;
@@ -226,9 +226,9 @@ fn ends_with<J: Name>(book: &Book<J>, position: u32, entry: &Entry) -> bool {
     }
 }
 
-impl<J: Name> Taker for Opened<J> {
+impl<J: Name> Taker for BookWithSeats<J> {
     fn takes(&mut self, alloc: Global, entry: &Entry) -> Option<bool> {
-        let Opened { book, seats } = self;
+        let BookWithSeats { book, seats } = self;
         let before = book.len();
         match taken(alloc, book, seats, entry.event()) {
             Some(position) => Some(ends_with(book, position, entry)),

@@ -1,5 +1,5 @@
 //! Servers, by messages that no node sends.
-use crate::machines::{Machine, are_foreign, takes_all};
+use crate::machines::{StateMachine, are_foreign, takes_all};
 use messages::event::Event;
 use messages::outcome::Outcome;
 use messages::refusal::StepError;
@@ -9,7 +9,7 @@ use std::test::Fail;
 use token_server::event::ServerEvent;
 use token_server::server::Server;
 
-impl Machine for Server {
+impl StateMachine for Server {
     type Taken = ServerEvent;
 
     fn first(alloc: Global, shape: Shape) -> Result<Server, AllocError> {

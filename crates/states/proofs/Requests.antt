@@ -4,7 +4,7 @@ use Rattle.std.proofs.Common.{refl, sym, ap, ◌∙◌, subst, cond, arith, drop
 use Rattle.std.proofs.lemmas.List.Elements.{All-head, All-tail}
 use Rattle.intervals.specs.rule.Bytes.{Range}
 use Rattle.model.specs.declared.call.CallId.{CallId}
-use Rattle.token_server.specs.declared.token_queue.held.Held.{Held}
+use Rattle.token_server.specs.declared.token_queue.active_request.ActiveRequest.{ActiveRequest}
 use Rattle.token_server.specs.declared.token_queue.token_request.TokenRequest.{TokenRequest}
 use Rattle.token_server.specs.rule.Actives.{requests_of}
 use Rattle.token_server.specs.rule.Requests.{is_of_call, meets}
@@ -18,7 +18,7 @@ use Rattle.states.specs.rule.Places.{up_to}
 use Rattle.states.specs.code.Lists.{first_call}
 
 -- what is found of the active requests is the call's, and has what each has
-found_of : (P : Held → Type 0) (call : CallId) (hs : List Held) → All P hs → MatchOption (find (λ (h : Held). is_of_call call h.request) hs) (request_of call (requests_of hs) ≡ None) (λ (h : Held). (request_of call (requests_of hs) ≡ Some h.request) × P h)
+found_of : (P : ActiveRequest → Type 0) (call : CallId) (hs : List ActiveRequest) → All P hs → MatchOption (find (λ (h : ActiveRequest). is_of_call call h.request) hs) (request_of call (requests_of hs) ≡ None) (λ (h : ActiveRequest). (request_of call (requests_of hs) ≡ Some h.request) × P h)
 found_of P call [] all = refl
 found_of P call (h ∷ hs) all = by (is_of_call call h.request) (found_of P call hs (All-tail P h hs all))
   where
@@ -26,26 +26,26 @@ found_of P call (h ∷ hs) all = by (is_of_call call h.request) (found_of P call
     here = All-head P h hs all
 
     by : (b : Bool) →
-        MatchOption (find (λ (k : Held). is_of_call call k.request) hs) (request_of call (requests_of hs) ≡ None) (λ (k : Held). (request_of call (requests_of hs) ≡ Some k.request) × P k) →
-        MatchOption (cond b (Some h) (find (λ (k : Held). is_of_call call k.request) hs)) (cond b (Some h.request) (request_of call (requests_of hs)) ≡ None) (λ (k : Held). (cond b (Some h.request) (request_of call (requests_of hs)) ≡ Some k.request) × P k)
+        MatchOption (find (λ (k : ActiveRequest). is_of_call call k.request) hs) (request_of call (requests_of hs) ≡ None) (λ (k : ActiveRequest). (request_of call (requests_of hs) ≡ Some k.request) × P k) →
+        MatchOption (cond b (Some h) (find (λ (k : ActiveRequest). is_of_call call k.request) hs)) (cond b (Some h.request) (request_of call (requests_of hs)) ≡ None) (λ (k : ActiveRequest). (cond b (Some h.request) (request_of call (requests_of hs)) ≡ Some k.request) × P k)
     by true rest = (refl, here)
     by false rest = rest
 
-pub held_is : (s : ServerState) (call : CallId) (hs : List Held) (o : Option Held) → requests_of hs ≡ s.active → All (λ (h : Held). obstacle s h.request ≡ h.at) hs → o ≡ find (λ (h : Held). is_of_call call h.request) hs →
-    MatchOption o (request_of call s.active ≡ None) (λ (h : Held). (request_of call s.active ≡ Some h.request) × (obstacle s h.request ≡ h.at))
+pub held_is : (s : ServerState) (call : CallId) (hs : List ActiveRequest) (o : Option ActiveRequest) → requests_of hs ≡ s.active → All (λ (h : ActiveRequest). obstacle s h.request ≡ h.at) hs → o ≡ find (λ (h : ActiveRequest). is_of_call call h.request) hs →
+    MatchOption o (request_of call s.active ≡ None) (λ (h : ActiveRequest). (request_of call s.active ≡ Some h.request) × (obstacle s h.request ≡ h.at))
 held_is s call hs o are at is =
-    subst (λ (rs : List TokenRequest). MatchOption o (request_of call rs ≡ None) (λ (h : Held). (request_of call rs ≡ Some h.request) × (obstacle s h.request ≡ h.at))) are
-    (subst (λ (k : Option Held). MatchOption k (request_of call (requests_of hs) ≡ None) (λ (h : Held). (request_of call (requests_of hs) ≡ Some h.request) × (obstacle s h.request ≡ h.at))) (sym is)
-    (found_of (λ (h : Held). obstacle s h.request ≡ h.at) call hs at))
+    subst (λ (rs : List TokenRequest). MatchOption o (request_of call rs ≡ None) (λ (h : ActiveRequest). (request_of call rs ≡ Some h.request) × (obstacle s h.request ≡ h.at))) are
+    (subst (λ (k : Option ActiveRequest). MatchOption k (request_of call (requests_of hs) ≡ None) (λ (h : ActiveRequest). (request_of call (requests_of hs) ≡ Some h.request) × (obstacle s h.request ≡ h.at))) (sym is)
+    (found_of (λ (h : ActiveRequest). obstacle s h.request ≡ h.at) call hs at))
 
 -- the first of active requests and others is the first active one, or the first of the others
-pub first_of_both : (p : TokenRequest → Bool) (hs : List Held) (ys : List TokenRequest) → option_map (λ (q : TokenRequest). q.call) (find p (requests_of hs ++ ys)) ≡ first_call (find (λ (h : Held). p h.request) hs) (option_map (λ (q : TokenRequest). q.call) (find p ys))
+pub first_of_both : (p : TokenRequest → Bool) (hs : List ActiveRequest) (ys : List TokenRequest) → option_map (λ (q : TokenRequest). q.call) (find p (requests_of hs ++ ys)) ≡ first_call (find (λ (h : ActiveRequest). p h.request) hs) (option_map (λ (q : TokenRequest). q.call) (find p ys))
 first_of_both p [] ys = refl
 first_of_both p (h ∷ hs) ys = by (p h.request) (first_of_both p hs ys)
   where
     by : (b : Bool) →
-        option_map (λ (q : TokenRequest). q.call) (find p (requests_of hs ++ ys)) ≡ first_call (find (λ (k : Held). p k.request) hs) (option_map (λ (q : TokenRequest). q.call) (find p ys)) →
-        option_map (λ (q : TokenRequest). q.call) (cond b (Some h.request) (find p (requests_of hs ++ ys))) ≡ first_call (cond b (Some h) (find (λ (k : Held). p k.request) hs)) (option_map (λ (q : TokenRequest). q.call) (find p ys))
+        option_map (λ (q : TokenRequest). q.call) (find p (requests_of hs ++ ys)) ≡ first_call (find (λ (k : ActiveRequest). p k.request) hs) (option_map (λ (q : TokenRequest). q.call) (find p ys)) →
+        option_map (λ (q : TokenRequest). q.call) (cond b (Some h.request) (find p (requests_of hs ++ ys))) ≡ first_call (cond b (Some h) (find (λ (k : ActiveRequest). p k.request) hs)) (option_map (λ (q : TokenRequest). q.call) (find p ys))
     by true rest = refl
     by false rest = rest
 

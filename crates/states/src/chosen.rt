@@ -2,7 +2,7 @@
 ghost use Rattle.std.specs.Prelude.{◌≡◌, ◌||◌};
 ghost use Rattle.states.specs.rule.Choices.{is_chosen, tells_held};
 
-use token_server::token_queue::held::Held;
+use token_server::token_queue::active_request::ActiveRequest;
 use token_server::token_queue::token_request::TokenRequest;
 
 /// What is told of a cluster: what has to do with this node, and with this file, each counted from 1. `None` stands
@@ -52,7 +52,7 @@ impl Chosen {
     }
 
     /// Whether the request that a server serves is told of: its node is, or the one whose answer it waits for.
-    pub(crate) fn has_held(self, held: &Held) -> bool
+    pub(crate) fn has_held(self, held: &ActiveRequest) -> bool
         ensures { result ≡ tells_held self held.now }
     {
         self.has_request(&held.request) || self.has_node(held.at)

@@ -10,7 +10,7 @@ use crate::chosen::Chosen;
 use crate::told_node::ToldNode;
 use crate::told_server::{ToldEpoch, ToldServer};
 use cluster_core::held_lock::HeldLock;
-use cluster_core::token_run::TokenRun;
+use cluster_core::node_token_run::NodeTokenRun;
 use cluster_core::world::World;
 use messages::event::{Event, MemberEvent, ServerInput};
 use messages::file_number::FileNumber;
@@ -27,7 +27,7 @@ pub struct ClusterState {
     /// The epochs of the token servers, by rising file.
     pub epochs: Vec<ToldEpoch>,
     /// The tokens of the live nodes, as a listing has them: by node, file and first byte.
-    pub tokens: Vec<TokenRun>,
+    pub tokens: Vec<NodeTokenRun>,
     /// The locks of the live nodes, as a listing has them: by file, first byte and owner.
     pub locks: Vec<HeldLock>,
     /// The token servers that work, by rising file.
@@ -107,7 +107,7 @@ fn epochs(alloc: Global, world: &World, chosen: Chosen) -> Result<Vec<ToldEpoch>
 }
 
 // The tokens of the world.
-fn tokens(alloc: Global, world: &World, chosen: Chosen) -> Result<Vec<TokenRun>, AllocError>
+fn tokens(alloc: Global, world: &World, chosen: Chosen) -> Result<Vec<NodeTokenRun>, AllocError>
     ensures { IfOk result (λ tokens. Narrows (IsTokenListing (world_state world.now)) (tells_token chosen) tokens.items) }
 {
     let mut tokens = world.tokens(alloc)?;

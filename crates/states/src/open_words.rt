@@ -14,8 +14,8 @@ use model::op::LockCommand;
 use std::alloc::{AllocError, Global};
 use std::fmt::Write;
 use views::stories::lines::{push_addressed, push_calling, push_ended};
-use views::stories::open_call::{OpenCall, unanswered};
-use views::stories::placed_entry::NumberedMessage;
+use views::stories::numbered_entry::NumberedMessage;
+use views::stories::open_call_story::{OpenCallStory, unanswered};
 
 /// The text of the calls of the entries of a journal of this version, the first at position 1, to which no entry
 /// replies, in the order of their entries. Under the line of a call stands where it ended, or else why it is open in
@@ -55,7 +55,7 @@ fn state_of<'a>(states: &'a [OpenState], call: &CallId) -> Option<&'a OpenState>
 }
 
 // Writes the line of the entry that makes the call.
-fn push_made(out: &mut String, call: &OpenCall<'_>) -> Result<(), AllocError> {
+fn push_made(out: &mut String, call: &OpenCallStory<'_>) -> Result<(), AllocError> {
     let made = call.made();
     let position = made.position;
     out.push_str("open ")?;
@@ -66,7 +66,7 @@ fn push_made(out: &mut String, call: &OpenCall<'_>) -> Result<(), AllocError> {
 }
 
 // Writes the line of the entry that ended the call.
-fn push_end(out: &mut String, call: &OpenCall<'_>) -> Result<(), AllocError> {
+fn push_end(out: &mut String, call: &OpenCallStory<'_>) -> Result<(), AllocError> {
     let Some(end) = call.end() else {
         return Ok(());
     };

@@ -14,10 +14,10 @@ use intervals::span::Span;
 use messages::message::Message;
 use model::call::CallId;
 use std::alloc::{AllocError, Global};
-use token_server::token_queue::held::Held;
-use token_server::token_queue::token_request::TokenRequest;
 use token_server::server::Server;
 use token_server::shown_row::ShownRow;
+use token_server::token_queue::active_request::ActiveRequest;
+use token_server::token_queue::token_request::TokenRequest;
 
 /// Where the request of an open call is.
 #[derive(Drop)]
@@ -67,14 +67,14 @@ fn at_server(alloc: Global, server: &Server, call: CallId) -> Result<Place, Allo
 }
 
 // The active request of the call, if there is one, with the node whose row it waits for.
-fn held_of(server: &Server, call: CallId) -> Option<Held>
+fn held_of(server: &Server, call: CallId) -> Option<ActiveRequest>
     ensures { let s = server_state server.now in MatchOption result (request_of call s.active ≡ None) (λ h. (request_of call s.active ≡ Some h.request) × (obstacle s h.request ≡ h.at)) }
 {
     held_in(server.served(), call)
 }
 
 // The first of these that is of the call.
-fn held_in(served: &[Held], call: CallId) -> Option<Held>
+fn held_in(served: &[ActiveRequest], call: CallId) -> Option<ActiveRequest>
     ensures { result ≡ find (λ h. is_of_call call h.request) served.now }
 {
     served.iter().find(|held| held.is_of_call(call)).copied()
@@ -85,7 +85,7 @@ fn being_served(
     alloc: Global,
     server: &Server,
     call: CallId,
-    held: Held,
+    held: ActiveRequest,
 ) -> Result<Place, AllocError>
     requires active { request_of call (server_state server.now).active ≡ Some held.request }
     requires at { obstacle (server_state server.now) held.request ≡ held.at }
@@ -179,14 +179,14 @@ fn first_before(server: &Server, queue: &[TokenRequest], call: CallId, span: Spa
 }
 
 // The first of these that needs a byte of the span.
-fn held_on(served: &[Held], span: Span) -> Option<Held>
+fn held_on(served: &[ActiveRequest], span: Span) -> Option<ActiveRequest>
     ensures { result ≡ find (λ h. meets span h.request.wanted.required) served.now }
 {
     served.iter().find(|held| held.request.meets(span)).copied()
 }
 
 // The call of the active request, if there is one, else the other.
-fn first_call(held: Option<Held>, queued: Option<CallId>) -> Option<CallId>
+fn first_call(held: Option<ActiveRequest>, queued: Option<CallId>) -> Option<CallId>
     ensures { result ≡ first_call held queued }
 {
     match held {

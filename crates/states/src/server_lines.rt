@@ -10,8 +10,8 @@ use model::level::Level;
 use std::alloc::AllocError;
 use std::fmt::Write;
 use texts::words::Named;
-use token_server::token_queue::token_request::TokenRequest;
 use token_server::shown_row::ShownRow;
+use token_server::token_queue::token_request::TokenRequest;
 
 /// Writes the lines of a server: its requests, its rows, the nodes that it awaits, the incarnations that it knows to
 /// be dead.

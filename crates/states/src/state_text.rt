@@ -4,7 +4,7 @@ use crate::server_lines::push_server;
 use crate::told_node::ToldNode;
 use crate::told_server::ToldEpoch;
 use cluster_core::held_lock::HeldLock;
-use cluster_core::token_run::TokenRun;
+use cluster_core::node_token_run::NodeTokenRun;
 use message_text::names::{push_host, push_lock};
 use messages::version::Version;
 use model::level::Level;
@@ -79,7 +79,7 @@ fn push_epoch(out: &mut String, told: ToldEpoch) -> Result<(), AllocError> {
 }
 
 // Writes the line of a run of a token.
-fn push_token(out: &mut String, token: &TokenRun) -> Result<(), AllocError> {
+fn push_token(out: &mut String, token: &NodeTokenRun) -> Result<(), AllocError> {
     let file = token.file;
     let level = Level::word(token.level);
     let lo = token.span.lo;

@@ -11,10 +11,10 @@ use crate::chosen::Chosen;
 use messages::file_number::FileNumber;
 use model::limits::MOST_NODES;
 use std::alloc::{AllocError, Global};
-use token_server::token_queue::held::Held;
-use token_server::token_queue::token_request::TokenRequest;
 use token_server::server::Server;
 use token_server::shown_row::ShownRow;
+use token_server::token_queue::active_request::ActiveRequest;
+use token_server::token_queue::token_request::TokenRequest;
 
 /// The epoch of the token server of a file, both from 1, and whether the server works. One that doesn't was declared
 /// failed in that epoch; all epochs before it failed.
@@ -39,7 +39,7 @@ pub struct ToldServer {
     pub file: FileNumber,
     /// The requests that it serves, in their order, each with the node whose answer it waits for: the least other
     /// one whose token is in the way, or else its own, which is to take the grant.
-    pub served: Vec<Held>,
+    pub served: Vec<ActiveRequest>,
     /// The queued requests, in the order in which they are to be served.
     pub queued: Vec<TokenRequest>,
     /// The requests that wait for a lock of another node to go, in the order in which they are to be queued again.
@@ -76,7 +76,7 @@ impl ToldServer {
 }
 
 // The requests that the server serves.
-fn served(alloc: Global, server: &Server, chosen: Chosen) -> Result<Vec<Held>, AllocError>
+fn served(alloc: Global, server: &Server, chosen: Chosen) -> Result<Vec<ActiveRequest>, AllocError>
     ensures { IfOk result (λ held. Narrows (AreServed (server_state server.now)) (tells_held chosen) held.items) }
 {
     let mut held = Vec::from_slice(alloc, server.served())?;

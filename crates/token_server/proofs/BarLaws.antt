@@ -13,7 +13,7 @@ use Rattle.token_set.specs.rule.Tokens.{Token, raised_level, level_conflicts, co
 use Rattle.token_set.proofs.TokenLaws.{conflicts-from}
 use Rattle.token_set.proofs.SearchLaws.{some_passes-first}
 use Rattle.token_set.proofs.AroundLaws.{largest_around-same, largest_around-or}
-use Rattle.token_server.specs.declared.told.Told.{Told}
+use Rattle.token_server.specs.declared.sent_command.SentCommand.{SentCommand}
 use Rattle.token_server.specs.rule.Rows.{Row, row_conflicts, row_conflicts_at}
 use Rattle.token_server.specs.code.Sent.{promised, barred_by, bars}
 use Rattle.token_server.specs.code.Told.{row_told, cut}
@@ -66,7 +66,7 @@ or_other : (b c : Bool) → c ≡ true → (b || c) ≡ true
 or_other true c h = refl
 or_other false c h = h
 
-pub told-conflicts : (t : Told) (row : Row) (span : Range) (mode : Mode) → conflicts row.token span mode ≡ true → row_conflicts (row_told (Some t) (Some row)) span mode ≡ true
+pub told-conflicts : (t : SentCommand) (row : Row) (span : Range) (mode : Mode) → conflicts row.token span mode ≡ true → row_conflicts (row_told (Some t) (Some row)) span mode ≡ true
 told-conflicts t row span mode h =
     let some = some_passes_at row.token span mode h in
     conflicts-from (promised t.command row.token) span mode some.0 some.1 some.2 (promised_conflicts t.command row.token mode some.0 ∙ or_true (level_conflicts (row.token some.0) mode) (in_span (bars t.command mode) some.0) some.3)
@@ -79,7 +79,7 @@ told-conflicts t row span mode h =
         (_, f.above, omega arith, f.here)
 
 -- the largest span beside the row of a node after a command to it
-pub around-told : (t : Told) (row : Row) (required within free granted : Range) (mode : Mode) → required.lo ≤ required.hi → within.lo ≤ required.lo → required.hi ≤ within.hi → free.lo ≤ required.lo → required.hi ≤ free.hi → granted.lo ≤ granted.hi → row_conflicts (row_told (Some t) (Some row)) required mode ≡ false → free ≡ largest_around (λ b. row_conflicts_at (Some row) b mode) required within → bars t.command mode ≡ Some granted → cut required free granted ≡ largest_around (λ b. row_conflicts_at (row_told (Some t) (Some row)) b mode) required within
+pub around-told : (t : SentCommand) (row : Row) (required within free granted : Range) (mode : Mode) → required.lo ≤ required.hi → within.lo ≤ required.lo → required.hi ≤ within.hi → free.lo ≤ required.lo → required.hi ≤ free.hi → granted.lo ≤ granted.hi → row_conflicts (row_told (Some t) (Some row)) required mode ≡ false → free ≡ largest_around (λ b. row_conflicts_at (Some row) b mode) required within → bars t.command mode ≡ Some granted → cut required free granted ≡ largest_around (λ b. row_conflicts_at (row_told (Some t) (Some row)) b mode) required within
 around-told t row required within free granted mode order starts ends free_lo free_hi full clear is bar =
     let none : NoneIn (λ b. row_conflicts_at (row_told (Some t) (Some row)) b mode ≡ true) required = row_free (row_told (Some t) (Some row)) required mode clear in
     let at : (b : ℕ) → row_conflicts_at (row_told (Some t) (Some row)) b mode ≡ (level_conflicts (row.token b) mode || is_in granted b) = λ b. promised_conflicts t.command row.token mode b ∙ ap (λ (o : Option Range). level_conflicts (row.token b) mode || in_span o b) bar in
@@ -90,27 +90,27 @@ around-told t row required within free granted mode order starts ends free_lo fr
     ∙ sym (largest_around-or (λ b. level_conflicts (row.token b) mode) (is_in granted) required within order starts ends old apart)
     ∙ sym (largest_around-same (λ b. row_conflicts_at (row_told (Some t) (Some row)) b mode) (λ b. level_conflicts (row.token b) mode || is_in granted b) required within at)
 
-pub around-other : (t : Told) (row : Row) (required within free : Range) (mode : Mode) → free ≡ largest_around (λ b. row_conflicts_at (Some row) b mode) required within → bars t.command mode ≡ None → free ≡ largest_around (λ b. row_conflicts_at (row_told (Some t) (Some row)) b mode) required within
+pub around-other : (t : SentCommand) (row : Row) (required within free : Range) (mode : Mode) → free ≡ largest_around (λ b. row_conflicts_at (Some row) b mode) required within → bars t.command mode ≡ None → free ≡ largest_around (λ b. row_conflicts_at (row_told (Some t) (Some row)) b mode) required within
 around-other t row required within free mode is bar =
     is ∙ largest_around-same (λ b. row_conflicts_at (Some row) b mode) (λ b. row_conflicts_at (row_told (Some t) (Some row)) b mode) required within
     (λ b. or_none (level_conflicts (row.token b) mode) ∙ ap (λ (o : Option Range). level_conflicts (row.token b) mode || in_span o b) (sym bar) ∙ sym (promised_conflicts t.command row.token mode b))
 
 -- a row that conflicts with nothing after a command to its node conflicts with nothing before it
-pub told-free : (t : Told) (row : Row) (span : Range) (mode : Mode) → row_conflicts (row_told (Some t) (Some row)) span mode ≡ false → row_conflicts (Some row) span mode ≡ false
+pub told-free : (t : SentCommand) (row : Row) (span : Range) (mode : Mode) → row_conflicts (row_told (Some t) (Some row)) span mode ≡ false → row_conflicts (Some row) span mode ≡ false
 told-free t row span mode clear = false_from_ne_true (conflicts row.token span mode) (λ old. both_ways (row_conflicts (row_told (Some t) (Some row)) span mode) clear (told-conflicts t row span mode old))
 
 -- a node without a row has none after a command
-pub told-nothing : (o : Option Told) (row : Option Row) → row ≡ None → row_told o row ≡ None
+pub told-nothing : (o : Option SentCommand) (row : Option Row) → row ≡ None → row_told o row ≡ None
 told-nothing None row is = is
 told-nothing (Some t) row is = ap (row_told (Some t)) is
 
 -- a row that conflicts with nothing after a command or none conflicts with nothing before it
-pub told-clear : (o : Option Told) (row : Row) (span : Range) (mode : Mode) → row_conflicts (row_told o (Some row)) span mode ≡ false → row_conflicts (Some row) span mode ≡ false
+pub told-clear : (o : Option SentCommand) (row : Row) (span : Range) (mode : Mode) → row_conflicts (row_told o (Some row)) span mode ≡ false → row_conflicts (Some row) span mode ≡ false
 told-clear None row span mode clear = clear
 told-clear (Some t) row span mode clear = told-free t row span mode clear
 
 -- the largest span beside a row after a command is the one before it, cut by what the command grants
-pub around-cut : (t : Told) (row : Row) (required within free result : Range) (mode : Mode) → required.lo ≤ required.hi → within.lo ≤ required.lo → required.hi ≤ within.hi → free.lo ≤ required.lo → required.hi ≤ free.hi → row_conflicts (row_told (Some t) (Some row)) required mode ≡ false → free ≡ largest_around (λ b. row_conflicts_at (Some row) b mode) required within → MatchOption (bars t.command mode) (result ≡ free) (λ granted. (result ≡ cut required free granted) × (granted.lo ≤ granted.hi)) → result ≡ largest_around (λ b. row_conflicts_at (row_told (Some t) (Some row)) b mode) required within
+pub around-cut : (t : SentCommand) (row : Row) (required within free result : Range) (mode : Mode) → required.lo ≤ required.hi → within.lo ≤ required.lo → required.hi ≤ within.hi → free.lo ≤ required.lo → required.hi ≤ free.hi → row_conflicts (row_told (Some t) (Some row)) required mode ≡ false → free ≡ largest_around (λ b. row_conflicts_at (Some row) b mode) required within → MatchOption (bars t.command mode) (result ≡ free) (λ granted. (result ≡ cut required free granted) × (granted.lo ≤ granted.hi)) → result ≡ largest_around (λ b. row_conflicts_at (row_told (Some t) (Some row)) b mode) required within
 around-cut t row required within free result mode order starts ends free_lo free_hi clear is made = by (bars t.command mode) refl made
   where
     by : (o : Option Range) → bars t.command mode ≡ o → MatchOption o (result ≡ free) (λ granted. (result ≡ cut required free granted) × (granted.lo ≤ granted.hi)) → result ≡ largest_around (λ b. row_conflicts_at (row_told (Some t) (Some row)) b mode) required within

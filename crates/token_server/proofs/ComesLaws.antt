@@ -6,7 +6,7 @@ use Rattle.std.proofs.lemmas.Bool.{and_parts}
 use Rattle.std.proofs.lemmas.List.{take_more, drop_more, take-append-drop}
 use Rattle.std.proofs.lemmas.List.Elements.{filter-append}
 use Rattle.model.specs.declared.call.CallId.{CallId}
-use Rattle.token_server.specs.declared.token_queue.held.Held.{Held}
+use Rattle.token_server.specs.declared.token_queue.active_request.ActiveRequest.{ActiveRequest}
 use Rattle.token_server.specs.declared.token_queue.token_request.TokenRequest.{TokenRequest}
 use Rattle.token_server.specs.rule.Requests.{is_of_call, meets, requests_in}
 use Rattle.token_server.specs.code.Places.{request_at}
@@ -71,7 +71,7 @@ served-kept dropped ended rs =
     ∙ still-is ended (filter (λ r. not (is_up_to_any dropped r)) rs)
     ∙ filter-both (λ r. not (is_up_to_any dropped r)) (λ r. not (is_of_any ended r)) rs
 
-any-kept : (test p : TokenRequest → Bool) (held : List Held) → list_any (λ h. test h.request && p h.request) held ≡ list_any test (filter p (requests_of held))
+any-kept : (test p : TokenRequest → Bool) (held : List ActiveRequest) → list_any (λ h. test h.request && p h.request) held ≡ list_any test (filter p (requests_of held))
 any-kept test p [] = refl
 any-kept test p (h ∷ held) = by (p h.request) (any-kept test p held)
   where
@@ -83,7 +83,7 @@ any-kept test p (h ∷ held) = by (p h.request) (any-kept test p held)
     by false more = ap (λ (t : Bool). t || list_any (λ x. test x.request && p x.request) held) (and-none (test h.request)) ∙ more
 
 -- the test of an entry against the active requests that stay active
-pub meets-served : (g : Gone) (held : List Held) (r : TokenRequest) → list_any (λ h. meets r.wanted.required h.request.wanted.required && keeps g.dropped g.ended h.request) held ≡ meets_some r (served_on g held)
+pub meets-served : (g : Gone) (held : List ActiveRequest) (r : TokenRequest) → list_any (λ h. meets r.wanted.required h.request.wanted.required && keeps g.dropped g.ended h.request) held ≡ meets_some r (served_on g held)
 meets-served g held r =
     any-kept (λ q. meets r.wanted.required q.wanted.required) (keeps g.dropped g.ended) held ∙ sym (ap (meets_some r) (served-kept g.dropped g.ended (requests_of held)))
 

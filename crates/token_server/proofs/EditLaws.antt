@@ -12,7 +12,7 @@ use Rattle.token_server.specs.declared.known_nodes.node_change.Changed.{Changed}
 use Rattle.token_server.specs.rule.Rows.{Row}
 use Rattle.token_server.specs.rule.RowParts.{row_seen, row_of, dead_of, known_node_at, rows_of, deaths_of}
 use Rattle.token_server.specs.code.Changes.{row_after, dead_after, rows_after, deaths_after}
-use Rattle.token_server.specs.declared.known_nodes.given.Given.{Given}
+use Rattle.token_server.specs.declared.known_nodes.new_row.NewRow.{NewRow}
 use Rattle.token_server.specs.code.RowEdits.{seen, seen_row, row_kept, given_to_known_node, with_given_row, rows_overlaid, deaths_with, deaths_overlaid}
 use Rattle.token_server.proofs.KnownNodeLaws.{known_node_at-read, known_node_at-place, changed_at}
 
@@ -136,7 +136,7 @@ seen-matches None row is = is
 seen-matches (Some r) row is = is
 
 -- making a new row is a write to the list
-pub given-set : (known_nodes : List KnownNode) (place : ℕ) (known_node new : KnownNode) (g : Given) → place < length known_nodes → g.place ≡ place → known_node ≡ slice_index_or known_nodes place known_node → row_seen new.row ≡ row_kept g.row known_node.row → rows_of (slice_set known_nodes place new) ≡ with_given_row g known_nodes
+pub given-set : (known_nodes : List KnownNode) (place : ℕ) (known_node new : KnownNode) (g : NewRow) → place < length known_nodes → g.place ≡ place → known_node ≡ slice_index_or known_nodes place known_node → row_seen new.row ≡ row_kept g.row known_node.row → rows_of (slice_set known_nodes place new) ≡ with_given_row g known_nodes
 unfolding rows_of
 given-set known_nodes place known_node new g within at read made = λ i n. each n i
   where
@@ -161,7 +161,7 @@ given-set known_nodes place known_node new g within at read made = λ i n. each 
     each n = changed_at row_of (λ row. row_kept g.row known_node.row) known_nodes (place + 1) place known_node new (omega arith, omega arith) (omega arith) there made n ∙ same n ∙ ap (λ (k : ℕ). if n == k + 1 then given_to_known_node g (known_node_at known_nodes n) else row_of (known_node_at known_nodes n)) (sym at)
 
 -- a new row at an index behind the list changes nothing
-pub given-past : (known_nodes : List KnownNode) (g : Given) → length known_nodes ≤ g.place → rows_of known_nodes ≡ with_given_row g known_nodes
+pub given-past : (known_nodes : List KnownNode) (g : NewRow) → length known_nodes ≤ g.place → rows_of known_nodes ≡ with_given_row g known_nodes
 unfolding rows_of
 given-past known_nodes g past = λ i n. each n i
   where

@@ -15,7 +15,7 @@ use Rattle.token_set.proofs.SearchLaws.{first-same, some_passes-first, some_pass
 use Rattle.token_server.specs.declared.known_nodes.node_change.NodeChange.{NodeChange}
 use Rattle.token_server.specs.declared.known_nodes.node_change.NodeChange.TheVariants.{Forgotten, Asked, Answered, Relieved, Reported}
 use Rattle.token_server.specs.declared.known_nodes.node_change.Changed.{Changed}
-use Rattle.token_server.specs.declared.token_queue.held.Held.{Held}
+use Rattle.token_server.specs.declared.token_queue.active_request.ActiveRequest.{ActiveRequest}
 use Rattle.token_server.specs.declared.token_queue.token_request.TokenRequest.{TokenRequest}
 use Rattle.token_server.specs.rule.Rows.{Row, row_above, row_conflicts}
 use Rattle.token_server.specs.rule.State.{ServerState}
@@ -140,7 +140,7 @@ obstacle-less s t r node c less nodes rows kept = obstacle-kept s t r nodes fewe
         stands = (first_is_first (conflicts_at s r) 1 s.shape.nodes).here (omega arith)
 
 -- a request that can't turn to another row waits as before
-pub obstacle-changed : (s t : ServerState) (h : Held) (c : Changed) → t.shape.nodes ≡ s.shape.nodes → t.rows ≡ with_change c.node (row_after c.change) s.rows → obstacle s h.request ≡ h.at → may_turn c (s.rows c.node) h ≡ false → obstacle t h.request ≡ h.at
+pub obstacle-changed : (s t : ServerState) (h : ActiveRequest) (c : Changed) → t.shape.nodes ≡ s.shape.nodes → t.rows ≡ with_change c.node (row_after c.change) s.rows → obstacle s h.request ≡ h.at → may_turn c (s.rows c.node) h ≡ false → obstacle t h.request ≡ h.at
 obstacle-changed s t h c nodes rows waits kept = by c.change refl ∙ waits
   where
     at : may_bar c.change ≡ false → (obstacle s h.request == c.node && frees c.change (s.rows c.node) h.request.wanted.required) ≡ false

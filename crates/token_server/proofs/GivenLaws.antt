@@ -6,12 +6,12 @@ use Rattle.std.proofs.lemmas.Bool.{both_ways, eq-eqb}
 use Rattle.std.proofs.lemmas.Bool.Decides.{eqb_tells}
 use Rattle.token_server.specs.rule.Rows.{Row}
 use Rattle.token_server.specs.declared.known_nodes.known_node.KnownNode.{KnownNode}
-use Rattle.token_server.specs.declared.known_nodes.given.Given.{Given}
+use Rattle.token_server.specs.declared.known_nodes.new_row.NewRow.{NewRow}
 use Rattle.token_server.specs.rule.RowParts.{known_node_at, rows_of}
 use Rattle.token_server.specs.code.RowEdits.{given_to_known_node, with_given_row, given_rows}
 
 -- the last new row is made, unless one of the others is of its node
-pub given_rows-last : (known_nodes after : List KnownNode) (gs : List Given) (g : Given) → (n : ℕ) → rows_of after n ≡ with_given_row g known_nodes n → ((m : ℕ) → (m ≡ g.place + 1 → ⊥) → known_node_at after m ≡ known_node_at known_nodes m) → list_any (λ x. x.place == g.place) gs ≡ false → given_rows gs after n ≡ given_rows (gs ++ g ∷ []) known_nodes n
+pub given_rows-last : (known_nodes after : List KnownNode) (gs : List NewRow) (g : NewRow) → (n : ℕ) → rows_of after n ≡ with_given_row g known_nodes n → ((m : ℕ) → (m ≡ g.place + 1 → ⊥) → known_node_at after m ≡ known_node_at known_nodes m) → list_any (λ x. x.place == g.place) gs ≡ false → given_rows gs after n ≡ given_rows (gs ++ g ∷ []) known_nodes n
 given_rows-last known_nodes after [] g n is others none = is
 given_rows-last known_nodes after (x ∷ gs) g n is others none =
     let parts = or_neither (x.place == g.place) (list_any (λ y. y.place == g.place) gs) none in
@@ -35,7 +35,7 @@ given_rows-last known_nodes after (x ∷ gs) g n is others none =
     same_place : x.place + 1 ≡ g.place + 1 → x.place ≡ g.place
     same_place h = omega arith
 
-pub given_rows-passed : (known_nodes : List KnownNode) (gs : List Given) (g : Given) (n : ℕ) → list_any (λ x. x.place == g.place) gs ≡ true → given_rows gs known_nodes n ≡ given_rows (gs ++ g ∷ []) known_nodes n
+pub given_rows-passed : (known_nodes : List KnownNode) (gs : List NewRow) (g : NewRow) (n : ℕ) → list_any (λ x. x.place == g.place) gs ≡ true → given_rows gs known_nodes n ≡ given_rows (gs ++ g ∷ []) known_nodes n
 given_rows-passed known_nodes [] g n some = absurd (cc)
 given_rows-passed known_nodes (x ∷ gs) g n some = elim (eqb_tells n (x.place + 1)) [
   | inl same ↦
@@ -53,7 +53,7 @@ given_rows-passed known_nodes (x ∷ gs) g n some = elim (eqb_tells n (x.place +
         not_here : (n == g.place + 1) ≡ false
         not_here = elim (eqb_tells n (g.place + 1)) [ inl same ↦ absurd (other (same.1 ∙ ap (λ (k : ℕ). k + 1) (sym h))) | inr apart ↦ apart.0 ]
 
-        skip : (ys : List Given) → given_rows ys known_nodes n ≡ given_rows (ys ++ g ∷ []) known_nodes n
+        skip : (ys : List NewRow) → given_rows ys known_nodes n ≡ given_rows (ys ++ g ∷ []) known_nodes n
         skip [] = sym (ap (λ (b : Bool). cond b (given_to_known_node g (known_node_at known_nodes n)) (rows_of known_nodes n)) not_here)
         skip (y ∷ ys) = ap (λ (o : Option Row). cond (n == y.place + 1) (given_to_known_node y (known_node_at known_nodes n)) o) (skip ys)
 

@@ -12,18 +12,18 @@ use Rattle.messages.specs.declared.refusal.StepError.TheVariants.{NoMemory, Busy
 use Rattle.messages.specs.declared.outcome.Outcome.{Outcome}
 use Rattle.messages.specs.rule.Messages.{sending}
 use Rattle.token_server.specs.declared.token_queue.token_request.TokenRequest.{TokenRequest}
-use Rattle.token_server.specs.declared.token_queue.held.Held.{Held}
+use Rattle.token_server.specs.declared.token_queue.active_request.ActiveRequest.{ActiveRequest}
 use Rattle.token_server.specs.rule.Requests.{LineParts, is_of_call, is_up_to, AreOfDistinctCalls}
 use Rattle.token_server.specs.rule.Actives.{ActiveParts, requests_of}
 use Rattle.token_server.proofs.CallLaws.{same_call-refl}
 use Rattle.token_server.specs.declared.known_nodes.known_node.KnownNode.{KnownNode}
-use Rattle.token_server.specs.declared.change.Draft.{Draft}
-use Rattle.token_server.specs.declared.change.Parts.{Parts}
-use Rattle.token_server.specs.declared.change.Edit.{Edit}
+use Rattle.token_server.specs.declared.change.ServerDraft.{ServerDraft}
+use Rattle.token_server.specs.declared.change.EditParts.{EditParts}
+use Rattle.token_server.specs.declared.change.ServerEdit.{ServerEdit}
 use Rattle.token_server.specs.declared.sketch.Sketch.{Sketch}
 use Rattle.token_server.specs.declared.sketch.Moved.{Moved}
 use Rattle.token_server.specs.declared.sketch.Moved.TheVariants.{Nothing, New, Again, Waiting, PutOff}
-use Rattle.token_server.specs.declared.told.Told.{Told}
+use Rattle.token_server.specs.declared.sent_command.SentCommand.{SentCommand}
 use Rattle.token_server.specs.rule.Rows.{Row, is_awaited}
 use Rattle.token_server.specs.rule.State.{ServerState, awaits}
 use Rattle.token_server.specs.rule.Serve.{meets_some, admitted, served, with_more, and_then, each_served, ready, serve}
@@ -98,14 +98,14 @@ room-fewer l None more less fewer room = omega arith
 room-fewer l (Some spare) more less fewer room = (room.0, omega (arith, room.1))
 
 -- P holds of each entry, then of each that stays active
-pub kept-all : (P : Held → Type 0) (e : Option CallId) (d : Option (ℕ × ℕ)) (held : List Held) → All P held → All P (held_still e (held_without d held))
+pub kept-all : (P : ActiveRequest → Type 0) (e : Option CallId) (d : Option (ℕ × ℕ)) (held : List ActiveRequest) → All P held → All P (held_still e (held_without d held))
 kept-all P e d held all = still e (held_without d held) (drop d)
   where
     drop : (d : Option (ℕ × ℕ)) → All P (held_without d held)
     drop None = all
     drop (Some d) = All-filter (λ h. not (is_up_to d.0 d.1 h.request)) P held all
 
-    still : (e : Option CallId) (hs : List Held) → All P hs → All P (held_still e hs)
+    still : (e : Option CallId) (hs : List ActiveRequest) → All P hs → All P (held_still e hs)
     still None hs h = h
     still (Some call) hs h = All-filter (λ h. not (is_of_call call h.request)) P hs h
 
@@ -136,7 +136,7 @@ abbrev Answer : Type 0
 Answer = Result (ServerState × List Message) StepError
 
 -- a step that makes the sketched changes
-module _ (p : ServerParts) (k : Sketch) (d : Draft) (so : IsDrafted p k d) where
+module _ (p : ServerParts) (k : Sketch) (d : ServerDraft) (so : IsDrafted p k d) where
   active-is : requests_of (held_after d.lists p.active.held) ≡ (sketched p k).active ++ requests_of d.lists.fresh.items
   active-is = held_after-requests d.lists p.active.held ∙ ap (λ (xs : List TokenRequest). xs ++ requests_of d.lists.fresh.items) so.listed.served
 
@@ -155,8 +155,8 @@ module _ (p : ServerParts) (k : Sketch) (d : Draft) (so : IsDrafted p k d) where
   drafted-awaiting : awaits (sketched p k) ≡ true → drafted p d ≡ sketched p k
   drafted-awaiting awaited =
       let none : d.lists.fresh.items ≡ [] = so.listed.rests awaited in
-      let active : requests_of (held_after d.lists p.active.held) ≡ (sketched p k).active = active-is ∙ ap (λ (hs : List Held). (sketched p k).active ++ requests_of hs) none ∙ append-nil (sketched p k).active in
-      let queue : queue_after d.lists p.queue.requests p.waiting.requests ≡ (sketched p k).queue = queue-is ∙ ap (λ (hs : List Held). all_but (requests_of hs) (sketched p k).queue) none ∙ all_but-none (sketched p k).queue in
+      let active : requests_of (held_after d.lists p.active.held) ≡ (sketched p k).active = active-is ∙ ap (λ (hs : List ActiveRequest). (sketched p k).active ++ requests_of hs) none ∙ append-nil (sketched p k).active in
+      let queue : queue_after d.lists p.queue.requests p.waiting.requests ≡ (sketched p k).queue = queue-is ∙ ap (λ (hs : List ActiveRequest). all_but (requests_of hs) (sketched p k).queue) none ∙ all_but-none (sketched p k).queue in
       λ i. record { shape = p.shape; file = p.file; epoch = p.epoch; rows = so.rows i; dead = so.deaths i; queue = queue i; active = active i; waiting = so.listed.put_off i }
 
   drafted-ready : awaits (sketched p k) ≡ false → drafted p d ≡ ready (sketched p k)
@@ -206,7 +206,7 @@ module _ (p : ServerParts) (k : Sketch) (d : Draft) (so : IsDrafted p k d) where
       ∙ stay-all ((sketched p k).active ++ requests_of d.lists.fresh.items) [] (all_but (requests_of d.lists.fresh.items) (sketched p k).queue) (admitted-leaves (sketched p k).active (sketched p k).queue (requests_of d.lists.fresh.items) (so.listed.comes is))
 
   -- after the commands the server holds all that it has to between two steps
-  module _ (ts : List Told) (out : List Message) (comes : each_served (drafted p d).active (drafted p d) ≡ Ok (with_told ts (drafted p d), out)) where
+  module _ (ts : List SentCommand) (out : List Message) (comes : each_served (drafted p d).active (drafted p d) ≡ Ok (with_told ts (drafted p d), out)) where
     pub told-awaits : awaits (with_told ts (drafted p d)) ≡ awaits (drafted p d)
     told-awaits = served-awaits (drafted p d).active (drafted p d) (with_told ts (drafted p d)) out refl comes
 
@@ -261,16 +261,16 @@ pub distinct-waiting : (s : ServerState) → IsOrderly s → AreDistinct s.waiti
 distinct-waiting s o c = let a = calls-kinds c s in let few = o.distinct c in omega arith
 
 -- after a planned step a server holds all that it has to
-pub applied : (p : ServerParts) (awaiting : Bool) (e : Edit) (v : Parts) (known_nodes : List KnownNode) (active : ActiveParts) (queue waiting : LineParts) → v ≡ e.parts.value → IsServer p awaiting → Fits p e → ((n : ℕ) → rows_of known_nodes n ≡ given_rows (v.given.items ++ given_of v.draft.rows) p.known_nodes n) → deaths_of known_nodes ≡ deaths_overlaid p.known_nodes v.draft.rows → length known_nodes ≡ length p.known_nodes → active.held ≡ held_after v.draft.lists p.active.held → queue.requests ≡ queue_after v.draft.lists p.queue.requests p.waiting.requests → waiting.requests ≡ waiting_after v.draft.lists p.waiting.requests → IsServer (record { shape = p.shape; file = p.file; epoch = p.epoch; known_nodes = known_nodes; active = active; queue = queue; waiting = waiting }) v.draft.awaits
+pub applied : (p : ServerParts) (awaiting : Bool) (e : ServerEdit) (v : EditParts) (known_nodes : List KnownNode) (active : ActiveParts) (queue waiting : LineParts) → v ≡ e.parts.value → IsServer p awaiting → Fits p e → ((n : ℕ) → rows_of known_nodes n ≡ given_rows (v.given.items ++ given_of v.draft.rows) p.known_nodes n) → deaths_of known_nodes ≡ deaths_overlaid p.known_nodes v.draft.rows → length known_nodes ≡ length p.known_nodes → active.held ≡ held_after v.draft.lists p.active.held → queue.requests ≡ queue_after v.draft.lists p.queue.requests p.waiting.requests → waiting.requests ≡ waiting_after v.draft.lists p.waiting.requests → IsServer (record { shape = p.shape; file = p.file; epoch = p.epoch; known_nodes = known_nodes; active = active; queue = queue; waiting = waiting }) v.draft.awaits
 applied p awaiting e v known_nodes active queue waiting is server fits rows deaths many held queued put_off = record {
   each_node = many ∙ server.each_node;
   file_in = server.file_in;
   epoch_in = server.epoch_in;
-  awaited = subst (λ (w : Parts). w.draft.awaits ≡ awaits (made p w)) (sym is) fits.awaited ∙ ap (λ (x : ServerState × List Held). awaits x.0) whole;
-  ready = subst (λ (x : ServerState × List Held). IsReady x.0 x.1) whole (subst (λ (w : Parts). IsReady (made p w) (held_after w.draft.lists p.active.held)) (sym is) fits.ready);
+  awaited = subst (λ (w : EditParts). w.draft.awaits ≡ awaits (made p w)) (sym is) fits.awaited ∙ ap (λ (x : ServerState × List ActiveRequest). awaits x.0) whole;
+  ready = subst (λ (x : ServerState × List ActiveRequest). IsReady x.0 x.1) whole (subst (λ (w : EditParts). IsReady (made p w) (held_after w.draft.lists p.active.held)) (sym is) fits.ready);
 }
   where
-    whole : ◌≡◌ {A = ServerState × List Held} (made p v, held_after v.draft.lists p.active.held) (server_state (record { shape = p.shape; file = p.file; epoch = p.epoch; known_nodes = known_nodes; active = active; queue = queue; waiting = waiting }), active.held)
+    whole : ◌≡◌ {A = ServerState × List ActiveRequest} (made p v, held_after v.draft.lists p.active.held) (server_state (record { shape = p.shape; file = p.file; epoch = p.epoch; known_nodes = known_nodes; active = active; queue = queue; waiting = waiting }), active.held)
     whole = λ i. (record { shape = p.shape; file = p.file; epoch = p.epoch; rows = λ n. sym (rows n) i; dead = sym deaths i; queue = sym queued i; active = requests_of (sym held i); waiting = sym put_off i }, sym held i)
 
 -- a settled queue stays as it is at an admission
@@ -282,16 +282,16 @@ settled-stays active before (r ∷ rest) stay =
     ∙ settled-stays active (before ++ r ∷ []) rest parts.1
     ∙ ap (λ (q : List TokenRequest). let x : List TokenRequest × List TokenRequest = (active, q) in x) (append_assoc before (r ∷ []) rest)
 
-each-silent : (s : ServerState) (held : List Held) → All (λ h. obstacle s h.request ≡ h.at) held → All (λ h. is_idle (s.rows h.at) ≡ false) held → each_served (requests_of held) s ≡ Ok (s, [])
+each-silent : (s : ServerState) (held : List ActiveRequest) → All (λ h. obstacle s h.request ≡ h.at) held → All (λ h. is_idle (s.rows h.at) ≡ false) held → each_served (requests_of held) s ≡ Ok (s, [])
 each-silent s [] waits quiet = refl
 each-silent s (h ∷ held) waits quiet =
-    let W : Held → Type 0 = λ x. obstacle s x.request ≡ x.at in
-    let Q : Held → Type 0 = λ x. is_idle (s.rows x.at) ≡ false in
+    let W : ActiveRequest → Type 0 = λ x. obstacle s x.request ≡ x.at in
+    let Q : ActiveRequest → Type 0 = λ x. is_idle (s.rows x.at) ≡ false in
     let one : served s h.request ≡ Ok (s, []) = served-silent s h.request (ap (λ (k : ℕ). is_idle (s.rows k)) (All-head W h held waits) ∙ All-head Q h held quiet) in
     ap (λ (x : Answer). and_then x (each_served (requests_of held))) one
     ∙ ap (with_more []) (each-silent s held (All-tail W h held waits) (All-tail Q h held quiet))
 
-serves-nothing : (s : ServerState) (held : List Held) → IsReady s held → s.active ≡ requests_of held → serve s ≡ Ok (s, [])
+serves-nothing : (s : ServerState) (held : List ActiveRequest) → IsReady s held → s.active ≡ requests_of held → serve s ≡ Ok (s, [])
 serves-nothing s held holds is = by (awaits s) refl
   where
     by : (b : Bool) → awaits s ≡ b → serve s ≡ Ok (s, [])

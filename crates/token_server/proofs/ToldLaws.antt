@@ -15,11 +15,11 @@ use Rattle.messages.specs.rule.Messages.{greatest_number}
 use Rattle.model.specs.declared.host.Host.{Host}
 use Rattle.token_set.specs.rule.Tokens.{Token}
 use Rattle.token_server.specs.declared.token_queue.token_request.TokenRequest.{TokenRequest}
-use Rattle.token_server.specs.declared.told.Told.{Told}
+use Rattle.token_server.specs.declared.sent_command.SentCommand.{SentCommand}
 use Rattle.token_server.specs.rule.Rows.{Commands, Row}
 use Rattle.token_server.specs.rule.State.{ServerState, with_row, begin}
 use Rattle.token_server.specs.declared.known_nodes.known_node.KnownNode.{KnownNode}
-use Rattle.token_server.specs.declared.known_nodes.given.Given.{Given}
+use Rattle.token_server.specs.declared.known_nodes.new_row.NewRow.{NewRow}
 use Rattle.token_server.specs.code.Sent.{next_number, told_commands, promised}
 use Rattle.token_server.specs.rule.RowParts.{known_node_at}
 use Rattle.token_server.specs.declared.known_nodes.row_edit.RowEdit.{RowEdit}
@@ -34,14 +34,14 @@ abbrev pub Answer : Type 0
 Answer = Result (ServerState × List Message) StepError
 
 -- one command more leaves the command to a node that had one
-told_to-more : (ts : List Told) (t : Told) (n : ℕ) (o : Option Told) → told_to ts n ≡ o → told_to (ts ++ t ∷ []) n ≡ (elim o [ None ↦ cond (t.node == n) (Some t) None | Some x ↦ Some x ])
-told_to-more [] t n o is = sym (ap (λ (p : Option Told). elim p as (λ q. Option Told) [ None ↦ cond (t.node == n) (Some t) None | Some x ↦ Some x ]) (sym is))
+told_to-more : (ts : List SentCommand) (t : SentCommand) (n : ℕ) (o : Option SentCommand) → told_to ts n ≡ o → told_to (ts ++ t ∷ []) n ≡ (elim o [ None ↦ cond (t.node == n) (Some t) None | Some x ↦ Some x ])
+told_to-more [] t n o is = sym (ap (λ (p : Option SentCommand). elim p as (λ q. Option SentCommand) [ None ↦ cond (t.node == n) (Some t) None | Some x ↦ Some x ]) (sym is))
 told_to-more (x ∷ ts) t n o is = by (x.node == n) is (told_to-more ts t n)
   where
-    last : Option Told → Option Told
+    last : Option SentCommand → Option SentCommand
     last p = elim p [ None ↦ cond (t.node == n) (Some t) None | Some y ↦ Some y ]
 
-    by : (b : Bool) → cond b (Some x) (told_to ts n) ≡ o → ((p : Option Told) → told_to ts n ≡ p → told_to (ts ++ t ∷ []) n ≡ last p) → cond b (Some x) (told_to (ts ++ t ∷ []) n) ≡ last o
+    by : (b : Bool) → cond b (Some x) (told_to ts n) ≡ o → ((p : Option SentCommand) → told_to ts n ≡ p → told_to (ts ++ t ∷ []) n ≡ last p) → cond b (Some x) (told_to (ts ++ t ∷ []) n) ≡ last o
     by true found rest = ap last found
     by false found rest = rest o found
 
@@ -68,27 +68,27 @@ has_number begin c k h = by c.outstanding (nat_lt c.number (begin + greatest_num
     by None true waits is h = let same : c.number + 1 ≡ k = cc in record { idle = waits; room = is; number = sym same }
     by None false waits is h = absurd (cc)
 
-module _ (ts : List Told) (s : ServerState) where
+module _ (ts : List SentCommand) (s : ServerState) where
   abbrev now : ServerState
   now = with_told ts s
 
   -- no command is added
   pub silent : ◌≡◌ {A = Answer} (Ok (now, [])) (Ok (with_told (ts ++ []) s, []))
-  silent = ap (λ (xs : List Told). let a : Answer = Ok (with_told xs s, []) in a) (sym (append-nil ts))
+  silent = ap (λ (xs : List SentCommand). let a : Answer = Ok (with_told xs s, []) in a) (sym (append-nil ts))
 
   -- a node whose row has no outstanding command was sent none
-  untold : (n : ℕ) (row : Row) (o : Option Told) → told_to ts n ≡ o → row_told o (s.rows n) ≡ Some row → row.outstanding ≡ None → (o ≡ None) × (s.rows n ≡ Some row)
+  untold : (n : ℕ) (row : Row) (o : Option SentCommand) → told_to ts n ≡ o → row_told o (s.rows n) ≡ Some row → row.outstanding ≡ None → (o ≡ None) × (s.rows n ≡ Some row)
   untold n row None is there idle = (refl, there)
   untold n row (Some t) is there idle = by (s.rows n) there
     where
-      by : (r : Option Row) → row_told (Some t) r ≡ Some row → ((◌≡◌ {A = Option Told} (Some t) None) × (s.rows n ≡ Some row))
+      by : (r : Option Row) → row_told (Some t) r ≡ Some row → ((◌≡◌ {A = Option SentCommand} (Some t) None) × (s.rows n ≡ Some row))
       by None there = absurd (none-some row there)
       by (Some old) there =
           let waits : Some t.command ≡ row.outstanding = ap (λ (x : Row). x.outstanding) (same_Some _ row there) in
           absurd (none-some t.command (sym idle ∙ sym waits))
 
   -- one command more
-  with_more_told : (n : ℕ) (row : Row) (t : Told) → t.node ≡ n → told_to ts n ≡ None → s.rows n ≡ Some row → with_told (ts ++ t ∷ []) s ≡ with_row now n (row_told (Some t) (Some row))
+  with_more_told : (n : ℕ) (row : Row) (t : SentCommand) → t.node ≡ n → told_to ts n ≡ None → s.rows n ≡ Some row → with_told (ts ++ t ∷ []) s ≡ with_row now n (row_told (Some t) (Some row))
   with_more_told n row t to none there = λ i. record s { rows = λ m. at m i }
     where
       at : (m : ℕ) → row_told (told_to (ts ++ t ∷ []) m) (s.rows m) ≡ cond (m == n) (row_told (Some t) (Some row)) (row_told (told_to ts m) (s.rows m))
@@ -96,21 +96,21 @@ module _ (ts : List Told) (s : ServerState) where
         | inl same ↦
             let old : told_to ts m ≡ None = ap (told_to ts) same.1 ∙ none in
             let own : t.node == m ≡ true = (λ i. (to ∙ sym same.1) i == m) ∙ here m in
-            let new : told_to (ts ++ t ∷ []) m ≡ Some t = told_to-more ts t m None old ∙ ap (λ (b : Bool). let o : Option Told = cond b (Some t) None in o) own in
+            let new : told_to (ts ++ t ∷ []) m ≡ Some t = told_to-more ts t m None old ∙ ap (λ (b : Bool). let o : Option SentCommand = cond b (Some t) None in o) own in
             (λ i. row_told (new i) ((ap s.rows same.1 ∙ there) i))
             ∙ sym (ap (λ (b : Bool). cond b (row_told (Some t) (Some row)) (row_told (told_to ts m) (s.rows m))) same.0)
         | inr other ↦
-            ap (λ (o : Option Told). row_told o (s.rows m)) (elsewhere m (told_to ts m) refl other.1)
+            ap (λ (o : Option SentCommand). row_told o (s.rows m)) (elsewhere m (told_to ts m) refl other.1)
             ∙ sym (ap (λ (b : Bool). cond b (row_told (Some t) (Some row)) (row_told (told_to ts m) (s.rows m))) other.0)
       ]
         where
           here : (k : ℕ) → k == k ≡ true
           here k = elim (eqb_tells k k) [ inl same ↦ same.0 | inr other ↦ absurd (other.1 refl) ]
 
-          elsewhere : (k : ℕ) (o : Option Told) → told_to ts k ≡ o → (k ≡ n → ⊥) → told_to (ts ++ t ∷ []) k ≡ o
+          elsewhere : (k : ℕ) (o : Option SentCommand) → told_to ts k ≡ o → (k ≡ n → ⊥) → told_to (ts ++ t ∷ []) k ≡ o
           elsewhere k None is other = told_to-more ts t k None is ∙ elim (eqb_tells t.node k) [
             | inl same ↦ absurd (other (sym same.1 ∙ to))
-            | inr apart ↦ ap (λ (b : Bool). let o : Option Told = cond b (Some t) None in o) apart.0
+            | inr apart ↦ ap (λ (b : Bool). let o : Option SentCommand = cond b (Some t) None in o) apart.0
           ]
           elsewhere k (Some x) is other = told_to-more ts t k (Some x) is
 
@@ -134,7 +134,7 @@ module _ (ts : List Told) (s : ServerState) where
       by false true h = absurd (cc)
       by false false h = let same : Spent ≡ e = cc in ap (λ (x : StepError). let a : Answer = Err x in a) same
 
-  commanded-sent : (n k : ℕ) (row : Row) (command : Message) (t : Told) → now.rows n ≡ Some row → next_number (begin s) (commands_of row) ≡ Ok (Some k) → t.node ≡ n → t.command ≡ command → t.commands ≡ told_commands command (commands_of row) → commanded now n row (promised command row.token) command ≡ Ok (with_told (ts ++ t ∷ []) s, command ∷ [])
+  commanded-sent : (n k : ℕ) (row : Row) (command : Message) (t : SentCommand) → now.rows n ≡ Some row → next_number (begin s) (commands_of row) ≡ Ok (Some k) → t.node ≡ n → t.command ≡ command → t.commands ≡ told_commands command (commands_of row) → commanded now n row (promised command row.token) command ≡ Ok (with_told (ts ++ t ∷ []) s, command ∷ [])
   commanded-sent n k row command t there next to is commands =
       let has = has_number (begin s) (commands_of row) k next in
       let old = untold n row (told_to ts n) refl there has.idle in
@@ -167,7 +167,7 @@ module _ (ts : List Told) (s : ServerState) where
         let x = row_of_commands (now.rows n) c is in
         ap (revoked_from now r n) x.1 ∙ commanded-spent n x.0 x.0.token _ e (ap (next_number (begin s)) (sym x.2) ∙ next)
 
-    pub revoke-sent : (c : Commands) (k : ℕ) (t : Told) → Some c ≡ option_map commands_of (now.rows n) → next_number (begin s) c ≡ Ok (Some k) → t.node ≡ n → t.command ≡ Revoke s.file k (holder c) r.call r.mode wanted → t.commands ≡ told_commands t.command c → revoked_from now r n (now.rows n) ≡ Ok (with_told (ts ++ t ∷ []) s, t.command ∷ [])
+    pub revoke-sent : (c : Commands) (k : ℕ) (t : SentCommand) → Some c ≡ option_map commands_of (now.rows n) → next_number (begin s) c ≡ Ok (Some k) → t.node ≡ n → t.command ≡ Revoke s.file k (holder c) r.call r.mode wanted → t.commands ≡ told_commands t.command c → revoked_from now r n (now.rows n) ≡ Ok (with_told (ts ++ t ∷ []) s, t.command ∷ [])
     revoke-sent c k t is next to command_is commands =
         let x = row_of_commands (now.rows n) c is in
         let has = has_number (begin s) c k next in
@@ -191,7 +191,7 @@ module _ (ts : List Told) (s : ServerState) where
         let x = row_of_commands (now.rows r.call.node) c is in
         ap (granted_to now r) x.1 ∙ commanded-spent r.call.node x.0 _ _ e (ap (next_number (begin s)) (sym x.2) ∙ next)
 
-    pub grant-sent : (c : Commands) (k : ℕ) (t : Told) → Some c ≡ option_map commands_of (now.rows r.call.node) → next_number (begin s) c ≡ Ok (Some k) → t.node ≡ r.call.node → t.command ≡ Grant s.file k r.call r.mode (granted_span now r) → t.commands ≡ told_commands t.command c → granted_to now r (now.rows r.call.node) ≡ Ok (with_told (ts ++ t ∷ []) s, t.command ∷ [])
+    pub grant-sent : (c : Commands) (k : ℕ) (t : SentCommand) → Some c ≡ option_map commands_of (now.rows r.call.node) → next_number (begin s) c ≡ Ok (Some k) → t.node ≡ r.call.node → t.command ≡ Grant s.file k r.call r.mode (granted_span now r) → t.commands ≡ told_commands t.command c → granted_to now r (now.rows r.call.node) ≡ Ok (with_told (ts ++ t ∷ []) s, t.command ∷ [])
     grant-sent c k t is next to command_is commands =
         let x = row_of_commands (now.rows r.call.node) c is in
         let has = has_number (begin s) c k next in
@@ -202,13 +202,13 @@ module _ (ts : List Told) (s : ServerState) where
         ∙ ap (λ (m : Message). let a : Answer = Ok (with_told (ts ++ t ∷ []) s, m ∷ []) in a) (sym same)
 
 -- the commands as messages, with one more
-pub commands_told-more : (ts more : List Told) → commands_told (ts ++ more) ≡ commands_told ts ++ commands_told more
+pub commands_told-more : (ts more : List SentCommand) → commands_told (ts ++ more) ≡ commands_told ts ++ commands_told more
 commands_told-more [] more = refl
 commands_told-more (t ∷ ts) more = ap (λ (ms : List Message). t.command ∷ ms) (commands_told-more ts more)
 
 -- one active request more is served
-module _ (s : ServerState) (xs : List TokenRequest) (ts : List Told) (r : TokenRequest) (so_far : each_served xs s ≡ Ok (with_told ts s, commands_told ts)) where
-  pub served-more : (more : List Told) → served (with_told ts s) r ≡ Ok (with_told (ts ++ more) s, commands_told more) → each_served (xs ++ r ∷ []) s ≡ Ok (with_told (ts ++ more) s, commands_told (ts ++ more))
+module _ (s : ServerState) (xs : List TokenRequest) (ts : List SentCommand) (r : TokenRequest) (so_far : each_served xs s ≡ Ok (with_told ts s, commands_told ts)) where
+  pub served-more : (more : List SentCommand) → served (with_told ts s) r ≡ Ok (with_told (ts ++ more) s, commands_told more) → each_served (xs ++ r ∷ []) s ≡ Ok (with_told (ts ++ more) s, commands_told (ts ++ more))
   served-more more is =
       each_served-append xs (r ∷ []) s
       ∙ ap (λ (x : Answer). and_then x (each_served (r ∷ []))) so_far
@@ -223,22 +223,22 @@ module _ (s : ServerState) (xs : List TokenRequest) (ts : List Told) (r : TokenR
       ∙ ap (λ (x : Answer). with_more (commands_told ts) (and_then x (each_served rest))) is
 
 -- the new row that a node gets is the one with its command
-pub record GivesTold (known_nodes : List KnownNode) (edit : Option RowEdit) (t : Told) (g : Given) : Type 0 where
+pub record GivesTold (known_nodes : List KnownNode) (edit : Option RowEdit) (t : SentCommand) (g : NewRow) : Type 0 where
   pub place : g.place + 1 ≡ t.node
   pub row : given_to_known_node g (known_node_at known_nodes t.node) ≡ row_told (Some t) (rows_overlaid known_nodes edit t.node)
 
-abbrev pub GiveTold : List KnownNode → Option RowEdit → List Told → List Given → Type 0
+abbrev pub GiveTold : List KnownNode → Option RowEdit → List SentCommand → List NewRow → Type 0
 GiveTold known_nodes edit [] [] = Unit {0}
 GiveTold known_nodes edit (t ∷ ts) (g ∷ gs) = GivesTold known_nodes edit t g × GiveTold known_nodes edit ts gs
 GiveTold known_nodes edit _ _ = ⊥
 
-pub give_told-more : (known_nodes : List KnownNode) (edit : Option RowEdit) (ts : List Told) (gs : List Given) (t : Told) (g : Given) → GiveTold known_nodes edit ts gs → GivesTold known_nodes edit t g → GiveTold known_nodes edit (ts ++ t ∷ []) (gs ++ g ∷ [])
+pub give_told-more : (known_nodes : List KnownNode) (edit : Option RowEdit) (ts : List SentCommand) (gs : List NewRow) (t : SentCommand) (g : NewRow) → GiveTold known_nodes edit ts gs → GivesTold known_nodes edit t g → GiveTold known_nodes edit (ts ++ t ∷ []) (gs ++ g ∷ [])
 give_told-more known_nodes edit [] [] t g all one = (one, tt)
 give_told-more known_nodes edit (x ∷ ts) (y ∷ gs) t g all one = (all.0, give_told-more known_nodes edit ts gs t g all.1 one)
 give_told-more known_nodes edit [] (y ∷ gs) t g all one = absurd all
 give_told-more known_nodes edit (x ∷ ts) [] t g all one = absurd all
 
-given_rows-told : (known_nodes : List KnownNode) (edit : Option RowEdit) (ts : List Told) (gs : List Given) (n : ℕ) → GiveTold known_nodes edit ts gs → given_rows (gs ++ given_of edit) known_nodes n ≡ row_told (told_to ts n) (rows_overlaid known_nodes edit n)
+given_rows-told : (known_nodes : List KnownNode) (edit : Option RowEdit) (ts : List SentCommand) (gs : List NewRow) (n : ℕ) → GiveTold known_nodes edit ts gs → given_rows (gs ++ given_of edit) known_nodes n ≡ row_told (told_to ts n) (rows_overlaid known_nodes edit n)
 given_rows-told known_nodes edit [] [] n all = refl
 given_rows-told known_nodes edit (t ∷ ts) (g ∷ gs) n all = elim (eqb_tells n (g.place + 1)) [
   | inl same ↦
@@ -248,12 +248,12 @@ given_rows-told known_nodes edit (t ∷ ts) (g ∷ gs) n all = elim (eqb_tells n
       ∙ ap (λ (k : ℕ). given_to_known_node g (known_node_at known_nodes k)) at
       ∙ all.0.row
       ∙ ap (λ (k : ℕ). row_told (Some t) (rows_overlaid known_nodes edit k)) (sym at)
-      ∙ sym (ap (λ (b : Bool). let o : Option Told = cond b (Some t) (told_to ts n) in row_told o (rows_overlaid known_nodes edit n)) own)
+      ∙ sym (ap (λ (b : Bool). let o : Option SentCommand = cond b (Some t) (told_to ts n) in row_told o (rows_overlaid known_nodes edit n)) own)
   | inr other ↦
       let apart : t.node == n ≡ false = elsewhere other.1 in
       ap (λ (b : Bool). cond b (given_to_known_node g (known_node_at known_nodes n)) (given_rows (gs ++ given_of edit) known_nodes n)) other.0
       ∙ given_rows-told known_nodes edit ts gs n all.1
-      ∙ sym (ap (λ (b : Bool). let o : Option Told = cond b (Some t) (told_to ts n) in row_told o (rows_overlaid known_nodes edit n)) apart)
+      ∙ sym (ap (λ (b : Bool). let o : Option SentCommand = cond b (Some t) (told_to ts n) in row_told o (rows_overlaid known_nodes edit n)) apart)
 ]
   where
     here : (k : ℕ) → k == k ≡ true
@@ -264,7 +264,7 @@ given_rows-told known_nodes edit (t ∷ ts) (g ∷ gs) n all = elim (eqb_tells n
 given_rows-told known_nodes edit [] (g ∷ gs) n all = absurd all
 given_rows-told known_nodes edit (t ∷ ts) [] n all = absurd all
 
-pub with_given-told : (s : ServerState) (known_nodes : List KnownNode) (edit : Option RowEdit) (ts : List Told) (gs : List Given) → rows_overlaid known_nodes edit ≡ s.rows → GiveTold known_nodes edit ts gs → with_given (gs ++ given_of edit) known_nodes s ≡ with_told ts s
+pub with_given-told : (s : ServerState) (known_nodes : List KnownNode) (edit : Option RowEdit) (ts : List SentCommand) (gs : List NewRow) → rows_overlaid known_nodes edit ≡ s.rows → GiveTold known_nodes edit ts gs → with_given (gs ++ given_of edit) known_nodes s ≡ with_told ts s
 with_given-told s known_nodes edit ts gs same all = λ i. record s { rows = λ n. (given_rows-told known_nodes edit ts gs n all ∙ ap (λ (f : ℕ → Option Row). row_told (told_to ts n) (f n)) same) i }
 
 -- the element at a place ends the first ones
@@ -272,12 +272,12 @@ pub list-at : {X : Type 0} (xs : List X) (i : ℕ) (x : X) → take (i + 1) xs �
 list-at xs i x next = sym (take-append-drop (i + 1) xs) ∙ ap (λ ys. ys ++ drop (i + 1) xs) next ∙ append_assoc (take i xs) (x ∷ []) (drop (i + 1) xs)
 
 -- one active request more is served, and leads to this command or none
-pub told-next : (s : ServerState) (xs next : List TokenRequest) (ts ms : List Told) (r : TokenRequest) (o : Option Told) → each_served xs s ≡ Ok (with_told ts s, commands_told ts) → next ≡ xs ++ r ∷ [] → served (with_told ts s) r ≡ Ok (with_told (ts ++ option_to_list o) s, commands_told (option_to_list o)) → ms ≡ ts ++ option_to_list o → each_served next s ≡ Ok (with_told ms s, commands_told ms)
+pub told-next : (s : ServerState) (xs next : List TokenRequest) (ts ms : List SentCommand) (r : TokenRequest) (o : Option SentCommand) → each_served xs s ≡ Ok (with_told ts s, commands_told ts) → next ≡ xs ++ r ∷ [] → served (with_told ts s) r ≡ Ok (with_told (ts ++ option_to_list o) s, commands_told (option_to_list o)) → ms ≡ ts ++ option_to_list o → each_served next s ≡ Ok (with_told ms s, commands_told ms)
 told-next s xs next ts ms r o so_far is one made =
     ap (λ (ys : List TokenRequest). each_served ys s) is
     ∙ served-more s xs ts r so_far (option_to_list o) one
-    ∙ sym (ap (λ (all : List Told). let a : Answer = Ok (with_told all s, commands_told all) in a) made)
+    ∙ sym (ap (λ (all : List SentCommand). let a : Answer = Ok (with_told all s, commands_told all) in a) made)
 
-pub nodes-next : (ts ms : List Told) (o : Option Told) → All (λ t. 1 ≤ t.node) ts → IfSome o (λ t. 1 ≤ t.node) → ms ≡ ts ++ option_to_list o → All (λ t. 1 ≤ t.node) ms
-nodes-next ts ms None all one made = subst (All (λ (t : Told). 1 ≤ t.node)) (sym (made ∙ append-nil ts)) all
-nodes-next ts ms (Some t) all one made = subst (All (λ (x : Told). 1 ≤ x.node)) (sym made) (All-push (λ (x : Told). 1 ≤ x.node) ts t all one)
+pub nodes-next : (ts ms : List SentCommand) (o : Option SentCommand) → All (λ t. 1 ≤ t.node) ts → IfSome o (λ t. 1 ≤ t.node) → ms ≡ ts ++ option_to_list o → All (λ t. 1 ≤ t.node) ms
+nodes-next ts ms None all one made = subst (All (λ (t : SentCommand). 1 ≤ t.node)) (sym (made ∙ append-nil ts)) all
+nodes-next ts ms (Some t) all one made = subst (All (λ (x : SentCommand). 1 ≤ x.node)) (sym made) (All-push (λ (x : SentCommand). 1 ≤ x.node) ts t all one)

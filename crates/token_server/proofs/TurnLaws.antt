@@ -15,15 +15,15 @@ use Rattle.messages.specs.declared.refusal.StepError.TheVariants.{Spent}
 use Rattle.messages.specs.declared.message.Message.{Message}
 use Rattle.messages.specs.rule.Messages.{greatest_number}
 use Rattle.token_set.specs.rule.Tokens.{Token}
-use Rattle.token_server.specs.declared.token_queue.held.Held.{Held}
+use Rattle.token_server.specs.declared.token_queue.active_request.ActiveRequest.{ActiveRequest}
 use Rattle.token_server.specs.declared.token_queue.token_request.TokenRequest.{TokenRequest}
 use Rattle.token_server.specs.rule.Requests.{is_of_call, is_up_to}
 use Rattle.token_server.specs.rule.Actives.{requests_of, waiting_for}
 use Rattle.token_server.proofs.ActiveLaws.{waiting_for-at, waiting_for-length}
 use Rattle.token_server.specs.declared.lists.Lists.{Lists}
-use Rattle.token_server.specs.declared.told.Told.{Told}
-use Rattle.token_server.specs.declared.known_nodes.command.Order.{Order}
-use Rattle.token_server.specs.declared.known_nodes.command.Order.TheVariants.{Grant, Revoke}
+use Rattle.token_server.specs.declared.sent_command.SentCommand.{SentCommand}
+use Rattle.token_server.specs.declared.known_nodes.server_command.Order.{Order}
+use Rattle.token_server.specs.declared.known_nodes.server_command.Order.TheVariants.{Grant, Revoke}
 use Rattle.token_server.specs.code.Orders.{message_of}
 use Rattle.token_server.specs.rule.Rows.{Commands, Row, row_conflicts}
 use Rattle.token_server.specs.rule.State.{ServerState, with_row, begin}
@@ -42,12 +42,12 @@ use Rattle.token_server.proofs.CareLaws.{All-right}
 use Rattle.token_server.proofs.ToldLaws.{silent, told-next, nodes-next, served-spent, list-at, grant-gone, grant-busy, grant-spent, grant-sent, revoke-gone, revoke-busy, revoke-spent, revoke-sent}
 
 -- the requests stay the same where they wait for other rows
-pub waiting_for-requests : (ats : List ℕ) (held : List Held) → requests_of (waiting_for ats held) ≡ requests_of held
+pub waiting_for-requests : (ats : List ℕ) (held : List ActiveRequest) → requests_of (waiting_for ats held) ≡ requests_of held
 waiting_for-requests [] held = refl
 waiting_for-requests (at ∷ ats) [] = refl
 waiting_for-requests (at ∷ ats) (h ∷ held) = ap (λ (rs : List TokenRequest). h.request ∷ rs) (waiting_for-requests ats held)
 
-pub filter-requests : (keep : TokenRequest → Bool) (held : List Held) → requests_of (filter (λ h. keep h.request) held) ≡ filter keep (requests_of held)
+pub filter-requests : (keep : TokenRequest → Bool) (held : List ActiveRequest) → requests_of (filter (λ h. keep h.request) held) ≡ filter keep (requests_of held)
 filter-requests keep [] = refl
 filter-requests keep (h ∷ held) = by (keep h.request) (filter-requests keep held)
   where
@@ -55,68 +55,68 @@ filter-requests keep (h ∷ held) = by (keep h.request) (filter-requests keep he
     by true rest = ap (λ (rs : List TokenRequest). h.request ∷ rs) rest
     by false rest = rest
 
-pub without-requests : (dropped : Option (ℕ × ℕ)) (held : List Held) → requests_of (held_without dropped held) ≡ without dropped (requests_of held)
+pub without-requests : (dropped : Option (ℕ × ℕ)) (held : List ActiveRequest) → requests_of (held_without dropped held) ≡ without dropped (requests_of held)
 without-requests None held = refl
 without-requests (Some d) held = filter-requests (λ r. not (is_up_to d.0 d.1 r)) held
 
-pub still-requests : (ended : Option CallId) (held : List Held) → requests_of (held_still ended held) ≡ still_active ended (requests_of held)
+pub still-requests : (ended : Option CallId) (held : List ActiveRequest) → requests_of (held_still ended held) ≡ still_active ended (requests_of held)
 still-requests None held = refl
 still-requests (Some call) held = filter-requests (λ r. not (is_of_call call r)) held
 
 -- the active requests after a change: those that stay active, then those admitted
-pub held_after-requests : (l : Lists) (held : List Held) → requests_of (held_after l held) ≡ still_active l.gone.ended (without l.gone.dropped (requests_of held)) ++ requests_of l.fresh.items
+pub held_after-requests : (l : Lists) (held : List ActiveRequest) → requests_of (held_after l held) ≡ still_active l.gone.ended (without l.gone.dropped (requests_of held)) ++ requests_of l.fresh.items
 held_after-requests l held =
-    map-append (λ (h : Held). h.request) (held_still l.gone.ended (held_without l.gone.dropped (waiting_for l.ats.items held))) l.fresh.items
+    map-append (λ (h : ActiveRequest). h.request) (held_still l.gone.ended (held_without l.gone.dropped (waiting_for l.ats.items held))) l.fresh.items
     ∙ ap (λ (rs : List TokenRequest). rs ++ requests_of l.fresh.items)
     (still-requests l.gone.ended (held_without l.gone.dropped (waiting_for l.ats.items held))
     ∙ ap (still_active l.gone.ended) (without-requests l.gone.dropped (waiting_for l.ats.items held) ∙ ap (without l.gone.dropped) (waiting_for-requests l.ats.items held)))
 
-filter-all : (held : List Held) → held ≡ filter (λ h. true) held
+filter-all : (held : List ActiveRequest) → held ≡ filter (λ h. true) held
 filter-all [] = refl
-filter-all (h ∷ held) = ap (λ (hs : List Held). h ∷ hs) (filter-all held)
+filter-all (h ∷ held) = ap (λ (hs : List ActiveRequest). h ∷ hs) (filter-all held)
 
-filter-twice : (p q : Held → Bool) (held : List Held) → filter p (filter q held) ≡ filter (λ h. q h && p h) held
+filter-twice : (p q : ActiveRequest → Bool) (held : List ActiveRequest) → filter p (filter q held) ≡ filter (λ h. q h && p h) held
 filter-twice p q [] = refl
 filter-twice p q (h ∷ held) = by (q h) (p h) refl (filter-twice p q held)
   where
-    both : Held → Bool
+    both : ActiveRequest → Bool
     both x = q x && p x
 
     by : (b c : Bool) → p h ≡ c → filter p (filter q held) ≡ filter both held → filter p (cond b (h ∷ filter q held) (filter q held)) ≡ cond (b && c) (h ∷ filter both held) (filter both held)
-    by true c is rest = ap (λ (x : Bool). cond x (h ∷ filter p (filter q held)) (filter p (filter q held))) is ∙ ap (λ (hs : List Held). cond c (h ∷ hs) hs) rest
+    by true c is rest = ap (λ (x : Bool). cond x (h ∷ filter p (filter q held)) (filter p (filter q held))) is ∙ ap (λ (hs : List ActiveRequest). cond c (h ∷ hs) hs) rest
     by false c is rest = rest
 
-without-filter : (dropped : Option (ℕ × ℕ)) (held : List Held) → held_without dropped held ≡ filter (λ h. not (is_up_to_any dropped h.request)) held
+without-filter : (dropped : Option (ℕ × ℕ)) (held : List ActiveRequest) → held_without dropped held ≡ filter (λ h. not (is_up_to_any dropped h.request)) held
 without-filter None held = filter-all held
 without-filter (Some d) held = refl
 
-still-filter : (ended : Option CallId) (held : List Held) → held_still ended held ≡ filter (λ h. not (is_of_any ended h.request)) held
+still-filter : (ended : Option CallId) (held : List ActiveRequest) → held_still ended held ≡ filter (λ h. not (is_of_any ended h.request)) held
 still-filter None held = filter-all held
 still-filter (Some call) held = refl
 
-pub kept-is : (l : Lists) (held : List Held) → held_still l.gone.ended (held_without l.gone.dropped held) ≡ kept l held
+pub kept-is : (l : Lists) (held : List ActiveRequest) → held_still l.gone.ended (held_without l.gone.dropped held) ≡ kept l held
 kept-is l held =
     still-filter l.gone.ended (held_without l.gone.dropped held)
-    ∙ ap (λ (hs : List Held). filter (λ h. not (is_of_any l.gone.ended h.request)) hs) (without-filter l.gone.dropped held)
+    ∙ ap (λ (hs : List ActiveRequest). filter (λ h. not (is_of_any l.gone.ended h.request)) hs) (without-filter l.gone.dropped held)
     ∙ filter-twice (λ h. not (is_of_any l.gone.ended h.request)) (λ h. not (is_up_to_any l.gone.dropped h.request)) held
 
-pub held_after-kept : (l : Lists) (held : List Held) → held_after l held ≡ kept_of l held ++ l.fresh.items
-held_after-kept l held = ap (λ (hs : List Held). hs ++ l.fresh.items) (kept-is l (waiting_for l.ats.items held))
+pub held_after-kept : (l : Lists) (held : List ActiveRequest) → held_after l held ≡ kept_of l held ++ l.fresh.items
+held_after-kept l held = ap (λ (hs : List ActiveRequest). hs ++ l.fresh.items) (kept-is l (waiting_for l.ats.items held))
 
-pub kept-requests : (l : Lists) (held : List Held) → requests_of (kept l held) ≡ still_active l.gone.ended (without l.gone.dropped (requests_of held))
+pub kept-requests : (l : Lists) (held : List ActiveRequest) → requests_of (kept l held) ≡ still_active l.gone.ended (without l.gone.dropped (requests_of held))
 kept-requests l held =
     ap requests_of (sym (kept-is l held))
     ∙ still-requests l.gone.ended (held_without l.gone.dropped held)
     ∙ ap (still_active l.gone.ended) (without-requests l.gone.dropped held)
 
 -- one more request stays active
-pub kept-more : (l : Lists) (xs next : List Held) (h : Held) → next ≡ xs ++ h ∷ [] → keeps l.gone.dropped l.gone.ended h.request ≡ true → kept l next ≡ kept l xs ++ h ∷ []
+pub kept-more : (l : Lists) (xs next : List ActiveRequest) (h : ActiveRequest) → next ≡ xs ++ h ∷ [] → keeps l.gone.dropped l.gone.ended h.request ≡ true → kept l next ≡ kept l xs ++ h ∷ []
 kept-more l xs next h is on =
     ap (kept l) is
     ∙ filter-append (λ x. keeps l.gone.dropped l.gone.ended x.request) xs (h ∷ [])
     ∙ ap (λ (b : Bool). kept l xs ++ cond b (h ∷ []) []) on
 
-pub kept-less : (l : Lists) (xs next : List Held) (h : Held) → next ≡ xs ++ h ∷ [] → keeps l.gone.dropped l.gone.ended h.request ≡ false → kept l next ≡ kept l xs
+pub kept-less : (l : Lists) (xs next : List ActiveRequest) (h : ActiveRequest) → next ≡ xs ++ h ∷ [] → keeps l.gone.dropped l.gone.ended h.request ≡ false → kept l next ≡ kept l xs
 kept-less l xs next h is off =
     ap (kept l) is
     ∙ filter-append (λ x. keeps l.gone.dropped l.gone.ended x.request) xs (h ∷ [])
@@ -124,25 +124,25 @@ kept-less l xs next h is off =
     ∙ append-nil (kept l xs)
 
 -- the request at a place, with the row that it waits for after the change
-abbrev pub waiting_at : List ℕ → ℕ → Held → Held
+abbrev pub waiting_at : List ℕ → ℕ → ActiveRequest → ActiveRequest
 waiting_at ats i h = record { request = h.request; at = slice_index_or ats i h.at }
 
-pub waits-at : (ats : List ℕ) (held : List Held) (i : ℕ) (h : Held) → slice_get held i ≡ Some h → slice_get (waiting_for ats held) i ≡ Some (waiting_at ats i h)
+pub waits-at : (ats : List ℕ) (held : List ActiveRequest) (i : ℕ) (h : ActiveRequest) → slice_get held i ≡ Some h → slice_get (waiting_for ats held) i ≡ Some (waiting_at ats i h)
 waits-at [] held i h there = there
 waits-at (a ∷ ats) [] i h there = absurd (none-some h there)
 waits-at (a ∷ ats) (x ∷ held) zero h there =
     let same : x ≡ h = same_Some x h there in
-    ap (λ (y : Held). let o : Option Held = Some (record { request = y.request; at = a }) in o) same
+    ap (λ (y : ActiveRequest). let o : Option ActiveRequest = Some (record { request = y.request; at = a }) in o) same
 waits-at (a ∷ ats) (x ∷ held) (suc i) h there = waits-at ats held i h there
 
 pub take-next : {X : Type 0} (xs : List X) (i : ℕ) (x : X) → slice_get xs i ≡ Some x → take (i + 1) xs ≡ take i xs ++ x ∷ []
 take-next xs i x there = take_more xs i x (slice_get_within xs i x there) ∙ ap (λ y. take i xs ++ y ∷ []) (get_or_from_slice_get xs i x x there)
 
 -- the requests that stay active, around one of them
-pub kept-around : (l : Lists) (ws : List Held) (i : ℕ) (w : Held) → slice_get ws i ≡ Some w → keeps l.gone.dropped l.gone.ended w.request ≡ true → kept l ws ++ l.fresh.items ≡ kept l (take i ws) ++ w ∷ (kept l (drop (i + 1) ws) ++ l.fresh.items)
+pub kept-around : (l : Lists) (ws : List ActiveRequest) (i : ℕ) (w : ActiveRequest) → slice_get ws i ≡ Some w → keeps l.gone.dropped l.gone.ended w.request ≡ true → kept l ws ++ l.fresh.items ≡ kept l (take i ws) ++ w ∷ (kept l (drop (i + 1) ws) ++ l.fresh.items)
 kept-around l ws i w there on =
-    ap (λ (hs : List Held). kept l hs ++ l.fresh.items) (list-at ws i w (take-next ws i w there))
-    ∙ ap (λ (hs : List Held). hs ++ l.fresh.items)
+    ap (λ (hs : List ActiveRequest). kept l hs ++ l.fresh.items) (list-at ws i w (take-next ws i w there))
+    ∙ ap (λ (hs : List ActiveRequest). hs ++ l.fresh.items)
     (filter-append (λ x. keeps l.gone.dropped l.gone.ended x.request) (take i ws) (w ∷ drop (i + 1) ws)
     ∙ ap (λ (b : Bool). kept l (take i ws) ++ cond b (w ∷ kept l (drop (i + 1) ws)) (kept l (drop (i + 1) ws))) on)
     ∙ append_assoc (kept l (take i ws)) (w ∷ kept l (drop (i + 1) ws)) l.fresh.items
@@ -207,7 +207,7 @@ other-revoked s r at is other =
     ∙ ap (λ (k : ℕ). revoked_from s r k (s.rows k)) o.1
 
 -- the turn of a request, by what can be sent to the node: nothing, no number left, a command
-module _ (ts : List Told) (s : ServerState) (r : TokenRequest) (at : ℕ) (is : obstacle (with_told ts s) r ≡ at) where
+module _ (ts : List SentCommand) (s : ServerState) (r : TokenRequest) (at : ℕ) (is : obstacle (with_told ts s) r ≡ at) where
   abbrev before : ServerState
   before = with_told ts s
 
@@ -232,7 +232,7 @@ module _ (ts : List Told) (s : ServerState) (r : TokenRequest) (at : ℕ) (is : 
     | inr other ↦ other-revoked before r at is other.0 ∙ revoke-spent ts s r at c e known next
   ]
 
-  pub turn-sent : (c : Commands) (k : ℕ) (o : Order) (t : Told) → Some c ≡ option_map commands_of (before.rows at) → next_number (begin s) c ≡ Ok (Some k) → t.node ≡ at → t.command ≡ message_of s.file o → t.commands ≡ told_commands t.command c → ((at == r.call.node) ≡ true → o ≡ Grant k r.call r.mode (granted_span before r)) → ((at == r.call.node) ≡ false → o ≡ Revoke k (record { node = at; incarnation = c.incarnation }) r.call r.mode (record { required = r.wanted.required; desired = narrowed s.active r })) → served before r ≡ Ok (with_told (ts ++ t ∷ []) s, t.command ∷ [])
+  pub turn-sent : (c : Commands) (k : ℕ) (o : Order) (t : SentCommand) → Some c ≡ option_map commands_of (before.rows at) → next_number (begin s) c ≡ Ok (Some k) → t.node ≡ at → t.command ≡ message_of s.file o → t.commands ≡ told_commands t.command c → ((at == r.call.node) ≡ true → o ≡ Grant k r.call r.mode (granted_span before r)) → ((at == r.call.node) ≡ false → o ≡ Revoke k (record { node = at; incarnation = c.incarnation }) r.call r.mode (record { required = r.wanted.required; desired = narrowed s.active r })) → served before r ≡ Ok (with_told (ts ++ t ∷ []) s, t.command ∷ [])
   turn-sent c k o t known next to command commands own_order other_order = elim (eqb_tells at r.call.node) [
     | inl own ↦ own-granted before r at is own.0 ∙ grant-sent ts s r c k t (commands_at (Some c) own.1 known) next (to ∙ own.1) (command ∙ ap (message_of s.file) (own_order own.0)) commands
     | inr other ↦ other-revoked before r at is other.0 ∙ revoke-sent ts s r at c k t known next to (command ∙ ap (message_of s.file) (other_order other.0)) commands
@@ -282,19 +282,19 @@ served-busy s t r at out where_is is = subst (λ (k : ℕ). is_idle (t.rows k) �
     by false h = granted (s.rows r.call.node) refl h
 
 -- a node to which no command may go is one after a command to it or to others
-quiet-row : (o : Option Told) (row : Option Row) → is_idle row ≡ false → is_idle (row_told o row) ≡ false
+quiet-row : (o : Option SentCommand) (row : Option Row) → is_idle row ≡ false → is_idle (row_told o row) ≡ false
 quiet-row None row quiet = quiet
 quiet-row (Some t) None quiet = refl
 quiet-row (Some t) (Some row) quiet = refl
 
-pub quiet-told : (ts : List Told) (s : ServerState) (n : ℕ) → is_idle (s.rows n) ≡ false → is_idle ((with_told ts s).rows n) ≡ false
+pub quiet-told : (ts : List SentCommand) (s : ServerState) (n : ℕ) → is_idle (s.rows n) ≡ false → is_idle ((with_told ts s).rows n) ≡ false
 quiet-told ts s n quiet = quiet-row (told_to ts n) (s.rows n) quiet
 
-quiet-some : (t : Told) (row : Option Row) → is_idle (row_told (Some t) row) ≡ false
+quiet-some : (t : SentCommand) (row : Option Row) → is_idle (row_told (Some t) row) ≡ false
 quiet-some t None = refl
 quiet-some t (Some row) = refl
 
-pub quiet-more : (ts more : List Told) (s : ServerState) (n : ℕ) → is_idle ((with_told ts s).rows n) ≡ false → is_idle ((with_told (ts ++ more) s).rows n) ≡ false
+pub quiet-more : (ts more : List SentCommand) (s : ServerState) (n : ℕ) → is_idle ((with_told ts s).rows n) ≡ false → is_idle ((with_told (ts ++ more) s).rows n) ≡ false
 quiet-more [] more s n quiet = quiet-told more s n quiet
 quiet-more (t ∷ ts) more s n quiet = by (t.node == n) quiet (quiet-more ts more s n)
   where
@@ -303,49 +303,49 @@ quiet-more (t ∷ ts) more s n quiet = by (t.node == n) quiet (quiet-more ts mor
     by false quiet rest = rest quiet
 
 -- a node to which a command was sent has one outstanding
-pub told-quiet : (ts : List Told) (s : ServerState) (n : ℕ) → is_some (told_to ts n) ≡ true → is_idle ((with_told ts s).rows n) ≡ false
+pub told-quiet : (ts : List SentCommand) (s : ServerState) (n : ℕ) → is_some (told_to ts n) ≡ true → is_idle ((with_told ts s).rows n) ≡ false
 told-quiet ts s n some = by (told_to ts n) some
   where
-    by : (o : Option Told) → is_some o ≡ true → is_idle (row_told o (s.rows n)) ≡ false
+    by : (o : Option SentCommand) → is_some o ≡ true → is_idle (row_told o (s.rows n)) ≡ false
     by None some = absurd (cc)
     by (Some t) some = quiet-some t (s.rows n)
 
 -- before the first turn
-pub served-start : (s : ServerState) (all : List Held) → All (λ h. obstacle s h.request ≡ h.at) all → AreServed s all [] []
+pub served-start : (s : ServerState) (all : List ActiveRequest) → All (λ h. obstacle s h.request ≡ h.at) all → AreServed s all [] []
 served-start s all waits = record {
   comes = refl;
-  nodes = All-nil (λ (t : Told). 1 ≤ t.node);
+  nodes = All-nil (λ (t : SentCommand). 1 ≤ t.node);
   waits = waits;
-  quiet = All-nil (λ (h : Held). is_idle (s.rows h.at) ≡ false);
+  quiet = All-nil (λ (h : ActiveRequest). is_idle (s.rows h.at) ≡ false);
 }
 
-waits-same : (s t : ServerState) (held : List Held) → t.shape.nodes ≡ s.shape.nodes → All (StandSame s t) (requests_of held) → All (λ h. obstacle s h.request ≡ h.at) held → All (λ h. obstacle t h.request ≡ h.at) held
-waits-same s t [] nodes same waits = All-nil (λ (h : Held). obstacle t h.request ≡ h.at)
+waits-same : (s t : ServerState) (held : List ActiveRequest) → t.shape.nodes ≡ s.shape.nodes → All (StandSame s t) (requests_of held) → All (λ h. obstacle s h.request ≡ h.at) held → All (λ h. obstacle t h.request ≡ h.at) held
+waits-same s t [] nodes same waits = All-nil (λ (h : ActiveRequest). obstacle t h.request ≡ h.at)
 waits-same s t (h ∷ held) nodes same waits =
-    All-cons (λ (x : Held). obstacle t x.request ≡ x.at) h held
-    (obstacle-same s t h.request nodes (All-head (StandSame s t) h.request (requests_of held) same) ∙ All-head (λ (x : Held). obstacle s x.request ≡ x.at) h held waits)
-    (waits-same s t held nodes (All-tail (StandSame s t) h.request (requests_of held) same) (All-tail (λ (x : Held). obstacle s x.request ≡ x.at) h held waits))
+    All-cons (λ (x : ActiveRequest). obstacle t x.request ≡ x.at) h held
+    (obstacle-same s t h.request nodes (All-head (StandSame s t) h.request (requests_of held) same) ∙ All-head (λ (x : ActiveRequest). obstacle s x.request ≡ x.at) h held waits)
+    (waits-same s t held nodes (All-tail (StandSame s t) h.request (requests_of held) same) (All-tail (λ (x : ActiveRequest). obstacle s x.request ≡ x.at) h held waits))
 
-requests-around : (done rest : List Held) (h : Held) → requests_of (done ++ h ∷ rest) ≡ requests_of done ++ h.request ∷ requests_of rest
-requests-around done rest h = map-append (λ (x : Held). x.request) done (h ∷ rest)
+requests-around : (done rest : List ActiveRequest) (h : ActiveRequest) → requests_of (done ++ h ∷ rest) ≡ requests_of done ++ h.request ∷ requests_of rest
+requests-around done rest h = map-append (λ (x : ActiveRequest). x.request) done (h ∷ rest)
 
 -- the row that a request waits for before its turn
-pub waits-here : (s : ServerState) (all done rest : List Held) (h : Held) (told : List Told) → all ≡ done ++ h ∷ rest → AreServed s all done told → obstacle (with_told told s) h.request ≡ h.at
+pub waits-here : (s : ServerState) (all done rest : List ActiveRequest) (h : ActiveRequest) (told : List SentCommand) → all ≡ done ++ h ∷ rest → AreServed s all done told → obstacle (with_told told s) h.request ≡ h.at
 waits-here s all done rest h told is a =
-    let P : Held → Type 0 = λ x. obstacle (with_told told s) x.request ≡ x.at in
+    let P : ActiveRequest → Type 0 = λ x. obstacle (with_told told s) x.request ≡ x.at in
     All-head P h rest (All-right P done (h ∷ rest) (subst (All P) is a.waits))
 
 -- one more request has its turn
-pub turn-next : (s : ServerState) (all done rest : List Held) (h : Held) (before after : List Told) → all ≡ done ++ h ∷ rest → s.active ≡ requests_of all → are_apart s.active ≡ true → AreServed s all done before → IsTurn s h before after → AreServed s all (done ++ h ∷ []) after
+pub turn-next : (s : ServerState) (all done rest : List ActiveRequest) (h : ActiveRequest) (before after : List SentCommand) → all ≡ done ++ h ∷ rest → s.active ≡ requests_of all → are_apart s.active ≡ true → AreServed s all done before → IsTurn s h before after → AreServed s all (done ++ h ∷ []) after
 turn-next s all done rest h before after is active apart a t =
-    subst (λ (ts : List Told). AreServed s all (done ++ h ∷ []) ts) (sym t.made) (record {
+    subst (λ (ts : List SentCommand). AreServed s all (done ++ h ∷ []) ts) (sym t.made) (record {
       comes = told-next s (requests_of done) (requests_of (done ++ h ∷ [])) before new h.request t.next a.comes (requests-around done [] h) t.comes refl;
       nodes = nodes-next before new t.next a.nodes t.node refl;
       waits = waits-same (with_told before s) (with_told new s) all refl (subst (All (StandSame (with_told before s) (with_told new s))) (sym split) same) a.waits;
-      quiet = All-push (λ (x : Held). is_idle ((with_told new s).rows x.at) ≡ false) done h (λ k d within. quiet-more before (option_to_list t.next) s _ (a.quiet k d within)) (served-busy (with_told before s) (with_told new s) h.request h.at (commands_told (option_to_list t.next)) (waits-here s all done rest h before is a) t.comes);
+      quiet = All-push (λ (x : ActiveRequest). is_idle ((with_told new s).rows x.at) ≡ false) done h (λ k d within. quiet-more before (option_to_list t.next) s _ (a.quiet k d within)) (served-busy (with_told before s) (with_told new s) h.request h.at (commands_told (option_to_list t.next)) (waits-here s all done rest h before is a) t.comes);
     })
   where
-    new : List Told
+    new : List SentCommand
     new = before ++ option_to_list t.next
 
     split : requests_of all ≡ requests_of done ++ h.request ∷ requests_of rest
@@ -355,44 +355,44 @@ turn-next s all done rest h before after is active apart a t =
     same = served-same (with_told before s) (with_told new s) h.request (commands_told (option_to_list t.next)) (requests_of done) (requests_of rest) (active ∙ split) apart t.order t.starts t.ends t.comes
 
 -- one more request is passed over, as no command may go to the node whose row it waits for
-pub turn-silent : (s : ServerState) (all done rest : List Held) (h : Held) (told : List Told) → all ≡ done ++ h ∷ rest → AreServed s all done told → is_idle ((with_told told s).rows h.at) ≡ false → AreServed s all (done ++ h ∷ []) told
+pub turn-silent : (s : ServerState) (all done rest : List ActiveRequest) (h : ActiveRequest) (told : List SentCommand) → all ≡ done ++ h ∷ rest → AreServed s all done told → is_idle ((with_told told s).rows h.at) ≡ false → AreServed s all (done ++ h ∷ []) told
 turn-silent s all done rest h told is a here = record {
   comes = told-next s (requests_of done) (requests_of (done ++ h ∷ [])) told told h.request None a.comes (requests-around done [] h) (nothing ∙ silent told s) (sym (append-nil told));
   nodes = a.nodes;
   waits = a.waits;
-  quiet = All-push (λ (x : Held). is_idle ((with_told told s).rows x.at) ≡ false) done h a.quiet here;
+  quiet = All-push (λ (x : ActiveRequest). is_idle ((with_told told s).rows x.at) ≡ false) done h a.quiet here;
 }
   where
     nothing : served (with_told told s) h.request ≡ Ok (with_told told s, [])
     nothing = served-silent (with_told told s) h.request (ap (λ (k : ℕ). is_idle ((with_told told s).rows k)) (waits-here s all done rest h told is a) ∙ here)
 
 -- the turn of one request is refused
-pub turn-spent : (s : ServerState) (all done rest : List Held) (h : Held) (told : List Told) (e : StepError) → all ≡ done ++ h ∷ rest → s.active ≡ requests_of all → AreServed s all done told → served (with_told told s) h.request ≡ Err e → each_served s.active s ≡ Err e
+pub turn-spent : (s : ServerState) (all done rest : List ActiveRequest) (h : ActiveRequest) (told : List SentCommand) (e : StepError) → all ≡ done ++ h ∷ rest → s.active ≡ requests_of all → AreServed s all done told → served (with_told told s) h.request ≡ Err e → each_served s.active s ≡ Err e
 turn-spent s all done rest h told e is active a refused =
     ap (λ (rs : List TokenRequest). each_served rs s) (active ∙ ap requests_of is ∙ requests-around done rest h)
     ∙ served-spent s (requests_of done) told h.request a.comes (requests_of rest) e refused
 
-pub read-place : (xs held : List Held) (i : ℕ) (item : Held) → xs ≡ held → i < length xs → item ≡ get_or xs i item → slice_get held i ≡ Some item
-read-place xs held i item same within is = ap (λ (ys : List Held). slice_get ys i) (sym same) ∙ slice_get-get_or xs i item within ∙ ap (λ (h : Held). Some h) (sym is)
+pub read-place : (xs held : List ActiveRequest) (i : ℕ) (item : ActiveRequest) → xs ≡ held → i < length xs → item ≡ get_or xs i item → slice_get held i ≡ Some item
+read-place xs held i item same within is = ap (λ (ys : List ActiveRequest). slice_get ys i) (sym same) ∙ slice_get-get_or xs i item within ∙ ap (λ (h : ActiveRequest). Some h) (sym is)
 
 -- the request at a place, and the row that it waits for
-pub waits-place : (l : Lists) (xs held : List Held) (i : ℕ) (item : Held) (ats : List ℕ) (at : ℕ) → xs ≡ held → ats ≡ l.ats.items → i < length xs → item ≡ get_or xs i item → at ≡ slice_index_or ats i item.at → slice_get (waiting_for l.ats.items held) i ≡ Some (record { request = item.request; at = at })
+pub waits-place : (l : Lists) (xs held : List ActiveRequest) (i : ℕ) (item : ActiveRequest) (ats : List ℕ) (at : ℕ) → xs ≡ held → ats ≡ l.ats.items → i < length xs → item ≡ get_or xs i item → at ≡ slice_index_or ats i item.at → slice_get (waiting_for l.ats.items held) i ≡ Some (record { request = item.request; at = at })
 waits-place l xs held i item ats at same same_ats within is at_is =
     waits-at l.ats.items held i item (read-place xs held i item same within is)
-    ∙ ap (λ (k : ℕ). let o : Option Held = Some (record { request = item.request; at = k }) in o) (sym (at_is ∙ ap (λ (ys : List ℕ). slice_index_or ys i item.at) same_ats))
+    ∙ ap (λ (k : ℕ). let o : Option ActiveRequest = Some (record { request = item.request; at = k }) in o) (sym (at_is ∙ ap (λ (ys : List ℕ). slice_index_or ys i item.at) same_ats))
 
 -- no command may go to the node of a row that the request waited for before, where that row is not touched
-pub quiet-place : (s t : ServerState) (touched : Option ℕ) (held : List Held) (i : ℕ) (item : Held) (at : ℕ) → All (λ h. is_idle (s.rows h.at) ≡ false) held → slice_get held i ≡ Some item → at ≡ item.at → (touched ≡ Some at → ⊥) → ((n : ℕ) → (touched ≡ Some n → ⊥) → t.rows n ≡ s.rows n) → is_idle (t.rows at) ≡ false
+pub quiet-place : (s t : ServerState) (touched : Option ℕ) (held : List ActiveRequest) (i : ℕ) (item : ActiveRequest) (at : ℕ) → All (λ h. is_idle (s.rows h.at) ≡ false) held → slice_get held i ≡ Some item → at ≡ item.at → (touched ≡ Some at → ⊥) → ((n : ℕ) → (touched ≡ Some n → ⊥) → t.rows n ≡ s.rows n) → is_idle (t.rows at) ≡ false
 quiet-place s t touched held i item at quiet there same apart untouched =
     ap is_idle (untouched at apart)
     ∙ ap (λ (k : ℕ). is_idle (s.rows k)) same
-    ∙ subst (λ (h : Held). is_idle (s.rows h.at) ≡ false) (get_or_from_slice_get held i item item there) (quiet i item (slice_get_within held i item there))
+    ∙ subst (λ (h : ActiveRequest). is_idle (s.rows h.at) ≡ false) (get_or_from_slice_get held i item item there) (quiet i item (slice_get_within held i item there))
 
-module _ (l : Lists) (held : List Held) (s : ServerState) (told : List Told) (i : ℕ) (w : Held) where
-  abbrev all : List Held
+module _ (l : Lists) (held : List ActiveRequest) (s : ServerState) (told : List SentCommand) (i : ℕ) (w : ActiveRequest) where
+  abbrev all : List ActiveRequest
   all = held_after l held
 
-  abbrev waiting : List Held
+  abbrev waiting : List ActiveRequest
   waiting = waiting_for l.ats.items held
 
   -- a request that was active before
@@ -403,13 +403,13 @@ module _ (l : Lists) (held : List Held) (s : ServerState) (told : List Told) (i 
     pub kept-split : keeps l.gone.dropped l.gone.ended w.request ≡ true → all ≡ kept l (take i waiting) ++ w ∷ (kept l (drop (i + 1) waiting) ++ l.fresh.items)
     kept-split on = held_after-kept l held ∙ kept-around l waiting i w there on
 
-    pub kept-turn : (after : List Told) → keeps l.gone.dropped l.gone.ended w.request ≡ true → s.active ≡ requests_of all → are_apart s.active ≡ true → AreServed s all (kept l (take i waiting)) told → IsTurn s w told after → AreServed s all (kept l (take (i + 1) waiting)) after
+    pub kept-turn : (after : List SentCommand) → keeps l.gone.dropped l.gone.ended w.request ≡ true → s.active ≡ requests_of all → are_apart s.active ≡ true → AreServed s all (kept l (take i waiting)) told → IsTurn s w told after → AreServed s all (kept l (take (i + 1) waiting)) after
     kept-turn after on active apart a t =
-        subst (λ (hs : List Held). AreServed s all hs after) (sym (kept-more l (take i waiting) (take (i + 1) waiting) w kept-next on))
+        subst (λ (hs : List ActiveRequest). AreServed s all hs after) (sym (kept-more l (take i waiting) (take (i + 1) waiting) w kept-next on))
         (turn-next s all (kept l (take i waiting)) (kept l (drop (i + 1) waiting) ++ l.fresh.items) w told after (kept-split on) active apart a t)
 
     pub kept-left : keeps l.gone.dropped l.gone.ended w.request ≡ false → AreServed s all (kept l (take i waiting)) told → AreServed s all (kept l (take (i + 1) waiting)) told
-    kept-left off a = subst (λ (hs : List Held). AreServed s all hs told) (sym (kept-less l (take i waiting) (take (i + 1) waiting) w kept-next off)) a
+    kept-left off a = subst (λ (hs : List ActiveRequest). AreServed s all hs told) (sym (kept-less l (take i waiting) (take (i + 1) waiting) w kept-next off)) a
 
     pub kept-silent : is_idle ((with_told told s).rows w.at) ≡ false → AreServed s all (kept l (take i waiting)) told → AreServed s all (kept l (take (i + 1) waiting)) told
     kept-silent quiet a = by (keeps l.gone.dropped l.gone.ended w.request) refl
@@ -417,7 +417,7 @@ module _ (l : Lists) (held : List Held) (s : ServerState) (told : List Told) (i 
         by : (b : Bool) → keeps l.gone.dropped l.gone.ended w.request ≡ b → AreServed s all (kept l (take (i + 1) waiting)) told
         by false off = kept-left off a
         by true on =
-            subst (λ (hs : List Held). AreServed s all hs told) (sym (kept-more l (take i waiting) (take (i + 1) waiting) w kept-next on))
+            subst (λ (hs : List ActiveRequest). AreServed s all hs told) (sym (kept-more l (take i waiting) (take (i + 1) waiting) w kept-next on))
             (turn-silent s all (kept l (take i waiting)) (kept l (drop (i + 1) waiting) ++ l.fresh.items) w told (kept-split on) a quiet)
 
   -- a request that is admitted
@@ -425,27 +425,27 @@ module _ (l : Lists) (held : List Held) (s : ServerState) (told : List Told) (i 
     pub fresh-split : all ≡ (kept_of l held ++ take i l.fresh.items) ++ w ∷ drop (i + 1) l.fresh.items
     fresh-split =
         held_after-kept l held
-        ∙ ap (λ (hs : List Held). kept_of l held ++ hs) (list-at l.fresh.items i w (take-next l.fresh.items i w there))
+        ∙ ap (λ (hs : List ActiveRequest). kept_of l held ++ hs) (list-at l.fresh.items i w (take-next l.fresh.items i w there))
         ∙ sym (append_assoc (kept_of l held) (take i l.fresh.items) (w ∷ drop (i + 1) l.fresh.items))
 
-    pub fresh-turn : (after : List Told) → s.active ≡ requests_of all → are_apart s.active ≡ true → AreServed s all (kept_of l held ++ take i l.fresh.items) told → IsTurn s w told after → AreServed s all (kept_of l held ++ take (i + 1) l.fresh.items) after
+    pub fresh-turn : (after : List SentCommand) → s.active ≡ requests_of all → are_apart s.active ≡ true → AreServed s all (kept_of l held ++ take i l.fresh.items) told → IsTurn s w told after → AreServed s all (kept_of l held ++ take (i + 1) l.fresh.items) after
     fresh-turn after active apart a t =
-        subst (λ (hs : List Held). AreServed s all hs after)
-        (append_assoc (kept_of l held) (take i l.fresh.items) (w ∷ []) ∙ ap (λ (hs : List Held). kept_of l held ++ hs) (sym (take-next l.fresh.items i w there)))
+        subst (λ (hs : List ActiveRequest). AreServed s all hs after)
+        (append_assoc (kept_of l held) (take i l.fresh.items) (w ∷ []) ∙ ap (λ (hs : List ActiveRequest). kept_of l held ++ hs) (sym (take-next l.fresh.items i w there)))
         (turn-next s all (kept_of l held ++ take i l.fresh.items) (drop (i + 1) l.fresh.items) w told after fresh-split active apart a t)
 
 -- all active requests had their turn
-pub served-whole : (l : Lists) (held : List Held) (i : ℕ) → length l.fresh.items ≤ i → kept_of l held ++ take i l.fresh.items ≡ held_after l held
-served-whole l held i past = ap (λ (hs : List Held). kept_of l held ++ hs) (take_all i l.fresh.items past) ∙ sym (held_after-kept l held)
+pub served-whole : (l : Lists) (held : List ActiveRequest) (i : ℕ) → length l.fresh.items ≤ i → kept_of l held ++ take i l.fresh.items ≡ held_after l held
+served-whole l held i past = ap (λ (hs : List ActiveRequest). kept_of l held ++ hs) (take_all i l.fresh.items past) ∙ sym (held_after-kept l held)
 
 -- the requests from a place on are passed over: no command may go to the nodes whose rows they wait for
-pub kept-rest : (l : Lists) (held : List Held) (s : ServerState) (told : List Told) (d i : ℕ) → length held ≤ i + d → ((j : ℕ) (w : Held) → i ≤ j → slice_get (waiting_for l.ats.items held) j ≡ Some w → is_idle ((with_told told s).rows w.at) ≡ false) → AreServed s (held_after l held) (kept l (take i (waiting_for l.ats.items held))) told → AreServed s (held_after l held) (kept_of l held) told
+pub kept-rest : (l : Lists) (held : List ActiveRequest) (s : ServerState) (told : List SentCommand) (d i : ℕ) → length held ≤ i + d → ((j : ℕ) (w : ActiveRequest) → i ≤ j → slice_get (waiting_for l.ats.items held) j ≡ Some w → is_idle ((with_told told s).rows w.at) ≡ false) → AreServed s (held_after l held) (kept l (take i (waiting_for l.ats.items held))) told → AreServed s (held_after l held) (kept_of l held) told
 kept-rest l held s told zero i past quiet a =
-    subst (λ (hs : List Held). AreServed s (held_after l held) (kept l hs) told) (take_all i (waiting_for l.ats.items held) (omega (arith, past, waiting_for-length l.ats.items held))) a
+    subst (λ (hs : List ActiveRequest). AreServed s (held_after l held) (kept l hs) told) (take_all i (waiting_for l.ats.items held) (omega (arith, past, waiting_for-length l.ats.items held))) a
 kept-rest l held s told (suc d) i past quiet a = elim (slice_get_cases (waiting_for l.ats.items held) i).1 [
   | inl f ↦
       kept-rest l held s told d (i + 1) (omega (arith, past)) (λ j w above. quiet j w (omega (arith, above))) (kept-silent l held s told i f.0 f.2 (quiet i f.0 (omega arith) f.2) a)
-  | inr p ↦ subst (λ (hs : List Held). AreServed s (held_after l held) (kept l hs) told) (take_all i (waiting_for l.ats.items held) p.0) a
+  | inr p ↦ subst (λ (hs : List ActiveRequest). AreServed s (held_after l held) (kept l hs) told) (take_all i (waiting_for l.ats.items held) p.0) a
 ]
 
 -- past the first requests each waits for the row that it waited for
@@ -455,41 +455,41 @@ index-past (a ∷ ats) zero d past = absurd (omega arith)
 index-past (a ∷ ats) (suc i) d past = index-past ats i d (omega (arith, past))
 
 -- where requests wait for the same rows as before, no command may go to the nodes of those rows, but for the touched one
-module _ (s t : ServerState) (l : Lists) (held : List Held) (told : List Told) (touched : Option ℕ) (i : ℕ) (quiet : All (λ h. is_idle (s.rows h.at) ≡ false) held) (untouched : (n : ℕ) → (touched ≡ Some n → ⊥) → t.rows n ≡ s.rows n) (past : length l.ats.items ≤ i) where
-  rest-apart : (j : ℕ) (w : Held) → i ≤ j → slice_get (waiting_for l.ats.items held) j ≡ Some w → (touched ≡ Some w.at → ⊥) → is_idle ((with_told told t).rows w.at) ≡ false
+module _ (s t : ServerState) (l : Lists) (held : List ActiveRequest) (told : List SentCommand) (touched : Option ℕ) (i : ℕ) (quiet : All (λ h. is_idle (s.rows h.at) ≡ false) held) (untouched : (n : ℕ) → (touched ≡ Some n → ⊥) → t.rows n ≡ s.rows n) (past : length l.ats.items ≤ i) where
+  rest-apart : (j : ℕ) (w : ActiveRequest) → i ≤ j → slice_get (waiting_for l.ats.items held) j ≡ Some w → (touched ≡ Some w.at → ⊥) → is_idle ((with_told told t).rows w.at) ≡ false
   rest-apart j w above there apart =
       let here : slice_get held j ≡ Some w = sym (waiting_for-at l.ats.items held j (omega (arith, past, above))) ∙ there in
       quiet-told told t w.at (quiet-place s t touched held j w w.at quiet here refl apart untouched)
 
   -- no row is touched
-  pub rest-untouched : touched ≡ None → (j : ℕ) (w : Held) → i ≤ j → slice_get (waiting_for l.ats.items held) j ≡ Some w → is_idle ((with_told told t).rows w.at) ≡ false
+  pub rest-untouched : touched ≡ None → (j : ℕ) (w : ActiveRequest) → i ≤ j → slice_get (waiting_for l.ats.items held) j ≡ Some w → is_idle ((with_told told t).rows w.at) ≡ false
   rest-untouched none j w above there = rest-apart j w above there (λ h. none-some w.at (sym none ∙ h))
 
   -- the node of the touched row was sent a command
-  pub rest-told : (at : ℕ) → touched ≡ Some at → is_some (told_to told at) ≡ true → (j : ℕ) (w : Held) → i ≤ j → slice_get (waiting_for l.ats.items held) j ≡ Some w → is_idle ((with_told told t).rows w.at) ≡ false
+  pub rest-told : (at : ℕ) → touched ≡ Some at → is_some (told_to told at) ≡ true → (j : ℕ) (w : ActiveRequest) → i ≤ j → slice_get (waiting_for l.ats.items held) j ≡ Some w → is_idle ((with_told told t).rows w.at) ≡ false
   rest-told at is some j w above there = elim (eqb_tells w.at at) [
     | inl same ↦ subst (λ (k : ℕ). is_idle ((with_told told t).rows k) ≡ false) (sym same.1) (told-quiet told t at some)
     | inr other ↦ rest-apart j w above there (λ h. other.1 (same_Some w.at at (sym h ∙ is)))
   ]
 
 -- the largest span that a request keeps beside one active request more
-pub left-next : (l : Lists) (xs next : List Held) (h : Held) (r : TokenRequest) (span new : Range) → next ≡ xs ++ h ∷ [] → HasByte h.request → (keeps l.gone.dropped l.gone.ended h.request ≡ true → new ≡ cut r.wanted.required span h.request.wanted.required) → (keeps l.gone.dropped l.gone.ended h.request ≡ false → new ≡ span) → IsLeft (requests_of (kept l xs)) r span → IsLeft (requests_of (kept l next)) r new
+pub left-next : (l : Lists) (xs next : List ActiveRequest) (h : ActiveRequest) (r : TokenRequest) (span new : Range) → next ≡ xs ++ h ∷ [] → HasByte h.request → (keeps l.gone.dropped l.gone.ended h.request ≡ true → new ≡ cut r.wanted.required span h.request.wanted.required) → (keeps l.gone.dropped l.gone.ended h.request ≡ false → new ≡ span) → IsLeft (requests_of (kept l xs)) r span → IsLeft (requests_of (kept l next)) r new
 left-next l xs next h r span new is full on off left = by (keeps l.gone.dropped l.gone.ended h.request) refl
   where
     by : (b : Bool) → keeps l.gone.dropped l.gone.ended h.request ≡ b → IsLeft (requests_of (kept l next)) r new
     by true k =
         let more : requests_of (kept l next) ≡ requests_of (kept l xs) ++ h.request ∷ [] =
-        ap requests_of (kept-more l xs next h is k) ∙ map-append (λ (x : Held). x.request) (kept l xs) (h ∷ []) in
+        ap requests_of (kept-more l xs next h is k) ∙ map-append (λ (x : ActiveRequest). x.request) (kept l xs) (h ∷ []) in
         subst (λ (rs : List TokenRequest). IsLeft rs r new) (sym more)
         (subst (λ (s : Range). IsLeft (requests_of (kept l xs) ++ h.request ∷ []) r s) (sym (on k)) (left-more (requests_of (kept l xs)) h.request r span full left))
     by false k =
-        subst (λ (hs : List Held). IsLeft (requests_of hs) r new) (sym (kept-less l xs next h is k))
+        subst (λ (hs : List ActiveRequest). IsLeft (requests_of hs) r new) (sym (kept-less l xs next h is k))
         (subst (λ (s : Range). IsLeft (requests_of (kept l xs)) r s) (sym (off k)) left)
 
 -- the requests that stay active: the first of them, and the others
-pub kept-parts : (l : Lists) (held : List Held) (i : ℕ) → still_active l.gone.ended (without l.gone.dropped (requests_of held)) ≡ requests_of (kept l (take i held)) ++ requests_of (kept l (drop i held))
+pub kept-parts : (l : Lists) (held : List ActiveRequest) (i : ℕ) → still_active l.gone.ended (without l.gone.dropped (requests_of held)) ≡ requests_of (kept l (take i held)) ++ requests_of (kept l (drop i held))
 kept-parts l held i =
     sym (kept-requests l held)
-    ∙ ap (λ (hs : List Held). requests_of (kept l hs)) (sym (take-append-drop i held))
-    ∙ ap requests_of (filter-append (λ (h : Held). keeps l.gone.dropped l.gone.ended h.request) (take i held) (drop i held))
-    ∙ map-append (λ (h : Held). h.request) (kept l (take i held)) (kept l (drop i held))
+    ∙ ap (λ (hs : List ActiveRequest). requests_of (kept l hs)) (sym (take-append-drop i held))
+    ∙ ap requests_of (filter-append (λ (h : ActiveRequest). keeps l.gone.dropped l.gone.ended h.request) (take i held) (drop i held))
+    ∙ map-append (λ (h : ActiveRequest). h.request) (kept l (take i held)) (kept l (drop i held))

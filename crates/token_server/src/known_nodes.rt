@@ -2,12 +2,12 @@
 //! command. It knows nothing of the queue of requests, of when a command is sent, of files of the operating system or
 //! of printed text.
 
-pub mod command;
 pub mod commands;
-pub mod given;
 pub mod known_node;
 pub mod known_nodes;
+pub mod new_row;
 pub mod node_change;
 mod reports;
 pub mod row_edit;
+pub mod server_command;
 pub mod token_holder;

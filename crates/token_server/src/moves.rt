@@ -11,7 +11,7 @@ use crate::gone::Gone;
 use crate::lists::{Lists, Spares};
 use crate::sketch::Moved;
 use crate::token_queue::active::Active;
-use crate::token_queue::held::Held;
+use crate::token_queue::active_request::ActiveRequest;
 use crate::token_queue::line::Line;
 use crate::token_queue::token_request::TokenRequest;
 use model::call::CallId;
@@ -39,7 +39,7 @@ pub(crate) fn forget(line: &mut Line, dropped: Option<(u8, u16)>)
 }
 
 /// Appends the requests to the active ones.
-pub(crate) fn serve(active: &mut Active, fresh: &[Held])
+pub(crate) fn serve(active: &mut Active, fresh: &[ActiveRequest])
     requires { length fresh.now ≤ active.old.room }
     ensures { active.new.held ≡ active.old.held ++ fresh.now }
 {
@@ -49,7 +49,7 @@ pub(crate) fn serve(active: &mut Active, fresh: &[Held])
 }
 
 /// Removes from the queue the requests of the calls of these.
-pub(crate) fn leave(queue: &mut Line, fresh: &[Held])
+pub(crate) fn leave(queue: &mut Line, fresh: &[ActiveRequest])
     ensures { queue.new.requests ≡ all_but (requests_of fresh.now) queue.old.requests }
 {
     for held in fresh {
@@ -58,14 +58,14 @@ pub(crate) fn leave(queue: &mut Line, fresh: &[Held])
 }
 
 // Whether one of these requests is of the same call as this one.
-fn has_call_of(fresh: &[Held], request: &TokenRequest) -> bool
+fn has_call_of(fresh: &[ActiveRequest], request: &TokenRequest) -> bool
     ensures { result ≡ has_call_of (requests_of fresh.now) request.now }
 {
     fresh.iter().any(|held| held.is_of_call(request.call))
 }
 
 // Appends the request to the queue, unless it is admitted at once: then it is one of `fresh`.
-fn put(queue: &mut Line, request: TokenRequest, fresh: &[Held])
+fn put(queue: &mut Line, request: TokenRequest, fresh: &[ActiveRequest])
     requires room { 1 ≤ queue.old.room }
     requires new { find (is_of_call request.call) queue.old.requests ≡ None }
     ensures { all_but (requests_of fresh.now) queue.new.requests ≡ all_but (requests_of fresh.now) (queue.old.requests ++ request ∷ []) }
@@ -76,7 +76,12 @@ fn put(queue: &mut Line, request: TokenRequest, fresh: &[Held])
 }
 
 /// Moves requests between the queue and those that wait, as `moved` says, without those that are admitted at once.
-pub(crate) fn move_requests(queue: &mut Line, waiting: &mut Line, moved: Moved, fresh: &[Held])
+pub(crate) fn move_requests(
+    queue: &mut Line,
+    waiting: &mut Line,
+    moved: Moved,
+    fresh: &[ActiveRequest],
+)
     requires queued { many_moved moved waiting.old.requests ≤ queue.old.room }
     requires put_off { many_put_off moved ≤ waiting.old.room }
     requires new { IsNewCall moved queue.old.requests waiting.old.requests }
@@ -134,7 +139,13 @@ pub(crate) fn change(
 }
 
 // Makes the change of the active requests.
-fn serve_on(active: &mut Active, spare: Option<Vec<Held>>, gone: &Gone, ats: &[u8], fresh: &[Held])
+fn serve_on(
+    active: &mut Active,
+    spare: Option<Vec<ActiveRequest>>,
+    gone: &Gone,
+    ats: &[u8],
+    fresh: &[ActiveRequest],
+)
     requires distinct { AreDistinct (requests_of active.old.held) }
     requires room { HeldHasRoom active.old spare (length fresh.now) }
     ensures { active.new.held ≡ held_still gone.now.ended (held_without gone.now.dropped (waiting_for ats.now active.old.held)) ++ fresh.now }
@@ -147,7 +158,7 @@ fn serve_on(active: &mut Active, spare: Option<Vec<Held>>, gone: &Gone, ats: &[u
 }
 
 // Moves the active requests into the spare list, if there is one.
-fn refill_served(active: &mut Active, spare: Option<Vec<Held>>, more: usize)
+fn refill_served(active: &mut Active, spare: Option<Vec<ActiveRequest>>, more: usize)
     requires { HeldHasRoom active.old spare more }
     ensures held { active.new.held ≡ active.old.held }
     ensures room { more ≤ active.new.room }

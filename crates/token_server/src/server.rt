@@ -20,22 +20,22 @@ ghost use Rattle.token_server.specs.code.Sketches.{is_answer, dropped, without, 
 ghost use Rattle.token_server.specs.code.RowEdits.{rows_overlaid};
 ghost use Rattle.token_server.specs.code.Edits.{reached, planned, AreListed, IsDrafted, Fits, HasRoom, HeldHasRoom, many_moved, many_put_off};
 
-use crate::change::{Change, Draft, Edit, Parts};
+use crate::change::{Change, EditParts, ServerDraft, ServerEdit};
 use crate::event::ServerEvent;
 use crate::gone::Gone;
-use crate::known_nodes::command::Command;
 use crate::known_nodes::commands::before_epoch;
 use crate::known_nodes::known_nodes::KnownNodes;
 use crate::known_nodes::node_change::NodeChange;
 use crate::known_nodes::row_edit::RowEdit;
+use crate::known_nodes::server_command::ServerCommand;
 use crate::lists::{Lists, Spares};
 use crate::moves;
+use crate::sent_command::SentCommand;
 use crate::sketch::{Moved, Sketch};
 use crate::token_queue::active::Active;
-use crate::token_queue::held::Held;
+use crate::token_queue::active_request::ActiveRequest;
 use crate::token_queue::line::Line;
 use crate::token_queue::token_request::TokenRequest;
-use crate::told::Told;
 use intervals::span::Span;
 use members::members::Members;
 use messages::actor::Actor;
@@ -219,7 +219,7 @@ impl Server {
     }
 
     // The outstanding command to the holder, if there is one and the node's row is of that incarnation.
-    fn command_to(&self, holder: Host) -> Option<Command>
+    fn command_to(&self, holder: Host) -> Option<ServerCommand>
         ensures { MatchOption (row_of_host (server_state self.now) holder) (result ≡ None) (λ row. result ≡ row.outstanding) }
     {
         self.known_nodes.row_of(holder)?.commands.outstanding
@@ -400,7 +400,7 @@ impl Server {
     }
 
     // The draft of a step: what the event changes before the server serves.
-    fn draft(&self, sketch: &Sketch, alloc: Global) -> Result<Draft, AllocError>
+    fn draft(&self, sketch: &Sketch, alloc: Global) -> Result<ServerDraft, AllocError>
         requires in_cluster { IfSome sketch.now.changed (λ c. IsNumber self.now.shape.nodes c.node) }
         requires orderly { IsOrderly (sketched self.now sketch.now) }
         ensures { IfOk result (λ draft. IsDrafted self.now sketch.now draft) }
@@ -408,7 +408,7 @@ impl Server {
         let rows = self.known_nodes.edit(alloc, &sketch.changed)?;
         let awaits = self.awaits_after(&rows);
         let lists = self.lists(alloc, &rows, awaits, sketch)?;
-        Ok(Draft {
+        Ok(ServerDraft {
             rows,
             lists,
             awaits,
@@ -417,7 +417,11 @@ impl Server {
 
     // Serves the active requests in order. A request is granted, unless another node's row conflicts: then the token
     // of the least such node is revoked first. Serves none before each node has reported its token.
-    fn serve(&self, sketch: &Sketch, alloc: Global) -> Result<(Edit, Items<Message>), StepError>
+    fn serve(
+        &self,
+        sketch: &Sketch,
+        alloc: Global,
+    ) -> Result<(ServerEdit, Items<Message>), StepError>
         requires in_cluster { IfSome sketch.now.changed (λ c. IsNumber self.now.shape.nodes c.node) }
         requires orderly { IsOrderly (sketched self.now sketch.now) }
         ensures ok { IfOk result (λ r. serve (sketched self.now sketch.now) ≡ Ok (planned self.now r.0, r.1)) }
@@ -427,7 +431,7 @@ impl Server {
         let draft = self.draft(sketch, alloc)?;
         let (given, commands) = self.serve_draft(&draft, sketch, alloc)?;
         let spares = self.spares(&draft.lists)?;
-        Ok((Edit::new(alloc, draft, given, spares)?, commands))
+        Ok((ServerEdit::new(alloc, draft, given, spares)?, commands))
     }
 
     // What an answer to a command changes before the server serves, and what is sent for it. `None` where the answer
@@ -616,12 +620,12 @@ impl Server {
         ensures outcome { result ≡ change.outcome }
     {
         let Change { edit, outcome } = change;
-        let Parts {
+        let EditParts {
             draft,
             given,
             spares,
         } = Box::into_inner(edit.parts);
-        let Draft {
+        let ServerDraft {
             rows,
             lists,
             awaits,
@@ -684,7 +688,7 @@ fn in_list(alloc: Global, message: Option<Message>) -> Result<Items<Message>, Al
 }
 
 // The commands as messages, in order.
-fn commands_told(alloc: Global, told: &[Told]) -> Result<Items<Message>, AllocError>
+fn commands_told(alloc: Global, told: &[SentCommand]) -> Result<Items<Message>, AllocError>
     ensures { IfOk result (λ commands. commands ≡ commands_told told.now) }
 {
     let mut commands = Items::new(alloc);
@@ -695,7 +699,7 @@ fn commands_told(alloc: Global, told: &[Told]) -> Result<Items<Message>, AllocEr
 }
 
 // Memory for that many more active requests, where the list has too little room.
-fn spare_active(active: &Active, more: usize) -> Result<Option<Vec<Held>>, AllocError>
+fn spare_active(active: &Active, more: usize) -> Result<Option<Vec<ActiveRequest>>, AllocError>
     ensures { IfOk result (λ spare. HeldHasRoom active.now spare more) }
 {
     if more <= active.room() {

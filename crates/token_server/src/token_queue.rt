@@ -3,7 +3,7 @@
 //! text.
 
 pub mod active;
-pub mod held;
+pub mod active_request;
 pub mod line;
 mod slots;
 pub mod token_request;

@@ -17,7 +17,7 @@ use Rattle.messages.specs.rule.Messages.{is_among, same_message}
 use Rattle.messages.proofs.SameMessages.{message_eq-Decides, same_message-is-equality}
 use Rattle.views.proofs.Passes.{drop_here}
 use Rattle.views.specs.rule.About.{delivers}
-use Rattle.views.specs.declared.pictures.answer.Answer.{Answer}
+use Rattle.views.specs.declared.pictures.placed_reply.PlacedReply.{PlacedReply}
 use Rattle.views.specs.code.Indexes.{is_past, last_come}
 use Rattle.views.specs.rule.Places.{answer_at, answer_to, is_lost, last_sent, last_some, position_if}
 
@@ -70,9 +70,9 @@ put_next false true position o = refl
 put_next false false position o = refl
 
 -- one more entry, and what it answers
-pub answer_next : (before : List EntryFields) (e : EntryFields) (position : ℕ) (call : CallId) (o : Option Answer) → length before + 1 ≡ position → o ≡ answer_to call before → option_or (answer_at call position e.reply) o ≡ answer_to call (before ++ e ∷ [])
+pub answer_next : (before : List EntryFields) (e : EntryFields) (position : ℕ) (call : CallId) (o : Option PlacedReply) → length before + 1 ≡ position → o ≡ answer_to call before → option_or (answer_at call position e.reply) o ≡ answer_to call (before ++ e ∷ [])
 answer_next before e position call o at knows =
-    ap (λ (a : Option Answer). option_or (answer_at call position e.reply) a) knows
+    ap (λ (a : Option PlacedReply). option_or (answer_at call position e.reply) a) knows
     ∙ sym (last_some_more (λ (p : ℕ) (f : EntryFields). answer_at call p f.reply) before e position at)
 
 -- what comes there

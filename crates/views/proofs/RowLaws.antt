@@ -11,8 +11,8 @@ use Rattle.messages.specs.declared.actor.Actor.{Actor}
 use Rattle.messages.specs.declared.actor.Actor.TheVariants.{Node, Server}
 use Rattle.messages.proofs.SameMessages.{host_exact}
 use Rattle.views.specs.declared.pictures.bar.Bar.{Bar}
-use Rattle.views.specs.declared.pictures.row.Row.{Row}
-use Rattle.views.specs.declared.pictures.row.Row.TheVariants.{Lane, Process}
+use Rattle.views.specs.declared.pictures.picture_row.PictureRow.{PictureRow}
+use Rattle.views.specs.declared.pictures.picture_row.PictureRow.TheVariants.{Lane, Process}
 use Rattle.views.specs.rule.Actors.{same_actor}
 use Rattle.views.specs.rule.PictureLaws.{EachRowIsThere}
 use Rattle.views.specs.rule.Rows.{above_its_own, below_its_own, busy, if_busy, is_busy, is_of, process_rows, row_of, rows, rows_of, same_row, with_row}
@@ -63,7 +63,7 @@ actor_exact (Server m) (Server n) same = ap Server (eqb-true _ _ same)
 actor_exact (Node m) (Server n) same = absurd (false≢true same)
 actor_exact (Server m) (Node n) same = absurd (false≢true same)
 
-row_exact : (a b : Row) → same_row a b ≡ true → a ≡ b
+row_exact : (a b : PictureRow) → same_row a b ≡ true → a ≡ b
 row_exact (Lane a) (Lane b) same = ap Lane (actor_exact a b same)
 row_exact (Process h p) (Process i q) same = let parts = and_parts _ _ same in ap (λ (k : Host). Process k p) (host_exact h i parts.0) ∙ ap (Process i) (eqb-true p q parts.1)
 row_exact (Lane a) (Process i q) same = absurd (false≢true same)
@@ -79,7 +79,7 @@ any_weaker q t weaker (x ∷ xs) there = by (q x) refl there (any_weaker q t wea
     by false passes there rest = right (t x) _ (rest there)
 
 -- each actor of which it is so is among the first ones
-busy_has : (actor : ℕ → Actor) (part : List PlacedFields) (processes : List Row) (n k : ℕ) → 1 ≤ k → k ≤ n → is_busy part processes (actor k) ≡ true → list_any (same_actor (actor k)) (busy actor part processes n) ≡ true
+busy_has : (actor : ℕ → Actor) (part : List PlacedFields) (processes : List PictureRow) (n k : ℕ) → 1 ≤ k → k ≤ n → is_busy part processes (actor k) ≡ true → list_any (same_actor (actor k)) (busy actor part processes n) ≡ true
 unfolding if_busy
 busy_has actor part processes zero k low high holds = absurd (omega arith)
 busy_has actor part processes (suc n) k low high holds = by (eq-or-lt_of_le high) (λ below. busy_has actor part processes n k low below holds)
@@ -92,26 +92,26 @@ busy_has actor part processes (suc n) k low high holds = by (eq-or-lt_of_le high
     by (inr before) rest = in_front _ (busy actor part processes n) _ (rest (omega arith))
 
 -- a row stays
-stays : (row x : Row) (rows : List Row) → list_any (same_row row) rows ≡ true → list_any (same_row row) (with_row rows x) ≡ true
+stays : (row x : PictureRow) (rows : List PictureRow) → list_any (same_row row) rows ≡ true → list_any (same_row row) (with_row rows x) ≡ true
 stays row x rows there = by (list_any (same_row x) rows)
   where
     by : (b : Bool) → list_any (same_row row) (cond b rows (rows ++ x ∷ [])) ≡ true
     by true = there
     by false = in_front _ rows _ there
 
-added : (row x : Row) (rows : List Row) → same_row row x ≡ true → list_any (same_row row) (with_row rows x) ≡ true
+added : (row x : PictureRow) (rows : List PictureRow) → same_row row x ≡ true → list_any (same_row row) (with_row rows x) ≡ true
 added row x rows same = by (list_any (same_row x) rows) refl
   where
     by : (b : Bool) → list_any (same_row x) rows ≡ b → list_any (same_row row) (cond b rows (rows ++ x ∷ [])) ≡ true
-    by true there = subst (λ (r : Row). list_any (same_row r) rows ≡ true) (sym (row_exact row x same)) there
+    by true there = subst (λ (r : PictureRow). list_any (same_row r) rows ≡ true) (sym (row_exact row x same)) there
     by false there = behind _ rows _ (left _ _ same)
 
-all_stay : (row : Row) (bars : List Bar) (rows : List Row) → list_any (same_row row) rows ≡ true → list_any (same_row row) (fold with_row rows (map row_of bars)) ≡ true
+all_stay : (row : PictureRow) (bars : List Bar) (rows : List PictureRow) → list_any (same_row row) rows ≡ true → list_any (same_row row) (fold with_row rows (map row_of bars)) ≡ true
 all_stay row [] rows there = there
 all_stay row (b ∷ bars) rows there = all_stay row bars (with_row rows (row_of b)) (stays row (row_of b) rows there)
 
 -- the row of each call is among those of the processes
-processes_have : (row : Row) (bars : List Bar) (rows : List Row) → list_any (λ (b : Bar). same_row row (row_of b)) bars ≡ true → list_any (same_row row) (fold with_row rows (map row_of bars)) ≡ true
+processes_have : (row : PictureRow) (bars : List Bar) (rows : List PictureRow) → list_any (λ (b : Bar). same_row row (row_of b)) bars ≡ true → list_any (same_row row) (fold with_row rows (map row_of bars)) ≡ true
 processes_have row [] known there = absurd (false≢true there)
 processes_have row (b ∷ bars) known there = by (same_row row (row_of b)) refl there (processes_have row bars (with_row known (row_of b)))
   where
@@ -120,7 +120,7 @@ processes_have row (b ∷ bars) known there = by (same_row row (row_of b)) refl 
     by false same there rest = rest there
 
 -- a row that each node of a test has beside it
-node_there : (q : Row → Bool) (p : Actor → Bool) (processes : List Row) (nodes servers : List Actor) →
+node_there : (q : PictureRow → Bool) (p : Actor → Bool) (processes : List PictureRow) (nodes servers : List Actor) →
     ((x : Actor) → p x ≡ true → list_any q (below_its_own processes x) ≡ true) →
     ((x : Actor) → p x ≡ true → list_any q (above_its_own processes x) ≡ true) →
     list_any p nodes ≡ true → list_any q (rows_of processes nodes servers) ≡ true
@@ -143,27 +143,27 @@ lanes_have a (x ∷ xs) there = by (same_actor a x) there (lanes_have a xs)
     by true there rest = refl
     by false there rest = rest there
 
-lane_below : (processes : List Row) (a x : Actor) → same_actor a x ≡ true → list_any (same_row (Lane a)) (below_its_own processes x) ≡ true
+lane_below : (processes : List PictureRow) (a x : Actor) → same_actor a x ≡ true → list_any (same_row (Lane a)) (below_its_own processes x) ≡ true
 unfolding below_its_own
 lane_below processes a x same = behind _ (filter (is_of x) processes) _ (left _ _ same)
 
-lane_above : (processes : List Row) (a x : Actor) → same_actor a x ≡ true → list_any (same_row (Lane a)) (above_its_own processes x) ≡ true
+lane_above : (processes : List PictureRow) (a x : Actor) → same_actor a x ≡ true → list_any (same_row (Lane a)) (above_its_own processes x) ≡ true
 unfolding above_its_own
 lane_above processes a x same = left _ _ same
 
 -- the row of a process is one of its node's
-its_own : (host : Host) (pid : ℕ) (y : Row) → same_row (Process host pid) y ≡ true → is_of (Node host.node) y ≡ true
+its_own : (host : Host) (pid : ℕ) (y : PictureRow) → same_row (Process host pid) y ≡ true → is_of (Node host.node) y ≡ true
 its_own host pid (Lane a) same = absurd (false≢true same)
 its_own host pid (Process h p) same = (and_parts _ _ (and_parts _ _ same).0).0
 
-filtered : (host : Host) (pid : ℕ) (processes : List Row) (x : Actor) → list_any (same_row (Process host pid)) processes ≡ true → same_actor (Node host.node) x ≡ true → list_any (same_row (Process host pid)) (filter (is_of x) processes) ≡ true
+filtered : (host : Host) (pid : ℕ) (processes : List PictureRow) (x : Actor) → list_any (same_row (Process host pid)) processes ≡ true → same_actor (Node host.node) x ≡ true → list_any (same_row (Process host pid)) (filter (is_of x) processes) ≡ true
 filtered host pid processes x there same = subst (λ (a : Actor). list_any (same_row (Process host pid)) (filter (is_of a) processes) ≡ true) (actor_exact (Node host.node) x same) (kept (same_row (Process host pid)) (is_of (Node host.node)) (its_own host pid) processes there)
 
-process_below : (host : Host) (pid : ℕ) (processes : List Row) (x : Actor) → list_any (same_row (Process host pid)) processes ≡ true → same_actor (Node host.node) x ≡ true → list_any (same_row (Process host pid)) (below_its_own processes x) ≡ true
+process_below : (host : Host) (pid : ℕ) (processes : List PictureRow) (x : Actor) → list_any (same_row (Process host pid)) processes ≡ true → same_actor (Node host.node) x ≡ true → list_any (same_row (Process host pid)) (below_its_own processes x) ≡ true
 unfolding below_its_own
 process_below host pid processes x there same = in_front _ (filter (is_of x) processes) _ (filtered host pid processes x there same)
 
-process_above : (host : Host) (pid : ℕ) (processes : List Row) (x : Actor) → list_any (same_row (Process host pid)) processes ≡ true → same_actor (Node host.node) x ≡ true → list_any (same_row (Process host pid)) (above_its_own processes x) ≡ true
+process_above : (host : Host) (pid : ℕ) (processes : List PictureRow) (x : Actor) → list_any (same_row (Process host pid)) processes ≡ true → same_actor (Node host.node) x ≡ true → list_any (same_row (Process host pid)) (above_its_own processes x) ≡ true
 unfolding above_its_own
 process_above host pid processes x there same = filtered host pid processes x there same
 

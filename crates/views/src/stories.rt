@@ -4,15 +4,15 @@
 //! All are `AllocError`, where a request for memory was refused.
 
 pub mod about;
+mod call_entries;
 pub mod call_story;
 pub mod end;
 pub mod ending;
 pub mod ends;
 pub mod lines;
 pub mod made_call;
-pub mod open_call;
-mod parts;
-pub mod placed_entry;
+pub mod numbered_entry;
+pub mod open_call_story;
 mod sent_messages;
 pub mod story;
 mod under_way;

@@ -1,6 +1,6 @@
 -- Calls without a reply, and runs that were ended as stuck, with their open calls and the lines that were left.
 use Rattle.std.specs.Prelude.{◌≡◌, ◌≢◌, ◌⊎◌, ℕ, ◌-◌, ◌<◌, ◌≤◌, Bool, true, false, List, All, Option, Some, None, slice_get}
-use Rattle.lockscript.specs.declared.script_line.Command.{Command}
+use Rattle.lockscript.specs.declared.script_line.ScriptCommand.{ScriptCommand}
 use Rattle.model.specs.declared.call.CallId.{CallId}
 use Rattle.model.specs.declared.reply.Reply.{Reply}
 use Rattle.messages.specs.declared.entry.Entry.{Entry}
@@ -44,14 +44,14 @@ abbrev pub IsUnanswered : List Entry → CallId → Type 0
 IsUnanswered entries call = All (λ e. (reply : Reply) → e.reply ≢ Some (call, reply)) entries
 
 -- a line that separates phases stands behind line i, and at j or before it
-abbrev pub IsParted : (Command → Bool) → List PlayedLine → ℕ → ℕ → Type 0
+abbrev pub IsParted : (ScriptCommand → Bool) → List PlayedLine → ℕ → ℕ → Type 0
 IsParted is_between lines i j = (k : ℕ) × (n : PlayedLine) × (i < k) × (k ≤ j) × (slice_get lines k ≡ Some n) × (is_between n.line.command ≡ true)
 
 -- a call of an earlier line is open: one of the same process, or one before a line that separates phases
-abbrev pub IsBarred : (Command → Bool) → List PlayedLine → ℕ → PlayedLine → Type 0
+abbrev pub IsBarred : (ScriptCommand → Bool) → List PlayedLine → ℕ → PlayedLine → Type 0
 IsBarred is_between lines j m =
     (i : ℕ) × (l : PlayedLine) × (i < j) × (slice_get lines i ≡ Some l) × (is_open l.outcome ≡ true) × ((asker l.line.command ≡ asker m.line.command) ⊎ IsParted is_between lines i j)
 
 -- each line that was left stands behind an open call of its process, or behind one before a line that separates phases
-abbrev pub AreBarred : (Command → Bool) → List PlayedLine → Type 0
+abbrev pub AreBarred : (ScriptCommand → Bool) → List PlayedLine → Type 0
 AreBarred is_between lines = (j : ℕ) (m : PlayedLine) → slice_get lines j ≡ Some m → m.outcome ≡ Left → IsBarred is_between lines j m

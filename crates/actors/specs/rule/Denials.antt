@@ -8,8 +8,8 @@ use Rattle.messages.specs.declared.refusal.Refused.{Refused as Refusal}
 use Rattle.messages.specs.declared.refusal.Refused.TheVariants as refusal
 use Rattle.members.specs.rule.Members.{MembersState, first_members, live_incarnation, declared_failed, restarted}
 use Rattle.node_core.specs.rule.Calls.{is_pid, is_in_shape}
-use Rattle.lockscript.specs.declared.script_line.Command.{Command}
-use Rattle.lockscript.specs.declared.script_line.Command.TheVariants.{Call, Declare, Restart, FailServer, StartServer}
+use Rattle.lockscript.specs.declared.script_line.ScriptCommand.{ScriptCommand}
+use Rattle.lockscript.specs.declared.script_line.ScriptCommand.TheVariants.{Call, Declare, Restart, FailServer, StartServer}
 use Rattle.actors.specs.declared.call_error.CallError.TheVariants.{Stranger, Fenced, Killed}
 use Rattle.actors.specs.declared.line_outcome.LineOutcome.{LineOutcome}
 use Rattle.actors.specs.declared.line_outcome.LineOutcome.TheVariants.{Answered, Denied, Made, Refused, Open}
@@ -33,7 +33,7 @@ with_servers m (Ok changed) = Ok (record m { servers = changed.0 })
 with_servers m (Err why) = Err why
 
 -- the members after a failure or a start, or why it is refused; in version 1 token servers have none
-abbrev pub changed_by : ShapeFields → ClusterMembers → Command → Result ClusterMembers Refusal
+abbrev pub changed_by : ShapeFields → ClusterMembers → ScriptCommand → Result ClusterMembers Refusal
 changed_by shape m (Declare n) = with_nodes m (declared_failed m.nodes n)
 changed_by shape m (Restart n) = with_nodes m (restarted m.nodes n)
 changed_by shape m (FailServer f) = if may_rebuild shape.version then with_servers m (declared_failed m.servers f) else Err refusal.Stranger
@@ -57,19 +57,19 @@ abbrev pub has_call : ShapeFields → ℕ → ℕ → Op → Bool
 has_call shape n pid op = has_process shape n pid && is_in_shape shape op
 
 -- the line declared the node failed, by an entry behind this position
-abbrev pub declares : ℕ → ℕ → Command → LineOutcome → Bool
+abbrev pub declares : ℕ → ℕ → ScriptCommand → LineOutcome → Bool
 declares n after (Declare m) (Made at) = (m == n) && nat_lt after at
 declares n after _ _ = false
 
 -- one of these lines, before the first that separates phases, declared the node failed by an entry behind this position
-abbrev pub fails_in : (Command → Bool) → ℕ → ℕ → List PlayedLine → Bool
+abbrev pub fails_in : (ScriptCommand → Bool) → ℕ → ℕ → List PlayedLine → Bool
 fails_in is_between n after [] = false
 fails_in is_between n after (l ∷ ls) = not (is_between l.line.command) && (declares n after l.line.command l.outcome || fails_in is_between n after ls)
 
 -- A call may have this outcome, where the nodes are such and these lines stand behind it. A live incarnation answers it; `Stranger` alone names what the
 -- cluster lacks; the node of `Fenced` is declared failed before it, or behind it in the phase, that of `Killed` behind it in the phase; that of an open call is
 -- live.
-abbrev pub MayCallCome : (Command → Bool) → ShapeFields → MembersState → ℕ → ℕ → Op → LineOutcome → List PlayedLine → Type 0
+abbrev pub MayCallCome : (ScriptCommand → Bool) → ShapeFields → MembersState → ℕ → ℕ → Op → LineOutcome → List PlayedLine → Type 0
 MayCallCome is_between shape nodes n pid op (Answered r) behind = (has_call shape n pid op ≡ true) × (live_incarnation nodes n ≡ Some r.call.incarnation)
 MayCallCome is_between shape nodes n pid op (Denied Stranger) behind = has_call shape n pid op ≡ false
 MayCallCome is_between shape nodes n pid op (Denied Fenced) behind = (has_process shape n pid ≡ true) × ((live_incarnation nodes n ≡ None) ⊎ (fails_in is_between n 0 behind ≡ true))
@@ -84,11 +84,11 @@ MayChangeCome changed (Refused why) = changed ≡ Err why
 MayChangeCome changed _ = ⊤
 
 -- a line may have this outcome with these members before it and these lines behind it
-abbrev pub MayCome : (Command → Bool) → ShapeFields → ClusterMembers → Command → LineOutcome → List PlayedLine → Type 0
+abbrev pub MayCome : (ScriptCommand → Bool) → ShapeFields → ClusterMembers → ScriptCommand → LineOutcome → List PlayedLine → Type 0
 MayCome is_between shape m (Call n pid op) outcome behind = MayCallCome is_between shape m.nodes n pid op outcome behind
 MayCome is_between shape m command outcome behind = MayChangeCome (changed_by shape m command) outcome
 
 -- each line may have its outcome, with the members that the lines before it leave
-abbrev pub MayAllCome : (Command → Bool) → ShapeFields → ClusterMembers → List PlayedLine → Type 0
+abbrev pub MayAllCome : (ScriptCommand → Bool) → ShapeFields → ClusterMembers → List PlayedLine → Type 0
 MayAllCome is_between shape m [] = ⊤
 MayAllCome is_between shape m (l ∷ ls) = MayCome is_between shape m l.line.command l.outcome ls × MayAllCome is_between shape (after_line shape m l) ls

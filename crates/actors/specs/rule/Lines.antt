@@ -4,8 +4,8 @@ use Rattle.std.specs.Option.{option_map}
 use Rattle.std.specs.List.{enumerate_from}
 use Rattle.book.specs.rule.Fields.{ReceiptFields}
 use Rattle.lockscript.specs.declared.refused_line.RefusedLine.{RefusedLine}
-use Rattle.lockscript.specs.declared.script_line.Command.{Command}
-use Rattle.lockscript.specs.declared.script_line.Command.TheVariants.{Call, Settle, Declare, Restart, FailServer, StartServer}
+use Rattle.lockscript.specs.declared.script_line.ScriptCommand.{ScriptCommand}
+use Rattle.lockscript.specs.declared.script_line.ScriptCommand.TheVariants.{Call, Settle, Declare, Restart, FailServer, StartServer}
 use Rattle.lockscript.specs.rule.Scripts.{LineFields}
 use Rattle.messages.specs.declared.entry.Entry.{Entry}
 use Rattle.messages.specs.declared.event.Event.{Event}
@@ -16,7 +16,7 @@ use Rattle.messages.specs.declared.event.MemberEvent.TheVariants as change
 use Rattle.messages.specs.rule.Refusals as refusals
 use Rattle.messages.specs.declared.refusal.Refused.{Refused as Refusal}
 use Rattle.messages.specs.declared.refusal.Refused.TheVariants as refusal
-use Rattle.actors.specs.declared.asked.Asked.{Asked}
+use Rattle.actors.specs.declared.indexed_command.IndexedCommand.{IndexedCommand}
 use Rattle.actors.specs.declared.call_error.CallError.{CallError}
 use Rattle.actors.specs.declared.call_error.CallError.TheVariants.{Stranger, Fenced, Killed}
 use Rattle.actors.specs.declared.line_outcome.LineOutcome.{LineOutcome}
@@ -24,12 +24,12 @@ use Rattle.actors.specs.declared.line_outcome.LineOutcome.TheVariants.{Answered,
 use Rattle.actors.specs.declared.played_line.PlayedLine.{PlayedLine}
 use Rattle.actors.specs.rule.Numbers.{number_of}
 
-abbrev pub is_call : Command → Bool
+abbrev pub is_call : ScriptCommand → Bool
 is_call (Call n pid op) = true
 is_call _ = false
 
 -- the command is a failure or a start, of a node or of a token server
-abbrev pub is_change : Command → Bool
+abbrev pub is_change : ScriptCommand → Bool
 is_change (Declare n) = true
 is_change (Restart n) = true
 is_change (FailServer f) = true
@@ -52,7 +52,7 @@ may_be_refused refusal.Stranger = true
 may_be_refused _ = false
 
 -- the outcome fits: a call is answered, denied or open; a failure or start is made or refused; `settle` is done; positions count from 1; any line may be left
-abbrev pub Fits : Command → LineOutcome → Type 0
+abbrev pub Fits : ScriptCommand → LineOutcome → Type 0
 Fits command (Answered r) = command ≡ Call r.call.node r.pid r.op
 Fits command (Denied why) = (is_call command ≡ true) × (may_be_denied why ≡ true)
 Fits command (Made at) = (is_change command ≡ true) × (0 < at)
@@ -102,53 +102,53 @@ abbrev pub Precedes : PlayedLine → PlayedLine → Type 0
 Precedes l m = (p q : ℕ) → ends l.outcome ≡ Some p → begins m.outcome ≡ Some q → p < q
 
 -- the line separates phases: each that is no call does; with `no_join`, where lines of failures and starts don't join the clients, `settle` alone
-abbrev pub parts : Bool → Command → Bool
+abbrev pub parts : Bool → ScriptCommand → Bool
 parts no_join Settle = true
 parts no_join (Call n pid op) = false
 parts no_join _ = not no_join
 
 -- the lines stand in phases: of two lines with a separating one between them, or which is one of them, the first precedes the second
-abbrev pub ArePhases : (Command → Bool) → List PlayedLine → Type 0
+abbrev pub ArePhases : (ScriptCommand → Bool) → List PlayedLine → Type 0
 ArePhases is_between lines =
     (i j k : ℕ) (l m n : PlayedLine) → i ≤ j → j ≤ k → i < k → slice_get lines i ≡ Some l → slice_get lines j ≡ Some m → slice_get lines k ≡ Some n → is_between m.line.command ≡ true → Precedes l n
 
 -- the command of the line with the index, from 0, of the entry that it made, if it made one
-abbrev pub made_by : PlayedLine → Option Asked
+abbrev pub made_by : PlayedLine → Option IndexedCommand
 made_by l = option_map (λ at. record { index = at - 1; command = l.line.command }) (begins l.outcome)
 
 -- the command of a line that asks for this change of a member
-abbrev pub command_of : MemberEvent → Command
+abbrev pub command_of : MemberEvent → ScriptCommand
 command_of (change.Declare n) = Declare n
 command_of (change.Restart n) = Restart n
 command_of (change.FailServer f) = FailServer f
 command_of (change.StartServer f) = StartServer f
 
 -- the command of a line that asks for this event, if a line can ask for it
-abbrev pub asked_by : Event → Option Command
+abbrev pub asked_by : Event → Option ScriptCommand
 asked_by (AtNode n (input.Call pid op)) = Some (Call n pid op)
 asked_by (Member event) = Some (command_of event)
 asked_by _ = None
 
 -- the command that asks for the entry's event, with the entry's index
-abbrev pub asked_at : ℕ × Entry → Option Asked
+abbrev pub asked_at : ℕ × Entry → Option IndexedCommand
 asked_at at = option_map (λ command. record { index = at.0; command = command }) (asked_by at.1.event)
 
 -- the commands that ask for the entries' events, each with the index of its entry, in order
-abbrev pub asked_in : List Entry → List Asked
+abbrev pub asked_in : List Entry → List IndexedCommand
 asked_in entries = filter_map asked_at (enumerate_from 0 entries)
 
 -- the process that asks, by its node and its number, both from 1; 0 and 0 for a line that is no call
-abbrev pub asker : Command → ℕ × ℕ
+abbrev pub asker : ScriptCommand → ℕ × ℕ
 asker (Call n pid op) = (n, pid)
 asker _ = (0, 0)
 
 -- the command has the same asker
-abbrev pub has_asker : Command → Asked → Bool
+abbrev pub has_asker : ScriptCommand → IndexedCommand → Bool
 has_asker c a = (asker c).0 == (asker a.command).0 && (asker c).1 == (asker a.command).1
 
 -- the entries that lines can ask for are exactly those that these lines made, those of each process in the order of its lines
 abbrev pub AreMade : List Entry → List PlayedLine → Type 0
-AreMade entries lines = (c : Command) → filter (has_asker c) (asked_in entries) ≡ filter (has_asker c) (filter_map made_by lines)
+AreMade entries lines = (c : ScriptCommand) → filter (has_asker c) (asked_in entries) ≡ filter (has_asker c) (filter_map made_by lines)
 
 -- the lines are those of the script with their outcomes, and made the entries that lines can ask for
 pub record AreLinesOf (script : List LineFields) (entries : List Entry) (lines : List PlayedLine) : Type 0 where

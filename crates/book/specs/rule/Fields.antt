@@ -6,7 +6,7 @@ use Rattle.model.specs.declared.reply.Reply.{Reply}
 use Rattle.messages.specs.declared.actor.Actor.{Actor}
 use Rattle.messages.specs.declared.event.Event.{Event}
 use Rattle.messages.specs.declared.outcome.Outcome.{Outcome}
-use Rattle.book.specs.declared.edit.Edit.{Edit}
+use Rattle.book.specs.declared.state_edit.StateEdit.{StateEdit}
 use Rattle.book.specs.declared.state.State.{State}
 
 -- a seat: the state of an actor, and the number of commits made from the seat
@@ -20,7 +20,7 @@ pub record PreparedFields : Type 0 where
   pub incarnation : ℕ
   pub commits : ℕ
   pub event : Event
-  pub edit : Edit
+  pub edit : StateEdit
   pub outcome : Outcome
 
 -- a stamp: the position of an entry, from 1; its event and outcome; the position up to which its actor had seen the journal

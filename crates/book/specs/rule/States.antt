@@ -12,8 +12,8 @@ use Rattle.token_server.specs.rule.Parts.{server_state}
 use Rattle.token_server.specs.code.Edits.{planned, Fits as ServerFits}
 use Rattle.cluster_core.specs.rule.World.{WorldState, has_node, has_file, was_declared, has_failed}
 use Rattle.cluster_core.specs.rule.Actors.{HasNode, HasServer, node_step, server_step, made_by_node, made_by_server}
-use Rattle.book.specs.declared.edit.Edit.{Edit}
-use Rattle.book.specs.declared.edit.Edit.TheVariants.{Node as OnNode, Server as OnServer}
+use Rattle.book.specs.declared.state_edit.StateEdit.{StateEdit}
+use Rattle.book.specs.declared.state_edit.StateEdit.TheVariants.{Node as OnNode, Server as OnServer}
 use Rattle.book.specs.declared.state.State.{State}
 use Rattle.book.specs.declared.state.State.TheVariants.{OfNode, OfServer}
 
@@ -33,19 +33,19 @@ StepsTo (OfServer f s) event (OfServer g t) o = (g ≡ f) × (server_step f (ser
 StepsTo _ event _ o = ⊥
 
 -- the change was planned from the state
-abbrev pub Fits : State → Edit → Type 0
+abbrev pub Fits : State → StateEdit → Type 0
 Fits (OfNode n s) (OnNode e) = NodeFits s.value e.value
 Fits (OfServer f s) (OnServer e) = ServerFits s.value e
 Fits _ _ = ⊥
 
 -- the change makes the second state of the first
-abbrev pub Becomes : State → Edit → State → Type 0
+abbrev pub Becomes : State → StateEdit → State → Type 0
 Becomes (OfNode n s) (OnNode e) (OfNode m t) = (m ≡ n) × (node_state t.value ≡ reached s.value e.value)
 Becomes (OfServer f s) (OnServer e) (OfServer g t) = (g ≡ f) × (server_state t.value ≡ planned s.value e)
 Becomes _ _ _ = ⊥
 
 -- the event leads from the state to the one that the change makes, with this outcome
-abbrev pub Plans : State → Event → Edit → Outcome → Type 0
+abbrev pub Plans : State → Event → StateEdit → Outcome → Type 0
 Plans (OfNode n s) event (OnNode e) o = node_step n (node_state s.value) event ≡ Ok (reached s.value e.value, o)
 Plans (OfServer f s) event (OnServer e) o = server_step f (server_state s.value) event ≡ Ok (planned s.value e, o)
 Plans _ event _ o = ⊥

@@ -8,22 +8,22 @@ use Rattle.model.specs.rule.Locks.{Locks, IsFree, IsRegion, IsInWay}
 use Rattle.client_history.specs.declared.act.Act.{Act}
 use Rattle.client_history.specs.declared.act.Act.TheVariants.{Locks as Takes, IsDenied, IsFree as FindsFree}
 use Rattle.client_history.specs.declared.client_call.ClientCall.{ClientCall}
-use Rattle.client_history.specs.declared.open_call.OpenCall.{OpenCall}
+use Rattle.client_history.specs.declared.open_client_call.OpenClientCall.{OpenClientCall}
 use Rattle.client_history.specs.rule.Explained.{the_file}
 use Rattle.client_history.specs.code.FirstCalls.{Calls, LetsGo, MayComeBefore, NeedsFree, IsUntold, IsClosed}
 use Rattle.client_history.specs.code.OpenCalls.{IsIn, IsLeftOf, AreAsked}
 
 -- each call of the set is an open one
-abbrev pub AreOf : List OpenCall → List OpenCall → Type 0
-AreOf running set = (k : ℕ) (one : OpenCall) → slice_get set k ≡ Some one → (n : ℕ) × (slice_get running n ≡ Some one)
+abbrev pub AreOf : List OpenClientCall → List OpenClientCall → Type 0
+AreOf running set = (k : ℕ) (one : OpenClientCall) → slice_get set k ≡ Some one → (n : ℕ) × (slice_get running n ≡ Some one)
 
 -- no index is in the set twice
-abbrev pub AreOnce : List OpenCall → Type 0
-AreOnce set = (j k : ℕ) (a b : OpenCall) → slice_get set j ≡ Some a → slice_get set k ≡ Some b → a.index ≡ b.index → j ≡ k
+abbrev pub AreOnce : List OpenClientCall → Type 0
+AreOnce set = (j k : ℕ) (a b : OpenClientCall) → slice_get set j ≡ Some a → slice_get set k ≡ Some b → a.index ≡ b.index → j ≡ k
 
 -- open calls were added at the end, none with an index that was there
-pub record IsGrown (running old new : List OpenCall) : Type 0 where
-  pub kept : (k : ℕ) (one : OpenCall) → slice_get old k ≡ Some one → slice_get new k ≡ Some one
+pub record IsGrown (running old new : List OpenClientCall) : Type 0 where
+  pub kept : (k : ℕ) (one : OpenClientCall) → slice_get old k ≡ Some one → slice_get new k ≡ Some one
   pub members : AreOf running old → AreOf running new
   pub once : AreOnce old → AreOnce new
 
@@ -54,7 +54,7 @@ IsNeeded Left call None i other = MayComeBefore Left call i other
 IsNeeded Left call (Some lock) i other = LetsGo lock other.owner other.act
 
 -- the set of open calls is closed, and has the call that ends
-pub record IsClosedSet (h : Locks) (running : List OpenCall) (taken : List ℕ) (end : ℕ) (set : List OpenCall) : Type 0 where
+pub record IsClosedSet (h : Locks) (running : List OpenClientCall) (taken : List ℕ) (end : ℕ) (set : List OpenClientCall) : Type 0 where
   pub has_end : (call : ClientCall) → IsLeftOf running taken end call → IsIn set end
   pub closed : AreAsked running taken h → IsClosed h (IsLeftOf running taken) (IsIn set)
   pub members : AreOf running set

@@ -1,8 +1,8 @@
 -- How far the search has come.
 use Rattle.std.specs.Prelude.{◌≡◌, ◌≤◌, ◌<◌, ◌+◌, ◌↔◌, ℕ, List, slice_get, Some}
 use Rattle.client_history.specs.declared.client_call.ClientCall.{ClientCall}
-use Rattle.client_history.specs.declared.open_call.OpenCall.{OpenCall}
-use Rattle.client_history.specs.declared.front.Front.{Front}
+use Rattle.client_history.specs.declared.open_client_call.OpenClientCall.{OpenClientCall}
+use Rattle.client_history.specs.declared.search_front.SearchFront.{SearchFront}
 use Rattle.client_history.specs.declared.moment.Moment.{Moment}
 use Rattle.client_history.specs.rule.Explained.{Stands}
 use Rattle.client_history.specs.code.Search.{AreSound, AreOpenCalls, Covers}
@@ -19,7 +19,7 @@ pub record AreTimed (calls : List ClientCall) (begins ends : List Moment) : Type
   pub are_ends : AreEnds calls ends
 
 -- after that many begins and ends the search has these open calls, and these fronts, which cover all orders
-pub record IsReached (calls : List ClientCall) (begins ends : List Moment) (p k : ℕ) (running : List OpenCall) (fronts : List Front) : Type 0 where
+pub record IsReached (calls : List ClientCall) (begins ends : List Moment) (p k : ℕ) (running : List OpenClientCall) (fronts : List SearchFront) : Type 0 where
   pub begun : List ℕ
   pub over : List ℕ
   pub are_begun : (i : ℕ) → Stands begun i ↔ IsPast begins p i
@@ -30,7 +30,7 @@ pub record IsReached (calls : List ClientCall) (begins ends : List Moment) (p k 
   pub early : (m j : ℕ) (a b : Moment) → m < p → k ≤ j → slice_get begins m ≡ Some a → slice_get ends j ≡ Some b → a.time ≤ b.time
 
 -- from some begins on, of which those up to the number `to` are no later than the next end, the search has come past these
-abbrev pub GoesTo : ℕ → ℕ → List OpenCall → List Front → ℕ → List OpenCall → List Front → List ClientCall → List Moment → Type 0
+abbrev pub GoesTo : ℕ → ℕ → List OpenClientCall → List SearchFront → ℕ → List OpenClientCall → List SearchFront → List ClientCall → List Moment → Type 0
 GoesTo time from running fronts to next more calls begins =
     (ends : List Moment) (k : ℕ) (end : Moment)
     → AreTimed calls begins ends
@@ -40,7 +40,7 @@ GoesTo time from running fronts to next more calls begins =
     → IsReached calls begins ends to k next more
 
 -- from that many ends on, where each begin that is left is later than the next end, the search has come past that end
-abbrev pub GoesPast : ℕ → List OpenCall → List Front → List OpenCall → List Front → Type 0
+abbrev pub GoesPast : ℕ → List OpenClientCall → List SearchFront → List OpenClientCall → List SearchFront → Type 0
 GoesPast x running fronts next more =
     (calls : List ClientCall) (begins ends : List Moment) (p k : ℕ) (end : Moment)
     → AreTimed calls begins ends

@@ -4,8 +4,8 @@ use Rattle.model.specs.rule.Locks.{Locks, no_locks}
 use Rattle.lock_table.specs.code.Rows.{held}
 use Rattle.client_history.specs.declared.act.Act.TheVariants.{Drops}
 use Rattle.client_history.specs.declared.client_call.ClientCall.{ClientCall}
-use Rattle.client_history.specs.declared.open_call.OpenCall.{OpenCall}
-use Rattle.client_history.specs.declared.front.Front.{Front}
+use Rattle.client_history.specs.declared.open_client_call.OpenClientCall.{OpenClientCall}
+use Rattle.client_history.specs.declared.search_front.SearchFront.{SearchFront}
 use Rattle.client_history.specs.rule.Acts.{ActStep}
 use Rattle.client_history.specs.rule.Explained.{the_file, always, Leads, EndedBy, Stands, IsExplainedBy}
 use Rattle.client_history.specs.code.Moves.{AsksOnly}
@@ -45,10 +45,10 @@ pub record IsDropped (calls : List ClientCall) (over : List ℕ) (call : ClientC
   pub ends : IsExitOf calls exit call
 
 -- the open calls: of those that have begun, each that is neither over nor dropped
-pub record AreOpenCalls (calls : List ClientCall) (begun over : List ℕ) (running : List OpenCall) : Type 0 where
-  pub there : (k : ℕ) (one : OpenCall) → slice_get running k ≡ Some one → slice_get calls one.index ≡ Some one.call
-  pub exits : (k exit : ℕ) (one : OpenCall) → slice_get running k ≡ Some one → one.exit ≡ Some exit → IsExitOf calls exit one.call
-  pub opened : (k : ℕ) (one : OpenCall) → slice_get running k ≡ Some one → Stands begun one.index × (Stands over one.index → ⊥)
+pub record AreOpenCalls (calls : List ClientCall) (begun over : List ℕ) (running : List OpenClientCall) : Type 0 where
+  pub there : (k : ℕ) (one : OpenClientCall) → slice_get running k ≡ Some one → slice_get calls one.index ≡ Some one.call
+  pub exits : (k exit : ℕ) (one : OpenClientCall) → slice_get running k ≡ Some one → one.exit ≡ Some exit → IsExitOf calls exit one.call
+  pub opened : (k : ℕ) (one : OpenClientCall) → slice_get running k ≡ Some one → Stands begun one.index × (Stands over one.index → ⊥)
   pub known : (i : ℕ) (call : ClientCall) → Stands begun i → slice_get calls i ≡ Some call → Stands over i ⊎ (IsDropped calls over call ⊎ IsIn running i)
   pub beside : (i j end : ℕ) (a b : ClientCall) → Stands begun i → slice_get calls i ≡ Some a → slice_get calls j ≡ Some b → (Stands over j → ⊥) → b.end ≡ Some end → a.begin ≤ end
 
@@ -63,21 +63,21 @@ pub record IsWay (calls : List ClientCall) (over : List ℕ) (time : ℕ) (taken
   pub changed : (i : ℕ) (call : ClientCall) → Stands taken i → slice_get calls i ≡ Some call → Changes call.act → Stands way i
 
 -- some way leads to these locks by the calls taken, and each call that only asks was asked there
-pub record IsOn (calls : List ClientCall) (over : List ℕ) (running : List OpenCall) (time : ℕ) (taken : List ℕ) (h : Locks) : Type 0 where
+pub record IsOn (calls : List ClientCall) (over : List ℕ) (running : List OpenClientCall) (time : ℕ) (taken : List ℕ) (h : Locks) : Type 0 where
   pub way : List ℕ
   pub rest : List ℕ
   pub is_way : IsWay calls over time taken h way rest
   pub asked : AreAsked running taken h
 
 -- one of the fronts is on a way
-pub record IsCovered (calls : List ClientCall) (over : List ℕ) (running : List OpenCall) (time : ℕ) (fronts : List Front) : Type 0 where
+pub record IsCovered (calls : List ClientCall) (over : List ℕ) (running : List OpenClientCall) (time : ℕ) (fronts : List SearchFront) : Type 0 where
   pub place : ℕ
-  pub front : Front
+  pub front : SearchFront
   pub there : slice_get fronts place ≡ Some front
   pub is_on : IsOn calls over running time front.taken.items (held front.table)
 
 -- each order that explains the calls up to a time goes by one of the fronts
-abbrev pub Covers : List ClientCall → List ℕ → List OpenCall → List Front → Type 0
+abbrev pub Covers : List ClientCall → List ℕ → List OpenClientCall → List SearchFront → Type 0
 Covers calls over running fronts =
     (time : ℕ) (order : List ℕ)
     → ((i : ℕ) (call : ClientCall) → Stands over i → slice_get calls i ≡ Some call → EndedBy time call)
@@ -85,8 +85,8 @@ Covers calls over running fronts =
     → IsCovered calls over running time fronts
 
 -- the front asked these calls: it took some that only ask and were left, the locks stayed, and they allow no other of them
-pub record IsAskedOf (running : List OpenCall) (old new : Front) : Type 0 where
+pub record IsAskedOf (running : List OpenClientCall) (old new : SearchFront) : Type 0 where
   pub locks : held new.table ≡ held old.table
   pub kept : (i : ℕ) → Stands old.taken.items i → Stands new.taken.items i
-  pub added : (i : ℕ) → Stands new.taken.items i → Stands old.taken.items i ⊎ ((k : ℕ) × (one : OpenCall) × (slice_get running k ≡ Some one) × (one.index ≡ i) × AsksOnly one.call.act × ActStep the_file (held old.table) one.call.owner one.call.act (held old.table))
+  pub added : (i : ℕ) → Stands new.taken.items i → Stands old.taken.items i ⊎ ((k : ℕ) × (one : OpenClientCall) × (slice_get running k ≡ Some one) × (one.index ≡ i) × AsksOnly one.call.act × ActStep the_file (held old.table) one.call.owner one.call.act (held old.table))
   pub asked : AreAsked running new.taken.items (held old.table)

@@ -22,7 +22,7 @@ use Rattle.members.specs.rule.Parts.{MemberParts, MembersParts, alive_in, incarn
 use Rattle.members.proofs.Rules.{declaration, restart}
 use Rattle.node_core.specs.rule.Parts.{NodeParts, node_state}
 use Rattle.node_core.specs.rule.State.{NodeState, first_node}
-use Rattle.cluster_core.specs.declared.token_run.TokenRun.{TokenRun}
+use Rattle.cluster_core.specs.declared.node_token_run.NodeTokenRun.{NodeTokenRun}
 use Rattle.cluster_core.specs.rule.Listings.{IsTokenOf}
 use Rattle.cluster_core.specs.rule.World.{WorldState, journal_limit, most_incarnations, was_declared}
 use Rattle.cluster_core.specs.rule.Next.{entry, declared, restarted, silent, declare_rule, restart_rule}
@@ -241,7 +241,7 @@ pub opened : (P : WorldParts → Type 0) (p now : WorldParts) (n : ℕ) → p �
 opened P p now n view number f = subst P view (f (subst (λ (q : WorldParts). is_within q.shape.nodes n ≡ true) (sym view) number))
 
 -- a node that is not alive has no token and no lock
-pub dead_token : (p : WorldParts) (n : ℕ) → alive_at p n ≡ false → (t : TokenRun) → IsTokenOf (world_state p) n t → ⊥
+pub dead_token : (p : WorldParts) (n : ℕ) → alive_at p n ≡ false → (t : NodeTokenRun) → IsTokenOf (world_state p) n t → ⊥
 dead_token p n dead t is =
     let run = subst (λ (k : ℕ). IsRun (((world_state p).nodes k).files t.file).token t.span t.level) is.1 is.0.run in
     let none : (((world_state p).nodes n).files t.file).token t.span.lo ≡ None = ap (λ (b : Bool). ((seated p.shape n b (listed p n)).files t.file).token t.span.lo) dead in

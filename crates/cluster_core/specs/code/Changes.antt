@@ -19,8 +19,8 @@ use Rattle.token_server.specs.code.Edits.{planned, Fits as ServerFits}
 use Rattle.token_server.specs.rule.Parts.{ServerParts, server_state}
 use Rattle.token_server.specs.rule.Resends.{outstanding}
 use Rattle.token_server.specs.rule.Server.{server_rule}
-use Rattle.cluster_core.specs.declared.world.change.Change.{Change}
-use Rattle.cluster_core.specs.declared.world.change.Change.TheVariants.{OfNode, OfServer, Declared, Restarted, Failed, Started}
+use Rattle.cluster_core.specs.declared.world.world_change.WorldChange.{WorldChange}
+use Rattle.cluster_core.specs.declared.world.world_change.WorldChange.TheVariants.{OfNode, OfServer, Declared, Restarted, Failed, Started}
 use Rattle.cluster_core.specs.rule.World.{WorldState, journal_limit, most_incarnations}
 use Rattle.cluster_core.specs.rule.Next.{named_incarnation, after_node, after_server, declare_rule, restart_rule, fail_rule, start_rule, next_server, next}
 use Rattle.cluster_core.specs.rule.Actors.{node_event, server_event}
@@ -79,7 +79,7 @@ pub record IsStart (p : WorldParts) (file : ℕ) (begun : ServerParts) (sends : 
   pub asks : sends ≡ outstanding (next_server (world_state p) file)
 
 -- the change is planned for the event, and r is what it makes
-abbrev pub Makes : WorldParts → Event → Change → Result (WorldState × Entry) Refused → Type 0
+abbrev pub Makes : WorldParts → Event → WorldChange → Result (WorldState × Entry) Refused → Type 0
 Makes p event (OfNode n incarnation change) r = IsNodeChange p event n incarnation change.value r
 Makes p event (OfServer file change) r = IsServerChange p event file change r
 Makes p event (Declared n) r = IsDeclaration p n r
@@ -88,6 +88,6 @@ Makes p event (Failed file) r = IsFailure p file r
 Makes p event (Started file begun sends) r = IsStart p file begun.value sends × (r ≡ start_rule (world_state p) file)
 
 -- the change is what the event makes in the world
-pub record Plans (p : WorldParts) (event : Event) (change : Change) : Type 0 where
+pub record Plans (p : WorldParts) (event : Event) (change : WorldChange) : Type 0 where
   pub room : p.length < journal_limit
   pub made : Makes p event change (next (world_state p) event)

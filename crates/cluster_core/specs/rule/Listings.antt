@@ -6,7 +6,7 @@ use Rattle.model.specs.declared.lock_info.LockInfo.{LockInfo}
 use Rattle.model.specs.rule.Locks.{IsRegion}
 use Rattle.lock_table.specs.code.Listing.{IsBefore}
 use Rattle.cluster_core.specs.declared.held_lock.HeldLock.{HeldLock}
-use Rattle.cluster_core.specs.declared.token_run.TokenRun.{TokenRun}
+use Rattle.cluster_core.specs.declared.node_token_run.NodeTokenRun.{NodeTokenRun}
 use Rattle.cluster_core.specs.rule.World.{WorldState, has_file, is_live}
 use Rattle.cluster_core.specs.rule.Union.{union}
 
@@ -21,28 +21,28 @@ abbrev pub Adds : {A : Type 0} → (A → Type 0) → (A → A → Type 0) → L
 Adds {A} Is Before old new = (more : List A) × (new ≡ old ++ more) × Lists Is Before more
 
 -- a longest run of bytes at one level in the token of a live node
-pub record IsTokenRun (w : WorldState) (t : TokenRun) : Type 0 where
+pub record IsTokenRun (w : WorldState) (t : NodeTokenRun) : Type 0 where
   pub live : is_live w t.node t.incarnation ≡ true
   pub file_in : has_file w t.file ≡ true
   pub run : IsRun ((w.nodes t.node).files t.file).token t.span t.level
 
 -- the order of token runs: by node, then by file, then by first byte
-abbrev pub IsTokenBefore : TokenRun → TokenRun → Type 0
+abbrev pub IsTokenBefore : NodeTokenRun → NodeTokenRun → Type 0
 IsTokenBefore a b = (a.node < b.node) ⊎ ((a.node ≡ b.node) × ((a.file < b.file) ⊎ ((a.file ≡ b.file) × (a.span.lo < b.span.lo))))
 
 -- the list has each longest run of the live nodes' tokens once, in order
-abbrev pub IsTokenListing : WorldState → List TokenRun → Type 0
+abbrev pub IsTokenListing : WorldState → List NodeTokenRun → Type 0
 IsTokenListing w = Lists (IsTokenRun w) IsTokenBefore
 
 -- a longest run in a token of that node
-abbrev pub IsTokenOf : WorldState → ℕ → TokenRun → Type 0
+abbrev pub IsTokenOf : WorldState → ℕ → NodeTokenRun → Type 0
 IsTokenOf w node t = IsTokenRun w t × (t.node ≡ node)
 
-abbrev pub IsTokenOfFile : WorldState → ℕ → ℕ → TokenRun → Type 0
+abbrev pub IsTokenOfFile : WorldState → ℕ → ℕ → NodeTokenRun → Type 0
 IsTokenOfFile w node file t = IsTokenOf w node t × (t.file ≡ file)
 
 -- a run with its node, incarnation and file
-abbrev pub token_run : ℕ → ℕ → ℕ → Range × Level → TokenRun
+abbrev pub token_run : ℕ → ℕ → ℕ → Range × Level → NodeTokenRun
 token_run node incarnation file r = record { node = node; incarnation = incarnation; file = file; span = r.0; level = r.1 }
 
 -- a region of the live nodes' locks together

@@ -10,7 +10,7 @@ ghost use Rattle.cluster_core.specs.rule.Listings.{Adds, IsTokenListing, IsToken
 
 use super::World;
 use crate::held_lock::HeldLock;
-use crate::token_run::TokenRun;
+use crate::node_token_run::NodeTokenRun;
 use intervals::span::Span;
 use lock_table::order::cmp_regions;
 use model::level::Level;
@@ -20,7 +20,7 @@ use std::alloc::{AllocError, Global};
 
 // Appends the runs, each with its node, incarnation and file.
 fn push_runs(
-    tokens: &mut Vec<TokenRun>,
+    tokens: &mut Vec<NodeTokenRun>,
     node: u8,
     incarnation: u16,
     file: u16,
@@ -29,7 +29,7 @@ fn push_runs(
     ensures { OnOk result (tokens.new.items ≡ tokens.old.items ++ map (token_run node incarnation file) runs.now) }
 {
     for run in runs {
-        tokens.push(TokenRun {
+        tokens.push(NodeTokenRun {
             node,
             incarnation,
             file,
@@ -59,7 +59,7 @@ impl World {
     fn push_file_tokens(
         &self,
         alloc: Global,
-        tokens: &mut Vec<TokenRun>,
+        tokens: &mut Vec<NodeTokenRun>,
         node: u8,
         file: u16,
     ) -> Result<(), AllocError>
@@ -77,7 +77,7 @@ impl World {
     fn push_node_tokens(
         &self,
         alloc: Global,
-        tokens: &mut Vec<TokenRun>,
+        tokens: &mut Vec<NodeTokenRun>,
         node: u8,
     ) -> Result<(), AllocError>
         requires { is_within self.now.shape.nodes node ≡ true }
@@ -94,7 +94,7 @@ impl World {
 
     /// The tokens of the live nodes, each longest run of bytes at one level once, by node, then by file, then by
     /// first byte.
-    pub fn tokens(&self, alloc: Global) -> Result<Vec<TokenRun>, AllocError>
+    pub fn tokens(&self, alloc: Global) -> Result<Vec<NodeTokenRun>, AllocError>
         ensures { IfOk result (λ tokens. IsTokenListing (world_state self.now) tokens.items) }
     {
         let mut tokens = Vec::new(alloc);

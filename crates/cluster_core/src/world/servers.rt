@@ -11,7 +11,7 @@ ghost use Rattle.cluster_core.specs.rule.Parts.{world_state};
 ghost use Rattle.cluster_core.specs.code.Changes.{IsStart, Makes};
 
 use super::World;
-use super::change::Change;
+use super::world_change::WorldChange;
 use messages::entry::Entry;
 use messages::event::{Event, MemberEvent};
 use messages::items::Items;
@@ -33,7 +33,7 @@ impl World {
     }
 
     /// The change by which the token server of the file is declared failed, or the refusal.
-    pub(super) fn plan_failure(&self, file: u16) -> Result<Change, Refused>
+    pub(super) fn plan_failure(&self, file: u16) -> Result<WorldChange, Refused>
         requires { is_within self.now.shape.files file ≡ true }
         ensures ok { IfOk result (λ change. Makes self.now (Member (FailServer file)) change (fail_rule (world_state self.now) file)) }
         ensures err { IfErr result (λ e. fail_rule (world_state self.now) file ≡ Err e) }
@@ -41,7 +41,7 @@ impl World {
         if !self.works(file) {
             return Err(Refused::NotAlive);
         }
-        Ok(Change::Failed { file })
+        Ok(WorldChange::Failed { file })
     }
 
     /// The token server of the file as it would begin again now, and the messages in which it asks the nodes for
@@ -63,14 +63,14 @@ impl World {
     }
 
     /// The change by which the token server of the file starts again, or the refusal.
-    pub(super) fn plan_start(&self, alloc: Global, file: u16) -> Result<Change, Refused>
+    pub(super) fn plan_start(&self, alloc: Global, file: u16) -> Result<WorldChange, Refused>
         requires { is_within self.now.shape.files file ≡ true }
         ensures ok { IfOk result (λ change. Makes self.now (Member (StartServer file)) change (start_rule (world_state self.now) file)) }
         ensures err { IfErr result (λ e. e ≢ NoMemory → start_rule (world_state self.now) file ≡ Err e) }
         ensures refused { (e : Refused) → start_rule (world_state self.now) file ≡ Err e → result ≡ Err e }
     {
         let (begun, sends) = self.next_server(alloc, file)?;
-        Ok(Change::Started { file, begun, sends })
+        Ok(WorldChange::Started { file, begun, sends })
     }
 
     /// Declares the token server of the file failed. Gives the entry.

@@ -2,15 +2,15 @@
 use Rattle.std.specs.Prelude.{ℕ, ◌≡◌, ◌≢◌, ⊤, Bool, true, false, List, Option, Some, None, [], ◌∷◌, codes, length, map, option_map}
 use Rattle.clap.specs.Words.{Text}
 use Rattle.command_line.specs.declared.judge_line.JudgeLine.{JudgeLine}
-use Rattle.command_line.specs.declared.rule.Rule.{Rule}
-use Rattle.command_line.specs.declared.rule.Rule.TheVariants.{WaitDrops, CloseOwnDescriptor, NoQuery, StaleReadDenial, LostAt}
+use Rattle.command_line.specs.declared.allowed_rule.AllowedRule.{AllowedRule}
+use Rattle.command_line.specs.declared.allowed_rule.AllowedRule.TheVariants.{WaitDrops, CloseOwnDescriptor, NoQuery, StaleReadDenial, LostAt}
 
 -- to judge the histories of these paths, looking at so many tables for each file at most, or by the order that the other path names, if there is one; to allow these rules; to print orders, to go on behind what fits nowhere, and to print counts, if that is asked for; as JSON, or as a picture, if that is
 pub record JudgeTask : Type 0 where
   pub histories : List Text
   pub steps : ℕ
   pub explains : Option Text
-  pub allowed : List Rule
+  pub allowed : List AllowedRule
   pub order : Bool
   pub go_on : Bool
   pub stats : Bool
@@ -31,7 +31,7 @@ judge_task_of line = record {
 }
 
 -- the word that asks for a rule
-abbrev pub rule_text : Rule → Text
+abbrev pub rule_text : AllowedRule → Text
 rule_text WaitDrops = codes "wait-drops"
 rule_text CloseOwnDescriptor = codes "close-own-descriptor"
 rule_text NoQuery = codes "no-query"
@@ -39,7 +39,7 @@ rule_text StaleReadDenial = codes "stale-read-denial"
 rule_text LostAt = codes "lost-at"
 
 -- the words that ask for rules to be allowed
-abbrev pub allow_words : List Rule → List Text
+abbrev pub allow_words : List AllowedRule → List Text
 allow_words [] = []
 allow_words (rule ∷ rules) = codes "--allow" ∷ rule_text rule ∷ allow_words rules
 

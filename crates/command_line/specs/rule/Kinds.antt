@@ -9,8 +9,8 @@ use Rattle.command_line.specs.rule.JudgeTasks.{rule_text}
 use Rattle.command_line.specs.rule.Tasks.{Task, format_text, task_of}
 use Rattle.command_line.specs.rule.Words.{AsksForNothing, IsShown}
 use Rattle.command_line.specs.declared.format.Format.{Format}
-use Rattle.command_line.specs.declared.line.Line.{Line}
-use Rattle.command_line.specs.declared.rule.Rule.{Rule}
+use Rattle.command_line.specs.declared.command_line.CommandLine.{CommandLine}
+use Rattle.command_line.specs.declared.allowed_rule.AllowedRule.{AllowedRule}
 use Rattle.command_line.specs.declared.refusal.Refusal.{Refusal}
 use Rattle.command_line.specs.declared.refusal.Refusal.TheVariants.{Help, Wrong, NotText, NoMemory}
 
@@ -26,7 +26,7 @@ abbrev pub IsKindOf : List Text → ErrorKind → Type 0
 IsKindOf words kind = (kind ≡ OutOfMemory) ⊎ (IsAmong kind (fault_of program_app words) ⊎ (¬ (IsShown kind) × AsksForNothing words))
 
 -- the line of what is met; none where nothing is that is served
-abbrev pub IsLineOf : Option (Text × List Row) → Option Line → Type 0
+abbrev pub IsLineOf : Option (Text × List Row) → Option CommandLine → Type 0
 IsLineOf met result = MatchOption result ((task : Task) → IsMet met task → ⊥) (λ line. IsMet met (task_of line))
 
 -- the number between the bounds that the text of the argument writes; none where it writes none
@@ -47,9 +47,9 @@ abbrev pub IsFormatOf : Option Text → Option Format → Type 0
 IsFormatOf value result = MatchOption result ((format : Format) → value ≡ Some (format_text format) → ⊥) (λ format. value ≡ Some (format_text format))
 
 -- the rule of the word
-abbrev pub IsRuleOf : Text → Option Rule → Type 0
-IsRuleOf word result = MatchOption result ((rule : Rule) → word ≡ rule_text rule → ⊥) (λ rule. word ≡ rule_text rule)
+abbrev pub IsRuleOf : Text → Option AllowedRule → Type 0
+IsRuleOf word result = MatchOption result ((rule : AllowedRule) → word ≡ rule_text rule → ⊥) (λ rule. word ≡ rule_text rule)
 
 -- the rules of the words; none where one of them is no rule's
-abbrev pub AreRulesOf : List Text → Option (Vec Rule Global) → Type 0
-AreRulesOf words result = MatchOption result ((rules : List Rule) → words ≡ map rule_text rules → ⊥) (λ rules. words ≡ map rule_text rules.items)
+abbrev pub AreRulesOf : List Text → Option (Vec AllowedRule Global) → Type 0
+AreRulesOf words result = MatchOption result ((rules : List AllowedRule) → words ≡ map rule_text rules → ⊥) (λ rules. words ≡ map rule_text rules.items)

@@ -4,12 +4,12 @@ use Rattle.clap.specs.Words.{Text}
 use Rattle.command_line.specs.rule.JudgeTasks.{JudgeTask, MayJudge, allow_words, judge_task_of}
 use Rattle.command_line.specs.declared.format.Format.{Format}
 use Rattle.command_line.specs.declared.format.Format.TheVariants.{Svg, Mermaid, Trace}
-use Rattle.command_line.specs.declared.line.Line.{Line}
+use Rattle.command_line.specs.declared.command_line.CommandLine.{CommandLine}
 use Rattle.command_line.specs.declared.picture_line.PictureLine.{PictureLine}
 use Rattle.command_line.specs.declared.run_line.RunLine.{RunLine}
 use Rattle.command_line.specs.declared.run_line.ThreadsLine.{ThreadsLine}
 use Rattle.command_line.specs.declared.state_line.StateLine.{StateLine}
-use Rattle.command_line.specs.declared.line.Line.TheVariants.{Run, Threads, Audit, History, Explain, Open, State, Check, Picture, Stats, FromStrace, RecordedHistory, Explore, Schedule, Judge}
+use Rattle.command_line.specs.declared.command_line.CommandLine.TheVariants.{Run, Threads, Audit, History, Explain, Open, State, Check, Picture, Stats, FromStrace, RecordedHistory, Explore, Schedule, Judge}
 
 -- what is to be done, with the paths of the files that are named, the name of a call, and the words that place processes
 pub data Task : Type 0 where
@@ -57,7 +57,7 @@ state_task_of line = state line.journal.now line.at line.node line.file
 abbrev pub picture_task_of : PictureLine → Task
 picture_task_of line = picture line.journal.now (option_map (λ name. name.now) line.around) line.from line.to line.format
 
-abbrev pub task_of : Line → Task
+abbrev pub task_of : CommandLine → Task
 task_of (Run line) = run_task_of line
 task_of (Threads line) = threads_task_of line
 task_of (Audit journal why) = audit journal.now why

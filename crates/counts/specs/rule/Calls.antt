@@ -9,8 +9,8 @@ use Rattle.client_history.specs.declared.act.Act.{Act}
 use Rattle.client_history.specs.declared.act.Act.TheVariants.{Locks, IsDenied, IsFree, Frees, Drops}
 use Rattle.messages.specs.rule.Shapes.{ShapeFields}
 use Rattle.messages.specs.declared.entry.Entry.{Entry}
-use Rattle.run_clients.specs.declared.answer.Answer.{Answer}
-use Rattle.run_clients.specs.declared.answer.Answer.TheVariants.{At, Never}
+use Rattle.run_clients.specs.declared.answer_time.AnswerTime.{AnswerTime}
+use Rattle.run_clients.specs.declared.answer_time.AnswerTime.TheVariants.{At, Never}
 use Rattle.run_clients.specs.declared.file_call.FileCall.{FileCall}
 use Rattle.run_clients.specs.rule.Seen.{IsSeen}
 use Rattle.counts.specs.declared.numbers.Numbers.{Numbers}
@@ -27,7 +27,7 @@ denied (Lock call) = denied_by call.command
 denied _ = no_numbers
 
 -- with the entries from the call to its reply; a call that has none is open
-abbrev pub answered : ℕ → Answer → Numbers → Numbers
+abbrev pub answered : ℕ → AnswerTime → Numbers → Numbers
 answered begin (At end) n = record n { waited = end - begin }
 answered begin Never n = record n { open_calls = 1 }
 

@@ -8,16 +8,16 @@ use Rattle.messages.specs.declared.event.NodeInput.TheVariants as input
 use Rattle.messages.specs.code.Entries.{EntryFields}
 use Rattle.messages.specs.rule.Messages.{same_call}
 use Rattle.lockscript.specs.declared.refused_line.RefusedLine.{RefusedLine}
-use Rattle.lockscript.specs.declared.script_line.Command.{Command}
-use Rattle.lockscript.specs.declared.script_line.Command.TheVariants.{Call}
+use Rattle.lockscript.specs.declared.script_line.ScriptCommand.{ScriptCommand}
+use Rattle.lockscript.specs.declared.script_line.ScriptCommand.TheVariants.{Call}
 use Rattle.lockscript.specs.rule.Scripts.{LineFields}
 use Rattle.lockscript.specs.rule.Texts.{reply_text}
 use Rattle.player.specs.rule.Played.{PlayedState}
-use Rattle.explorer.specs.declared.answer.Answer.{Answer}
-use Rattle.explorer.specs.declared.answer.Answer.TheVariants.{NotMade, Refused, Open, Replied}
+use Rattle.explorer.specs.declared.explored_answer.ExploredAnswer.{ExploredAnswer}
+use Rattle.explorer.specs.declared.explored_answer.ExploredAnswer.TheVariants.{NotMade, Refused, Open, Replied}
 use Rattle.explorer.specs.rule.Schedules.{calls_of, numbered}
 
-abbrev pub answer_text : Answer → List ℕ
+abbrev pub answer_text : ExploredAnswer → List ℕ
 answer_text NotMade = codes "not made"
 answer_text (Refused code) = codes "refused " ++ decimal code
 answer_text Open = codes "open"
@@ -33,7 +33,7 @@ is_call_by node pid (AtNode n (input.Call p op)) = (n == node) && (p == pid)
 is_call_by node pid _ = false
 
 -- the same of a line
-abbrev pub calls_by : ℕ → ℕ → Command → Bool
+abbrev pub calls_by : ℕ → ℕ → ScriptCommand → Bool
 calls_by node pid (Call n p op) = (n == node) && (p == pid)
 calls_by node pid _ = false
 
@@ -54,16 +54,16 @@ abbrev pub reply_in : CallId → Option (CallId × Reply) → Option Reply
 reply_in call None = None
 reply_in call (Some told) = if same_call told.0 call then Some told.1 else None
 
-abbrev pub answer_or : Option Reply → Answer → Answer
+abbrev pub answer_or : Option Reply → ExploredAnswer → ExploredAnswer
 answer_or None other = other
 answer_or (Some reply) other = Replied reply
 
 -- the first reply to the call; without one it is open
-abbrev pub reply_answer : CallId → List EntryFields → Answer
+abbrev pub reply_answer : CallId → List EntryFields → ExploredAnswer
 reply_answer call [] = Open
 reply_answer call (e ∷ es) = answer_or (reply_in call e.reply) (reply_answer call es)
 
-abbrev pub named_answer : Option CallId → List EntryFields → Answer
+abbrev pub named_answer : Option CallId → List EntryFields → ExploredAnswer
 named_answer None entries = Open
 named_answer (Some call) entries = reply_answer call entries
 
@@ -76,26 +76,26 @@ abbrev pub count_taken : List (Option ℕ) → ℕ
 count_taken tries = count_by is_taken tries
 
 -- what a call comes to, by what was tried up to it, itself last: of those that were taken each has the next name
-abbrev pub tried_answer : Option (Option ℕ) → List (Option ℕ) → List CallId → List EntryFields → Answer
+abbrev pub tried_answer : Option (Option ℕ) → List (Option ℕ) → List CallId → List EntryFields → ExploredAnswer
 tried_answer None earlier named entries = NotMade
 tried_answer (Some (Some code)) earlier named entries = Refused code
 tried_answer (Some None) earlier named entries = named_answer (slice_get named (count_taken earlier)) entries
 
 -- what the call of a process comes to before which so many calls of it stand in the script
-abbrev pub call_answer : ℕ → List (Option ℕ) → List CallId → List EntryFields → Answer
+abbrev pub call_answer : ℕ → List (Option ℕ) → List CallId → List EntryFields → ExploredAnswer
 call_answer before tries named entries = tried_answer (slice_get tries before) (take before tries) named entries
 
 -- what a line of a script comes to, behind these commands of it, where these lines are run, by those that are refused and the entries
-abbrev pub answer_behind : List Command → Command → List LineFields → List RefusedLine → List EntryFields → Answer
+abbrev pub answer_behind : List ScriptCommand → ScriptCommand → List LineFields → List RefusedLine → List EntryFields → ExploredAnswer
 answer_behind earlier (Call node pid op) made refused entries =
     call_answer (length (calls_of node pid earlier)) (tries refused node pid made) (names node pid entries) entries
 answer_behind earlier _ made refused entries = NotMade
 
 -- what each line comes to
-abbrev pub answers_behind : List Command → List LineFields → List LineFields → List RefusedLine → List EntryFields → List Answer
+abbrev pub answers_behind : List ScriptCommand → List LineFields → List LineFields → List RefusedLine → List EntryFields → List ExploredAnswer
 answers_behind earlier [] made refused entries = []
 answers_behind earlier (l ∷ ls) made refused entries = answer_behind earlier l.command made refused entries ∷ answers_behind (earlier ++ l.command ∷ []) ls made refused entries
 
 -- what the lines of a script come to in this schedule of them, by what came of it
-abbrev pub answers_in : List LineFields → List Command → PlayedState → List Answer
+abbrev pub answers_in : List LineFields → List ScriptCommand → PlayedState → List ExploredAnswer
 answers_in lines commands p = answers_behind [] lines (numbered commands) p.refused p.journal.entries

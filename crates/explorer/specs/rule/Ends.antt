@@ -3,10 +3,10 @@ use Rattle.std.specs.Prelude.{◌≡◌, ◌⊎◌, ℕ, ◌&&◌, false, All, L
 use Rattle.model.specs.declared.call.CallId.{CallId}
 use Rattle.messages.specs.code.Entries.{EntryFields}
 use Rattle.cluster_core.specs.rule.World.{WorldState, has_node, was_declared}
-use Rattle.lockscript.specs.declared.script_line.Command.{Command}
+use Rattle.lockscript.specs.declared.script_line.ScriptCommand.{ScriptCommand}
 use Rattle.lockscript.specs.rule.Scripts.{IsCommand, LineFields}
 use Rattle.player.specs.rule.Played.{PlayedState}
-use Rattle.explorer.specs.declared.answer.Answer.TheVariants.{Open}
+use Rattle.explorer.specs.declared.explored_answer.ExploredAnswer.TheVariants.{Open}
 use Rattle.explorer.specs.rule.Answers.{count_taken, names, reply_answer, tries}
 use Rattle.explorer.specs.rule.Schedules.{calls_in, calls_of, line_limit, numbered}
 
@@ -24,17 +24,17 @@ pub record IsOpenAfter (node pid : ℕ) (made : List (Option ℕ)) (entries : Li
   pub live : (has_node world node && was_declared world node call.incarnation) ≡ false
 
 -- the schedule makes all calls of the process
-abbrev pub MakesCallsOf : ℕ → ℕ → List LineFields → List Command → Type 0
+abbrev pub MakesCallsOf : ℕ → ℕ → List LineFields → List ScriptCommand → Type 0
 MakesCallsOf node pid lines commands = calls_of node pid commands ≡ calls_in node pid lines
 
 -- the last call that it makes of the process is open at the end
-abbrev pub LeavesOpen : ℕ → ℕ → List Command → PlayedState → Type 0
+abbrev pub LeavesOpen : ℕ → ℕ → List ScriptCommand → PlayedState → Type 0
 LeavesOpen node pid commands p = IsOpenAfter node pid (tries p.refused node pid (numbered commands)) p.journal.entries p.world
 
 -- of each process it makes all calls, or the last one that it makes is open at the end
-abbrev pub MakesAll : List LineFields → List Command → PlayedState → Type 0
+abbrev pub MakesAll : List LineFields → List ScriptCommand → PlayedState → Type 0
 MakesAll lines commands p = (node pid : ℕ) → MakesCallsOf node pid lines commands ⊎ LeavesOpen node pid commands p
 
 -- so it does, or it has as many lines as it may have
-abbrev pub IsEnded : List LineFields → List Command → PlayedState → Type 0
+abbrev pub IsEnded : List LineFields → List ScriptCommand → PlayedState → Type 0
 IsEnded lines commands p = MakesAll lines commands p ⊎ (length commands ≡ line_limit lines)

@@ -3,10 +3,10 @@ use Rattle.std.specs.Prelude.{ℕ, zero, suc, ◌+◌, ◌==◌, ◌||◌, not, 
 use Rattle.std.specs.List.{starts_with}
 use Rattle.std.specs.Option.{option_and_then}
 use Rattle.texts.specs.rule.LineFeeds.{line_feed}
-use Rattle.lockscript.specs.declared.script_line.Command.{Command}
-use Rattle.lockscript.specs.declared.script_line.Command.TheVariants.{Call}
+use Rattle.lockscript.specs.declared.script_line.ScriptCommand.{ScriptCommand}
+use Rattle.lockscript.specs.declared.script_line.ScriptCommand.TheVariants.{Call}
 use Rattle.lockscript.specs.rule.Scripts.{LineFields}
-use Rattle.explorer.specs.declared.answer.Answer.{Answer}
+use Rattle.explorer.specs.declared.explored_answer.ExploredAnswer.{ExploredAnswer}
 use Rattle.explorer.specs.rule.Answers.{answer_text}
 
 -- the first line of a text, and what stands behind its line feed
@@ -34,7 +34,7 @@ abbrev pub words_in : Option (List ℕ) → Option (List ℕ)
 words_in rest = option_and_then (λ p. words_of p.0) (option_and_then split_feed rest)
 
 -- what is expected of a line: the words of the next line of the text, behind a call
-abbrev pub expected_of : List ℕ → ℕ → Command → Option (List ℕ)
+abbrev pub expected_of : List ℕ → ℕ → ScriptCommand → Option (List ℕ)
 expected_of text number (Call node pid op) = words_in (behind number (Some text))
 expected_of text number _ = None
 
@@ -42,18 +42,18 @@ abbrev pub expected : List ℕ → LineFields → Option (List ℕ)
 expected text l = expected_of text l.number l.command
 
 -- the answer's text begins otherwise than is expected
-abbrev pub is_broken : Option (List ℕ) → Answer → Bool
+abbrev pub is_broken : Option (List ℕ) → ExploredAnswer → Bool
 is_broken None answer = false
 is_broken (Some words) answer = not (begins words (answer_text answer))
 
-abbrev pub is_broken_at : Option (List ℕ) → Option Answer → Bool
+abbrev pub is_broken_at : Option (List ℕ) → Option ExploredAnswer → Bool
 is_broken_at words None = false
 is_broken_at words (Some answer) = is_broken words answer
 
 -- some answer does so, the first of these lines having the answer at this place
-abbrev pub breaks_from : List ℕ → List Answer → ℕ → List LineFields → Bool
+abbrev pub breaks_from : List ℕ → List ExploredAnswer → ℕ → List LineFields → Bool
 breaks_from text answers index [] = false
 breaks_from text answers index (l ∷ ls) = is_broken_at (expected text l) (slice_get answers index) || breaks_from text answers (index + 1) ls
 
-abbrev pub breaks : List ℕ → List LineFields → List Answer → Bool
+abbrev pub breaks : List ℕ → List LineFields → List ExploredAnswer → Bool
 breaks text lines answers = breaks_from text answers 0 lines

@@ -3,11 +3,11 @@ use Rattle.std.specs.Prelude.{◌≡◌, ◌≢◌, ◌⊎◌, ℕ, ◌+◌, ◌
 use Rattle.std.specs.List.{list_any}
 use Rattle.std.specs.Ordering.{nat_cmp, ordering_then}
 use Rattle.std.specs.List.Sorted.{IsSortedByKey}
-use Rattle.lockscript.specs.declared.script_line.Command.{Command}
+use Rattle.lockscript.specs.declared.script_line.ScriptCommand.{ScriptCommand}
 use Rattle.lockscript.specs.rule.Scripts.{LineFields, ScriptFields}
 use Rattle.player.specs.rule.Played.{PlayedState, ComesTo}
-use Rattle.explorer.specs.declared.answer.Answer.{Answer}
-use Rattle.explorer.specs.declared.answer.Answer.TheVariants.{Open}
+use Rattle.explorer.specs.declared.explored_answer.ExploredAnswer.{ExploredAnswer}
+use Rattle.explorer.specs.declared.explored_answer.ExploredAnswer.TheVariants.{Open}
 use Rattle.explorer.specs.rule.Answers.{answers_in}
 use Rattle.explorer.specs.rule.Ends.{IsEnded}
 use Rattle.explorer.specs.rule.Expectations.{breaks}
@@ -15,13 +15,13 @@ use Rattle.explorer.specs.rule.Schedules.{numbered, IsScheduleOf}
 
 -- what the lines of a script come to, one answer for each, the seeds that came to it, and whether an answer breaks what is expected
 pub record OutcomeParts : Type 0 where
-  pub answers : List Answer
+  pub answers : List ExploredAnswer
   pub seeds : List ℕ
   pub breaks : Bool
 
 -- some schedule of the script, which makes all calls that it can, comes to these answers
-pub record ComesIn (failures : Bool) (script : ScriptFields) (answers : List Answer) : Type 0 where
-  pub commands : List Command
+pub record ComesIn (failures : Bool) (script : ScriptFields) (answers : List ExploredAnswer) : Type 0 where
+  pub commands : List ScriptCommand
   pub played : PlayedState
   pub of_script : IsScheduleOf failures script.lines commands
   pub comes : ComesTo script.shape (numbered commands) played
@@ -45,18 +45,18 @@ abbrev pub seed_of : ℕ → ℕ
 seed_of number = number % 4294967296
 
 -- these are, in order, the seeds that came to the answers, of those from a number on, of which there is a list of what each came to
-abbrev pub AreSeedsOf : List Answer → ℕ → List (List Answer) → List ℕ → Type 0
+abbrev pub AreSeedsOf : List ExploredAnswer → ℕ → List (List ExploredAnswer) → List ℕ → Type 0
 AreSeedsOf answers number [] seeds = seeds ≡ []
 AreSeedsOf answers number (one ∷ came) seeds =
     ((rest : List ℕ) × (one ≡ answers) × (seeds ≡ seed_of number ∷ rest) × AreSeedsOf answers (number + 1) came rest)
     ⊎ ((one ≢ answers) × AreSeedsOf answers (number + 1) came seeds)
 
 -- what the lines come to in each outcome
-abbrev pub answers_of : List OutcomeParts → List (List Answer)
+abbrev pub answers_of : List OutcomeParts → List (List ExploredAnswer)
 answers_of outcomes = map (λ o. o.answers) outcomes
 
 -- of what each seed from the first on came to, the outcomes are the different ones, each with its seeds
-pub record AreOutcomesOf (first : ℕ) (came : List (List Answer)) (outcomes : List OutcomeParts) : Type 0 where
+pub record AreOutcomesOf (first : ℕ) (came : List (List ExploredAnswer)) (outcomes : List OutcomeParts) : Type 0 where
   pub differ : AllPairs (λ one other. one ≢ other) (answers_of outcomes)
   pub met : All (Contains came) (answers_of outcomes)
   pub each : All (Contains (answers_of outcomes)) came
@@ -64,13 +64,13 @@ pub record AreOutcomesOf (first : ℕ) (came : List (List Answer)) (outcomes : L
 
 -- the outcomes of so many seeds from the first on, each of which came to something by a schedule of the script
 pub record AreMet (failures : Bool) (script : ScriptFields) (first seeds : ℕ) (outcomes : List OutcomeParts) : Type 0 where
-  pub came : List (List Answer)
+  pub came : List (List ExploredAnswer)
   pub of_seeds : length came ≡ seeds
   pub of_script : All (ComesIn failures script) came
   pub outcomes_of : AreOutcomesOf first came outcomes
 
 -- the answer at this place is open
-abbrev pub is_open : Option Answer → Bool
+abbrev pub is_open : Option ExploredAnswer → Bool
 is_open (Some Open) = true
 is_open _ = false
 

@@ -2,7 +2,7 @@
 use Rattle.std.specs.Prelude.{ℕ, ◌+◌, ◌++◌, Bool, nat_eq, List, [], ◌∷◌, codes}
 use Rattle.std.specs.List.{starts_with}
 use Rattle.texts.specs.rule.LineFeeds.{line_feed}
-use Rattle.history_text.specs.declared.counts.Counts.{Counts}
+use Rattle.history_text.specs.declared.line_counts.LineCounts.{LineCounts}
 
 -- a line with its line feed
 abbrev pub with_feed : List ℕ → List ℕ
@@ -13,5 +13,5 @@ abbrev pub is_call : List ℕ → Bool
 is_call line = starts_with nat_eq line (codes "call ")
 
 -- the number of lines of calls
-abbrev pub counted : Counts → ℕ
+abbrev pub counted : LineCounts → ℕ
 counted counts = counts.calls + counts.exits + counts.silent

@@ -6,7 +6,7 @@ use Rattle.client_history.specs.declared.act.Act.TheVariants.{Drops}
 use Rattle.client_history.specs.declared.client_call.ClientCall.{ClientCall}
 use Rattle.model.specs.declared.owner.Owner.{Owner}
 use Rattle.history_text.specs.declared.file_calls.FileCalls.{FileCalls}
-use Rattle.history_text.specs.declared.history.History.{History}
+use Rattle.history_text.specs.declared.written_history.WrittenHistory.{WrittenHistory}
 use Rattle.history_text.specs.declared.rule.Allowed.{Allowed}
 use Rattle.history_text.specs.rule.Calls.{counted, is_call, with_feed}
 use Rattle.history_text.specs.rule.Files.{calls_in, runs}
@@ -41,7 +41,7 @@ pub record AreOneToOne (names : List (List ℕ)) : Type 0 where
   pub one_owner : (a b : Owner) (name : List ℕ) → IsNamed names a name → IsNamed names b name → a ≡ b
 
 -- a history of that many lines and lines of calls, where these rules are allowed
-pub record IsHistory (allowed : Allowed) (lines calls : ℕ) (history : History) : Type 0 where
+pub record IsHistory (allowed : Allowed) (lines calls : ℕ) (history : WrittenHistory) : Type 0 where
   pub owners : AreOneToOne history.owners
   pub names : AreDistinct history.names
   pub named : length history.names ≡ length history.files.items
@@ -51,7 +51,7 @@ pub record IsHistory (allowed : Allowed) (lines calls : ℕ) (history : History)
   pub counted_is : counted history.counts ≡ calls
 
 -- a history of the lines of the text, where these rules are allowed
-pub record IsHistoryOf (allowed : Allowed) (text : List ℕ) (history : History) : Type 0 where
+pub record IsHistoryOf (allowed : Allowed) (text : List ℕ) (history : WrittenHistory) : Type 0 where
   pub lines : List (List ℕ)
   pub parts : text ≡ flat_map with_feed lines
   pub single : All (Lacks line_feed) lines

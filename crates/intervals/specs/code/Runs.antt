@@ -1,14 +1,14 @@
 -- Runs of bytes that have one value, and what a list of runs has at each byte.
 use Rattle.std.specs.Prelude.{◌≡◌, ℕ, ◌+◌, ◌<◌, ◌≤◌, ◌≢◌, if◌then◌else◌, Option, Some, None, List, [], ◌∷◌}
-use Rattle.intervals.specs.declared.run.Run.{Run}
+use Rattle.intervals.specs.declared.byte_run.ByteRun.{ByteRun}
 use Rattle.intervals.specs.rule.Bytes.{Range, is_in}
 
 -- the span of a run
-abbrev pub bytes_of : {V : Type 0} → Run V → Range
+abbrev pub bytes_of : {V : Type 0} → ByteRun V → Range
 bytes_of r = record { lo = r.lo; hi = r.hi }
 
 -- the value that a list of runs has at byte b: the one of the first run that contains the byte
-unfoldable pub value_at : {V : Type 0} → List (Run V) → ℕ → Option V
+unfoldable pub value_at : {V : Type 0} → List (ByteRun V) → ℕ → Option V
 value_at [] b = None
 value_at (r ∷ rest) b = if is_in (bytes_of r) b then Some r.value else value_at rest b
 
@@ -18,27 +18,27 @@ IsBarredValue None v = Unit {0}
 IsBarredValue (Some w) v = v ≡ w
 
 -- the byte at which the first run begins; 0 where there is no run
-abbrev pub begins_at : {V : Type 0} → List (Run V) → ℕ
+abbrev pub begins_at : {V : Type 0} → List (ByteRun V) → ℕ
 begins_at [] = 0
 begins_at (r ∷ rest) = r.lo
 
 -- run r and the first run behind it don't overlap, and have different values where they are adjacent
-abbrev pub Follows : {V : Type 0} → Run V → List (Run V) → Type 0
+abbrev pub Follows : {V : Type 0} → ByteRun V → List (ByteRun V) → Type 0
 Follows r [] = Unit {0}
 Follows r (s ∷ rest) = (r.hi < s.lo) × (r.hi + 1 ≡ s.lo → r.value ≢ s.value)
 
 -- runs in ascending order, each as long as can be: adjacent runs have different values
-abbrev pub AreRuns : {V : Type 0} → List (Run V) → Type 0
+abbrev pub AreRuns : {V : Type 0} → List (ByteRun V) → Type 0
 AreRuns [] = Unit {0}
 AreRuns (r ∷ rest) = (r.lo ≤ r.hi) × Follows r rest × AreRuns rest
 
 -- each of the runs ends below byte n
-abbrev pub EndsBelow : {V : Type 0} → List (Run V) → ℕ → Type 0
+abbrev pub EndsBelow : {V : Type 0} → List (ByteRun V) → ℕ → Type 0
 EndsBelow [] n = Unit {0}
 EndsBelow (r ∷ rest) n = (r.hi < n) × EndsBelow rest n
 
 -- the first of the runs, if there is one, ends at byte n or above it
-abbrev pub EndsFrom : {V : Type 0} → List (Run V) → ℕ → Type 0
+abbrev pub EndsFrom : {V : Type 0} → List (ByteRun V) → ℕ → Type 0
 EndsFrom [] n = Unit {0}
 EndsFrom (r ∷ rest) n = n ≤ r.hi
 

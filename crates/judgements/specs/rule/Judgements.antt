@@ -2,13 +2,13 @@
 use Rattle.std.specs.Prelude.{◌≡◌, ℕ, ⊤, List, All, Any}
 use Rattle.client_history.specs.rule.Explained.{always, IsExplainedBy}
 use Rattle.history_text.specs.declared.file_calls.FileCalls.{FileCalls}
-use Rattle.history_text.specs.declared.history.History.{History}
+use Rattle.history_text.specs.declared.written_history.WrittenHistory.{WrittenHistory}
 use Rattle.history_text.specs.declared.rule.Allowed.{Allowed}
 use Rattle.history_text.specs.rule.Histories.{IsHistoryOf}
 use Rattle.judgements.specs.declared.judged.Judged.{Judged}
 use Rattle.judgements.specs.declared.judged.Judged.TheVariants.{Explained, Contradicted, Unknown}
-use Rattle.judgements.specs.declared.outcome.Outcome.{Outcome}
-use Rattle.judgements.specs.declared.outcome.Outcome.TheVariants as outcome
+use Rattle.judgements.specs.declared.judgement_outcome.JudgementOutcome.{JudgementOutcome}
+use Rattle.judgements.specs.declared.judgement_outcome.JudgementOutcome.TheVariants as outcome
 
 -- an order of the calls of the file explains them
 abbrev pub IsExplained : FileCalls → Type 0
@@ -25,30 +25,30 @@ IsJudged file (Contradicted misfits unknown) = IsContradicted file
 IsJudged file (Unknown call) = ⊤
 
 -- the finding on the calls of a file, in a word
-abbrev pub outcome_of : Judged → Outcome
+abbrev pub outcome_of : Judged → JudgementOutcome
 outcome_of (Explained order) = outcome.Yes
 outcome_of (Contradicted misfits unknown) = outcome.No
 outcome_of (Unknown call) = outcome.Unknown
 
 -- no clock of a machine is off
-abbrev pub HasOneClock : History → Type 0
+abbrev pub HasOneClock : WrittenHistory → Type 0
 HasOneClock history = All (λ machine. machine.skew ≡ 0) history.machines.items
 
 -- the outcome is true of a history with one clock: orders explain all its files, or none does one of them
-abbrev pub IsOutcome : History → Outcome → Type 0
+abbrev pub IsOutcome : WrittenHistory → JudgementOutcome → Type 0
 IsOutcome history outcome.Yes = HasOneClock history → All IsExplained history.files.items
 IsOutcome history outcome.Unknown = ⊤
 IsOutcome history outcome.No = HasOneClock history → Any IsContradicted history.files.items
 
 -- the outcome is true of a history that the text writes, where these rules are allowed
-abbrev pub IsJudgement : Allowed → List ℕ → Outcome → Type 0
-IsJudgement allowed text said = (history : History) × IsHistoryOf allowed text history × IsOutcome history said
+abbrev pub IsJudgement : Allowed → List ℕ → JudgementOutcome → Type 0
+IsJudgement allowed text said = (history : WrittenHistory) × IsHistoryOf allowed text history × IsOutcome history said
 
 -- the outcome by given orders is true of a history with one clock; where they don't explain it, others may
-abbrev pub IsOrderedBy : History → Outcome → Type 0
+abbrev pub IsOrderedBy : WrittenHistory → JudgementOutcome → Type 0
 IsOrderedBy history outcome.Yes = HasOneClock history → All IsExplained history.files.items
 IsOrderedBy history outcome.Unknown = ⊥
 IsOrderedBy history outcome.No = ⊤
 
-abbrev pub IsOrdered : Allowed → List ℕ → Outcome → Type 0
-IsOrdered allowed text said = (history : History) × IsHistoryOf allowed text history × IsOrderedBy history said
+abbrev pub IsOrdered : Allowed → List ℕ → JudgementOutcome → Type 0
+IsOrdered allowed text said = (history : WrittenHistory) × IsHistoryOf allowed text history × IsOrderedBy history said

@@ -5,7 +5,7 @@ use Rattle.model.specs.declared.call.CallId.{CallId}
 use Rattle.model.specs.declared.reply.Reply.{Reply}
 use Rattle.messages.specs.declared.entry.Entry.{Entry}
 use Rattle.cluster_core.specs.declared.held_lock.HeldLock.{HeldLock}
-use Rattle.cluster_core.specs.declared.token_run.TokenRun.{TokenRun}
+use Rattle.cluster_core.specs.declared.node_token_run.NodeTokenRun.{NodeTokenRun}
 use Rattle.cluster_core.specs.declared.item.Item.{Item}
 use Rattle.cluster_core.specs.declared.item.Item.TheVariants.{Answered, Gone}
 use Rattle.lockscript.specs.declared.refused_line.RefusedLine.{RefusedLine}
@@ -36,7 +36,7 @@ reply_lines position (e ∷ es) = replied position e.reply ++ reply_lines (posit
 abbrev pub span_columns : ℕ → Range → List ℕ
 span_columns file s = right_in 3 (decimal file) ++ codes " " ++ right_in 19 (decimal s.lo) ++ codes " " ++ right_in 19 (decimal s.hi) ++ codes " "
 
-abbrev pub token_line : TokenRun → List ℕ
+abbrev pub token_line : NodeTokenRun → List ℕ
 token_line t = left_in 8 (host_text t.node t.incarnation) ++ codes " " ++ span_columns t.file t.span ++ level_text t.level ++ codes "\n"
 
 abbrev pub lock_line : HeldLock → List ℕ
@@ -47,7 +47,7 @@ history_line (Answered position id pid op reply) = placed position (call_text id
 history_line (Gone position node incarnation) = placed position (codes "gone") ++ host_text node incarnation ++ codes "\n"
 
 -- the first four sections, each under its heading
-abbrev pub listing_start : List RefusedLine → List Entry → List TokenRun → List HeldLock → List ℕ
+abbrev pub listing_start : List RefusedLine → List Entry → List NodeTokenRun → List HeldLock → List ℕ
 listing_start refused entries tokens locks =
     codes "refused\n" ++ flat_map refused_line refused
     ++ codes "replies\n" ++ reply_lines 1 entries
@@ -59,7 +59,7 @@ abbrev pub history_text : List Item → List ℕ
 history_text history = codes "history\n" ++ flat_map history_line history
 
 -- all five sections, each under its heading
-abbrev pub listing_text : List RefusedLine → List Entry → List TokenRun → List HeldLock → List Item → List ℕ
+abbrev pub listing_text : List RefusedLine → List Entry → List NodeTokenRun → List HeldLock → List Item → List ℕ
 listing_text refused entries tokens locks history =
     codes "refused\n" ++ flat_map refused_line refused
     ++ codes "replies\n" ++ reply_lines 1 entries

@@ -1,8 +1,8 @@
 -- Scripts, their lines, and their first bad lines.
 use Rattle.std.specs.Prelude.{◌≡◌, ◌≢◌, ℕ, false, List, [], ◌∷◌, ◌++◌, All, map, codes, decimal, ⊤}
 use Rattle.model.specs.rule.Limits.{IsNumber, most_nodes, most_processes}
-use Rattle.lockscript.specs.declared.script_line.Command.{Command}
-use Rattle.lockscript.specs.declared.script_line.Command.TheVariants.{Call, Deliver, Lose, Settle, Interrupt, Retry, Resend, Declare, Restart, Learn, FailServer, StartServer}
+use Rattle.lockscript.specs.declared.script_line.ScriptCommand.{ScriptCommand}
+use Rattle.lockscript.specs.declared.script_line.ScriptCommand.TheVariants.{Call, Deliver, Lose, Settle, Interrupt, Retry, Resend, Declare, Restart, Learn, FailServer, StartServer}
 use Rattle.lockscript.specs.declared.error.ParseError.{ParseError}
 use Rattle.lockscript.specs.declared.error.ParseError.TheVariants.{NoMemory, BadLine}
 use Rattle.messages.specs.rule.Shapes.{ShapeFields, IsShape, most_files}
@@ -18,9 +18,9 @@ use Rattle.texts.specs.rule.LineFeeds.{line_feeds, is_skipped, kept_lines, Begin
 
 pub record LineFields : Type 0 where
   pub number : ℕ
-  pub command : Command
+  pub command : ScriptCommand
 
-abbrev pub command_text : Command → List ℕ
+abbrev pub command_text : ScriptCommand → List ℕ
 command_text (Call node pid op) = codes "call " ++ pair_text decimal (pair_text decimal op_text) (node, (pid, op))
 command_text (Interrupt node pid) = codes "interrupt " ++ pair_text decimal decimal (node, pid)
 command_text (Retry node pid) = codes "retry " ++ pair_text decimal decimal (node, pid)
@@ -56,7 +56,7 @@ abbrev pub greatest_message : ℕ
 greatest_message = 4294967295
 
 -- a command that a line may give: its numbers are within their limits
-abbrev pub IsCommand : Command → Type 0
+abbrev pub IsCommand : ScriptCommand → Type 0
 IsCommand (Call node pid op) = IsNumber most_nodes node × IsNumber most_processes pid × IsServedOp op
 IsCommand (Interrupt node pid) = IsNumber most_nodes node × IsNumber most_processes pid
 IsCommand (Retry node pid) = IsNumber most_nodes node × IsNumber most_processes pid

@@ -6,11 +6,11 @@ use Rattle.texts.specs.rule.LineFeeds.{kept_lines}
 use Rattle.lockscript.specs.rule.Scripts.{IsScript, LineFields, ScriptFields, Writes}
 use Rattle.lockscript.specs.declared.error.ParseError.{ParseError}
 use Rattle.lockscript.specs.declared.error.ParseError.TheVariants.{NoMemory, BadLine}
-use Rattle.lockscript.specs.declared.script_line.Command.{Command}
-use Rattle.lockscript.specs.declared.script_line.Command.TheVariants.{Call, Deliver, Lose, Settle, Interrupt, Retry, Resend, Declare, Restart, Learn, FailServer, StartServer}
+use Rattle.lockscript.specs.declared.script_line.ScriptCommand.{ScriptCommand}
+use Rattle.lockscript.specs.declared.script_line.ScriptCommand.TheVariants.{Call, Deliver, Lose, Settle, Interrupt, Retry, Resend, Declare, Restart, Learn, FailServer, StartServer}
 
 -- whether threads take a line with this command
-abbrev pub is_for_threads : Command → Bool
+abbrev pub is_for_threads : ScriptCommand → Bool
 is_for_threads (Call node pid op) = true
 is_for_threads (Interrupt node pid) = false
 is_for_threads (Retry node pid) = false

@@ -14,11 +14,11 @@ use Rattle.messages.specs.rule.Messages.{greatest_number}
 use Rattle.descriptors.specs.declared.process_entry.ProcessEntry.{ProcessEntry}
 use Rattle.descriptors.specs.code.Edits.{edited, Fits as ProcessFits}
 use Rattle.node_core.specs.declared.effect.Effect.{Effect as EffectFields}
-use Rattle.node_core.specs.declared.edit.Draft.{Draft}
+use Rattle.node_core.specs.declared.node_edit.NodeDraft.{NodeDraft}
 use Rattle.fcntl_table.specs.rule.Hosts.{process_at}
-use Rattle.node_core.specs.declared.edit.Edit.{Edit}
-use Rattle.node_core.specs.declared.edit.TableEdit.{TableEdit}
-use Rattle.node_core.specs.declared.edit.TableEdit.TheVariants.{Nothing, OfProcess, OfLocks, Closes, Exits}
+use Rattle.node_core.specs.declared.node_edit.NodeEdit.{NodeEdit}
+use Rattle.node_core.specs.declared.node_edit.NodeTableEdit.{NodeTableEdit}
+use Rattle.node_core.specs.declared.node_edit.NodeTableEdit.TheVariants.{Nothing, OfProcess, OfLocks, Closes, Exits}
 use Rattle.node_core.specs.declared.file_row.FileEdit.{FileEdit}
 use Rattle.node_core.specs.declared.file_row.FileRow.{FileRow}
 use Rattle.node_core.specs.declared.open_call.OpenCall.{OpenCall}
@@ -62,7 +62,7 @@ files_told files [] = files
 files_told files (file ∷ more) = files_told (told files file) more
 
 -- the table after a change of the host's processes and locks
-abbrev pub table_after : Host → Table → TableEdit → Table
+abbrev pub table_after : Host → Table → NodeTableEdit → Table
 table_after h t Nothing = t
 table_after h t (OfProcess e) = with_processes t (process_at h 0) (edited (t.on h.node h.incarnation) e)
 table_after h t (OfLocks e) = record t { locks = with_lock t.locks e.file e.owner e.write.span e.write.value }
@@ -77,7 +77,7 @@ pending_after calls (Gone number) = filter (λ c. not (c.number == number)) call
 pending_after calls (Left pid number) = filter (λ c. not (c.number == number)) (filter (λ c. not (c.pid == pid)) calls)
 
 -- the state in which a call is tried: the node after the draft
-abbrev pub drafted : NodeParts → Draft → NodeState
+abbrev pub drafted : NodeParts → NodeDraft → NodeState
 drafted p d = record (node_state p) { calls = calls_after (node_state p).calls d.numbered; files = files_after (node_state p).files p.files d.command }
 
 -- the open calls, with the call that is tried if it is new
@@ -85,11 +85,11 @@ abbrev pub opened_if : Bool → List OpenCall → OpenCall → List OpenCall
 opened_if true calls c = calls ++ c ∷ []
 opened_if false calls c = calls
 
-abbrev pub trying : NodeParts → Draft → OpenCall → NodeState
+abbrev pub trying : NodeParts → NodeDraft → OpenCall → NodeState
 trying p d c = record (drafted p d) { pending = opened_if d.numbered (node_state p).pending c }
 
 -- the state that a planned step leads to
-abbrev pub planned : NodeParts → Edit → NodeState
+abbrev pub planned : NodeParts → NodeEdit → NodeState
 planned p e =
     let s = drafted p e.draft in
     record s {
@@ -112,11 +112,11 @@ abbrev pub CommandFits : ℕ → Option FileEdit → Type 0
 CommandFits files None = Unit {0}
 CommandFits files (Some e) = IsNumber files e.file
 
-abbrev pub DraftFits : NodeParts → Draft → Type 0
+abbrev pub DraftFits : NodeParts → NodeDraft → Type 0
 DraftFits p d = NumberFits (node_state p).calls d.numbered × CommandFits (node_state p).shape.files d.command
 
 -- the change of processes and locks can be made: rows are as planned, a new one has room, and a process that closes descriptors runs
-abbrev pub RowsFit : List ProcessEntry → TableParts → TableEdit → Type 0
+abbrev pub RowsFit : List ProcessEntry → TableParts → NodeTableEdit → Type 0
 RowsFit rows locks Nothing = Unit {0}
 RowsFit rows locks (OfProcess e) = ProcessFits rows e
 RowsFit rows locks (OfLocks e) =
@@ -125,11 +125,11 @@ RowsFit rows locks (Closes pid fd) = IsNumber most_processes pid × ((processes 
 RowsFit rows locks (Exits pid) = IsNumber most_processes pid × ((processes rows).runs pid ≡ true)
 
 -- after the change all open descriptors are of files of the shape
-abbrev pub OpensWithin : ℕ → Processes → TableEdit → Type 0
+abbrev pub OpensWithin : ℕ → Processes → NodeTableEdit → Type 0
 OpensWithin files ps (OfProcess e) = (pid fd : ℕ) (o : Opened) → (edited ps e).opened pid fd ≡ Some o → IsNumber files o.file
 OpensWithin files ps _ = Unit {0}
 
-abbrev pub TableFits : NodeParts → TableEdit → Type 0
+abbrev pub TableFits : NodeParts → NodeTableEdit → Type 0
 TableFits p e = RowsFit p.processes p.locks e × OpensWithin (node_state p).shape.files (processes p.processes) e
 
 -- the list of open calls that the change brings has room for one more than n
@@ -146,7 +146,7 @@ abbrev pub CallsFit : NodeParts → CallsEdit → Type 0
 CallsFit p e = HasRoom (length p.pending) e × IsPut p e
 
 -- each part of the change can be made on the node that it was planned for
-abbrev pub PartsFit : NodeParts → Edit → Type 0
+abbrev pub PartsFit : NodeParts → NodeEdit → Type 0
 PartsFit p e =
     DraftFits p e.draft
     × TableFits p e.table
@@ -154,5 +154,5 @@ PartsFit p e =
     × All (IsNumber (node_state p).shape.files) e.freed
 
 -- the change can be made on the node, and leaves no lock without its descriptors
-abbrev pub Fits : NodeParts → Edit → Type 0
+abbrev pub Fits : NodeParts → NodeEdit → Type 0
 Fits p e = PartsFit p e × IsAnchored (planned p e)

@@ -14,7 +14,7 @@ use Rattle.model.specs.declared.host.Host.{Host}
 use Rattle.token_set.specs.rule.Tokens.{raised}
 use Rattle.token_set.specs.rule.Releases.{after_giving_up}
 use Rattle.token_set.specs.declared.gave_up.GaveUp.{GaveUp}
-use Rattle.node_core.specs.declared.command.Command.{Command}
+use Rattle.node_core.specs.declared.token_command.TokenCommand.{TokenCommand}
 use Rattle.messages.specs.rule.Messages.{addressee, file_of, is_within, greatest_number}
 use Rattle.descriptors.specs.declared.process_entry.ProcessEntry.{ProcessEntry}
 use Rattle.node_core.specs.declared.file_row.FileRow.{FileRow}
@@ -84,11 +84,11 @@ abbrev pub IsCallOf : NodeState → OpenCall → Type 0
 IsCallOf s c = IsOwnCall s.shape.files s.node s.incarnation c
 
 -- the file after a grant is done
-abbrev pub granted_file : FileState → Command → Range → FileState
+abbrev pub granted_file : FileState → TokenCommand → Range → FileState
 granted_file f c span = record { token = raised f.token span c.mode; last = c.number; answer = Some (Taken c.file c.number c.call); owes_freed = f.owes_freed }
 
 -- the file after a revoke is done, with the holder's answer
-abbrev pub revoked_file : FileState → Command → Host → GaveUp → FileState
+abbrev pub revoked_file : FileState → TokenCommand → Host → GaveUp → FileState
 revoked_file f c holder gives =
     record { token = after_giving_up f.token c.mode gives; last = c.number; answer = Some (answer_to c.file c.number holder c.call gives); owes_freed = is_conflict gives || f.owes_freed }
 
@@ -97,8 +97,8 @@ abbrev pub out_of_order : NodeState → ℕ → ℕ → Effect
 out_of_order s file number = if (number == (s.files file).last) && nat_le 1 number then remembered s (s.files file).answer else quiet s
 
 -- the node after a grant is done
-abbrev pub after_grant : NodeState → Command → Range → NodeState
+abbrev pub after_grant : NodeState → TokenCommand → Range → NodeState
 after_grant s c span = with_file s c.file (granted_file (s.files c.file) c span)
 
-abbrev pub after_revoke : NodeState → Command → GaveUp → NodeState
+abbrev pub after_revoke : NodeState → TokenCommand → GaveUp → NodeState
 after_revoke s c gives = with_file s c.file (revoked_file (s.files c.file) c (host s) gives)

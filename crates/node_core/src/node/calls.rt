@@ -12,8 +12,8 @@ ghost use Rattle.node_core.specs.code.Plans.{numbered, table_after, planned, eff
 
 use super::Node;
 use crate::change::Change;
-use crate::edit::{Draft, TableEdit};
 use crate::effect::Effect;
+use crate::node_edit::{NodeDraft, NodeTableEdit};
 use crate::numbers::is_pid;
 use crate::open_call::OpenCall;
 use fcntl_table::target::target_at;
@@ -78,15 +78,19 @@ impl Node {
 
     // The change of the processes by a call that concerns only processes and descriptors, and its
     // reply.
-    fn plan_process(&self, pid: u16, call: ProcessCall) -> Result<(TableEdit, Reply), AllocError>
+    fn plan_process(
+        &self,
+        pid: u16,
+        call: ProcessCall,
+    ) -> Result<(NodeTableEdit, Reply), AllocError>
         requires pid { IsNumber most_processes pid }
         requires file { is_in_shape (node_state self.now).shape (Op.Process call) ≡ true }
         ensures value { IfOk result (λ r. asked (node_state self.now) pid call ≡ (table_after (host (node_state self.now)) (node_state self.now).table r.0, r.1)) }
         ensures fits { IfOk result (λ r. TableFits self.now r.0) }
     {
         match self.processes.plan(pid, call) {
-            Ok((edit, reply)) => Ok((TableEdit::OfProcess(edit), reply)),
-            Err(error) => Ok((TableEdit::Nothing, error.reply()?)),
+            Ok((edit, reply)) => Ok((NodeTableEdit::OfProcess(edit), reply)),
+            Err(error) => Ok((NodeTableEdit::Nothing, error.reply()?)),
         }
     }
 
@@ -115,14 +119,20 @@ impl Node {
     }
 
     // Answers a new call in its own step, with that change of the table.
-    pub(super) fn answer_call(&self, alloc: Global, table: TableEdit, reply: Reply) -> Effect
+    pub(super) fn answer_call(&self, alloc: Global, table: NodeTableEdit, reply: Reply) -> Effect
         requires left { (node_state self.now).calls < greatest_number }
         requires table { TableFits self.now table }
         ensures value { settled (numbered (node_state self.now)) ((node_state self.now).calls + 1) (table_after (host (node_state self.now)) (node_state self.now).table table, reply) ≡ effect_of self.now result }
         ensures fits { PartsFit self.now result.edit }
         ensures first { result.edit.freed ≡ [] }
     {
-        self.answer(alloc, Draft::of_call(), table, self.next_number(), reply)
+        self.answer(
+            alloc,
+            NodeDraft::of_call(),
+            table,
+            self.next_number(),
+            reply,
+        )
     }
 
     // Answers a new call that concerns only processes and descriptors.
@@ -164,9 +174,9 @@ impl Node {
                     mode,
                     span: target.span,
                 };
-                self.try_call(alloc, Draft::of_call(), &call)
+                self.try_call(alloc, NodeDraft::of_call(), &call)
             }
-            Err(refusal) => Ok(self.answer_call(alloc, TableEdit::Nothing, refusal)),
+            Err(refusal) => Ok(self.answer_call(alloc, NodeTableEdit::Nothing, refusal)),
         }
     }
 
@@ -184,8 +194,14 @@ impl Node {
         ensures fits { IfOk result (λ effect. PartsFit self.now effect.edit) }
     {
         match target {
-            Ok(target) => self.lock(alloc, Draft::of_call(), self.next_number(), target, None),
-            Err(refusal) => Ok(self.answer_call(alloc, TableEdit::Nothing, refusal)),
+            Ok(target) => self.lock(
+                alloc,
+                NodeDraft::of_call(),
+                self.next_number(),
+                target,
+                None,
+            ),
+            Err(refusal) => Ok(self.answer_call(alloc, NodeTableEdit::Nothing, refusal)),
         }
     }
 
@@ -252,7 +268,7 @@ impl Node {
         if !is_pid(pid) {
             return Err(StepError::Stranger);
         }
-        let effect = self.try_if(alloc, Draft::none(), self.open_call_of(pid))?;
+        let effect = self.try_if(alloc, NodeDraft::none(), self.open_call_of(pid))?;
         Ok(effect.change(None))
     }
 }

@@ -13,13 +13,13 @@ ghost use Rattle.node_core.specs.code.Plans.{drafted, planned, effect_of, Comman
 
 use super::Node;
 use crate::change::Change;
-use crate::command::Command;
-use crate::edit::{Draft, Edit};
 use crate::effect::Effect;
 use crate::file_row::FileEdit;
+use crate::node_edit::{NodeDraft, NodeEdit};
 use crate::numbers::{is_node, is_within};
 use crate::open_call::{OpenCall, refusal_of};
 use crate::report::runs_of;
+use crate::token_command::TokenCommand;
 use intervals::span::Span;
 use messages::epoch_number::EpochNumber;
 use messages::file_number::FileNumber;
@@ -50,7 +50,7 @@ impl Node {
         ensures fits { IfOk result (λ effect. PartsFit self.now effect.edit) }
     {
         let answer = known.answer;
-        let edit = Edit::of(alloc, Draft::of_command(known));
+        let edit = NodeEdit::of(alloc, NodeDraft::of_command(known));
         match answer {
             None => Ok(Effect::quiet(alloc, edit)),
             Some(answer) => Effect::sent(alloc, edit, answer.message()),
@@ -58,7 +58,7 @@ impl Node {
     }
 
     // Whether the command is the one after the last one that was done, in its epoch.
-    fn is_next(&self, command: &Command) -> bool
+    fn is_next(&self, command: &TokenCommand) -> bool
         requires { IsNumber (node_state self.now).shape.files command.now.file }
         ensures { result ≡ (command.now.number == ((in_epoch (node_state self.now) command.now.file command.now.number).files command.now.file).last + 1) }
     {
@@ -68,7 +68,7 @@ impl Node {
 
     // Takes a command that isn't the next one: the last one that was done is answered again, any
     // other does nothing.
-    fn on_out_of_order(&self, alloc: Global, command: &Command) -> Result<Effect, AllocError>
+    fn on_out_of_order(&self, alloc: Global, command: &TokenCommand) -> Result<Effect, AllocError>
         requires { IsNumber (node_state self.now).shape.files command.now.file }
         ensures value { IfOk result (λ effect. out_of_order (in_epoch (node_state self.now) command.now.file command.now.number) command.now.file command.now.number ≡ effect_of self.now effect) }
         ensures fits { IfOk result (λ effect. PartsFit self.now effect.edit) }
@@ -76,26 +76,26 @@ impl Node {
         let number = command.number.get();
         let known = self.enter(command.file.get(), number);
         if number != known.last {
-            return Ok(Effect::quiet(alloc, Edit::of(alloc, Draft::of_command(known))));
+            return Ok(Effect::quiet(alloc, NodeEdit::of(alloc, NodeDraft::of_command(known))));
         }
         self.remembered(alloc, known)
     }
 
     // Plans what a grant changes: the token is raised, the command is done, and its answer is
     // remembered.
-    fn raise(&self, command: &Command, span: Span) -> Result<Draft, AllocError>
+    fn raise(&self, command: &TokenCommand, span: Span) -> Result<NodeDraft, AllocError>
         requires { IsNumber (node_state self.now).shape.files command.now.file }
         ensures state { IfOk result (λ draft. drafted self.now draft ≡ after_grant (node_state self.now) command.now span) }
         ensures old { IfOk result (λ draft. draft.numbered ≡ false) }
         ensures fits { IfOk result (DraftFits self.now) }
     {
         let edit = self.file(command.file.get()).plan_grant(command, span)?;
-        Ok(Draft::of_command(edit))
+        Ok(NodeDraft::of_command(edit))
     }
 
     // Takes a grant. If it is the next command the token is raised, and the call that it is for is
     // tried if it is still open.
-    fn grant(&self, alloc: Global, command: &Command, span: Span) -> Result<Effect, AllocError>
+    fn grant(&self, alloc: Global, command: &TokenCommand, span: Span) -> Result<Effect, AllocError>
         requires { IsNumber (node_state self.now).shape.files command.now.file }
         ensures value { IfOk result (λ effect. in_order (in_epoch (node_state self.now) command.now.file command.now.number) command.now.file command.now.number (granted (in_epoch (node_state self.now) command.now.file command.now.number) command.now.file command.now.number command.now.call command.now.mode span) ≡ effect_of self.now effect) }
         ensures fits { IfOk result (λ effect. PartsFit self.now effect.edit) }
@@ -111,7 +111,7 @@ impl Node {
 
     // The answer to a revoke: a span around the required bytes that is given up, or a lock in the
     // way. Takes no memory.
-    fn gives(&self, command: &Command, wanted: Wanted) -> GaveUp
+    fn gives(&self, command: &TokenCommand, wanted: Wanted) -> GaveUp
         ensures { result ≡ gave_up ((node_state self.now).table.locks command.now.file) (node_state self.now).node (node_state self.now).incarnation command.now.mode wanted.required wanted.desired }
     {
         let _ = &wanted.required.lo; // tells the proof that each span has a byte
@@ -127,7 +127,11 @@ impl Node {
 
     // Plans what a revoke changes: the token is given up as far as no lock is in the way, the
     // command is done, and its answer is remembered.
-    fn give_up(&self, command: &Command, wanted: Wanted) -> Result<(GaveUp, Draft), AllocError>
+    fn give_up(
+        &self,
+        command: &TokenCommand,
+        wanted: Wanted,
+    ) -> Result<(GaveUp, NodeDraft), AllocError>
         requires { IsNumber (node_state self.now).shape.files command.now.file }
         ensures answer { IfOk result (λ r. r.0 ≡ gave_up ((node_state self.now).table.locks command.now.file) (node_state self.now).node (node_state self.now).incarnation command.now.mode wanted.required wanted.desired) }
         ensures state { IfOk result (λ r. drafted self.now r.1 ≡ after_revoke (node_state self.now) command.now r.0) }
@@ -136,12 +140,17 @@ impl Node {
         let gives = self.gives(command, wanted);
         let row = self.file(command.file.get());
         let edit = row.plan_revoke(command, self.host(), &gives)?;
-        Ok((gives, Draft::of_command(edit)))
+        Ok((gives, NodeDraft::of_command(edit)))
     }
 
     // Takes a revoke. If it is the next command the token is given up as far as no lock is in the
     // way, and the answer is sent.
-    fn revoke(&self, alloc: Global, command: &Command, wanted: Wanted) -> Result<Effect, AllocError>
+    fn revoke(
+        &self,
+        alloc: Global,
+        command: &TokenCommand,
+        wanted: Wanted,
+    ) -> Result<Effect, AllocError>
         requires { IsNumber (node_state self.now).shape.files command.now.file }
         ensures value { IfOk result (λ effect. in_order (in_epoch (node_state self.now) command.now.file command.now.number) command.now.file command.now.number (revoked (in_epoch (node_state self.now) command.now.file command.now.number) command.now.file command.now.number command.now.call command.now.mode wanted) ≡ effect_of self.now effect) }
         ensures fits { IfOk result (λ effect. PartsFit self.now effect.edit) }
@@ -152,7 +161,7 @@ impl Node {
         let (gives, draft) = self.give_up(command, wanted)?;
         Effect::sent(
             alloc,
-            Edit::of(alloc, draft),
+            NodeEdit::of(alloc, draft),
             command.answer(self.host(), gives).message(),
         )
     }
@@ -189,7 +198,7 @@ impl Node {
     {
         let known = self.enter(file.get(), number.get());
         let is_begun = number.get() != known.last;
-        let edit = Edit::of(alloc, Draft::of_command(known));
+        let edit = NodeEdit::of(alloc, NodeDraft::of_command(known));
         if is_begun {
             return Ok(Effect::quiet(alloc, edit));
         }
@@ -204,7 +213,7 @@ impl Node {
         ensures fits { PartsFit self.now result.edit }
     {
         match call {
-            None => Effect::quiet(alloc, Edit::none(alloc)),
+            None => Effect::quiet(alloc, NodeEdit::none(alloc)),
             Some(call) => self.answer_if(alloc, call.number, refusal_of(call.lock_command, lock)),
         }
     }
@@ -241,7 +250,11 @@ impl Node {
                 call,
                 mode,
                 span,
-            } => self.grant(alloc, &Command::new(*file, *number, *call, *mode), *span),
+            } => self.grant(
+                alloc,
+                &TokenCommand::new(*file, *number, *call, *mode),
+                *span,
+            ),
             Message::Revoke {
                 file,
                 number,
@@ -249,13 +262,17 @@ impl Node {
                 mode,
                 wanted,
                 ..
-            } => self.revoke(alloc, &Command::new(*file, *number, *call, *mode), *wanted),
+            } => self.revoke(
+                alloc,
+                &TokenCommand::new(*file, *number, *call, *mode),
+                *wanted,
+            ),
             Message::Hello { file, number, .. } => self.tell(alloc, *file, *number),
             Message::Deny { call, lock, .. } => {
                 let waiting = self.open_call(call.number);
                 Ok(self.deny(alloc, waiting, *lock))
             }
-            _ => Ok(Effect::quiet(alloc, Edit::none(alloc))),
+            _ => Ok(Effect::quiet(alloc, NodeEdit::none(alloc))),
         }
     }
 
@@ -270,7 +287,7 @@ impl Node {
             return Err(StepError::Stranger);
         }
         if !self.is_for_now(message) {
-            return Ok(Effect::quiet(alloc, Edit::none(alloc)).change(None));
+            return Ok(Effect::quiet(alloc, NodeEdit::none(alloc)).change(None));
         }
         let effect = self.deliver(alloc, message)?;
         Ok(effect.change(None))

@@ -6,8 +6,8 @@ ghost use Rattle.node_core.specs.code.Plans.{planned, effect_of, PartsFit};
 
 use super::Node;
 use crate::change::Change;
-use crate::edit::Edit;
 use crate::effect::Effect;
+use crate::node_edit::NodeEdit;
 use crate::numbers::is_pid;
 use crate::open_call::{OpenCall, interruption_of};
 use messages::refusal::StepError;
@@ -21,7 +21,7 @@ impl Node {
         ensures fits { PartsFit self.now result.edit }
     {
         match call {
-            None => Effect::quiet(alloc, Edit::none(alloc)),
+            None => Effect::quiet(alloc, NodeEdit::none(alloc)),
             Some(call) => self.answer_if(alloc, call.number, interruption_of(call.lock_command)),
         }
     }

@@ -11,8 +11,8 @@ ghost use Rattle.node_core.specs.rule.Parts.{node_state};
 ghost use Rattle.node_core.specs.code.Plans.{numbered, table_after, effect_of, TableFits, PartsFit};
 
 use super::Node;
-use crate::edit::{Draft, Edit, TableEdit};
 use crate::effect::Effect;
+use crate::node_edit::{NodeDraft, NodeEdit, NodeTableEdit};
 use crate::open_calls::CallsEdit;
 use model::op::Op;
 use model::reply::Reply;
@@ -20,7 +20,7 @@ use std::alloc::{AllocError, Global};
 
 impl Node {
     // Answers an exit, with that change of the table; no call of the process stays open.
-    fn answer_exit(&self, alloc: Global, pid: u16, table: TableEdit, reply: Reply) -> Effect
+    fn answer_exit(&self, alloc: Global, pid: u16, table: NodeTableEdit, reply: Reply) -> Effect
         requires left { (node_state self.now).calls < greatest_number }
         requires table { TableFits self.now table }
         ensures value { settled (without_call_of (numbered (node_state self.now)) pid) ((node_state self.now).calls + 1) (table_after (host (node_state self.now)) (node_state self.now).table table, reply) ≡ effect_of self.now result }
@@ -28,10 +28,10 @@ impl Node {
         ensures first { result.edit.freed ≡ [] }
     {
         let number = self.next_number();
-        let edit = Edit {
+        let edit = NodeEdit {
             table,
             calls: CallsEdit::Left { pid, number },
-            ..Edit::of(alloc, Draft::of_call())
+            ..NodeEdit::of(alloc, NodeDraft::of_call())
         };
         Effect::answered(alloc, edit, self.id(number), reply)
     }
@@ -46,10 +46,14 @@ impl Node {
     {
         match self.processes.resolve(pid, fd) {
             Ok(opened) => {
-                let effect = self.answer_call(alloc, TableEdit::Closes { pid, fd }, Reply::Done);
+                let effect = self.answer_call(
+                    alloc,
+                    NodeTableEdit::Closes { pid, fd },
+                    Reply::Done,
+                );
                 self.tell_freed(opened.file, effect)
             }
-            Err(error) => Ok(self.answer_call(alloc, TableEdit::Nothing, error.reply())),
+            Err(error) => Ok(self.answer_call(alloc, NodeTableEdit::Nothing, error.reply())),
         }
     }
 
@@ -95,9 +99,9 @@ impl Node {
         ensures fits { IfOk result (λ effect. PartsFit self.now effect.edit) }
     {
         if !self.processes.is_running(pid) {
-            return Ok(self.answer_exit(alloc, pid, TableEdit::Nothing, Reply::NoProcess));
+            return Ok(self.answer_exit(alloc, pid, NodeTableEdit::Nothing, Reply::NoProcess));
         }
-        let effect = self.answer_exit(alloc, pid, TableEdit::Exits { pid }, Reply::Done);
+        let effect = self.answer_exit(alloc, pid, NodeTableEdit::Exits { pid }, Reply::Done);
         self.tell_open(pid, effect)
     }
 }

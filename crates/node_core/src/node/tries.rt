@@ -9,14 +9,14 @@ ghost use Rattle.token_set.specs.rule.Tokens.{covers, desired};
 ghost use Rattle.messages.specs.declared.message.Message.TheVariants.{Freed};
 ghost use Rattle.node_core.specs.rule.State.{host};
 ghost use Rattle.node_core.specs.rule.Try.{settled, requested, answered_if, with_freed, locked_by, answered_here, tried, tried_if};
-ghost use Rattle.node_core.specs.declared.edit.TableEdit.TheVariants.{Nothing};
+ghost use Rattle.node_core.specs.declared.node_edit.NodeTableEdit.TheVariants.{Nothing};
 ghost use Rattle.node_core.specs.rule.Parts.{node_state, IsOwn, IsSpan, IsCallOf};
 ghost use Rattle.node_core.specs.code.Plans.{drafted, trying, opened_if, pending_after, table_after, effect_of, DraftFits, TableFits, CallsFit, PartsFit};
 
 use super::Node;
-use crate::edit::{Draft, Edit, TableEdit};
 use crate::effect::Effect;
 use crate::locks::may_free;
+use crate::node_edit::{NodeDraft, NodeEdit, NodeTableEdit};
 use crate::open_call::{OpenCall, blocking_of, refusal_of};
 use crate::open_calls::CallsEdit;
 use fcntl_table::locks::lock_reply;
@@ -43,7 +43,7 @@ impl Node {
 
     // Whether a Freed is owed for the file after the draft: one of the node's locks was named in
     // the way.
-    pub(super) fn owes_freed(&self, draft: &Draft, file: u16) -> bool
+    pub(super) fn owes_freed(&self, draft: &NodeDraft, file: u16) -> bool
         requires { IsNumber (node_state self.now).shape.files file }
         ensures { result ≡ ((drafted self.now draft.now).files file).owes_freed }
     {
@@ -55,7 +55,7 @@ impl Node {
     }
 
     // Whether the node's token covers the call after the draft.
-    fn is_covered(&self, draft: &Draft, call: &OpenCall) -> Result<bool, AllocError>
+    fn is_covered(&self, draft: &NodeDraft, call: &OpenCall) -> Result<bool, AllocError>
         requires { IsCallOf (node_state self.now) call.now }
         ensures { IfOk result (λ yes. yes ≡ covers ((drafted self.now draft.now).files call.now.file).token call.now.span call.now.mode) }
     {
@@ -80,7 +80,7 @@ impl Node {
 
     // The bytes that the call needs, and the ones that the node requests with them, by its token
     // after the draft.
-    fn wanted(&self, draft: &Draft, call: &OpenCall) -> Result<Wanted, AllocError>
+    fn wanted(&self, draft: &NodeDraft, call: &OpenCall) -> Result<Wanted, AllocError>
         requires { IsCallOf (node_state self.now) call.now }
         ensures { IfOk result (λ wanted. wanted ≡ record { required = call.now.span; desired = desired (node_state self.now).shape.policy ((drafted self.now draft.now).files call.now.file).token call.now.span }) }
     {
@@ -95,7 +95,7 @@ impl Node {
     }
 
     // Plans that a new call is open from now on; a call that is open already stays so.
-    fn keep_open(&self, draft: &Draft, call: &OpenCall) -> Result<CallsEdit, AllocError>
+    fn keep_open(&self, draft: &NodeDraft, call: &OpenCall) -> Result<CallsEdit, AllocError>
         requires { IsCallOf (node_state self.now) call.now }
         ensures value { IfOk result (λ edit. pending_after (node_state self.now).pending edit ≡ opened_if draft.now.numbered (node_state self.now).pending call.now) }
         ensures fits { IfOk result (CallsFit self.now) }
@@ -107,7 +107,12 @@ impl Node {
     }
 
     // Sends a request to the server for a call that the token doesn't cover.
-    fn request(&self, alloc: Global, draft: Draft, call: &OpenCall) -> Result<Effect, AllocError>
+    fn request(
+        &self,
+        alloc: Global,
+        draft: NodeDraft,
+        call: &OpenCall,
+    ) -> Result<Effect, AllocError>
         requires own { IsCallOf (node_state self.now) call.now }
         requires draft { DraftFits self.now draft }
         ensures value { IfOk result (λ effect. requested (trying self.now draft call.now) call.now ≡ effect_of self.now effect) }
@@ -121,9 +126,9 @@ impl Node {
             wanted: self.wanted(&draft, call)?,
         };
         let calls = self.keep_open(&draft, call)?;
-        let edit = Edit {
+        let edit = NodeEdit {
             calls,
-            ..Edit::of(alloc, draft)
+            ..NodeEdit::of(alloc, draft)
         };
         Effect::sent(alloc, edit, request)
     }
@@ -132,8 +137,8 @@ impl Node {
     pub(super) fn answer(
         &self,
         alloc: Global,
-        draft: Draft,
-        table: TableEdit,
+        draft: NodeDraft,
+        table: NodeTableEdit,
         number: u32,
         reply: Reply,
     ) -> Effect
@@ -144,10 +149,10 @@ impl Node {
         ensures fits { PartsFit self.now result.edit }
         ensures first { result.edit.freed ≡ [] }
     {
-        let edit = Edit {
+        let edit = NodeEdit {
             table,
             calls: CallsEdit::Gone(number),
-            ..Edit::of(alloc, draft)
+            ..NodeEdit::of(alloc, draft)
         };
         Effect::answered(alloc, edit, self.id(number), reply)
     }
@@ -159,8 +164,14 @@ impl Node {
         ensures fits { PartsFit self.now result.edit }
     {
         match reply {
-            None => Effect::quiet(alloc, Edit::none(alloc)),
-            Some(reply) => self.answer(alloc, Draft::none(), TableEdit::Nothing, number, reply),
+            None => Effect::quiet(alloc, NodeEdit::none(alloc)),
+            Some(reply) => self.answer(
+                alloc,
+                NodeDraft::none(),
+                NodeTableEdit::Nothing,
+                number,
+                reply,
+            ),
         }
     }
 
@@ -169,7 +180,7 @@ impl Node {
     fn refuse(
         &self,
         alloc: Global,
-        draft: Draft,
+        draft: NodeDraft,
         call: &OpenCall,
         refusal: Option<Reply>,
     ) -> Result<Effect, AllocError>
@@ -179,12 +190,12 @@ impl Node {
         ensures fits { IfOk result (λ effect. PartsFit self.now effect.edit) }
     {
         if let Some(reply) = refusal {
-            return Ok(self.answer(alloc, draft, TableEdit::Nothing, call.number, reply));
+            return Ok(self.answer(alloc, draft, NodeTableEdit::Nothing, call.number, reply));
         }
         let calls = self.keep_open(&draft, call)?;
-        let edit = Edit {
+        let edit = NodeEdit {
             calls,
-            ..Edit::of(alloc, draft)
+            ..NodeEdit::of(alloc, draft)
         };
         Ok(Effect::quiet(alloc, edit))
     }
@@ -196,7 +207,7 @@ impl Node {
         &self,
         target: LockTarget,
         mode: Option<Mode>,
-    ) -> Result<(TableEdit, Reply), AllocError>
+    ) -> Result<(NodeTableEdit, Reply), AllocError>
         requires own { IsOwn (node_state self.now).node (node_state self.now).incarnation target.owner }
         requires span { IsSpan target.span }
         ensures locked { IfOk result (λ r. lock_within (node_state self.now).table target mode ≡ (table_after (host (node_state self.now)) (node_state self.now).table r.0, r.1)) }
@@ -207,8 +218,8 @@ impl Node {
             .locks
             .plan(target.owner, target.file, target.span, mode)
         {
-            Ok(edit) => Ok((TableEdit::OfLocks(edit), Reply::Done)),
-            Err(error) => Ok((TableEdit::Nothing, lock_reply(error)?)),
+            Ok(edit) => Ok((NodeTableEdit::OfLocks(edit), Reply::Done)),
+            Err(error) => Ok((NodeTableEdit::Nothing, lock_reply(error)?)),
         }
     }
 
@@ -244,7 +255,7 @@ impl Node {
     pub(super) fn lock(
         &self,
         alloc: Global,
-        draft: Draft,
+        draft: NodeDraft,
         number: u32,
         target: LockTarget,
         mode: Option<Mode>,
@@ -269,7 +280,7 @@ impl Node {
     fn answer_here(
         &self,
         alloc: Global,
-        draft: Draft,
+        draft: NodeDraft,
         call: &OpenCall,
     ) -> Result<Effect, AllocError>
         requires own { IsCallOf (node_state self.now) call.now }
@@ -288,7 +299,7 @@ impl Node {
             LockCommand::Query => Ok(self.answer(
                 alloc,
                 draft,
-                TableEdit::Nothing,
+                NodeTableEdit::Nothing,
                 call.number,
                 Reply::Free,
             )),
@@ -301,7 +312,7 @@ impl Node {
     pub(super) fn try_call(
         &self,
         alloc: Global,
-        draft: Draft,
+        draft: NodeDraft,
         call: &OpenCall,
     ) -> Result<Effect, AllocError>
         requires own { IsCallOf (node_state self.now) call.now }
@@ -322,7 +333,7 @@ impl Node {
     pub(super) fn try_if(
         &self,
         alloc: Global,
-        draft: Draft,
+        draft: NodeDraft,
         call: Option<OpenCall>,
     ) -> Result<Effect, AllocError>
         requires own { IfSome call (IsCallOf (node_state self.now)) }
@@ -332,7 +343,7 @@ impl Node {
         ensures fits { IfOk result (λ effect. PartsFit self.now effect.edit) }
     {
         match call {
-            None => Ok(Effect::quiet(alloc, Edit::of(alloc, draft))),
+            None => Ok(Effect::quiet(alloc, NodeEdit::of(alloc, draft))),
             Some(call) => self.try_call(alloc, draft, &call),
         }
     }

@@ -15,8 +15,8 @@ use Rattle.cluster_core.specs.rule.World.{WorldState, first_world}
 use Rattle.cluster_core.specs.rule.Next.{kept_next}
 use Rattle.cluster_core.specs.rule.Journals.{delivery}
 use Rattle.lockscript.specs.declared.refused_line.RefusedLine.{RefusedLine}
-use Rattle.lockscript.specs.declared.script_line.Command.{Command}
-use Rattle.lockscript.specs.declared.script_line.Command.TheVariants.{Call, Deliver, Lose, Settle, Interrupt, Retry, Resend, Declare, Restart, Learn, FailServer, StartServer}
+use Rattle.lockscript.specs.declared.script_line.ScriptCommand.{ScriptCommand}
+use Rattle.lockscript.specs.declared.script_line.ScriptCommand.TheVariants.{Call, Deliver, Lose, Settle, Interrupt, Retry, Resend, Declare, Restart, Learn, FailServer, StartServer}
 use Rattle.lockscript.specs.rule.Scripts.{LineFields}
 
 -- how far a run came: its entries, its world, the settled messages (by index in order of sending), and the refused lines with the numbers of refusals
@@ -113,7 +113,7 @@ abbrev pub lost : ℕ → ℕ → Progress → Progress
 lost line index p = if nat_lt index (length p.world.sent) then settling index p else after_refusal p line Stranger
 
 -- what the command of a line does
-abbrev pub Does : ℕ → Command → Progress → End → Type 0
+abbrev pub Does : ℕ → ScriptCommand → Progress → End → Type 0
 Does line (Call node pid op) p end = Happens line (event.AtNode node (input.Call pid op)) p end
 Does line (Deliver number) p end = Comes line (index_of number) p (delivery p.world (slice_get p.world.sent (index_of number))) end
 Does line (Lose number) p end = end ≡ Some (lost line (index_of number) p)

@@ -3,8 +3,8 @@ use Rattle.std.specs.Prelude.{ℕ, Bool, false, ◌&&◌, ◌==◌, nat_le, nat_
 use Rattle.std.specs.List.{list_any}
 use Rattle.intervals.specs.rule.Search.{first}
 use Rattle.model.specs.rule.Limits.{most_descriptors, most_processes}
-use Rattle.recordings.specs.declared.held.Held.{Held}
-use Rattle.recordings.specs.declared.line.Line.{Line}
+use Rattle.recordings.specs.declared.recorded_descriptor.RecordedDescriptor.{RecordedDescriptor}
+use Rattle.recordings.specs.declared.written_line.WrittenLine.{WrittenLine}
 use Rattle.recordings.specs.declared.note.Note.{Note}
 use Rattle.recordings.specs.declared.numbered_file.NumberedFile.{NumberedFile}
 use Rattle.recordings.specs.declared.running.Running.{Running}
@@ -22,11 +22,11 @@ pub record KnownFields : Type 0 where
   pub files : List NumberedFile
   pub running : List Running
   pub threads : List Thread
-  pub held : List Held
+  pub held : List RecordedDescriptor
   pub left : List ℕ
   pub waiting : List PlaceFields
   pub locked : List NumberedFile
-  pub lines : List Line
+  pub lines : List WrittenLine
   pub notes : List Note
 
 -- the file of this path
@@ -68,25 +68,25 @@ abbrev pub runs_at : PlaceFields → Running → Bool
 runs_at place r = is_at place r.place
 
 -- the process has the descriptor
-abbrev pub is_held : PlaceFields → ℕ → Held → Bool
+abbrev pub is_held : PlaceFields → ℕ → RecordedDescriptor → Bool
 is_held place fd h = is_at place h.place && (h.fd == fd)
 
-abbrev pub held_by : List Held → PlaceFields → ℕ → Option Held
+abbrev pub held_by : List RecordedDescriptor → PlaceFields → ℕ → Option RecordedDescriptor
 held_by held place fd = find (is_held place fd) held
 
 -- the process has a descriptor
-abbrev pub is_of : PlaceFields → Held → Bool
+abbrev pub is_of : PlaceFields → RecordedDescriptor → Bool
 is_of place h = is_at place h.place
 
 -- the numbers of the descriptors of the process from the first to the last, in the order in which it got them
-abbrev pub is_within : PlaceFields → ℕ → ℕ → Held → Bool
+abbrev pub is_within : PlaceFields → ℕ → ℕ → RecordedDescriptor → Bool
 is_within place first last h = is_at place h.place && (nat_le first h.fd && nat_le h.fd last)
 
-abbrev pub fds_within : List Held → PlaceFields → ℕ → ℕ → List ℕ
+abbrev pub fds_within : List RecordedDescriptor → PlaceFields → ℕ → ℕ → List ℕ
 fds_within held place first last = map (λ h. h.fd) (filter (is_within place first last) held)
 
 -- the process has a descriptor, and has it in the script too
-abbrev pub is_scripted : PlaceFields → Held → Bool
+abbrev pub is_scripted : PlaceFields → RecordedDescriptor → Bool
 is_scripted place h = is_at place h.place && is_some h.slot
 
 abbrev pub is_slot : ℕ → Option ℕ → Bool
@@ -94,7 +94,7 @@ is_slot slot None = false
 is_slot slot (Some s) = s == slot
 
 -- the process has this descriptor in the script
-abbrev pub has_slot : PlaceFields → ℕ → Held → Bool
+abbrev pub has_slot : PlaceFields → ℕ → RecordedDescriptor → Bool
 has_slot place slot h = is_at place h.place && is_slot slot h.slot
 
 -- the process of this number on the node
@@ -112,11 +112,11 @@ abbrev pub free_place : List Running → ℕ → Option PlaceFields
 free_place running node = place_up_to node (lowest_place running node)
 
 -- POSIX.1-2017 open(): the lowest descriptor of the process in the script that is free, if there is one
-abbrev pub lowest_slot : List Held → PlaceFields → ℕ
+abbrev pub lowest_slot : List RecordedDescriptor → PlaceFields → ℕ
 lowest_slot held place = first (λ s. not (list_any (has_slot place s) held)) 0 most_descriptors
 
 abbrev pub slot_below : ℕ → Option ℕ
 slot_below slot = if nat_lt slot most_descriptors then Some slot else None
 
-abbrev pub free_slot : List Held → PlaceFields → Option ℕ
+abbrev pub free_slot : List RecordedDescriptor → PlaceFields → Option ℕ
 free_slot held place = slot_below (lowest_slot held place)

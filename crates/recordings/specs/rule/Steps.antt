@@ -10,31 +10,31 @@ use Rattle.model.specs.declared.op.ProcessCall.TheVariants.{Spawn, Fork, Open, D
 use Rattle.model.specs.declared.op.LockCommand.{LockCommand}
 use Rattle.model.specs.declared.op.LockCommand.TheVariants.{Set, Wait, Query}
 use Rattle.model.specs.declared.mode.Mode.{Mode}
-use Rattle.lockscript.specs.declared.script_line.Command.TheVariants.{Call, Settle, Interrupt, Retry}
-use Rattle.recordings.specs.declared.answer.Answer.{Answer}
-use Rattle.recordings.specs.declared.asked.Asked.{Asked}
-use Rattle.recordings.specs.declared.asked.Wish.{Wish}
-use Rattle.recordings.specs.declared.asked.Wish.TheVariants as wish
-use Rattle.recordings.specs.declared.held.Held.{Held}
-use Rattle.recordings.specs.declared.line.Line.{Line}
-use Rattle.recordings.specs.declared.line.Line.TheVariants.{Begins, Says, Expects}
+use Rattle.lockscript.specs.declared.script_line.ScriptCommand.TheVariants.{Call, Settle, Interrupt, Retry}
+use Rattle.recordings.specs.declared.recorded_answer.RecordedAnswer.{RecordedAnswer}
+use Rattle.recordings.specs.declared.recorded_lock_call.RecordedLockCall.{RecordedLockCall}
+use Rattle.recordings.specs.declared.recorded_lock_call.Wish.{Wish}
+use Rattle.recordings.specs.declared.recorded_lock_call.Wish.TheVariants as wish
+use Rattle.recordings.specs.declared.recorded_descriptor.RecordedDescriptor.{RecordedDescriptor}
+use Rattle.recordings.specs.declared.written_line.WrittenLine.{WrittenLine}
+use Rattle.recordings.specs.declared.written_line.WrittenLine.TheVariants.{Begins, Says, Expects}
 use Rattle.recordings.specs.declared.numbered_file.NumberedFile.{NumberedFile}
-use Rattle.recordings.specs.declared.reason.Reason.{Reason}
-use Rattle.recordings.specs.declared.reason.Reason.TheVariants.{Executes, LeftOut, NotOpen, SharesDescriptors, TooManyDescriptors, TooManyFiles, TooManyProcesses}
-use Rattle.recordings.specs.declared.recorded.Happening.{Happening}
-use Rattle.recordings.specs.declared.recorded.Happening.TheVariants as happens
-use Rattle.recordings.specs.declared.recorded.Recorded.{Recorded}
+use Rattle.recordings.specs.declared.omission_reason.OmissionReason.{OmissionReason}
+use Rattle.recordings.specs.declared.omission_reason.OmissionReason.TheVariants.{Executes, LeftOut, NotOpen, SharesDescriptors, TooManyDescriptors, TooManyFiles, TooManyProcesses}
+use Rattle.recordings.specs.declared.recorded_event.Happening.{Happening}
+use Rattle.recordings.specs.declared.recorded_event.Happening.TheVariants as happens
+use Rattle.recordings.specs.declared.recorded_event.RecordedEvent.{RecordedEvent}
 use Rattle.recordings.specs.declared.running.Running.{Running}
 use Rattle.recordings.specs.rule.Known.{KnownFields, fds_within, file_of, free_place, free_slot, held_by, is_file, is_held, is_left, is_of, is_scripted, is_thread, is_thread_of, process_of, running_of, runs_at}
 use Rattle.recordings.specs.rule.Places.{PlaceFields, PlacingFields, is_at, placing_of}
 
-abbrev pub with_line : Line → KnownFields → KnownFields
+abbrev pub with_line : WrittenLine → KnownFields → KnownFields
 with_line line k = record k { lines = k.lines ++ line ∷ [] }
 
 abbrev pub with_call : PlaceFields → Op → KnownFields → KnownFields
 with_call place op k = with_line (Says (Call place.node place.number op)) k
 
-abbrev pub with_note : ℕ → Reason → KnownFields → KnownFields
+abbrev pub with_note : ℕ → OmissionReason → KnownFields → KnownFields
 with_note line reason k = record k { notes = k.notes ++ record { line = line; reason = reason } ∷ [] }
 
 abbrev pub with_running : ℕ → PlaceFields → KnownFields → KnownFields
@@ -59,7 +59,7 @@ with_left pid k = record k { left = k.left ++ pid ∷ [] }
 abbrev pub without_left : ℕ → KnownFields → KnownFields
 without_left pid k = record k { left = filter (λ other. not (other == pid)) k.left }
 
-abbrev pub left_out : ℕ → ℕ → Reason → KnownFields → KnownFields
+abbrev pub left_out : ℕ → ℕ → OmissionReason → KnownFields → KnownFields
 left_out line pid reason k = with_left pid (with_note line reason k)
 
 -- the node behind this one, or the first behind the last
@@ -101,7 +101,7 @@ abbrev pub shut_slot : PlaceFields → Option ℕ → KnownFields → KnownField
 shut_slot place None k = k
 shut_slot place (Some slot) k = with_call place (Close slot) k
 
-abbrev pub shut : Option Held → KnownFields → KnownFields
+abbrev pub shut : Option RecordedDescriptor → KnownFields → KnownFields
 shut None k = k
 shut (Some h) k = shut_slot h.place h.slot k
 
@@ -133,14 +133,14 @@ abbrev pub copied : PlaceFields → ℕ → ℕ → Option ℕ → Option ℕ �
 copied place to path (Some from) (Some slot) k = with_held place to path (Some slot) (with_call place (Process (Dup from)) k)
 copied place to path _ _ k = with_held place to path None k
 
-unfoldable pub duplicated : PlaceFields → Option Held → ℕ → KnownFields → KnownFields
+unfoldable pub duplicated : PlaceFields → Option RecordedDescriptor → ℕ → KnownFields → KnownFields
 duplicated place None to k = closed place to k
 duplicated place (Some h) to k =
     let before = closed place to k in
     copied place to h.path h.slot (free_slot before.held place) before
 
 -- a child has the descriptors that its parent has
-abbrev pub in_child : PlaceFields → Held → Held
+abbrev pub in_child : PlaceFields → RecordedDescriptor → RecordedDescriptor
 in_child place h = record h { place = place }
 
 abbrev pub with_inherited : PlaceFields → PlaceFields → KnownFields → KnownFields
@@ -180,10 +180,10 @@ unfoldable pub freed : ℕ → KnownFields → KnownFields
 freed pid k = finished pid (without_thread pid k)
 
 -- what a call asks for through a descriptor of the script
-abbrev pub locking : ℕ → Asked → LockCommand → Mode → Op
+abbrev pub locking : ℕ → RecordedLockCall → LockCommand → Mode → Op
 locking fd a command mode = Lock (record { command = command; fd = fd; kind = a.kind; mode = mode; start = a.start; len = a.len })
 
-abbrev pub op_of : ℕ → Asked → Wish → Op
+abbrev pub op_of : ℕ → RecordedLockCall → Wish → Op
 op_of fd a (wish.Set mode) = locking fd a Set mode
 op_of fd a (wish.Wait mode) = locking fd a Wait mode
 op_of fd a wish.Unlock = Unlock fd a.kind a.start a.len
@@ -197,7 +197,7 @@ unfoldable pub with_locked : ℕ → KnownFields → KnownFields
 with_locked path k = if has_room k.locked path then record k { locked = k.locked ++ record { number = length k.locked + 1; path = path } ∷ [] } else k
 
 -- why a descriptor isn't in the script: there is no place for its file, or there was none for it or for the one that it is a copy of
-abbrev pub why_not : Option NumberedFile → Reason
+abbrev pub why_not : Option NumberedFile → OmissionReason
 why_not None = TooManyFiles
 why_not (Some file) = TooManyDescriptors
 
@@ -212,21 +212,21 @@ abbrev pub without_waiting : PlaceFields → KnownFields → KnownFields
 without_waiting place k = record k { waiting = filter (λ p. not (is_at place p)) k.waiting }
 
 -- what the call of the line before answered
-abbrev pub with_answer : Option Answer → KnownFields → KnownFields
+abbrev pub with_answer : Option RecordedAnswer → KnownFields → KnownFields
 with_answer None k = k
 with_answer (Some answer) k = with_line (Expects answer) k
 
 -- a lock call through a descriptor
-abbrev pub asked_by : ℕ → Held → Asked → Option Answer → Option ℕ → KnownFields → KnownFields
+abbrev pub asked_by : ℕ → RecordedDescriptor → RecordedLockCall → Option RecordedAnswer → Option ℕ → KnownFields → KnownFields
 asked_by line h asked answer (Some slot) k = with_waiting h.place asked.wish (with_answer answer (with_call h.place (op_of slot asked asked.wish) k))
 asked_by line h asked answer None k = with_note line (why_not (file_of k.files h.path)) k
 
-unfoldable pub asked_through : ℕ → Asked → Option Answer → Option Held → KnownFields → KnownFields
+unfoldable pub asked_through : ℕ → RecordedLockCall → Option RecordedAnswer → Option RecordedDescriptor → KnownFields → KnownFields
 asked_through line asked answer None k = with_note line NotOpen k
 asked_through line asked answer (Some h) k = asked_by line h asked answer h.slot (with_locked h.path k)
 
 -- messages are delivered; then the open waits are tried again, since a wait for a lock of its own node is served by no message, and messages delivered once more
-abbrev pub retry_of : PlaceFields → Line
+abbrev pub retry_of : PlaceFields → WrittenLine
 retry_of place = Says (Retry place.node place.number)
 
 abbrev pub retried : KnownFields → KnownFields
@@ -242,7 +242,7 @@ abbrev pub answered : PlaceFields → Option ℕ → KnownFields → KnownFields
 answered place None k = k
 answered place (Some slot) k = settled (without_waiting place k)
 
-abbrev pub returned : Option Held → KnownFields → KnownFields
+abbrev pub returned : Option RecordedDescriptor → KnownFields → KnownFields
 returned None k = k
 returned (Some h) k = answered h.place h.slot k
 
@@ -251,12 +251,12 @@ abbrev pub interrupted : PlaceFields → Option ℕ → KnownFields → KnownFie
 interrupted place None k = k
 interrupted place (Some slot) k = settled (without_waiting place (with_line (Says (Interrupt place.node place.number)) k))
 
-abbrev pub given_up : Option Held → KnownFields → KnownFields
+abbrev pub given_up : Option RecordedDescriptor → KnownFields → KnownFields
 given_up None k = k
 given_up (Some h) k = interrupted h.place h.slot k
 
 -- the descriptor of the process
-abbrev pub held_of : KnownFields → Option Running → ℕ → Option Held
+abbrev pub held_of : KnownFields → Option Running → ℕ → Option RecordedDescriptor
 held_of k None fd = None
 held_of k (Some r) fd = held_by k.held r.place fd
 
@@ -295,7 +295,7 @@ forks line pid child shares k =
     else forked_by line (running_of k.running pid) child shares (is_some (placing_of k.placings child)) k
 
 -- a lock call of a process
-unfoldable pub asks : ℕ → ℕ → ℕ → Asked → Option Answer → KnownFields → KnownFields
+unfoldable pub asks : ℕ → ℕ → ℕ → RecordedLockCall → Option RecordedAnswer → KnownFields → KnownFields
 asks line pid fd asked answer k =
     if is_left k.left pid then with_note line LeftOut k else asked_through line asked answer (held_of k (running_of k.running pid) fd) k
 
@@ -326,7 +326,7 @@ happened line by pid (happens.Returns fd) k = returned (held_of k (running_of k.
 happened line by pid (happens.GivesUp fd) k = given_up (held_of k (running_of k.running pid) fd) k
 happened line by pid (happens.Unserved reason) k = with_note line reason k
 
-abbrev pub step : KnownFields → Recorded → KnownFields
+abbrev pub step : KnownFields → RecordedEvent → KnownFields
 step k e = happened e.line e.pid (process_of k.threads e.pid) e.happening k
 
 -- nobody runs yet; the script will be of these files
@@ -335,11 +335,11 @@ start nodes placings every files =
     record { nodes = nodes; next = 1; placings = placings; every = every; files = files; running = []; threads = []; held = []; left = []; waiting = []; locked = []; lines = []; notes = [] }
 
 -- what is known behind the events
-abbrev pub known : ℕ → List PlacingFields → Bool → List NumberedFile → List Recorded → KnownFields
+abbrev pub known : ℕ → List PlacingFields → Bool → List NumberedFile → List RecordedEvent → KnownFields
 known nodes placings every files events = fold step (start nodes placings every files) events
 
 -- the files on which there are lock calls
-abbrev pub locked_files : ℕ → List PlacingFields → List Recorded → List NumberedFile
+abbrev pub locked_files : ℕ → List PlacingFields → List RecordedEvent → List NumberedFile
 locked_files nodes placings events = (known nodes placings true [] events).locked
 
 -- the script has all the files that it can have, so that there may be others on which there are lock calls
@@ -347,5 +347,5 @@ abbrev pub is_full : List NumberedFile → Bool
 is_full files = length files == most_files
 
 -- what is known behind the events, where those are the files of the script
-abbrev pub known_at_end : ℕ → List PlacingFields → List Recorded → KnownFields
+abbrev pub known_at_end : ℕ → List PlacingFields → List RecordedEvent → KnownFields
 known_at_end nodes placings events = known nodes placings (is_full (locked_files nodes placings events)) (locked_files nodes placings events) events

@@ -8,15 +8,15 @@ use Rattle.lockscript.specs.rule.Scripts.{IsFirstBad, command_text, shape_text}
 use Rattle.messages.specs.rule.Shapes.{ShapeFields}
 use Rattle.messages.specs.declared.version.Version.TheVariants.{Second}
 use Rattle.model.specs.declared.policy.Policy.TheVariants.{Wide}
-use Rattle.recordings.specs.declared.answer.Answer.{Answer}
-use Rattle.recordings.specs.declared.answer.Answer.TheVariants.{Done, Again, Interrupted, Free, BlockedByRead, BlockedByWrite, NoLocks, BadFd, Invalid, Overflow}
-use Rattle.recordings.specs.declared.line.Line.{Line}
-use Rattle.recordings.specs.declared.line.Line.TheVariants.{Begins, Says, Expects}
+use Rattle.recordings.specs.declared.recorded_answer.RecordedAnswer.{RecordedAnswer}
+use Rattle.recordings.specs.declared.recorded_answer.RecordedAnswer.TheVariants.{Done, Again, Interrupted, Free, BlockedByRead, BlockedByWrite, NoLocks, BadFd, Invalid, Overflow}
+use Rattle.recordings.specs.declared.written_line.WrittenLine.{WrittenLine}
+use Rattle.recordings.specs.declared.written_line.WrittenLine.TheVariants.{Begins, Says, Expects}
 use Rattle.recordings.specs.declared.note.Note.{Note}
 use Rattle.recordings.specs.declared.numbered_file.NumberedFile.{NumberedFile}
-use Rattle.recordings.specs.declared.reason.Reason.{Reason}
-use Rattle.recordings.specs.declared.reason.Reason.TheVariants.{NotUnderstood, NoProcess, NotBegun, Whence, Relative, Executes, SharesDescriptors, NotOpen, TooManyFiles, TooManyProcesses, TooManyDescriptors, LeftOut, NoEnd}
-use Rattle.recordings.specs.declared.recorded.Recorded.{Recorded}
+use Rattle.recordings.specs.declared.omission_reason.OmissionReason.{OmissionReason}
+use Rattle.recordings.specs.declared.omission_reason.OmissionReason.TheVariants.{NotUnderstood, NoProcess, NotBegun, Whence, Relative, Executes, SharesDescriptors, NotOpen, TooManyFiles, TooManyProcesses, TooManyDescriptors, LeftOut, NoEnd}
+use Rattle.recordings.specs.declared.recorded_event.RecordedEvent.{RecordedEvent}
 use Rattle.recordings.specs.rule.Places.{PlacingFields}
 use Rattle.recordings.specs.rule.Steps.{known_at_end}
 
@@ -42,7 +42,7 @@ unfoldable pub file_text : List (Bor (List ℕ)) → NumberedFile → List ℕ
 file_text paths f = codes "# file " ++ decimal f.number ++ codes " is " ++ shown (slice_get paths f.path)
 
 -- what a comment says that a call answers: what a reply of a script begins with
-unfoldable pub answer_text : Answer → List ℕ
+unfoldable pub answer_text : RecordedAnswer → List ℕ
 answer_text Done = codes "done"
 answer_text Again = codes "again"
 answer_text Interrupted = codes "interrupted"
@@ -54,7 +54,7 @@ answer_text BadFd = codes "bad-fd"
 answer_text Invalid = codes "invalid"
 answer_text Overflow = codes "overflow"
 
-unfoldable pub line_text : Line → List ℕ
+unfoldable pub line_text : WrittenLine → List ℕ
 line_text (Begins place pid) = codes "# process " ++ decimal place.number ++ codes " of node " ++ decimal place.node ++ codes " is PID " ++ decimal pid
 line_text (Says command) = command_text command
 line_text (Expects answer) = codes "# expect " ++ answer_text answer
@@ -63,12 +63,12 @@ abbrev pub with_feed : List ℕ → List ℕ
 with_feed line = line ++ codes "\n"
 
 -- the script: its cluster, its files, and its lines
-unfoldable pub script_text : List (Bor (List ℕ)) → ℕ → List NumberedFile → List Line → List ℕ
+unfoldable pub script_text : List (Bor (List ℕ)) → ℕ → List NumberedFile → List WrittenLine → List ℕ
 script_text paths nodes files lines =
     with_feed (shape_text (shape_of nodes (length files)))
     ++ (flat_map (λ f. with_feed (file_text paths f)) files ++ flat_map (λ l. with_feed (line_text l)) lines)
 
-abbrev pub reason_text : Reason → List ℕ
+abbrev pub reason_text : OmissionReason → List ℕ
 reason_text NotUnderstood = codes "the line is not understood"
 reason_text NoProcess = codes "no PID stands before the call; strace -f -o FILE writes one"
 reason_text NotBegun = codes "the start of the resumed call is not recorded"
@@ -98,17 +98,17 @@ unfoldable pub others_text : ℕ → List ℕ
 others_text count = if nat_lt most_notes count then codes "more notes: " ++ decimal (count - most_notes) ++ codes "\n" else []
 
 -- a process begins on the node
-abbrev pub begins_on : ℕ → Line → Bool
+abbrev pub begins_on : ℕ → WrittenLine → Bool
 begins_on node (Begins place pid) = place.node == node
 begins_on node (Says command) = false
 begins_on node (Expects answer) = false
 
 -- that none does
-unfoldable pub empty_text : List Line → ℕ → List ℕ
+unfoldable pub empty_text : List WrittenLine → ℕ → List ℕ
 empty_text lines node = if list_any (begins_on node) lines then [] else codes "node " ++ decimal node ++ codes " has no process\n"
 
 -- of the first so many nodes
-unfoldable pub empties_text : List Line → ℕ → List ℕ
+unfoldable pub empties_text : List WrittenLine → ℕ → List ℕ
 empties_text lines zero = []
 empties_text lines (suc node) = empties_text lines node ++ empty_text lines (suc node)
 
@@ -116,18 +116,18 @@ abbrev pub notes_text : List Note → List ℕ
 notes_text notes = flat_map note_text (told notes) ++ others_text (length notes)
 
 -- the script that the events make on so many nodes
-abbrev pub script_made : List (Bor (List ℕ)) → ℕ → List PlacingFields → List Recorded → List ℕ
+abbrev pub script_made : List (Bor (List ℕ)) → ℕ → List PlacingFields → List RecordedEvent → List ℕ
 script_made paths nodes placings events =
     script_text paths nodes (known_at_end nodes placings events).files (known_at_end nodes placings events).lines
 
 -- what is noted of them, and the nodes that stay empty
-abbrev pub notes_made : ℕ → List PlacingFields → List Recorded → List ℕ
+abbrev pub notes_made : ℕ → List PlacingFields → List RecordedEvent → List ℕ
 notes_made nodes placings events = notes_text (known_at_end nodes placings events).notes ++ empties_text (known_at_end nodes placings events).lines nodes
 
 -- some events make the script and the notes
 pub record IsOfEvents (nodes : ℕ) (placings : List PlacingFields) (script notes : List ℕ) : Type 0 where
   pub paths : List (Bor (List ℕ))
-  pub events : List Recorded
+  pub events : List RecordedEvent
   pub script_is : script ≡ script_made paths nodes placings events
   pub notes_are : notes ≡ notes_made nodes placings events
 

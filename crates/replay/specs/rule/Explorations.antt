@@ -5,7 +5,7 @@ use Rattle.explorer.specs.rule.Ends.{IsEnded}
 use Rattle.explorer.specs.rule.Explores.{Explores}
 use Rattle.explorer.specs.rule.Schedules.{HasFullSchedule, IsScheduleOf, numbered}
 use Rattle.explorer.specs.rule.Texts.{script_text}
-use Rattle.lockscript.specs.declared.script_line.Command.{Command}
+use Rattle.lockscript.specs.declared.script_line.ScriptCommand.{ScriptCommand}
 use Rattle.lockscript.specs.rule.Scripts.{ScriptFields}
 use Rattle.lockscript.specs.rule.ThreadLines.{IsBadOnThreads, IsForThreads}
 use Rattle.player.specs.rule.Played.{ComesTo, PlayedState}
@@ -19,7 +19,7 @@ use Rattle.replay.specs.rule.Stores.{HasText}
 -- the text is a script of a schedule of this one, which comes to something, and makes all calls that it can
 abbrev pub IsScheduleText : Bool → ScriptFields → List ℕ → Type 0
 IsScheduleText failures s text =
-    (commands : List Command) × IsScheduleOf failures s.lines commands × ((played : PlayedState) × ComesTo s.shape (numbered commands) played × IsEnded s.lines commands played) × (text ≡ script_text s.shape commands)
+    (commands : List ScriptCommand) × IsScheduleOf failures s.lines commands × ((played : PlayedState) × ComesTo s.shape (numbered commands) played × IsEnded s.lines commands played) × (text ≡ script_text s.shape commands)
 
 -- what is shown of a schedule of the script that a text writes
 abbrev pub IsScheduled : Bool → List ℕ → Shown → Type 0

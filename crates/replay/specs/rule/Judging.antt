@@ -1,23 +1,23 @@
 -- What is said of histories of files.
 use Rattle.std.specs.Prelude.{◌≡◌, ◌⊎◌, ℕ, false, fold, List, All, Any, Contains, Option, Some, None, String}
 use Rattle.std.specs.Global.{Global}
-use Rattle.command_line.specs.declared.rule.Rule.{Rule as Asked}
-use Rattle.command_line.specs.declared.rule.Rule.TheVariants as asked
-use Rattle.history_text.specs.declared.history.History.{History}
+use Rattle.command_line.specs.declared.allowed_rule.AllowedRule.{AllowedRule}
+use Rattle.command_line.specs.declared.allowed_rule.AllowedRule.TheVariants as asked
+use Rattle.history_text.specs.declared.written_history.WrittenHistory.{WrittenHistory}
 use Rattle.history_text.specs.declared.rule.Allowed.{Allowed}
 use Rattle.history_text.specs.declared.rule.Rule.{Rule}
 use Rattle.history_text.specs.declared.rule.Rule.TheVariants.{WaitDrops, CloseOwnDescriptor, NoQuery, StaleReadDenial, LostAt}
 use Rattle.history_text.specs.rule.Rules.{with_rule}
 use Rattle.history_text.specs.rule.Histories.{IsHistoryOf}
-use Rattle.judgements.specs.declared.outcome.Outcome.{Outcome}
-use Rattle.judgements.specs.declared.outcome.Outcome.TheVariants as outcome
+use Rattle.judgements.specs.declared.judgement_outcome.JudgementOutcome.{JudgementOutcome}
+use Rattle.judgements.specs.declared.judgement_outcome.JudgementOutcome.TheVariants as outcome
 use Rattle.judgements.specs.rule.Judgements.{IsJudgement, IsOrdered}
 use Rattle.replay.specs.declared.shown.Shown.{Shown}
 use Rattle.replay.specs.declared.shown.Shown.TheVariants.{Text, Wanting, Undecided}
 use Rattle.replay.specs.rule.Stores.{Files, HasText}
 
 -- the rule of a history that a word of a command line asks for
-abbrev pub rule_of : Asked → Rule
+abbrev pub rule_of : AllowedRule → Rule
 rule_of asked.WaitDrops = WaitDrops
 rule_of asked.CloseOwnDescriptor = CloseOwnDescriptor
 rule_of asked.NoQuery = NoQuery
@@ -29,28 +29,28 @@ abbrev pub no_rule : Allowed
 no_rule = record { wait_drops = false; close_own_descriptor = false; no_query = false; stale_read_denial = false; lost_at = false }
 
 -- and one more
-abbrev pub with_asked : Allowed → Asked → Allowed
+abbrev pub with_asked : Allowed → AllowedRule → Allowed
 with_asked allowed rule = with_rule allowed (rule_of rule)
 
 -- those that are asked for
-abbrev pub allowed_of : List Asked → Allowed
+abbrev pub allowed_of : List AllowedRule → Allowed
 allowed_of rules = fold with_asked no_rule rules
 
 -- the file has a history, where these rules are allowed
 abbrev pub HasHistoryAt : Allowed → Files → List ℕ → Type 0
-HasHistoryAt allowed old path = HasText (old path) (λ text. (history : History) × IsHistoryOf allowed text history)
+HasHistoryAt allowed old path = HasText (old path) (λ text. (history : WrittenHistory) × IsHistoryOf allowed text history)
 
 -- this is said of the history that a text writes, and is so; where a file of orders is given, it is said by these
-abbrev pub IsSaidIn : Allowed → Option (List ℕ) → List ℕ → Outcome → Type 0
+abbrev pub IsSaidIn : Allowed → Option (List ℕ) → List ℕ → JudgementOutcome → Type 0
 IsSaidIn allowed None text said = IsJudgement allowed text said
 IsSaidIn allowed (Some orders) text said = IsOrdered allowed text said
 
 -- of the history of a file
-abbrev pub IsSaidOf : Allowed → Option (List ℕ) → Files → Outcome → List ℕ → Type 0
+abbrev pub IsSaidOf : Allowed → Option (List ℕ) → Files → JudgementOutcome → List ℕ → Type 0
 IsSaidOf allowed orders old said path = HasText (old path) (λ text. IsSaidIn allowed orders text said)
 
 -- what is shown where this is said of all histories
-abbrev pub shown_of : Outcome → String Global → Shown
+abbrev pub shown_of : JudgementOutcome → String Global → Shown
 shown_of outcome.Yes text = Text text
 shown_of outcome.Unknown text = Undecided text
 shown_of outcome.No text = Wanting text

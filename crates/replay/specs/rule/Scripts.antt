@@ -2,7 +2,7 @@
 use Rattle.std.specs.Prelude.{◌≡◌, ℕ, ◌&&◌, Bool, true, false, List, length, Option}
 use Rattle.cluster_core.specs.declared.held_lock.HeldLock.{HeldLock}
 use Rattle.cluster_core.specs.declared.item.Item.{Item}
-use Rattle.cluster_core.specs.declared.token_run.TokenRun.{TokenRun}
+use Rattle.cluster_core.specs.declared.node_token_run.NodeTokenRun.{NodeTokenRun}
 use Rattle.cluster_core.specs.rule.Histories.{HasHistory, EachAtItsPlace}
 use Rattle.cluster_core.specs.rule.Listings.{IsTokenListing, IsLockListing}
 use Rattle.cluster_core.specs.rule.Journals.{JournalFields}
@@ -54,7 +54,7 @@ HasComparedRunBehind Holds j compares calm played breaking =
     (script : ScriptFields) × HasText Holds (λ text. IsForShape j.shape text script × (breaking ≡ (compares && breaks_behind text script.lines (length j.entries) played))) × GoesBehind calm j script.lines played
 
 -- what a listing of a run tells: the tokens and the locks at its end, which is safe, and a history of one table, each call of it at its place
-pub record Lists (played : PlayedState) (tokens : List TokenRun) (locks : List HeldLock) (history : List Item) : Type 0 where
+pub record Lists (played : PlayedState) (tokens : List NodeTokenRun) (locks : List HeldLock) (history : List Item) : Type 0 where
   pub tokens_at_end : IsTokenListing played.world tokens
   pub locks_at_end : IsLockListing played.world locks
   pub safe_at_end : IsSafe played.world
@@ -63,7 +63,7 @@ pub record Lists (played : PlayedState) (tokens : List TokenRun) (locks : List H
 
 -- the listing of a run, with its refused lines and its entries
 pub record IsListing (played : PlayedState) (text : List ℕ) : Type 0 where
-  pub tokens : List TokenRun
+  pub tokens : List NodeTokenRun
   pub locks : List HeldLock
   pub history : List Item
   pub lists : Lists played tokens locks history
@@ -71,7 +71,7 @@ pub record IsListing (played : PlayedState) (text : List ℕ) : Type 0 where
 
 -- the listing of a run up to its history
 pub record IsListingBegun (played : PlayedState) (text : List ℕ) : Type 0 where
-  pub tokens : List TokenRun
+  pub tokens : List NodeTokenRun
   pub locks : List HeldLock
   pub tokens_at_end : IsTokenListing played.world tokens
   pub locks_at_end : IsLockListing played.world locks

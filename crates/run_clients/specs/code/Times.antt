@@ -11,7 +11,7 @@ use Rattle.messages.specs.rule.Messages.{same_call}
 use Rattle.cluster_core.specs.declared.item.Item.{Item}
 use Rattle.cluster_core.specs.declared.item.Item.TheVariants.{Answered, Gone}
 use Rattle.cluster_core.specs.rule.Histories.{IsCalledAt, IsRepliedAt, IsDeclaredAt}
-use Rattle.run_clients.specs.declared.times.Times.{Times}
+use Rattle.run_clients.specs.declared.call_times.CallTimes.{CallTimes}
 
 -- the item's call is made at the one position and answered at the other, and the item stands between; of a failed node both are that of the item
 abbrev pub IsTimed : List Entry → Item → ℕ → ℕ → Type 0
@@ -43,16 +43,16 @@ pub record AreFound (IsSo : CallId → ℕ → Type 0) (kept : Positions) (most 
   pub complete : (id : CallId) (at : ℕ) → IsSo id at → at ≤ most → IsSome (position_of_call kept id)
 
 -- the positions of the calls and of the replies of the entries up to a position are noted
-pub record AreTimes (es : List Entry) (times : Times) (most : ℕ) : Type 0 where
+pub record AreTimes (es : List Entry) (times : CallTimes) (most : ℕ) : Type 0 where
   pub begins : AreFound (IsMade es) times.begins most
   pub ends : AreFound (IsAnswered es) times.ends most
 
 -- the positions at which the item's call was made and answered are noted
-abbrev pub IsKnown : Times → Item → Type 0
+abbrev pub IsKnown : CallTimes → Item → Type 0
 IsKnown times (Answered at id pid op reply) = IsSome (position_of_call times.begins id) × IsSome (position_of_call times.ends id)
 IsKnown times (Gone at node incarnation) = ⊤
 
 -- the noted positions of the item
-abbrev pub IsKept : Times → Item → ℕ → ℕ → Type 0
+abbrev pub IsKept : CallTimes → Item → ℕ → ℕ → Type 0
 IsKept times (Answered at id pid op reply) begin end = (position_of_call times.begins id ≡ Some begin) × (position_of_call times.ends id ≡ Some end)
 IsKept times (Gone at node incarnation) begin end = (begin ≡ at) × (end ≡ at)

@@ -17,8 +17,8 @@ use Rattle.cluster_core.specs.declared.item.Item.TheVariants.{Answered, Gone}
 use Rattle.cluster_core.specs.rule.Histories.{caller, ItemStep, IsCalledAt, IsRepliedAt, HasHistory, EachAtItsPlace}
 use Rattle.client_history.specs.declared.client_call.ClientCall.{ClientCall}
 use Rattle.client_history.specs.rule.Explained.{IsExplainedBy, always}
-use Rattle.run_clients.specs.declared.answer.Answer.{Answer}
-use Rattle.run_clients.specs.declared.answer.Answer.TheVariants.{At, Never}
+use Rattle.run_clients.specs.declared.answer_time.AnswerTime.{AnswerTime}
+use Rattle.run_clients.specs.declared.answer_time.AnswerTime.TheVariants.{At, Never}
 use Rattle.run_clients.specs.declared.deed.Deed.{Deed}
 use Rattle.run_clients.specs.declared.file_call.FileCall.{FileCall}
 use Rattle.run_clients.specs.rule.Deeds.{call_deeds, gone_deeds, lock_deed}
@@ -35,7 +35,7 @@ item_deeds t (Answered at id pid op reply) = call_deeds t (caller id pid) op rep
 item_deeds t (Gone at node incarnation) = gone_deeds t node incarnation
 
 -- the deed as a call of its owner
-abbrev pub call_of : Op → ℕ → Answer → Deed → FileCall
+abbrev pub call_of : Op → ℕ → AnswerTime → Deed → FileCall
 call_of op begin end d = record { file = d.file; op = op; owner = d.owner; begin = begin; end = end; act = d.act }
 
 -- the calls of the items, which lead from one table to another: for each item its deeds there, from its call to its reply
@@ -74,7 +74,7 @@ pub record IsSeen (shape : ShapeFields) (es : List Entry) (seen : List FileCall)
   pub open_calls : AllByRecursion (IsOpenCall es last) unanswered
   pub are : seen ≡ answered ++ unanswered
 
-abbrev pub end_of : Answer → Option ℕ
+abbrev pub end_of : AnswerTime → Option ℕ
 end_of (At position) = Some position
 end_of Never = None
 

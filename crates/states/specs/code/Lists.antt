@@ -5,7 +5,7 @@ use Rattle.model.specs.declared.lock_info.LockInfo.{LockInfo}
 use Rattle.model.specs.rule.Locks.{excludes}
 use Rattle.model.specs.rule.Owners.{same_owner}
 use Rattle.node_core.specs.declared.open_call.OpenCall.{OpenCall}
-use Rattle.token_server.specs.declared.token_queue.held.Held.{Held}
+use Rattle.token_server.specs.declared.token_queue.active_request.ActiveRequest.{ActiveRequest}
 use Rattle.cluster_core.specs.declared.held_lock.HeldLock.{HeldLock}
 
 -- the lock, of those of the cluster, blocks the call
@@ -17,6 +17,6 @@ abbrev pub blocking_of : OpenCall → List HeldLock → List LockInfo
 blocking_of c hs = map (λ h. h.lock) (filter (is_blocker c) hs)
 
 -- the call of the active request, if there is one, else the other
-abbrev pub first_call : Option Held → Option CallId → Option CallId
+abbrev pub first_call : Option ActiveRequest → Option CallId → Option CallId
 first_call (Some h) queued = Some h.request.call
 first_call None queued = queued

@@ -2,11 +2,11 @@
 use Rattle.std.specs.Prelude.{◌≡◌, ℕ, Bool, true, ◌&&◌, ◌||◌, ◌==◌, nat_lt, List, filter, Option, Some, None}
 use Rattle.model.specs.rule.Limits.{most_nodes}
 use Rattle.messages.specs.rule.Shapes.{most_files}
-use Rattle.token_server.specs.declared.token_queue.held.Held.{Held}
+use Rattle.token_server.specs.declared.token_queue.active_request.ActiveRequest.{ActiveRequest}
 use Rattle.token_server.specs.rule.State.{ServerState}
 use Rattle.token_server.specs.code.Readers.{nodes_where}
 use Rattle.cluster_core.specs.declared.held_lock.HeldLock.{HeldLock}
-use Rattle.cluster_core.specs.declared.token_run.TokenRun.{TokenRun}
+use Rattle.cluster_core.specs.declared.node_token_run.NodeTokenRun.{NodeTokenRun}
 use Rattle.cluster_core.specs.rule.World.{WorldState, has_node, has_file}
 use Rattle.states.specs.declared.chosen.Chosen.{Chosen}
 
@@ -39,14 +39,14 @@ told_files w c = nodes_where (tells_file w c) most_files
 abbrev pub told_servers : WorldState → Chosen → List ℕ
 told_servers w c = nodes_where (tells_server w c) most_files
 
-abbrev pub tells_token : Chosen → TokenRun → Bool
+abbrev pub tells_token : Chosen → NodeTokenRun → Bool
 tells_token c t = is_chosen c.node t.node && is_chosen c.file t.file
 
 abbrev pub tells_lock : Chosen → HeldLock → Bool
 tells_lock c h = is_chosen c.node h.lock.owner.node && is_chosen c.file h.file
 
 -- an active request is told of with its own node, and with the node whose answer it waits for
-abbrev pub tells_held : Chosen → Held → Bool
+abbrev pub tells_held : Chosen → ActiveRequest → Bool
 tells_held c h = is_chosen c.node h.request.call.node || is_chosen c.node h.at
 
 -- the server knows an incarnation of the node to be dead, and the node is chosen

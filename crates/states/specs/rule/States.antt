@@ -1,7 +1,7 @@
 -- What is told of a world.
 use Rattle.std.specs.Prelude.{◌≡◌, ℕ, ◌-◌, Bool, if◌then◌else◌, List, [], All, filter, map, is_some, Option, Some, None}
 use Rattle.model.specs.rule.Limits.{most_nodes}
-use Rattle.token_server.specs.declared.token_queue.held.Held.{Held}
+use Rattle.token_server.specs.declared.token_queue.active_request.ActiveRequest.{ActiveRequest}
 use Rattle.token_server.specs.rule.Actives.{requests_of}
 use Rattle.token_server.specs.rule.Rows.{is_awaited}
 use Rattle.token_server.specs.declared.shown_row.ShownRow.{ShownRow}
@@ -29,7 +29,7 @@ abbrev pub told_epoch : WorldState → ℕ → ToldEpoch
 told_epoch w file = record { file = file; epoch = (w.servers file).epoch; works = w.working file }
 
 -- all active requests, each with the node whose answer it waits for
-pub record AreServed (s : ServerState) (held : List Held) : Type 0 where
+pub record AreServed (s : ServerState) (held : List ActiveRequest) : Type 0 where
   pub requests : requests_of held ≡ s.active
   pub at : All (λ h. obstacle s h.request ≡ h.at) held
 

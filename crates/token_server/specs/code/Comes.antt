@@ -1,7 +1,7 @@
 -- The admission of requests from the queue of a token server, slot by slot.
 use Rattle.std.specs.Prelude.{◌≡◌, ◌≤◌, true, List, [], find, count_by, Option, Some}
 use Rattle.model.specs.declared.call.CallId.{CallId}
-use Rattle.token_server.specs.declared.token_queue.held.Held.{Held}
+use Rattle.token_server.specs.declared.token_queue.active_request.ActiveRequest.{ActiveRequest}
 use Rattle.token_server.specs.declared.token_queue.token_request.TokenRequest.{TokenRequest}
 use Rattle.token_server.specs.rule.Requests.{is_of_call, meets, requests_in}
 use Rattle.token_server.specs.rule.Actives.{requests_of}
@@ -12,7 +12,7 @@ use Rattle.token_server.specs.code.Ready.{AreDistinct}
 use Rattle.token_server.specs.code.Sketches.{without, still_active}
 
 -- the active requests that stay active
-abbrev pub served_on : Gone → List Held → List TokenRequest
+abbrev pub served_on : Gone → List ActiveRequest → List TokenRequest
 served_on g held = still_active g.ended (without g.dropped (requests_of held))
 
 -- the requests in slots that are not dropped

@@ -5,15 +5,15 @@ use Rattle.model.specs.declared.call.CallId.{CallId}
 use Rattle.messages.specs.declared.message.Message.{Message}
 use Rattle.std.specs.Vec.{vec_capacity}
 use Rattle.token_server.specs.declared.token_queue.token_request.TokenRequest.{TokenRequest}
-use Rattle.token_server.specs.declared.token_queue.held.Held.{Held}
+use Rattle.token_server.specs.declared.token_queue.active_request.ActiveRequest.{ActiveRequest}
 use Rattle.token_server.specs.rule.Requests.{LineParts, is_of_call, is_up_to, AreOfDistinctCalls}
 use Rattle.token_server.specs.rule.Actives.{ActiveParts, requests_of, waiting_for}
 use Rattle.token_server.specs.declared.known_nodes.known_node.KnownNode.{KnownNode}
 use Rattle.token_server.specs.declared.known_nodes.row_edit.RowEdit.{RowEdit}
-use Rattle.token_server.specs.declared.change.Draft.{Draft}
-use Rattle.token_server.specs.declared.known_nodes.given.Given.{Given}
-use Rattle.token_server.specs.declared.change.Edit.{Edit}
-use Rattle.token_server.specs.declared.change.Parts.{Parts}
+use Rattle.token_server.specs.declared.change.ServerDraft.{ServerDraft}
+use Rattle.token_server.specs.declared.known_nodes.new_row.NewRow.{NewRow}
+use Rattle.token_server.specs.declared.change.ServerEdit.{ServerEdit}
+use Rattle.token_server.specs.declared.change.EditParts.{EditParts}
 use Rattle.token_server.specs.declared.lists.Lists.{Lists}
 use Rattle.token_server.specs.declared.sketch.Moved.{Moved}
 use Rattle.token_server.specs.declared.sketch.Moved.TheVariants.{Nothing, New, Again, Waiting, PutOff}
@@ -30,12 +30,12 @@ use Rattle.token_server.specs.code.Ready.{IsOrderly, IsReady}
 use Rattle.token_server.specs.code.RowEdits.{rows_overlaid, deaths_overlaid, given_of, given_rows}
 
 -- the active requests without that of the call that ends, if one does
-abbrev pub held_still : Option CallId → List Held → List Held
+abbrev pub held_still : Option CallId → List ActiveRequest → List ActiveRequest
 held_still None held = held
 held_still (Some call) held = filter (λ h. not (is_of_call call h.request)) held
 
 -- the active requests without those of the node up to the incarnation that is dropped, if one is
-abbrev pub held_without : Option (ℕ × ℕ) → List Held → List Held
+abbrev pub held_without : Option (ℕ × ℕ) → List ActiveRequest → List ActiveRequest
 held_without None held = held
 held_without (Some d) held = filter (λ h. not (is_up_to d.0 d.1 h.request)) held
 
@@ -52,7 +52,7 @@ abbrev pub keeps : Option (ℕ × ℕ) → Option CallId → TokenRequest → Bo
 keeps dropped ended r = not (is_up_to_any dropped r) && not (is_of_any ended r)
 
 -- the active requests after the change: those that stay active, each with the row that it waits for then, and those that are admitted
-abbrev pub held_after : Lists → List Held → List Held
+abbrev pub held_after : Lists → List ActiveRequest → List ActiveRequest
 held_after l held = held_still l.gone.ended (held_without l.gone.dropped (waiting_for l.ats.items held)) ++ l.fresh.items
 
 -- the queue after the change
@@ -77,7 +77,7 @@ pub record AreListed (p : ServerParts) (k : Sketch) (rows : Option RowEdit) (l :
   pub waits : All (λ h. obstacle (reached p rows) h.request ≡ h.at) (held_after l p.active.held)
 
 -- the state after the draft is made
-abbrev pub drafted : ServerParts → Draft → ServerState
+abbrev pub drafted : ServerParts → ServerDraft → ServerState
 drafted p d = record {
   shape = p.shape;
   file = p.file;
@@ -90,7 +90,7 @@ drafted p d = record {
 }
 
 -- the draft makes the sketched changes of a server that holds what it has to between two steps
-pub record IsDrafted (p : ServerParts) (k : Sketch) (d : Draft) : Type 0 where
+pub record IsDrafted (p : ServerParts) (k : Sketch) (d : ServerDraft) : Type 0 where
   pub before : IsReady (server_state p) p.active.held
   pub orderly : IsOrderly (sketched p k)
   pub rows : rows_overlaid p.known_nodes d.rows ≡ rows_after k.changed (rows_of p.known_nodes)
@@ -98,25 +98,25 @@ pub record IsDrafted (p : ServerParts) (k : Sketch) (d : Draft) : Type 0 where
   pub listed : AreListed p k d.rows d.lists
   pub awaited : d.awaits ≡ awaits (drafted p d)
 
-abbrev pub with_given : List Given → List KnownNode → ServerState → ServerState
+abbrev pub with_given : List NewRow → List KnownNode → ServerState → ServerState
 with_given gs known_nodes s = record s { rows = given_rows gs known_nodes }
 
 -- the state after the draft and the new rows are made
-abbrev pub made_of : ServerParts → Draft → List Given → ServerState
+abbrev pub made_of : ServerParts → ServerDraft → List NewRow → ServerState
 made_of p d gs = with_given (gs ++ given_of d.rows) p.known_nodes (drafted p d)
 
 -- serving the draft leads to the state with these new rows, and to these messages
-pub record IsServed (p : ServerParts) (k : Sketch) (d : Draft) (gs : List Given) (out : List Message) : Type 0 where
+pub record IsServed (p : ServerParts) (k : Sketch) (d : ServerDraft) (gs : List NewRow) (out : List Message) : Type 0 where
   pub comes : serve (sketched p k) ≡ Ok (made_of p d gs, out)
   pub awaited : d.awaits ≡ awaits (made_of p d gs)
   pub ready : IsReady (made_of p d gs) (held_after d.lists p.active.held)
 
 -- the state after these parts of a change are made
-abbrev pub made : ServerParts → Parts → ServerState
+abbrev pub made : ServerParts → EditParts → ServerState
 made p v = made_of p v.draft v.given.items
 
 -- the state after a planned change is made
-abbrev pub planned : ServerParts → Edit → ServerState
+abbrev pub planned : ServerParts → ServerEdit → ServerState
 planned p e = made p e.parts.value
 
 -- the number of requests that go to the end of the queue
@@ -133,7 +133,7 @@ abbrev pub HasRoom : LineParts → Option LineParts → ℕ → Type 0
 HasRoom l None more = more ≤ l.room
 HasRoom l (Some spare) more = (spare.requests ≡ []) × (length l.requests + more ≤ spare.room)
 
-abbrev pub HeldHasRoom : ActiveParts → Option (Vec Held Global) → ℕ → Type 0
+abbrev pub HeldHasRoom : ActiveParts → Option (Vec ActiveRequest Global) → ℕ → Type 0
 HeldHasRoom a None more = more ≤ a.room
 HeldHasRoom a (Some spare) more = (spare.items ≡ []) × (length a.held + more ≤ vec_capacity spare)
 
@@ -146,7 +146,7 @@ IsNewCall Waiting queue waiting = AreOfDistinctCalls (queue ++ waiting)
 IsNewCall Nothing queue waiting = Unit {0}
 
 -- the parts of a change were planned from a server with these parts: there is room for it, and what holds between two steps holds after it
-pub record PartsFit (p : ServerParts) (v : Parts) : Type 0 where
+pub record PartsFit (p : ServerParts) (v : EditParts) : Type 0 where
   pub new : IsNewCall v.draft.lists.moved (without v.draft.lists.gone.dropped p.queue.requests) (without v.draft.lists.gone.dropped p.waiting.requests)
   pub served : HeldHasRoom p.active v.spares.active (length v.draft.lists.fresh.items)
   pub queued : HasRoom p.queue v.spares.queue (many_moved v.draft.lists.moved (without v.draft.lists.gone.dropped p.waiting.requests))
@@ -155,5 +155,5 @@ pub record PartsFit (p : ServerParts) (v : Parts) : Type 0 where
   pub ready : IsReady (made p v) (held_after v.draft.lists p.active.held)
 
 -- the change was planned from a server with these parts
-abbrev pub Fits : ServerParts → Edit → Type 0
+abbrev pub Fits : ServerParts → ServerEdit → Type 0
 Fits p e = PartsFit p e.parts.value

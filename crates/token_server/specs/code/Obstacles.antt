@@ -1,7 +1,7 @@
 -- The node whose row an active request waits for.
 use Rattle.std.specs.Prelude.{ℕ, ◌-◌, Bool, true, false, not, ◌&&◌, ◌||◌, ◌==◌, nat_le, if◌then◌else◌, List, [], ◌∷◌, is_some, Option, Some, None}
 use Rattle.intervals.specs.rule.Bytes.{Range}
-use Rattle.token_server.specs.declared.token_queue.held.Held.{Held}
+use Rattle.token_server.specs.declared.token_queue.active_request.ActiveRequest.{ActiveRequest}
 use Rattle.token_server.specs.declared.token_queue.token_request.TokenRequest.{TokenRequest}
 use Rattle.token_server.specs.declared.known_nodes.node_change.NodeChange.{NodeChange}
 use Rattle.token_server.specs.declared.known_nodes.node_change.NodeChange.TheVariants.{Forgotten, Asked, Answered, Relieved, Reported}
@@ -35,7 +35,7 @@ frees (Relieved span mode) row s = meets span s
 frees (Reported runs) row s = true
 
 -- the change of a node's row may make the active request wait for another row
-abbrev pub may_turn : Changed → Option Row → Held → Bool
+abbrev pub may_turn : Changed → Option Row → ActiveRequest → Bool
 may_turn c row h = (may_bar c.change || (h.at == c.node)) && frees c.change row h.request.wanted.required
 
 -- the node of the row has no outstanding command: one may be sent

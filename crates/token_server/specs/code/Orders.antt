@@ -2,8 +2,8 @@
 use Rattle.std.specs.Prelude.{ℕ}
 use Rattle.messages.specs.declared.message.Message.{Message}
 use Rattle.messages.specs.declared.message.Message.TheVariants as message
-use Rattle.token_server.specs.declared.known_nodes.command.Order.{Order}
-use Rattle.token_server.specs.declared.known_nodes.command.Order.TheVariants.{Grant, Revoke, Hello}
+use Rattle.token_server.specs.declared.known_nodes.server_command.Order.{Order}
+use Rattle.token_server.specs.declared.known_nodes.server_command.Order.TheVariants.{Grant, Revoke, Hello}
 
 -- the message in which the server of the file gives the order
 abbrev pub message_of : ℕ → Order → Message

@@ -3,7 +3,7 @@ use Rattle.std.specs.Prelude.{◌≡◌, ℕ, ◌<◌, ◌≤◌, Bool, true, fa
 use Rattle.model.specs.declared.call.CallId.{CallId}
 use Rattle.model.specs.rule.Limits.{IsNumber}
 use Rattle.messages.specs.rule.Epochs.{IsEpoch}
-use Rattle.token_server.specs.declared.token_queue.held.Held.{Held}
+use Rattle.token_server.specs.declared.token_queue.active_request.ActiveRequest.{ActiveRequest}
 use Rattle.token_server.specs.declared.token_queue.token_request.TokenRequest.{TokenRequest}
 use Rattle.token_server.specs.rule.Requests.{is_of_call}
 use Rattle.token_server.specs.rule.State.{ServerState, requests, begin, awaits}
@@ -27,7 +27,7 @@ pub record IsOrderly (s : ServerState) : Type 0 where
 
 -- No two active requests need a common byte, and each waits for the row of a node with an outstanding command. While a node has not reported its token none is
 -- active; after that each queued request needs a byte of an active one, or of one before it.
-pub record IsReady (s : ServerState) (held : List Held) : Type 0 where
+pub record IsReady (s : ServerState) (held : List ActiveRequest) : Type 0 where
   pub waits : All (λ h. obstacle s h.request ≡ h.at) held
   pub quiet : All (λ h. is_idle (s.rows h.at) ≡ false) held
   pub apart : are_apart s.active ≡ true

@@ -9,7 +9,7 @@ use Rattle.token_server.specs.declared.known_nodes.known_node.KnownNode.{KnownNo
 use Rattle.token_server.specs.declared.known_nodes.row_edit.RowAfter.{RowAfter}
 use Rattle.token_server.specs.declared.known_nodes.row_edit.RowAfter.TheVariants.{Kept, New}
 use Rattle.token_server.specs.declared.known_nodes.row_edit.RowEdit.{RowEdit}
-use Rattle.token_server.specs.declared.known_nodes.given.Given.{Given}
+use Rattle.token_server.specs.declared.known_nodes.new_row.NewRow.{NewRow}
 use Rattle.token_server.specs.rule.Rows.{Commands, Row}
 use Rattle.token_server.specs.code.Sent.{promised}
 use Rattle.token_server.specs.rule.RowParts.{row_in, row_state, rows_of, deaths_of, known_node_at}
@@ -37,21 +37,21 @@ abbrev pub row_promised : Commands → Message → Option Row → Option Row
 row_promised commands command None = None
 row_promised commands command (Some row) = Some (row_in commands (promised command row.token))
 
-abbrev pub given_to_known_node : Given → Option KnownNode → Option Row
+abbrev pub given_to_known_node : NewRow → Option KnownNode → Option Row
 given_to_known_node g None = None
 given_to_known_node g (Some known_node) = row_kept g.row known_node.row
 
 -- the row of each node after one new row is made
-abbrev pub with_given_row : Given → List KnownNode → ℕ → Option Row
+abbrev pub with_given_row : NewRow → List KnownNode → ℕ → Option Row
 with_given_row g known_nodes n = if n == g.place + 1 then given_to_known_node g (known_node_at known_nodes n) else rows_of known_nodes n
 
 -- the row of each node after these new rows are made; of several for one node the first counts
-abbrev pub given_rows : List Given → List KnownNode → ℕ → Option Row
+abbrev pub given_rows : List NewRow → List KnownNode → ℕ → Option Row
 given_rows [] known_nodes n = rows_of known_nodes n
 given_rows (g ∷ gs) known_nodes n = if n == g.place + 1 then given_to_known_node g (known_node_at known_nodes n) else given_rows gs known_nodes n
 
 -- the new row that an edit makes, if there is an edit
-abbrev pub given_of : Option RowEdit → List Given
+abbrev pub given_of : Option RowEdit → List NewRow
 given_of None = []
 given_of (Some e) = e.given ∷ []
 

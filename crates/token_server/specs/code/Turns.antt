@@ -1,10 +1,10 @@
 -- The turns of the active requests, one after the other.
 use Rattle.std.specs.Prelude.{◌≡◌, ◌≤◌, false, List, ◌++◌, filter, All, IfSome, Option, Ok}
 use Rattle.std.specs.Option.{option_to_list}
-use Rattle.token_server.specs.declared.token_queue.held.Held.{Held}
+use Rattle.token_server.specs.declared.token_queue.active_request.ActiveRequest.{ActiveRequest}
 use Rattle.token_server.specs.rule.Actives.{requests_of, waiting_for}
 use Rattle.token_server.specs.declared.lists.Lists.{Lists}
-use Rattle.token_server.specs.declared.told.Told.{Told}
+use Rattle.token_server.specs.declared.sent_command.SentCommand.{SentCommand}
 use Rattle.token_server.specs.rule.State.{ServerState}
 use Rattle.token_server.specs.rule.Serve.{served, each_served}
 use Rattle.token_server.specs.code.Obstacles.{obstacle, is_idle}
@@ -12,16 +12,16 @@ use Rattle.token_server.specs.code.Told.{with_told, commands_told}
 use Rattle.token_server.specs.code.Edits.{keeps}
 
 -- the active requests that stay active
-abbrev pub kept : Lists → List Held → List Held
+abbrev pub kept : Lists → List ActiveRequest → List ActiveRequest
 kept l held = filter (λ h. keeps l.gone.dropped l.gone.ended h.request) held
 
 -- the active requests that stay active, each with the node whose row it waits for after the change
-abbrev pub kept_of : Lists → List Held → List Held
+abbrev pub kept_of : Lists → List ActiveRequest → List ActiveRequest
 kept_of l held = kept l (waiting_for l.ats.items held)
 
 -- after these commands the request is served: it leads to one more command, to the node whose row it waits for, if one may be sent
-pub record IsTurn (s : ServerState) (h : Held) (before after : List Told) : Type 0 where
-  pub next : Option Told
+pub record IsTurn (s : ServerState) (h : ActiveRequest) (before after : List SentCommand) : Type 0 where
+  pub next : Option SentCommand
   pub made : after ≡ before ++ option_to_list next
   pub node : IfSome next (λ t. 1 ≤ t.node)
   pub comes : served (with_told before s) h.request ≡ Ok (with_told (before ++ option_to_list next) s, commands_told (option_to_list next))
@@ -31,7 +31,7 @@ pub record IsTurn (s : ServerState) (h : Held) (before after : List Told) : Type
 
 -- The first active requests were served and led to these commands. Each request still waits for the row that it waited for, and no further command may go to
 -- the nodes whose rows the served ones wait for.
-pub record AreServed (s : ServerState) (all done : List Held) (told : List Told) : Type 0 where
+pub record AreServed (s : ServerState) (all done : List ActiveRequest) (told : List SentCommand) : Type 0 where
   pub comes : each_served (requests_of done) s ≡ Ok (with_told told s, commands_told told)
   pub nodes : All (λ t. 1 ≤ t.node) told
   pub waits : All (λ h. obstacle (with_told told s) h.request ≡ h.at) all

@@ -5,7 +5,7 @@ ghost use Rattle.messages.specs.declared.message.Message.TheVariants.{Hello};
 ghost use Rattle.token_server.specs.rule.Rows.{is_hello};
 ghost use Rattle.token_server.specs.code.Sent.{awaiting, next_number, told_commands, answered_commands};
 
-use crate::known_nodes::command::{Command, Order};
+use crate::known_nodes::server_command::{Order, ServerCommand};
 use messages::command_number::{CommandNumber, GREATEST_NUMBER};
 use messages::epoch_number::EpochNumber;
 use messages::file_number::FileNumber;
@@ -19,7 +19,7 @@ use std::marker::Model;
 pub struct Commands {
     pub incarnation: u16,
     pub number: u64,
-    pub outstanding: Option<Command>,
+    pub outstanding: Option<ServerCommand>,
 }
 
 impl Model for Commands {
@@ -64,7 +64,7 @@ impl Commands {
         Commands {
             incarnation: holder.incarnation,
             number: number.get(),
-            outstanding: Some(Command::of(file, hello)),
+            outstanding: Some(ServerCommand::of(file, hello)),
         }
     }
 
@@ -113,7 +113,7 @@ impl Commands {
     }
 
     /// The commands after the next one, which has that number, is sent.
-    pub fn told(self, number: CommandNumber, command: Command) -> Commands
+    pub fn told(self, number: CommandNumber, command: ServerCommand) -> Commands
         requires { number ≡ self.number + 1 }
         ensures { result ≡ told_commands command self }
     {
@@ -125,7 +125,7 @@ impl Commands {
     }
 
     /// The commands with that one outstanding, and the same number.
-    pub fn awaiting(self, command: Command) -> Commands
+    pub fn awaiting(self, command: ServerCommand) -> Commands
         ensures { result ≡ awaiting command self }
     {
         Commands {

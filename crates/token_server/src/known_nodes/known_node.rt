@@ -11,11 +11,11 @@ ghost use Rattle.token_server.specs.code.Changes.{answering, relieved, row_or_em
 ghost use Rattle.token_server.specs.code.Rebuilds.{rebuilt_row, rebuilt_dead};
 ghost use Rattle.token_server.specs.code.RowEdits.{seen_row, row_with, row_kept, row_promised};
 
-use crate::known_nodes::command::Command;
 use crate::known_nodes::commands::Commands;
 use crate::known_nodes::node_change::NodeChange;
 use crate::known_nodes::reports::token_told;
 use crate::known_nodes::row_edit::RowAfter;
+use crate::known_nodes::server_command::ServerCommand;
 use crate::known_nodes::token_holder::{RowView, TokenHolder, excludes};
 use intervals::span::Span;
 use members::members::Members;
@@ -163,7 +163,7 @@ impl KnownNode {
     pub(crate) fn promised(
         &self,
         commands: Commands,
-        command: &Command,
+        command: &ServerCommand,
     ) -> Result<Option<RowAfter>, AllocError>
         ensures { IfOk result (λ after. row_kept after self.now.row ≡ row_promised commands command.now (row_seen self.now.row)) }
     {
@@ -180,7 +180,7 @@ impl KnownNode {
         &self,
         after: &Option<RowAfter>,
         commands: Commands,
-        command: &Command,
+        command: &ServerCommand,
     ) -> Result<Option<RowAfter>, AllocError>
         ensures { IfOk result (λ both. row_kept both self.now.row ≡ row_promised commands command.now (row_kept after.now self.now.row)) }
     {

@@ -14,12 +14,12 @@ ghost use Rattle.token_server.specs.code.Changes.{rows_after, deaths_after};
 ghost use Rattle.token_server.specs.code.RowEdits.{seen, row_promised, given_to_known_node, with_given_row, given_rows, given_of, rows_overlaid, deaths_overlaid, deaths_with};
 ghost use Rattle.token_server.specs.code.Marks.{NoneExclusive};
 
-use crate::known_nodes::command::Command;
 use crate::known_nodes::commands::Commands;
-use crate::known_nodes::given::Given;
 use crate::known_nodes::known_node::KnownNode;
+use crate::known_nodes::new_row::NewRow;
 use crate::known_nodes::node_change::Changed;
 use crate::known_nodes::row_edit::RowEdit;
+use crate::known_nodes::server_command::ServerCommand;
 use crate::known_nodes::token_holder::{RowView, TokenHolder};
 use members::members::Members;
 use messages::epoch_number::EpochNumber;
@@ -188,7 +188,7 @@ impl KnownNodes {
         if known_node.stays(&changed.change) {
             return Ok(None);
         }
-        let given = Given {
+        let given = NewRow {
             place: usize::from(changed.node) - 1,
             row: known_node.row_after(alloc, &changed.change)?,
         };
@@ -254,15 +254,15 @@ impl KnownNodes {
         edit: &Option<RowEdit>,
         node: u8,
         commands: Commands,
-        command: &Command,
-    ) -> Result<Given, AllocError>
+        command: &ServerCommand,
+    ) -> Result<NewRow, AllocError>
         requires { 1 ≤ node }
         ensures place { IfOk result (λ given. given.place + 1 ≡ node) }
         ensures row { IfOk result (λ given. given_to_known_node given (known_node_at self.now node) ≡ row_promised commands command.now (rows_overlaid self.now edit.now node)) }
     {
         let place = usize::from(node) - 1;
         let Some(known_node) = self.get(node) else {
-            return Ok(Given { place, row: None });
+            return Ok(NewRow { place, row: None });
         };
         let row = match edit {
             Some(edit) if edit.given.place == place => {
@@ -270,12 +270,12 @@ impl KnownNodes {
             }
             _ => known_node.promised(commands, command)?,
         };
-        Ok(Given { place, row })
+        Ok(NewRow { place, row })
     }
 
     /// Makes the new rows, and the edit, if there is one. Where several give a node a row, the first of `given`
     /// counts, and the edit's last. One at an index without a node changes nothing. Takes no memory.
-    pub fn apply(&mut self, edit: Option<RowEdit>, given: Vec<Given>)
+    pub fn apply(&mut self, edit: Option<RowEdit>, given: Vec<NewRow>)
         ensures rows { (n : ℕ) → rows_of self.new n ≡ given_rows (given.items ++ given_of edit) self.old n }
         ensures deaths { deaths_of self.new ≡ deaths_overlaid self.old edit }
         ensures len { length self.new ≡ length self.old }
@@ -315,13 +315,13 @@ impl KnownNodes {
     }
 
     // Makes the new row, if there is a node at its index.
-    fn give(&mut self, given: Given)
+    fn give(&mut self, given: NewRow)
         ensures rows { rows_of self.new ≡ with_given_row given self.old }
         ensures others { (m : ℕ) → m ≢ given.place + 1 → known_node_at self.new m ≡ known_node_at self.old m }
         ensures deaths { deaths_of self.new ≡ deaths_of self.old }
         ensures len { length self.new ≡ length self.old }
     {
-        let Given { place, row } = given;
+        let NewRow { place, row } = given;
         if place < self.nodes.len() {
             self.nodes[place].put(row);
             self.may_exclude = self.nodes[place].notes_exclusive(self.may_exclude);
@@ -329,7 +329,7 @@ impl KnownNodes {
     }
 
     // Makes the new row `last`, unless one of `others` is for the same node.
-    fn give_last(&mut self, last: Given, others: &[Given])
+    fn give_last(&mut self, last: NewRow, others: &[NewRow])
         ensures rows { (n : ℕ) → given_rows others.now self.new n ≡ given_rows (others.now ++ last ∷ []) self.old n }
         ensures deaths { deaths_of self.new ≡ deaths_of self.old }
         ensures len { length self.new ≡ length self.old }
@@ -340,7 +340,7 @@ impl KnownNodes {
     }
 
     // Makes the new rows. Of several for one node the first counts.
-    fn give_each(&mut self, given: Vec<Given>)
+    fn give_each(&mut self, given: Vec<NewRow>)
         ensures rows { (n : ℕ) → rows_of self.new n ≡ given_rows given.items self.old n }
         ensures deaths { deaths_of self.new ≡ deaths_of self.old }
         ensures len { length self.new ≡ length self.old }
@@ -375,7 +375,7 @@ impl KnownNodes {
 }
 
 // Whether one of the new rows is for the node at that index.
-fn has_place(given: &[Given], place: usize) -> bool
+fn has_place(given: &[NewRow], place: usize) -> bool
     ensures { result ≡ list_any (λ g. g.place == place) given.now }
 {
     given.iter().any(|given| given.place == place)

@@ -7,9 +7,9 @@ ghost use Rattle.token_server.specs.rule.RowParts.{row_seen};
 ghost use Rattle.token_server.specs.declared.known_nodes.token_holder.TokenHolder.{TokenHolder};
 ghost use Rattle.token_server.specs.code.RowEdits.{seen_row, row_with, row_promised};
 
-use crate::known_nodes::command::Command;
 use crate::known_nodes::commands::Commands;
-use crate::known_nodes::given::Given;
+use crate::known_nodes::new_row::NewRow;
+use crate::known_nodes::server_command::ServerCommand;
 use crate::known_nodes::token_holder::{RowView, TokenHolder, excludes};
 use std::alloc::AllocError;
 use token_set::edit::TokenEdit;
@@ -29,7 +29,7 @@ pub enum RowAfter {
 /// The edit of one node: its new row, and its greatest dead incarnation.
 #[derive(Drop)]
 pub struct RowEdit {
-    pub given: Given,
+    pub given: NewRow,
     pub dead: u16,
 }
 
@@ -69,7 +69,7 @@ impl RowAfter {
         &self,
         row: &Option<TokenHolder>,
         commands: Commands,
-        command: &Command,
+        command: &ServerCommand,
     ) -> Result<RowAfter, AllocError>
         ensures { IfOk result (λ after. row_with after row.now ≡ row_promised commands command.now (row_with self.now row.now)) }
     {

@@ -12,7 +12,7 @@ use super::Server;
 use crate::gone::Gone;
 use crate::sketch::Moved;
 use crate::token_queue::active::Active;
-use crate::token_queue::held::Held;
+use crate::token_queue::active_request::ActiveRequest;
 use crate::token_queue::line::Line;
 use crate::token_queue::token_request::TokenRequest;
 use intervals::span::Span;
@@ -51,7 +51,7 @@ impl Server {
 }
 
 // Whether the request needs a byte of an active one that stays active.
-fn meets_served(held: &[Held], gone: &Gone, request: &TokenRequest) -> bool
+fn meets_served(held: &[ActiveRequest], gone: &Gone, request: &TokenRequest) -> bool
     ensures { result ≡ meets_some request.now (served_on gone.now held.now) }
 {
     let span = request.required();
@@ -77,7 +77,7 @@ pub(super) fn needs_all_of(request: &TokenRequest, span: Span) -> bool
 
 // Whether the request stays queued: it needs a byte of one that stays active, or of one before it in the queue.
 fn must_stay(
-    held: &[Held],
+    held: &[ActiveRequest],
     gone: &Gone,
     front: &[Option<TokenRequest>],
     before: &[Option<TokenRequest>],
@@ -92,7 +92,7 @@ fn must_stay(
 // Takes one slot more: admits its request, unless the request is dropped or stays queued.
 fn admit_slot(
     fresh: &mut Vec<TokenRequest>,
-    held: &[Held],
+    held: &[ActiveRequest],
     gone: &Gone,
     front: &[Option<TokenRequest>],
     slots: &[Option<TokenRequest>],
@@ -116,7 +116,7 @@ fn admit_slot(
 // Takes all slots in order, behind those in `front`.
 fn admit_each(
     fresh: &mut Vec<TokenRequest>,
-    held: &[Held],
+    held: &[ActiveRequest],
     gone: &Gone,
     front: &[Option<TokenRequest>],
     slots: &[Option<TokenRequest>],
@@ -136,7 +136,7 @@ fn admit_each(
 // needs all that the ended one needed.
 fn admit_next(
     fresh: &mut Vec<TokenRequest>,
-    held: &[Held],
+    held: &[ActiveRequest],
     call: CallId,
     ended: &TokenRequest,
     slots: &[Option<TokenRequest>],
@@ -166,7 +166,7 @@ fn admit_next(
 // Takes all slots of a settled queue, in which each request stayed, after an active request ended.
 fn admit_freed(
     fresh: &mut Vec<TokenRequest>,
-    held: &[Held],
+    held: &[ActiveRequest],
     call: CallId,
     ended: &TokenRequest,
     slots: &[Option<TokenRequest>],

@@ -18,7 +18,7 @@ use super::Server;
 use super::admitting::needs_all_of;
 use crate::known_nodes::node_change::{Changed, NodeChange};
 use crate::known_nodes::row_edit::RowEdit;
-use crate::token_queue::held::Held;
+use crate::token_queue::active_request::ActiveRequest;
 use crate::token_queue::token_request::TokenRequest;
 use model::mode::Mode;
 use std::alloc::{AllocError, Global};
@@ -146,7 +146,13 @@ impl Server {
     }
 
     // The node whose row the active request waits for after the rows changed.
-    fn at_after(&self, rows: &Option<RowEdit>, readable: bool, changed: &Changed, held: &Held) -> u8
+    fn at_after(
+        &self,
+        rows: &Option<RowEdit>,
+        readable: bool,
+        changed: &Changed,
+        held: &ActiveRequest,
+    ) -> u8
         requires readable { readable ≡ true → NoneExclusive (reached self.now rows.now).rows }
         requires rows { rows_overlaid self.now.known_nodes rows.now ≡ rows_after (Some changed.now) (rows_of self.now.known_nodes) }
         requires in_cluster { IsNumber self.now.shape.nodes changed.now.node }
@@ -165,7 +171,7 @@ impl Server {
         alloc: Global,
         rows: &Option<RowEdit>,
         requests: &[TokenRequest],
-    ) -> Result<Vec<Held>, AllocError>
+    ) -> Result<Vec<ActiveRequest>, AllocError>
         ensures requests { IfOk result (λ fresh. requests_of fresh.items ≡ requests.now) }
         ensures waits { IfOk result (λ fresh. All (λ h. obstacle (reached self.now rows.now) h.request ≡ h.at) fresh.items) }
     {
@@ -173,7 +179,7 @@ impl Server {
         let readable = self.known_nodes.excludes_none(rows);
         for request in requests {
             let at = self.obstacle(rows, readable, request);
-            fresh.push(Held {
+            fresh.push(ActiveRequest {
                 request: *request,
                 at,
             })?;
@@ -196,7 +202,7 @@ fn may_free(change: &NodeChange, request: &TokenRequest) -> bool
 
 // Whether the active request may wait for another row after the change: the row that changes is the one that it waits
 // for, or may come to block it.
-fn may_be_freed(changed: &Changed, held: &Held) -> bool
+fn may_be_freed(changed: &Changed, held: &ActiveRequest) -> bool
     ensures { result ≡ false → (row : Option Row) → may_turn changed.now row held.now ≡ false }
 {
     (changed.change.may_bar() || held.at == changed.node)

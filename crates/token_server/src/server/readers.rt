@@ -12,7 +12,7 @@ ghost use Rattle.token_server.specs.code.Readers.{nodes_where, Shows, IsRow};
 use super::Server;
 use crate::known_nodes::token_holder::TokenHolder;
 use crate::shown_row::ShownRow;
-use crate::token_queue::held::Held;
+use crate::token_queue::active_request::ActiveRequest;
 use crate::token_queue::token_request::TokenRequest;
 use std::alloc::{AllocError, Global};
 
@@ -20,7 +20,7 @@ impl Server {
     /// The active requests, in the order in which they became active, each with the node whose row it waits for: the
     /// least other node whose token conflicts, which is to give up bytes, or else its own node, which is to take the
     /// grant. Takes no memory.
-    pub fn served(&self) -> &[Held]
+    pub fn served(&self) -> &[ActiveRequest]
         ensures requests { requests_of result.now ≡ (server_state self.now).active }
         ensures rows { All (λ h. obstacle (server_state self.now) h.request ≡ h.at) result.now }
         ensures busy { All (λ h. is_idle ((server_state self.now).rows h.at) ≡ false) result.now }

@@ -19,15 +19,15 @@ ghost use Rattle.token_server.specs.code.Edits.{keeps, held_after, drafted, with
 ghost use Rattle.token_server.specs.code.Turns.{kept_of, IsTurn, AreServed};
 
 use super::{Server, commands_told};
-use crate::change::Draft;
-use crate::known_nodes::command::{Command, Order};
+use crate::change::ServerDraft;
 use crate::known_nodes::commands::Commands;
-use crate::known_nodes::given::Given;
+use crate::known_nodes::new_row::NewRow;
+use crate::known_nodes::server_command::{Order, ServerCommand};
 use crate::lists::Lists;
+use crate::sent_command::{SentCommand, cut, told_to};
 use crate::sketch::Sketch;
-use crate::token_queue::held::Held;
+use crate::token_queue::active_request::ActiveRequest;
 use crate::token_queue::token_request::TokenRequest;
-use crate::told::{Told, cut, told_to};
 use intervals::span::Span;
 use messages::command_number::CommandNumber;
 use messages::items::Items;
@@ -41,7 +41,7 @@ use std::alloc::{AllocError, Global};
 impl Server {
     // The largest span within the desired one, around the required one, without bytes that another active request
     // needs.
-    fn narrowed(&self, draft: &Draft, request: &TokenRequest) -> Span
+    fn narrowed(&self, draft: &ServerDraft, request: &TokenRequest) -> Span
         ensures value { result ≡ narrowed (drafted self.now draft.now).active request.now }
         ensures starts_before { result.lo ≤ request.now.wanted.required.lo }
         ensures ends_after { request.now.wanted.required.hi ≤ result.hi }
@@ -57,7 +57,12 @@ impl Server {
 
     // The span that the request is granted: the largest within the narrowed desired span that no row of another node
     // conflicts with.
-    fn granted_span(&self, draft: &Draft, told: &[Told], request: &TokenRequest) -> Span
+    fn granted_span(
+        &self,
+        draft: &ServerDraft,
+        told: &[SentCommand],
+        request: &TokenRequest,
+    ) -> Span
         requires { self.now.shape.nodes < conflicting_node (with_told told.now (drafted self.now draft.now)) request.now }
         ensures { result ≡ granted_span (with_told told.now (drafted self.now draft.now)) request.now }
     {
@@ -78,8 +83,8 @@ impl Server {
     // conflicts with the mode, after the commands of `told` were sent.
     fn free_around<'a>(
         &'a self,
-        draft: &'a Draft,
-        told: &[Told],
+        draft: &'a ServerDraft,
+        told: &[SentCommand],
         node: u8,
         required: Span,
         within: Span,
@@ -103,7 +108,12 @@ impl Server {
     }
 
     // The commands to the node after those of `told` were sent, if it has a row.
-    fn commands_to<'a>(&'a self, draft: &'a Draft, told: &[Told], node: u8) -> Option<Commands>
+    fn commands_to<'a>(
+        &'a self,
+        draft: &'a ServerDraft,
+        told: &[SentCommand],
+        node: u8,
+    ) -> Option<Commands>
         requires { AreOfEpoch (drafted self.now draft.now) }
         ensures value { result ≡ option_map commands_of ((with_told told.now (drafted self.now draft.now)).rows node) }
         ensures counted { IfSome result (λ c. c.outstanding ≡ None → before_epoch self.now.epoch ≤ c.number) }
@@ -122,11 +132,11 @@ impl Server {
     // that node is outstanding.
     fn command(
         &self,
-        draft: &Draft,
-        told: &[Told],
+        draft: &ServerDraft,
+        told: &[SentCommand],
         request: &TokenRequest,
         at: u8,
-    ) -> Result<Option<Told>, StepError>
+    ) -> Result<Option<SentCommand>, StepError>
         requires waits { obstacle (with_told told.now (drafted self.now draft.now)) request.now ≡ at }
         requires counted { AreOfEpoch (drafted self.now draft.now) }
         ensures ok { IfOk result (λ o. served (with_told told.now (drafted self.now draft.now)) request.now ≡ Ok (with_told (told.now ++ option_to_list o) (drafted self.now draft.now), commands_told (option_to_list o))) }
@@ -140,8 +150,8 @@ impl Server {
             return Ok(None);
         };
         let order = self.order(draft, told, request, at, number, commands.incarnation());
-        let command = Command::of(self.file, order);
-        Ok(Some(Told {
+        let command = ServerCommand::of(self.file, order);
+        Ok(Some(SentCommand {
             node: at,
             commands: commands.told(number, command),
             command,
@@ -152,8 +162,8 @@ impl Server {
     // the required bytes.
     fn order(
         &self,
-        draft: &Draft,
-        told: &[Told],
+        draft: &ServerDraft,
+        told: &[SentCommand],
         request: &TokenRequest,
         at: u8,
         number: CommandNumber,
@@ -186,7 +196,12 @@ impl Server {
     }
 
     // Serves one active request: puts the command that it leads to behind `told`.
-    fn serve_one(&self, draft: &Draft, told: &mut Vec<Told>, held: &Held) -> Result<(), StepError>
+    fn serve_one(
+        &self,
+        draft: &ServerDraft,
+        told: &mut Vec<SentCommand>,
+        held: &ActiveRequest,
+    ) -> Result<(), StepError>
         requires waits { obstacle (with_told told.old.items (drafted self.now draft.now)) held.now.request ≡ held.now.at }
         requires counted { AreOfEpoch (drafted self.now draft.now) }
         ensures ok { OnOk result (IsTurn (drafted self.now draft.now) held.now told.old.items told.new.items) }
@@ -205,10 +220,10 @@ impl Server {
     // one command to that node no other request for its row can.
     fn commands_kept(
         &self,
-        draft: &Draft,
+        draft: &ServerDraft,
         touched: Option<u8>,
         alloc: Global,
-    ) -> Result<Vec<Told>, StepError>
+    ) -> Result<Vec<SentCommand>, StepError>
         requires waits { All (λ h. obstacle (drafted self.now draft.now) h.request ≡ h.at) (held_after draft.now.lists self.now.active.held) }
         requires apart { are_apart (drafted self.now draft.now).active ≡ true }
         requires untouched { (n : ℕ) → touched ≢ Some n → (drafted self.now draft.now).rows n ≡ (server_state self.now).rows n }
@@ -236,7 +251,7 @@ impl Server {
             }
             if draft.lists.gone.keeps(&held.request) {
                 let request = held.request;
-                self.serve_one(draft, &mut told, &Held { request, at })?;
+                self.serve_one(draft, &mut told, &ActiveRequest { request, at })?;
             }
         }
         Ok(told)
@@ -245,10 +260,10 @@ impl Server {
     // The commands for all active requests in order: first those that stay active, then those that are admitted.
     fn commands(
         &self,
-        draft: &Draft,
+        draft: &ServerDraft,
         touched: Option<u8>,
         alloc: Global,
-    ) -> Result<Vec<Told>, StepError>
+    ) -> Result<Vec<SentCommand>, StepError>
         requires waits { All (λ h. obstacle (drafted self.now draft.now) h.request ≡ h.at) (held_after draft.now.lists self.now.active.held) }
         requires apart { are_apart (drafted self.now draft.now).active ≡ true }
         requires untouched { (n : ℕ) → touched ≢ Some n → (drafted self.now draft.now).rows n ≡ (server_state self.now).rows n }
@@ -269,10 +284,10 @@ impl Server {
     // Serves the requests of a draft: the new rows that the commands make, and the commands.
     pub(super) fn serve_draft(
         &self,
-        draft: &Draft,
+        draft: &ServerDraft,
         sketch: &Sketch,
         alloc: Global,
-    ) -> Result<(Vec<Given>, Items<Message>), StepError>
+    ) -> Result<(Vec<NewRow>, Items<Message>), StepError>
         requires { IsDrafted self.now sketch.now draft.now }
         ensures ok { IfOk result (λ r. IsServed self.now sketch.now draft.now r.0.items r.1) }
         ensures err { IfErr result (λ e. e ≢ StepError.NoMemory → serve (sketched self.now sketch.now) ≡ Err e) }
@@ -284,7 +299,12 @@ impl Server {
     }
 
     // The new rows that the commands make.
-    fn given(&self, draft: &Draft, alloc: Global, told: &[Told]) -> Result<Vec<Given>, AllocError>
+    fn given(
+        &self,
+        draft: &ServerDraft,
+        alloc: Global,
+        told: &[SentCommand],
+    ) -> Result<Vec<NewRow>, AllocError>
         requires { All (λ t. 1 ≤ t.node) told.now }
         ensures { IfOk result (λ given. with_given (given.items ++ given_of draft.now.rows) self.now.known_nodes (drafted self.now draft.now) ≡ with_told told.now (drafted self.now draft.now)) }
     {
@@ -297,7 +317,7 @@ impl Server {
     }
 
     // The new row that one command makes.
-    fn given_one(&self, draft: &Draft, told: &Told) -> Result<Given, AllocError>
+    fn given_one(&self, draft: &ServerDraft, told: &SentCommand) -> Result<NewRow, AllocError>
         requires { 1 ≤ told.now.node }
         ensures place { IfOk result (λ given. given.place + 1 ≡ told.now.node) }
         ensures row { IfOk result (λ given. given_to_known_node given (known_node_at self.now.known_nodes told.now.node) ≡ row_told (Some told.now) (rows_overlaid self.now.known_nodes draft.now.rows told.now.node)) }
@@ -340,7 +360,7 @@ fn none_may_come(ats: &[u8], touched: Option<u8>) -> bool
 
 // The largest span within the desired one, around the required one, without bytes that active requests need which
 // stay active. Once it is down to the required bytes, no request takes a byte away.
-fn cut_by(request: &TokenRequest, held: &[Held], lists: &Lists) -> Span
+fn cut_by(request: &TokenRequest, held: &[ActiveRequest], lists: &Lists) -> Span
     ensures value { result ≡ narrowed (still_active lists.now.gone.ended (without lists.now.gone.dropped (requests_of held.now))) request.now }
     ensures starts_before { result.lo ≤ request.now.wanted.required.lo }
     ensures ends_after { request.now.wanted.required.hi ≤ result.hi }
@@ -358,7 +378,7 @@ fn cut_by(request: &TokenRequest, held: &[Held], lists: &Lists) -> Span
 
 // `required`, widened inside `within` until it meets the bytes that the other active request needs, if that one stays
 // active.
-fn cut_by_one(required: Span, within: Span, other: &Held, lists: &Lists) -> Span
+fn cut_by_one(required: Span, within: Span, other: &ActiveRequest, lists: &Lists) -> Span
     requires starts_within { within.lo ≤ required.lo }
     requires ends_within { required.hi ≤ within.hi }
     ensures kept { keeps lists.now.gone.dropped lists.now.gone.ended other.now.request ≡ true → result ≡ cut required within other.now.request.wanted.required }
@@ -377,7 +397,7 @@ fn cut_by_one(required: Span, within: Span, other: &Held, lists: &Lists) -> Span
 }
 
 // `required`, widened inside `within` until it meets bytes that one of the requests needs. All of them stay active.
-fn cut_by_all(required: Span, within: Span, held: &[Held]) -> Span
+fn cut_by_all(required: Span, within: Span, held: &[ActiveRequest]) -> Span
     requires starts_within { within.lo ≤ required.lo }
     requires ends_within { required.hi ≤ within.hi }
     ensures value { result ≡ cut_all required within (requests_of held.now) }
@@ -394,7 +414,7 @@ fn cut_by_all(required: Span, within: Span, held: &[Held]) -> Span
 
 // `required`, widened inside `free` until it meets bytes that the command grants its node in a mode that conflicts
 // with this one.
-fn cut_granted(told: &Told, required: Span, free: Span, mode: Mode) -> Span
+fn cut_granted(told: &SentCommand, required: Span, free: Span, mode: Mode) -> Span
     requires starts_within { free.lo ≤ required.lo }
     requires ends_within { required.hi ≤ free.hi }
     ensures { MatchOption (bars told.now.command mode) (result ≡ free) (λ granted. (result ≡ cut required free granted) × (granted.lo ≤ granted.hi)) }

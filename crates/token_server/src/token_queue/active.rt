@@ -7,7 +7,7 @@ ghost use Rattle.std.specs.Vec.{vec_capacity};
 ghost use Rattle.token_server.specs.rule.Requests.{is_of_call, is_up_to};
 ghost use Rattle.token_server.specs.rule.Actives.{requests_of, waiting_for};
 
-use crate::token_queue::held::Held;
+use crate::token_queue::active_request::ActiveRequest;
 use crate::token_queue::token_request::TokenRequest;
 use model::call::CallId;
 use std::alloc::{AllocError, Global};
@@ -21,7 +21,7 @@ const LEAST_ROOM: usize = 8;
 /// `spare_for` take memory: `push` needs room that is there already.
 #[derive(Drop)]
 pub struct Active {
-    held: Vec<Held>,
+    held: Vec<ActiveRequest>,
     room: usize,
 }
 
@@ -49,7 +49,7 @@ impl Active {
     }
 
     /// The requests in order, each with the node whose row it waits for.
-    pub fn as_slice(&self) -> &[Held]
+    pub fn as_slice(&self) -> &[ActiveRequest]
         ensures { result.now ≡ self.now.held }
     {
         self.held.as_slice()
@@ -95,7 +95,7 @@ impl Active {
     }
 
     /// Appends the request, in room that is there already.
-    pub fn push(&mut self, held: Held)
+    pub fn push(&mut self, held: ActiveRequest)
         requires { 0 < self.old.room }
         ensures held { self.new.held ≡ self.old.held ++ held ∷ [] }
         ensures room { self.new.room + 1 ≡ self.old.room }
@@ -133,7 +133,7 @@ impl Active {
 
     /// An empty list for `refill`, with room for the requests here and `more`, and where that fits in `usize` for
     /// twice as many and a few.
-    pub fn spare_for(&self, more: usize) -> Result<Vec<Held>, AllocError>
+    pub fn spare_for(&self, more: usize) -> Result<Vec<ActiveRequest>, AllocError>
         ensures empty { IfOk result (λ spare. spare.items ≡ []) }
         ensures room { IfOk result (λ spare. length self.now.held + more ≤ vec_capacity spare) }
     {
@@ -145,7 +145,7 @@ impl Active {
     }
 
     /// Moves the requests into the spare list, whose room the list has from now on.
-    pub fn refill(&mut self, spare: Vec<Held>)
+    pub fn refill(&mut self, spare: Vec<ActiveRequest>)
         requires empty { spare.items ≡ [] }
         requires room { length self.old.held ≤ vec_capacity spare }
         ensures held { self.new.held ≡ self.old.held }
@@ -162,14 +162,14 @@ impl Active {
 }
 
 // Whether both hold equal requests. Their nodes are not compared.
-fn same_request(one: &Held, other: &Held) -> bool
+fn same_request(one: &ActiveRequest, other: &ActiveRequest) -> bool
     ensures { IsTrue result ↔ (one.now.request ≡ other.now.request) }
 {
     one.request == other.request
 }
 
 // Whether both lists hold equal requests in equal order. Nodes are not compared.
-fn same_requests(one: &[Held], other: &[Held]) -> bool
+fn same_requests(one: &[ActiveRequest], other: &[ActiveRequest]) -> bool
     ensures { IsTrue result ↔ (requests_of one.now ≡ requests_of other.now) }
 {
     if one.len() != other.len() {
@@ -184,7 +184,7 @@ fn same_requests(one: &[Held], other: &[Held]) -> bool
 }
 
 // The entry of the call, if there is one: its request, with the node whose row it waits for.
-fn find(held: &[Held], call: CallId) -> Option<Held>
+fn find(held: &[ActiveRequest], call: CallId) -> Option<ActiveRequest>
     ensures { result ≡ find (λ h. is_of_call call h.request) held.now }
 {
     held.iter().find(|held| held.is_of_call(call)).copied()
@@ -192,7 +192,7 @@ fn find(held: &[Held], call: CallId) -> Option<Held>
 
 // The index of the first request of the call, if there is one. Where no call has two requests, removing it leaves
 // exactly the requests of other calls.
-fn place_of(held: &[Held], call: CallId) -> Option<usize>
+fn place_of(held: &[ActiveRequest], call: CallId) -> Option<usize>
     ensures within { IfSome result (λ place. place < length held.now) }
     ensures one { IfSome result (λ place. count_by (is_of_call call) (requests_of held.now) ≤ 1 → remove held.now place ≡ filter (λ h. not (is_of_call call h.request)) held.now) }
     ensures none { result ≡ None → filter (λ h. not (is_of_call call h.request)) held.now ≡ held.now }
@@ -206,7 +206,7 @@ fn place_of(held: &[Held], call: CallId) -> Option<usize>
 }
 
 // Removes the request of the call, if there is one. No call has two requests here.
-fn end_one(held: &mut Vec<Held>, call: CallId)
+fn end_one(held: &mut Vec<ActiveRequest>, call: CallId)
     requires { count_by (is_of_call call) (requests_of held.old.items) ≤ 1 }
     ensures items { held.new.items ≡ filter (λ h. not (is_of_call call h.request)) held.old.items }
     ensures len { length held.new.items ≤ length held.old.items }
@@ -218,7 +218,7 @@ fn end_one(held: &mut Vec<Held>, call: CallId)
 }
 
 // Removes the requests of the node in that incarnation or an older one.
-fn forget(held: &mut Vec<Held>, node: u8, incarnation: u16)
+fn forget(held: &mut Vec<ActiveRequest>, node: u8, incarnation: u16)
     ensures items { held.new.items ≡ filter (λ h. not (is_up_to node incarnation h.request)) held.old.items }
     ensures len { length held.new.items ≤ length held.old.items }
     ensures capacity { vec_capacity held.new ≡ vec_capacity held.old }
@@ -228,14 +228,14 @@ fn forget(held: &mut Vec<Held>, node: u8, incarnation: u16)
 
 // Sets the nodes whose rows the first requests wait for: request i waits for `ats[i]`. Requests beyond `ats` keep
 // theirs.
-fn wait_for(held: &mut Vec<Held>, ats: &[u8])
+fn wait_for(held: &mut Vec<ActiveRequest>, ats: &[u8])
     ensures items { held.new.items ≡ waiting_for ats.now held.old.items }
     ensures len { length held.new.items ≡ length held.old.items }
     ensures capacity { vec_capacity held.new ≡ vec_capacity held.old }
 {
     for place in 0..ats.len().min(held.len()) {
         let request = held[place].request;
-        held[place] = Held {
+        held[place] = ActiveRequest {
             request,
             at: ats[place],
         };

@@ -13,7 +13,7 @@ use Rattle.messages.specs.rule.Messages.{same_message}
 use Rattle.views.specs.declared.stories.made_call.MadeCall.{MadeCall}
 use Rattle.views.specs.rule.About.{delivers}
 use Rattle.views.specs.code.OpenIndexes.{EndsByEnding, first_end}
-use Rattle.views.specs.declared.pictures.answer.Answer.{Answer}
+use Rattle.views.specs.declared.pictures.placed_reply.PlacedReply.{PlacedReply}
 use Rattle.views.specs.declared.pictures.bar.Bar.{Bar}
 use Rattle.views.specs.declared.pictures.window.Window.{Window}
 use Rattle.views.specs.rule.Bars.{bar_of}
@@ -44,7 +44,7 @@ abbrev pub KnowsCome : Places → List EntryFields → Type 0
 KnowsCome places entries = (m : Bor Message) → place_in places m ≡ last_come m.now entries
 
 abbrev pub AnswersByCall : Type 0
-AnswersByCall = HashMap CallId Answer (BuildHasherDefault FoldHasher)
+AnswersByCall = HashMap CallId PlacedReply (BuildHasherDefault FoldHasher)
 
 -- the index has the answer to each call
 abbrev pub KnowsAnswers : AnswersByCall → List EntryFields → Type 0

@@ -5,7 +5,7 @@ use Rattle.std.specs.Option.{option_map_or}
 use Rattle.messages.specs.code.Entries.{EntryFields}
 use Rattle.views.specs.declared.stories.made_call.MadeCall.{MadeCall}
 use Rattle.views.specs.rule.OpenCalls.{made_by}
-use Rattle.views.specs.declared.pictures.answer.Answer.{Answer}
+use Rattle.views.specs.declared.pictures.placed_reply.PlacedReply.{PlacedReply}
 use Rattle.views.specs.declared.pictures.bar.Bar.{Bar}
 use Rattle.views.specs.declared.pictures.window.Window.{Window}
 use Rattle.views.specs.rule.Outcomes.{end_at, over_at}
@@ -20,7 +20,7 @@ abbrev pub is_drawn : Window → ℕ → Option ℕ → Bool
 is_drawn w position over = nat_le position w.to && (nat_le w.from position || is_over_from w over)
 
 -- a call with its answer and its end, where it is drawn
-abbrev pub bar_of : Window → MadeCall → Option Answer → Option ℕ → Option Bar
+abbrev pub bar_of : Window → MadeCall → Option PlacedReply → Option ℕ → Option Bar
 bar_of w made answer end = if is_drawn w made.position (over_at answer end) then Some (record { made = made; answer = answer; end = end }) else None
 
 -- a call that one of these entries makes, where it is drawn

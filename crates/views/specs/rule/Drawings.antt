@@ -5,8 +5,8 @@ use Rattle.messages.specs.code.Entries.{EntryFields}
 use Rattle.messages.specs.rule.Shapes.{ShapeFields}
 use Rattle.cluster_core.specs.declared.item.Item.{Item}
 use Rattle.views.specs.declared.pictures.bar.Bar.{Bar}
-use Rattle.views.specs.declared.pictures.place.Place.{Place}
-use Rattle.views.specs.declared.pictures.row.Row.{Row}
+use Rattle.views.specs.declared.pictures.placed_call.PlacedCall.{PlacedCall}
+use Rattle.views.specs.declared.pictures.picture_row.PictureRow.{PictureRow}
 use Rattle.views.specs.declared.pictures.track.Track.{Track}
 use Rattle.views.specs.declared.pictures.window.Window.{Window}
 use Rattle.views.specs.rule.Bars.{bars}
@@ -21,10 +21,10 @@ use Rattle.views.specs.rule.Tracks.{tracks}
 pub record DrawingFields : Type 0 where
   pub version : Version
   pub window : Window
-  pub rows : List Row
+  pub rows : List PictureRow
   pub bars : List Bar
   pub part : List PlacedFields
-  pub places : List Place
+  pub places : List PlacedCall
   pub tracks : List Track
 
 -- of the entries and their history, of a cluster of this shape, and of what nodes hold behind entries, as far as the window shows it

@@ -3,7 +3,7 @@ use Rattle.std.specs.Prelude.{ℕ, ◌&&◌, nat_le, List, filter, map, take}
 use Rattle.std.specs.List.{enumerate_from}
 use Rattle.messages.specs.declared.entry.Entry.{Entry}
 use Rattle.cluster_core.specs.declared.held_lock.HeldLock.{HeldLock}
-use Rattle.cluster_core.specs.declared.token_run.TokenRun.{TokenRun}
+use Rattle.cluster_core.specs.declared.node_token_run.NodeTokenRun.{NodeTokenRun}
 use Rattle.cluster_core.specs.rule.Journals.{JournalFields}
 use Rattle.cluster_core.specs.rule.Listings.{IsTokenListing, IsLockListing}
 use Rattle.cluster_core.specs.rule.Runs.{Leads}
@@ -12,7 +12,7 @@ use Rattle.cluster_core.specs.rule.World.{WorldState, first_world}
 -- the position of an entry, and the tokens and the locks that the live nodes hold behind it
 pub record HoldingsFields : Type 0 where
   pub position : ℕ
-  pub tokens : List TokenRun
+  pub tokens : List NodeTokenRun
   pub locks : List HeldLock
 
 -- the positions of the entries from the one to the other, of which the first has 1

@@ -9,8 +9,8 @@ use Rattle.messages.specs.code.Entries.{EntryFields}
 use Rattle.messages.specs.rule.Messages.{is_among}
 use Rattle.messages.specs.rule.Shapes.{ShapeFields}
 use Rattle.views.specs.declared.pictures.bar.Bar.{Bar}
-use Rattle.views.specs.declared.pictures.row.Row.{Row}
-use Rattle.views.specs.declared.pictures.row.Row.TheVariants.{Lane, Process}
+use Rattle.views.specs.declared.pictures.picture_row.PictureRow.{PictureRow}
+use Rattle.views.specs.declared.pictures.picture_row.PictureRow.TheVariants.{Lane, Process}
 use Rattle.views.specs.rule.Actors.{takes_part}
 use Rattle.views.specs.rule.Rows.{row_of, rows, same_row}
 use Rattle.views.specs.declared.pictures.window.Window.{Window}
@@ -18,19 +18,19 @@ use Rattle.views.specs.rule.Drawings.{left_edge, right_edge, x_of}
 use Rattle.views.specs.rule.Stretches.{PlacedFields, origin_of}
 
 -- the row is about a node or a server of the shape
-abbrev pub IsOfShape : ShapeFields → Row → Type 0
+abbrev pub IsOfShape : ShapeFields → PictureRow → Type 0
 IsOfShape shape (Lane (Node node)) = IsNumber shape.nodes node
 IsOfShape shape (Lane (Server file)) = IsNumber shape.files file
 IsOfShape shape (Process host pid) = IsNumber shape.nodes host.node
 
 -- something stands on the row: its node or server takes part in an entry, or its process makes a call that is drawn
-abbrev pub is_needed : List PlacedFields → List Bar → Row → Bool
+abbrev pub is_needed : List PlacedFields → List Bar → PictureRow → Bool
 is_needed part bars (Lane actor) = list_any (λ p. takes_part actor p.entry) part
 is_needed part bars (Process host pid) = list_any (λ b. same_row (Process host pid) (row_of b)) bars
 
 -- each row on which something stands is there
 abbrev pub EachRowIsThere : Type 0
-EachRowIsThere = (shape : ShapeFields) (part : List PlacedFields) (bars : List Bar) (row : Row) → IsOfShape shape row → is_needed part bars row ≡ true → list_any (same_row row) (rows shape part bars) ≡ true
+EachRowIsThere = (shape : ShapeFields) (part : List PlacedFields) (bars : List Bar) (row : PictureRow) → IsOfShape shape row → is_needed part bars row ≡ true → list_any (same_row row) (rows shape part bars) ≡ true
 
 -- the element at this position, from 1, is the last one that passes the test
 pub record IsLastToPass {A : Type 0} (test : A → Bool) (xs : List A) (position : ℕ) : Type 0 where

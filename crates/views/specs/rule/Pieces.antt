@@ -3,25 +3,25 @@ use Rattle.std.specs.Prelude.{ℕ, Bool, false, ◌&&◌, ◌==◌, nat_le, List
 use Rattle.model.specs.rule.Owners.{same_mode, same_owner}
 use Rattle.messages.specs.rule.TokenRuns.{same_level}
 use Rattle.cluster_core.specs.declared.held_lock.HeldLock.{HeldLock}
-use Rattle.cluster_core.specs.declared.token_run.TokenRun.{TokenRun}
+use Rattle.cluster_core.specs.declared.node_token_run.NodeTokenRun.{NodeTokenRun}
 use Rattle.views.specs.rule.Holdings.{HoldingsFields}
-use Rattle.views.specs.declared.pictures.held.Held.{Held}
-use Rattle.views.specs.declared.pictures.held.Held.TheVariants.{Token, Lock}
+use Rattle.views.specs.declared.pictures.token_or_lock.TokenOrLock.{TokenOrLock}
+use Rattle.views.specs.declared.pictures.token_or_lock.TokenOrLock.TheVariants.{Token, Lock}
 use Rattle.views.specs.declared.pictures.piece.Piece.{Piece}
 
 -- the node that holds it
-abbrev pub node_of : Held → ℕ
+abbrev pub node_of : TokenOrLock → ℕ
 node_of (Token node incarnation level) = node
 node_of (Lock owner mode) = owner.node
 
 -- both are a token of the same node in the same incarnation at the same level, or a lock of the same owner in the same mode
-abbrev pub same_held : Held → Held → Bool
+abbrev pub same_held : TokenOrLock → TokenOrLock → Bool
 same_held (Token n i l) (Token m j k) = (n == m) && ((i == j) && same_level l k)
 same_held (Lock o m) (Lock p n) = same_owner o p && same_mode m n
 same_held _ _ = false
 
 -- a run of a token, and a region of a lock, behind the entry at this position
-abbrev pub token_piece : ℕ → TokenRun → Piece
+abbrev pub token_piece : ℕ → NodeTokenRun → Piece
 token_piece position t = record { position = position; file = t.file; span = t.span; held = Token t.node t.incarnation t.level }
 
 abbrev pub lock_piece : ℕ → HeldLock → Piece

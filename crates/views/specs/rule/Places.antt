@@ -7,9 +7,9 @@ use Rattle.messages.specs.declared.message.Message.{Message}
 use Rattle.messages.specs.code.Entries.{EntryFields}
 use Rattle.messages.specs.rule.Messages.{is_among, same_call, same_message}
 use Rattle.views.specs.rule.About.{delivers}
-use Rattle.views.specs.declared.pictures.answer.Answer.{Answer}
-use Rattle.views.specs.declared.pictures.fate.Fate.{Fate}
-use Rattle.views.specs.declared.pictures.fate.Fate.TheVariants.{Comes, IsLate, IsLost}
+use Rattle.views.specs.declared.pictures.placed_reply.PlacedReply.{PlacedReply}
+use Rattle.views.specs.declared.pictures.message_fate.MessageFate.{MessageFate}
+use Rattle.views.specs.declared.pictures.message_fate.MessageFate.TheVariants.{Comes, IsLate, IsLost}
 
 -- the last of what the elements give, each with its position, from 1
 abbrev pub last_some : {A B : Type 0} → (ℕ → A → Option B) → List A → Option B
@@ -28,14 +28,14 @@ unfoldable pub is_lost : List EntryFields → ℕ → Message → Bool
 is_lost entries position m = not (list_any (λ e. delivers (same_message m) e.event) (drop position entries))
 
 -- what becomes of a message that the entry of these at this position sends, where those up to the window's end are these
-abbrev pub fate_of : List EntryFields → List EntryFields → ℕ → Message → Fate
+abbrev pub fate_of : List EntryFields → List EntryFields → ℕ → Message → MessageFate
 fate_of entries in_time position m = if is_lost entries position m then IsLost else (if is_lost in_time position m then IsLate else Comes)
 
 -- what an entry at this position answers, where it answers the call
-abbrev pub answer_at : CallId → ℕ → Option (CallId × Reply) → Option Answer
+abbrev pub answer_at : CallId → ℕ → Option (CallId × Reply) → Option PlacedReply
 answer_at call position None = None
 answer_at call position (Some told) = if same_call told.0 call then Some (record { position = position; reply = told.1 }) else None
 
 -- the answer to the call
-abbrev pub answer_to : CallId → List EntryFields → Option Answer
+abbrev pub answer_to : CallId → List EntryFields → Option PlacedReply
 answer_to call entries = last_some (λ position e. answer_at call position e.reply) entries

@@ -5,7 +5,7 @@ use Rattle.messages.specs.declared.event.Event.{Event}
 use Rattle.messages.specs.declared.event.Event.TheVariants.{Deliver}
 use Rattle.messages.specs.declared.message.Message.{Message}
 use Rattle.messages.specs.code.Entries.{EntryFields}
-use Rattle.views.specs.declared.pictures.fate.Fate.{Fate}
+use Rattle.views.specs.declared.pictures.message_fate.MessageFate.{MessageFate}
 use Rattle.views.specs.declared.pictures.window.Window.{Window}
 use Rattle.views.specs.rule.Places.{fate_of, last_sent}
 
@@ -27,10 +27,10 @@ pub record PlacedFields : Type 0 where
   pub position : ℕ
   pub origin : Option ℕ
   pub entry : EntryFields
-  pub fates : List Fate
+  pub fates : List MessageFate
 
 -- an entry behind others, at this position, where it is in the window
-abbrev pub placed_at : Window → List EntryFields → (Message → Fate) → ℕ → EntryFields → Option PlacedFields
+abbrev pub placed_at : Window → List EntryFields → (Message → MessageFate) → ℕ → EntryFields → Option PlacedFields
 placed_at w before fate position e =
     if has w position then Some (record { position = position; origin = origin_of before e.event; entry = e; fates = map fate e.sends }) else None
 

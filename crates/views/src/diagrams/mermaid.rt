@@ -4,7 +4,7 @@ ghost use Rattle.views.specs.code.Lanes.{lane_of};
 
 use crate::diagrams::notes::{push_actor_id, push_entry_lines};
 use crate::pictures::drawing::Drawing;
-use crate::pictures::row::Row;
+use crate::pictures::picture_row::PictureRow;
 use crate::pictures::window::Window;
 use crate::stories::lines::push_actor;
 use cluster_core::item::Item;
@@ -49,19 +49,19 @@ pub fn sequence(
 }
 
 // The nodes and the servers that the rows are about.
-fn lanes(alloc: Global, rows: &[Row]) -> Result<Vec<Actor>, AllocError>
+fn lanes(alloc: Global, rows: &[PictureRow]) -> Result<Vec<Actor>, AllocError>
     ensures { IfOk result (λ actors. actors.items ≡ filter_map lane_of rows.now) }
 {
     rows.iter().filter_map(|row| lane_of(row)).collect(alloc)
 }
 
 // The node or the server that a row is about.
-fn lane_of(row: &Row) -> Option<Actor>
+fn lane_of(row: &PictureRow) -> Option<Actor>
     ensures { result ≡ lane_of row.now }
 {
     match row {
-        Row::Lane(actor) => Some(*actor),
-        Row::Process { .. } => None,
+        PictureRow::Lane(actor) => Some(*actor),
+        PictureRow::Process { .. } => None,
     }
 }
 

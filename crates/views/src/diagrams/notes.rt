@@ -1,6 +1,6 @@
 //! The lines of a sequence diagram. Each error is `AllocError`: a request for memory was refused.
 use crate::pictures::actors::{actor_of, sender_of};
-use crate::pictures::fate::Fate;
+use crate::pictures::message_fate::MessageFate;
 use crate::pictures::placed_entry::PlacedEntry;
 use crate::pictures::words::message_word;
 use crate::stories::made_call::MadeCall;
@@ -37,7 +37,7 @@ pub(crate) fn push_entry_lines(
     push_event_lines(out, version, all, placed)?;
     push_told_lines(out, placed.entry, call)?;
     for (message, fate) in placed.entry.sends().iter().zip(placed.fates.iter()) {
-        if matches!(fate, Fate::IsLost) {
+        if matches!(fate, MessageFate::IsLost) {
             push_message_line(out, "-x", message.get())?;
         }
     }

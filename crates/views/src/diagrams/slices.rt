@@ -1,9 +1,9 @@
 //! The events of a trace. Each error is `AllocError`: a request for memory was refused.
-use crate::diagrams::track::Track;
+use crate::diagrams::diagram_track::DiagramTrack;
 use crate::pictures::bar::Bar;
 use crate::pictures::drawing::Drawing;
 use crate::pictures::outcome::push_outcome;
-use crate::pictures::place::Place;
+use crate::pictures::placed_call::PlacedCall;
 use crate::pictures::placed_entry::PlacedEntry;
 use crate::pictures::window::Window;
 use crate::pictures::words::{event_word, is_rule};
@@ -31,7 +31,7 @@ fn push_head(
     out: &mut String,
     phase: &str,
     kind: &str,
-    track: &Track,
+    track: &DiagramTrack,
     time: u128,
 ) -> Result<(), AllocError> {
     let (process, thread) = (track.process(), track.thread());
@@ -48,7 +48,13 @@ pub(crate) fn push_call_event(
     let position = bar.made.position;
     let last = bar.over_at().unwrap_or(window.to);
     let duration = 1000 * (u128::from(last) + 1).saturating_sub(u128::from(position));
-    push_head(out, "X", "call", &Track::of_bar(bar), begin_of(position))?;
+    push_head(
+        out,
+        "X",
+        "call",
+        &DiagramTrack::of_bar(bar),
+        begin_of(position),
+    )?;
     write!(out, ",\"dur\":{duration},\"name\":\"")?;
     Operation::write(&bar.made.op, out)?;
     out.push_str("\",\"args\":{\"call\":\"")?;
@@ -68,7 +74,7 @@ pub(crate) fn push_entry_events(
     let event = placed.entry.event();
     let time = begin_of(placed.position);
     if !matches!(event, Event::AtNode(_, NodeInput::Call { .. })) {
-        push_head(out, "X", "entry", &Track::of(placed.entry), time)?;
+        push_head(out, "X", "entry", &DiagramTrack::of(placed.entry), time)?;
         out.push_str(",\"dur\":1000")?;
         push_event(out, drawing.version, placed)?;
     }
@@ -110,9 +116,15 @@ fn push_flow(
     let Some(sender) = drawing.part.get(index) else {
         return Ok(());
     };
-    push_flow_end(out, "s", sender.position, &Track::of(sender.entry), placed)?;
+    push_flow_end(
+        out,
+        "s",
+        sender.position,
+        &DiagramTrack::of(sender.entry),
+        placed,
+    )?;
     let position = placed.position;
-    push_flow_end(out, "f", position, &Track::of(placed.entry), placed)
+    push_flow_end(out, "f", position, &DiagramTrack::of(placed.entry), placed)
 }
 
 // Writes one end, at this position and on this row, of the arrow of the message that comes at an entry.
@@ -120,7 +132,7 @@ fn push_flow_end(
     out: &mut String,
     phase: &str,
     position: u64,
-    track: &Track,
+    track: &DiagramTrack,
     placed: &PlacedEntry<'_>,
 ) -> Result<(), AllocError> {
     let comes_at = placed.position;
@@ -130,9 +142,9 @@ fn push_flow_end(
 }
 
 /// Writes the mark of a call, where the history has it.
-pub(crate) fn push_mark(out: &mut String, place: &Place) -> Result<(), AllocError> {
+pub(crate) fn push_mark(out: &mut String, place: &PlacedCall) -> Result<(), AllocError> {
     let position = place.position;
-    let track = Track::of_call(&place.call, place.pid);
+    let track = DiagramTrack::of_call(&place.call, place.pid);
     push_head(out, "i", "history", &track, middle_of(position))?;
     out.push_str(",\"s\":\"t\",\"name\":\"in history\",\"args\":{\"call\":\"")?;
     push_call(out, &place.call)?;

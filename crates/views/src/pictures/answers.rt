@@ -3,14 +3,14 @@ ghost use Rattle.std.specs.Prelude.{◌≡◌, ◌+◌, ◌++◌, ◌∷◌, [],
 ghost use Rattle.messages.specs.code.Entries.{EntryFields};
 ghost use Rattle.views.specs.code.Indexes.{KnowsAnswers};
 
-use crate::pictures::answer::Answer;
+use crate::pictures::placed_reply::PlacedReply;
 use messages::entry::Entry;
 use model::call::CallId;
 use std::alloc::{AllocError, Global};
 use std::collections::HashMap;
 
 /// By a call: its answer, that of the last entry that replies to it.
-pub(crate) type Answers = HashMap<CallId, Answer>;
+pub(crate) type Answers = HashMap<CallId, PlacedReply>;
 
 /// The answers that entries have to calls.
 pub(crate) fn answers_of(alloc: Global, entries: &[Entry]) -> Result<Answers, AllocError>
@@ -31,7 +31,7 @@ fn note_answer(answers: &mut Answers, position: u64, entry: &Entry) -> Result<()
 {
     if let Some(told) = entry.reply() {
         let reply = told.1;
-        answers.insert(told.0, Answer { position, reply })?;
+        answers.insert(told.0, PlacedReply { position, reply })?;
     }
     Ok(())
 }

@@ -3,7 +3,7 @@ ghost use Rattle.std.specs.Prelude.{◌≡◌};
 ghost use Rattle.views.specs.rule.Bars.{bar_of, is_drawn, is_over_from, right_end};
 ghost use Rattle.views.specs.rule.Outcomes.{over_at};
 
-use crate::pictures::answer::Answer;
+use crate::pictures::placed_reply::PlacedReply;
 use crate::pictures::window::Window;
 use crate::stories::made_call::MadeCall;
 
@@ -12,7 +12,7 @@ use crate::stories::made_call::MadeCall;
 #[derive(Clone, Copy)]
 pub struct Bar {
     pub made: MadeCall,
-    pub answer: Option<Answer>,
+    pub answer: Option<PlacedReply>,
     pub end: Option<u64>,
 }
 
@@ -22,7 +22,7 @@ impl Bar {
     pub(crate) fn of(
         window: &Window,
         made: MadeCall,
-        answer: Option<Answer>,
+        answer: Option<PlacedReply>,
         end: Option<u64>,
     ) -> Option<Bar>
         ensures { result ≡ bar_of window.now made answer end }
@@ -50,7 +50,7 @@ impl Bar {
 }
 
 // Where a call with this answer, or else with this end, is over.
-fn over_at(answer: &Option<Answer>, end: Option<u64>) -> Option<u64>
+fn over_at(answer: &Option<PlacedReply>, end: Option<u64>) -> Option<u64>
     ensures { result ≡ over_at answer.now end }
 {
     match answer {

@@ -3,10 +3,10 @@
 ghost use Rattle.std.specs.Prelude.{◌<◌, ◌^◌};
 
 use crate::pictures::drawing::Drawing;
-use crate::pictures::held::Held;
 use crate::pictures::share::Share;
 use crate::pictures::sheet::{right_edge, track_top, x_of};
 use crate::pictures::stay::Stay;
+use crate::pictures::token_or_lock::TokenOrLock;
 use crate::pictures::track::Track;
 use intervals::span::GREATEST;
 use message_text::names::{push_host, push_owner};
@@ -103,9 +103,9 @@ fn push_stay(
 }
 
 // Writes what is held.
-fn push_held(out: &mut String, held: &Held) -> Result<(), AllocError> {
+fn push_held(out: &mut String, held: &TokenOrLock) -> Result<(), AllocError> {
     match held {
-        Held::Token {
+        TokenOrLock::Token {
             node,
             incarnation,
             level,
@@ -113,7 +113,7 @@ fn push_held(out: &mut String, held: &Held) -> Result<(), AllocError> {
             write!(out, "token {} of ", Level::word(*level))?;
             push_host(out, *node, *incarnation)
         }
-        Held::Lock { owner, mode } => {
+        TokenOrLock::Lock { owner, mode } => {
             write!(out, "{} lock of ", Mode::word(*mode))?;
             push_owner(out, owner)
         }
@@ -121,22 +121,22 @@ fn push_held(out: &mut String, held: &Held) -> Result<(), AllocError> {
 }
 
 // Writes the class of what is held: nodes have eight colours.
-fn push_held_class(out: &mut String, held: &Held) -> Result<(), AllocError> {
+fn push_held_class(out: &mut String, held: &TokenOrLock) -> Result<(), AllocError> {
     match held {
-        Held::Token { node, level, .. } => {
+        TokenOrLock::Token { node, level, .. } => {
             let colour = (u16::from(*node) + 7) % 8 + 1;
             write!(out, "n{colour} {}", Level::word(*level))
         }
-        Held::Lock { mode, .. } => write!(out, "lock {}", Mode::word(*mode)),
+        TokenOrLock::Lock { mode, .. } => write!(out, "lock {}", Mode::word(*mode)),
     }
 }
 
 // How far below the top of its track the box of what is held begins, and above the bottom it ends.
-fn inset(held: &Held) -> u128
+fn inset(held: &TokenOrLock) -> u128
     ensures { result < 8 }
 {
     match held {
-        Held::Token { .. } => 2,
-        Held::Lock { .. } => 5,
+        TokenOrLock::Token { .. } => 2,
+        TokenOrLock::Lock { .. } => 5,
     }
 }

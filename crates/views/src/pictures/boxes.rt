@@ -4,7 +4,7 @@ ghost use Rattle.std.specs.Prelude.{◌<◌, ◌^◌};
 use crate::pictures::bar::Bar;
 use crate::pictures::drawing::Drawing;
 use crate::pictures::outcome::{class_of, push_outcome};
-use crate::pictures::row::Row;
+use crate::pictures::picture_row::PictureRow;
 use crate::pictures::sheet::{point_on, x_of};
 use lockscript::operations::Operation;
 use message_text::names::push_call;
@@ -53,7 +53,7 @@ fn push_box_of(
     op: &str,
 ) -> Result<(), AllocError> {
     let position = u128::from(bar.made.position);
-    let row = Row::of(bar);
+    let row = PictureRow::of(bar);
     let width = width_of(drawing, bar);
     let corner = point_on(drawing, position, &row, 0, 8);
     push_box(out, class_of(bar), &corner, width + 8, 18)?;

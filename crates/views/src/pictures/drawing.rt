@@ -2,10 +2,10 @@
 use crate::pictures::bar::Bar;
 use crate::pictures::bars::bars;
 use crate::pictures::holdings::Holdings;
+use crate::pictures::picture_row::PictureRow;
 use crate::pictures::pieces::pieces;
-use crate::pictures::place::{Place, places};
+use crate::pictures::placed_call::{PlacedCall, places};
 use crate::pictures::placed_entry::{PlacedEntry, stretch};
-use crate::pictures::row::Row;
 use crate::pictures::rows::rows;
 use crate::pictures::track::Track;
 use crate::pictures::tracks::tracks;
@@ -24,10 +24,10 @@ use std::marker::Model;
 pub struct Drawing<'a> {
     pub version: Version,
     pub window: Window,
-    pub rows: Vec<Row>,
+    pub rows: Vec<PictureRow>,
     pub bars: Vec<Bar>,
     pub part: Vec<PlacedEntry<'a>>,
-    pub places: Vec<Place>,
+    pub places: Vec<PlacedCall>,
     pub(crate) tracks: Vec<Track>,
 }
 

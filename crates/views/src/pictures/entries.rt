@@ -1,9 +1,9 @@
 //! What happens at entries. Each error is `AllocError`: a request for memory was refused.
 use crate::pictures::actors::{actor_of, sender_of};
 use crate::pictures::drawing::Drawing;
-use crate::pictures::fate::Fate;
+use crate::pictures::message_fate::MessageFate;
+use crate::pictures::picture_row::PictureRow;
 use crate::pictures::placed_entry::PlacedEntry;
-use crate::pictures::row::Row;
 use crate::pictures::sheet::{middle_of, point_on, spot, x_of};
 use crate::pictures::words::{event_word, is_rule, message_word};
 use crate::stories::story::push_plain;
@@ -74,7 +74,7 @@ fn push_word(
     if is_rule(event) || matches!(event, Event::AtNode(_, NodeInput::Call { .. })) {
         return Ok(());
     }
-    let row = Row::Lane(actor_of(event));
+    let row = PictureRow::Lane(actor_of(event));
     let at = point_on(drawing, u128::from(placed.position), &row, 5, 28);
     push_label(out, "word", &at, event_word(event))
 }
@@ -89,9 +89,9 @@ fn push_sends(
     let sender = actor_of(placed.entry.event());
     for (message, fate) in placed.entry.sends().iter().zip(placed.fates.iter()) {
         match fate {
-            Fate::Comes => {}
-            Fate::IsLate => push_late(out, drawing, position, sender, message.get())?,
-            Fate::IsLost => push_lost(out, drawing, position, sender, message.get())?,
+            MessageFate::Comes => {}
+            MessageFate::IsLate => push_late(out, drawing, position, sender, message.get())?,
+            MessageFate::IsLost => push_lost(out, drawing, position, sender, message.get())?,
         }
     }
     Ok(())

@@ -3,7 +3,7 @@ ghost use Rattle.std.specs.Prelude.{◌≡◌, map, take, IfOk};
 ghost use Rattle.views.specs.rule.Places.{fate_of};
 
 use crate::pictures::deliveries::Deliveries;
-use crate::pictures::fate::Fate;
+use crate::pictures::message_fate::MessageFate;
 use crate::pictures::stretch::up_to;
 use crate::pictures::window::Window;
 use messages::entry::Entry;
@@ -39,7 +39,7 @@ impl<'a> Fates<'a> {
         alloc: Global,
         position: u64,
         sends: &'a [SharedMessage],
-    ) -> Result<Vec<Fate>, AllocError>
+    ) -> Result<Vec<MessageFate>, AllocError>
         ensures { IfOk result (λ fates. fates.items ≡ map (fate_of self.now.all self.now.in_time position) sends.entry.now) }
     {
         let mut fates = Vec::new(alloc);
@@ -50,15 +50,15 @@ impl<'a> Fates<'a> {
     }
 
     // What becomes of a message that the entry at this position sends.
-    fn of_message(&self, position: u64, message: &'a Message) -> Fate
+    fn of_message(&self, position: u64, message: &'a Message) -> MessageFate
         ensures { result ≡ fate_of self.now.all self.now.in_time position message.entry.now }
     {
         if self.all.is_lost(position, message) {
-            return Fate::IsLost;
+            return MessageFate::IsLost;
         }
         if self.in_time.is_lost(position, message) {
-            return Fate::IsLate;
+            return MessageFate::IsLate;
         }
-        Fate::Comes
+        MessageFate::Comes
     }
 }

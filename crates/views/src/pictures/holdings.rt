@@ -4,7 +4,7 @@ ghost use Rattle.cluster_core.specs.rule.Listings.{IsLockListing, IsTokenListing
 ghost use Rattle.cluster_core.specs.rule.Parts.{world_state};
 
 use cluster_core::held_lock::HeldLock;
-use cluster_core::token_run::TokenRun;
+use cluster_core::node_token_run::NodeTokenRun;
 use cluster_core::world::World;
 use std::alloc::{AllocError, Global};
 use std::marker::Model;
@@ -15,7 +15,7 @@ pub struct Holdings {
     /// The place of the entry in its journal, from 1.
     pub position: u64,
     /// Each longest run of each live node's tokens, by node, then file, then first byte.
-    pub tokens: Vec<TokenRun>,
+    pub tokens: Vec<NodeTokenRun>,
     /// Each region of the live nodes' locks, by file, then first byte, then owner.
     pub locks: Vec<HeldLock>,
 }

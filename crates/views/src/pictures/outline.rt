@@ -2,7 +2,7 @@
 ghost use Rattle.std.specs.Prelude.{◌<◌, ◌^◌};
 
 use crate::pictures::drawing::Drawing;
-use crate::pictures::row::Row;
+use crate::pictures::picture_row::PictureRow;
 use crate::pictures::sheet::{foot, right_edge, top_of};
 use crate::pictures::style::{DEFINITIONS, LEGEND, STYLE};
 use crate::stories::lines::push_actor;
@@ -30,7 +30,7 @@ pub(crate) fn push_rows(out: &mut String, drawing: &Drawing<'_>) -> Result<(), A
 }
 
 // Draws a row with this top.
-fn push_row(out: &mut String, right: u128, top: u128, row: &Row) -> Result<(), AllocError>
+fn push_row(out: &mut String, right: u128, top: u128, row: &PictureRow) -> Result<(), AllocError>
     requires right_fits { right < 2 ^ 72 }
     requires top_fits { top < 2 ^ 72 }
 {
@@ -45,12 +45,12 @@ pub(crate) fn push_row_name(
     out: &mut String,
     class: &str,
     at: &Point,
-    row: &Row,
+    row: &PictureRow,
 ) -> Result<(), AllocError> {
     push_label_start(out, class, at)?;
     match row {
-        Row::Lane(actor) => push_actor(out, *actor)?,
-        Row::Process { host, pid } => {
+        PictureRow::Lane(actor) => push_actor(out, *actor)?,
+        PictureRow::Process { host, pid } => {
             write!(out, "process {pid} of ")?;
             push_host(out, host.node, host.incarnation)?;
         }

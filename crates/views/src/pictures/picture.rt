@@ -7,8 +7,8 @@ use crate::pictures::entries::push_entries;
 use crate::pictures::frames::push_frames;
 use crate::pictures::holdings::Holdings;
 use crate::pictures::outline::{push_head, push_rows};
-use crate::pictures::place::Place;
-use crate::pictures::row::Row;
+use crate::pictures::picture_row::PictureRow;
+use crate::pictures::placed_call::PlacedCall;
 use crate::pictures::sheet::{point_on, spot};
 use crate::pictures::window::Window;
 use cluster_core::item::Item;
@@ -59,9 +59,13 @@ pub fn picture(
 
 // Draws where the history has a call: a diamond below its bar, and a line to the entry there, where another actor takes
 // that.
-fn push_place(out: &mut String, drawing: &Drawing<'_>, place: &Place) -> Result<(), AllocError> {
+fn push_place(
+    out: &mut String,
+    drawing: &Drawing<'_>,
+    place: &PlacedCall,
+) -> Result<(), AllocError> {
     let position = u128::from(place.position);
-    let row = Row::Process {
+    let row = PictureRow::Process {
         host: place.call.host(),
         pid: place.pid,
     };

@@ -2,7 +2,7 @@
 ghost use Rattle.std.specs.Prelude.{◌≡◌};
 ghost use Rattle.views.specs.rule.Pieces.{covers, is_of_file, is_of_node};
 
-use crate::pictures::held::Held;
+use crate::pictures::token_or_lock::TokenOrLock;
 use intervals::span::Span;
 
 /// Bytes of a file, counted from 1, and what a node holds there behind the entry at a position, from 1.
@@ -11,7 +11,7 @@ pub struct Piece {
     pub position: u64,
     pub file: u64,
     pub span: Span,
-    pub held: Held,
+    pub held: TokenOrLock,
 }
 
 impl Piece {

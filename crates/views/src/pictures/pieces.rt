@@ -3,11 +3,11 @@
 ghost use Rattle.std.specs.Prelude.{◌≡◌, map, IfOk};
 ghost use Rattle.views.specs.rule.Pieces.{lock_piece, pieces, token_piece};
 
-use crate::pictures::held::Held;
 use crate::pictures::holdings::Holdings;
 use crate::pictures::piece::Piece;
+use crate::pictures::token_or_lock::TokenOrLock;
 use cluster_core::held_lock::HeldLock;
-use cluster_core::token_run::TokenRun;
+use cluster_core::node_token_run::NodeTokenRun;
 use std::alloc::{AllocError, Global};
 
 /// All tokens, entry by entry, and then all locks.
@@ -27,7 +27,11 @@ pub(crate) fn pieces(alloc: Global, holdings: &[Holdings]) -> Result<Vec<Piece>,
 }
 
 // These tokens, behind the entry at this position.
-fn token_pieces(alloc: Global, position: u64, tokens: &[TokenRun]) -> Result<Vec<Piece>, AllocError>
+fn token_pieces(
+    alloc: Global,
+    position: u64,
+    tokens: &[NodeTokenRun],
+) -> Result<Vec<Piece>, AllocError>
     ensures { IfOk result (λ made. made.items ≡ map (token_piece position) tokens.now) }
 {
     tokens
@@ -47,14 +51,14 @@ fn lock_pieces(alloc: Global, position: u64, locks: &[HeldLock]) -> Result<Vec<P
 }
 
 // A run of a token.
-fn piece_of_token(position: u64, token: &TokenRun) -> Piece
+fn piece_of_token(position: u64, token: &NodeTokenRun) -> Piece
     ensures { result ≡ token_piece position token.now }
 {
     Piece {
         position,
         file: u64::from(token.file),
         span: token.span,
-        held: Held::Token {
+        held: TokenOrLock::Token {
             node: token.node,
             incarnation: token.incarnation,
             level: token.level,
@@ -70,7 +74,7 @@ fn piece_of_lock(position: u64, held: &HeldLock) -> Piece
         position,
         file: u64::from(held.file),
         span: held.lock.span,
-        held: Held::Lock {
+        held: TokenOrLock::Lock {
             owner: held.lock.owner,
             mode: held.lock.mode,
         },

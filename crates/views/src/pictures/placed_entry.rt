@@ -5,8 +5,8 @@ ghost use Rattle.views.specs.code.Indexes.{KnowsSent};
 ghost use Rattle.views.specs.rule.Places.{fate_of};
 ghost use Rattle.views.specs.rule.Stretches.{placed_at, stretch};
 
-use crate::pictures::fate::Fate;
 use crate::pictures::fates::Fates;
+use crate::pictures::message_fate::MessageFate;
 use crate::pictures::sends::{SentAt, note_sends, origin_of};
 use crate::pictures::window::Window;
 use messages::entry::Entry;
@@ -22,7 +22,7 @@ pub struct PlacedEntry<'a> {
     pub origin: Option<u64>,
     pub entry: &'a Entry,
     /// In the order in which it sends them.
-    pub fates: Vec<Fate>,
+    pub fates: Vec<MessageFate>,
 }
 
 impl<'a> Model for PlacedEntry<'a> {

@@ -2,14 +2,14 @@
 ghost use Rattle.std.specs.Prelude.{◌≡◌, ◌++◌, filter, IfOk, OnOk};
 ghost use Rattle.std.specs.List.{list_any};
 ghost use Rattle.messages.specs.declared.actor.Actor.TheVariants.{Node, Server};
-ghost use Rattle.views.specs.declared.pictures.row.Row.TheVariants.{Lane};
+ghost use Rattle.views.specs.declared.pictures.picture_row.PictureRow.TheVariants.{Lane};
 ghost use Rattle.views.specs.rule.Actors.{takes_part};
 ghost use Rattle.views.specs.rule.Rows.{above_its_own, below_its_own, busy, if_busy, is_of, process_rows, rows, rows_of, same_row, with_row};
 
 use crate::pictures::actors::takes_part;
 use crate::pictures::bar::Bar;
+use crate::pictures::picture_row::PictureRow;
 use crate::pictures::placed_entry::PlacedEntry;
-use crate::pictures::row::Row;
 use messages::actor::Actor;
 use messages::shape::Shape;
 use std::alloc::{AllocError, Global};
@@ -22,7 +22,7 @@ pub(crate) fn rows(
     shape: &Shape,
     part: &[PlacedEntry<'_>],
     bars: &[Bar],
-) -> Result<Vec<Row>, AllocError>
+) -> Result<Vec<PictureRow>, AllocError>
     ensures { IfOk result (λ made. made.items ≡ rows shape.now part.now bars.now) }
 {
     let processes = process_rows(alloc, bars)?;
@@ -37,18 +37,18 @@ pub(crate) fn rows(
 }
 
 // The rows of the processes that make calls, in the order of their first ones.
-fn process_rows(alloc: Global, bars: &[Bar]) -> Result<Vec<Row>, AllocError>
+fn process_rows(alloc: Global, bars: &[Bar]) -> Result<Vec<PictureRow>, AllocError>
     ensures { IfOk result (λ rows. rows.items ≡ process_rows bars.now) }
 {
     let mut rows = Vec::new(alloc);
     for bar in bars {
-        add_row(&mut rows, Row::of(bar))?;
+        add_row(&mut rows, PictureRow::of(bar))?;
     }
     Ok(rows)
 }
 
 // The row is there too.
-fn add_row(rows: &mut Vec<Row>, row: Row) -> Result<(), AllocError>
+fn add_row(rows: &mut Vec<PictureRow>, row: PictureRow) -> Result<(), AllocError>
     ensures { OnOk result (rows.new.items ≡ with_row rows.old.items row) }
 {
     if !is_there(rows, &row) {
@@ -58,7 +58,7 @@ fn add_row(rows: &mut Vec<Row>, row: Row) -> Result<(), AllocError>
 }
 
 // Whether the row is one of these.
-fn is_there(rows: &[Row], row: &Row) -> bool
+fn is_there(rows: &[PictureRow], row: &PictureRow) -> bool
     ensures { result ≡ list_any (same_row row.now) rows.now }
 {
     rows.iter().any(|known| row.is_same(known))
@@ -68,7 +68,7 @@ fn is_there(rows: &[Row], row: &Row) -> bool
 fn busy_nodes(
     alloc: Global,
     part: &[PlacedEntry<'_>],
-    processes: &[Row],
+    processes: &[PictureRow],
     count: u8,
 ) -> Result<Vec<Actor>, AllocError>
     ensures { IfOk result (λ nodes. nodes.items ≡ busy Node part.now processes.now count) }
@@ -84,7 +84,7 @@ fn busy_nodes(
 fn busy_servers(
     alloc: Global,
     part: &[PlacedEntry<'_>],
-    processes: &[Row],
+    processes: &[PictureRow],
     count: u16,
 ) -> Result<Vec<Actor>, AllocError>
     ensures { IfOk result (λ servers. servers.items ≡ busy Server part.now processes.now count) }
@@ -101,7 +101,7 @@ fn busy_servers(
 fn add_busy(
     actors: &mut Vec<Actor>,
     part: &[PlacedEntry<'_>],
-    processes: &[Row],
+    processes: &[PictureRow],
     actor: Actor,
 ) -> Result<(), AllocError>
     ensures { OnOk result (actors.new.items ≡ actors.old.items ++ if_busy part.now processes.now actor) }
@@ -120,7 +120,7 @@ fn is_in_part(part: &[PlacedEntry<'_>], actor: &Actor) -> bool
 }
 
 // Whether one of the processes is the actor's own.
-fn has_process(processes: &[Row], actor: &Actor) -> bool
+fn has_process(processes: &[PictureRow], actor: &Actor) -> bool
     ensures { result ≡ list_any (is_of actor.now) processes.now }
 {
     processes.iter().any(|row| row.is_of(actor))
@@ -129,10 +129,10 @@ fn has_process(processes: &[Row], actor: &Actor) -> bool
 // The rows of these processes, nodes and servers.
 fn rows_of(
     alloc: Global,
-    processes: &[Row],
+    processes: &[PictureRow],
     nodes: &[Actor],
     servers: &[Actor],
-) -> Result<Vec<Row>, AllocError>
+) -> Result<Vec<PictureRow>, AllocError>
     ensures { IfOk result (λ rows. rows.items ≡ rows_of processes.now nodes.now servers.now) }
 {
     let mut rows = Vec::new(alloc);
@@ -141,7 +141,7 @@ fn rows_of(
         add_below_its_own(&mut rows, processes, node)?;
     }
     for server in servers {
-        rows.push(Row::Lane(*server))?;
+        rows.push(PictureRow::Lane(*server))?;
     }
     for node in below {
         add_above_its_own(&mut rows, processes, node)?;
@@ -151,25 +151,37 @@ fn rows_of(
 
 // The row of a node comes last, below those of its processes.
 #[tactic(auto, unfolding(crate::specs::rule::Rows::below_its_own))]
-fn add_below_its_own(rows: &mut Vec<Row>, processes: &[Row], node: &Actor) -> Result<(), AllocError>
+fn add_below_its_own(
+    rows: &mut Vec<PictureRow>,
+    processes: &[PictureRow],
+    node: &Actor,
+) -> Result<(), AllocError>
     ensures { OnOk result (rows.new.items ≡ rows.old.items ++ below_its_own processes.now node.now) }
 {
     add_processes(rows, processes, node)?;
-    rows.push(Row::Lane(*node))?;
+    rows.push(PictureRow::Lane(*node))?;
     Ok(())
 }
 
 // The row of a node comes last, above those of its processes.
 #[tactic(auto, unfolding(crate::specs::rule::Rows::above_its_own))]
-fn add_above_its_own(rows: &mut Vec<Row>, processes: &[Row], node: &Actor) -> Result<(), AllocError>
+fn add_above_its_own(
+    rows: &mut Vec<PictureRow>,
+    processes: &[PictureRow],
+    node: &Actor,
+) -> Result<(), AllocError>
     ensures { OnOk result (rows.new.items ≡ rows.old.items ++ above_its_own processes.now node.now) }
 {
-    rows.push(Row::Lane(*node))?;
+    rows.push(PictureRow::Lane(*node))?;
     add_processes(rows, processes, node)
 }
 
 // The rows of the node's processes come last.
-fn add_processes(rows: &mut Vec<Row>, processes: &[Row], node: &Actor) -> Result<(), AllocError>
+fn add_processes(
+    rows: &mut Vec<PictureRow>,
+    processes: &[PictureRow],
+    node: &Actor,
+) -> Result<(), AllocError>
     ensures { OnOk result (rows.new.items ≡ rows.old.items ++ filter (is_of node.now) processes.now) }
 {
     for row in processes {

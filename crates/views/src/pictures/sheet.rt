@@ -3,7 +3,7 @@ ghost use Rattle.std.specs.Prelude.{◌≡◌, ◌<◌, ◌^◌};
 ghost use Rattle.views.specs.rule.Drawings.{right_edge, x_of};
 
 use crate::pictures::drawing::Drawing;
-use crate::pictures::row::Row;
+use crate::pictures::picture_row::PictureRow;
 use crate::pictures::window::Window;
 use messages::actor::Actor;
 use svg::point::Point;
@@ -65,7 +65,7 @@ pub(crate) fn foot(drawing: &Drawing<'_>) -> u128
 pub(crate) fn point_on(
     drawing: &Drawing<'_>,
     position: u128,
-    row: &Row,
+    row: &PictureRow,
     right: u8,
     below: u8,
 ) -> Point {
@@ -76,7 +76,7 @@ pub(crate) fn point_on(
 }
 
 // The top of a row.
-fn row_top(drawing: &Drawing<'_>, row: &Row) -> u128
+fn row_top(drawing: &Drawing<'_>, row: &PictureRow) -> u128
     ensures { result < 2 ^ 71 }
 {
     let number = drawing.rows.iter().position(|known| row.is_same(known));
@@ -87,7 +87,7 @@ fn row_top(drawing: &Drawing<'_>, row: &Row) -> u128
 pub(crate) fn middle_of(drawing: &Drawing<'_>, actor: Actor) -> u128
     ensures { result < 2 ^ 72 }
 {
-    row_top(drawing, &Row::Lane(actor)) + 17
+    row_top(drawing, &PictureRow::Lane(actor)) + 17
 }
 
 /// The point there, of an entry at this position.

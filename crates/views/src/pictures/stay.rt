@@ -2,13 +2,13 @@
 ghost use Rattle.std.specs.Prelude.{◌≡◌};
 ghost use Rattle.views.specs.rule.Shares.{goes_on};
 
-use crate::pictures::held::Held;
 use crate::pictures::piece::Piece;
+use crate::pictures::token_or_lock::TokenOrLock;
 
 /// What is held behind each entry from one position to another, with both of them; positions count from 1.
 #[derive(Clone, Copy)]
 pub struct Stay {
-    pub held: Held,
+    pub held: TokenOrLock,
     pub from: u64,
     pub to: u64,
 }

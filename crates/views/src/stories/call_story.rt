@@ -2,7 +2,7 @@
 use crate::stories::about::makes;
 use crate::stories::end::End;
 use crate::stories::made_call::MadeCall;
-use crate::stories::placed_entry::{PlacedEntry, part_of};
+use crate::stories::numbered_entry::{NumberedEntry, part_of};
 use crate::stories::sent_messages::SentMessages;
 use cluster_core::item::Item;
 use messages::entry::Entry;
@@ -18,7 +18,7 @@ use std::marker::Model;
 #[derive(Drop)]
 pub struct CallStory<'a> {
     pub(crate) call: CallId,
-    pub(crate) part: Vec<PlacedEntry<'a>>,
+    pub(crate) part: Vec<NumberedEntry<'a>>,
     pub(crate) sent: SentMessages<'a>,
     pub(crate) place: Option<u32>,
     pub(crate) end: Option<End<'a>>,

@@ -1,5 +1,5 @@
 //! The messages about a call.
-use crate::stories::placed_entry::{NumberedMessage, PlacedEntry};
+use crate::stories::numbered_entry::{NumberedEntry, NumberedMessage};
 use messages::message::Message;
 use model::call::CallId;
 use std::alloc::{AllocError, Global};
@@ -33,7 +33,7 @@ impl<'a> SentMessages<'a> {
     /// Those that the entries send, which belong to the call.
     pub(crate) fn of(
         alloc: Global,
-        part: &[PlacedEntry<'a>],
+        part: &[NumberedEntry<'a>],
         call: &CallId,
     ) -> Result<SentMessages<'a>, AllocError>
         ensures { IfOk result (λ sent. sent ≡ sent_about call.now part.now) }

@@ -5,7 +5,7 @@ ghost use Rattle.views.specs.rule.Stories.{is_made};
 use crate::stories::about::{answers, makes};
 use crate::stories::call_story::CallStory;
 use crate::stories::lines::{push_actor, push_addressed, push_calling, push_ended};
-use crate::stories::placed_entry::{NumberedMessage, PlacedEntry};
+use crate::stories::numbered_entry::{NumberedEntry, NumberedMessage};
 use cluster_core::item::Item;
 use journal_text::writing::push_event;
 use lockscript::replies::push_reply;
@@ -65,7 +65,7 @@ fn push_entry<'a>(
     alloc: Global,
     version: Version,
     story: &CallStory<'a>,
-    placed: &PlacedEntry<'a>,
+    placed: &NumberedEntry<'a>,
 ) -> Result<(), AllocError> {
     let position = placed.position();
     let entry = placed.entry();

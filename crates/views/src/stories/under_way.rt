@@ -5,7 +5,7 @@ ghost use Rattle.views.specs.rule.About.{delivers};
 ghost use Rattle.views.specs.rule.Pending.{is_on_way, under_way, way_with};
 
 use crate::stories::about::{brings, is_same};
-use crate::stories::placed_entry::{NumberedMessage, PlacedEntry};
+use crate::stories::numbered_entry::{NumberedEntry, NumberedMessage};
 use messages::event::Event;
 use messages::message::Message;
 use model::call::CallId;
@@ -14,7 +14,7 @@ use std::alloc::{AllocError, Global};
 /// The messages about the call that are under way behind the last of the entries, which belong to it.
 pub(crate) fn under_way<'a>(
     alloc: Global,
-    part: &[PlacedEntry<'a>],
+    part: &[NumberedEntry<'a>],
     call: &CallId,
 ) -> Result<Vec<NumberedMessage<'a>>, AllocError>
     ensures { IfOk result (λ way. way.items ≡ under_way call.now part.now) }

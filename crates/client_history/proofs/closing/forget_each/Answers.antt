@@ -1,6 +1,6 @@
 use Rattle.std.proofs.Common.{length, refl, sym, subst, ◌<◌}
 use Rattle.std.proofs.lemmas.Option.{slice_get_read}
-use Rattle.client_history.specs.declared.front.Front.{Front}
+use Rattle.client_history.specs.declared.search_front.SearchFront.{SearchFront}
 use Rattle.client_history.specs.code.Closings.{HasForgotten}
 use Rattle.client_history.proofs.Standing.{each_none, each_more, each_all}
 use Rattle.client_history.proofs.closing.forget_each.Goals as goal
@@ -14,7 +14,7 @@ loop-front-preserved c =
     let n = c.loop-front.front-index in
     let within : n < length now = rw c.loop-front.auto.fronts c.loop-front-test.true in
     let at = slice_get_read now (length now) n c.front-item.result refl within c.front-item.is in
-    each_more (HasForgotten c.args.over.now) c.args.fronts.now now n c.front-item.result c.forget.new.self c.loop-front.invariant within at (subst (λ (f : Front). HasForgotten c.args.over.now f c.forget.new.self) (sym c.front-item.is) (record { locks = c.forget.ensures.locks; taken = c.forget.ensures.taken }))
+    each_more (HasForgotten c.args.over.now) c.args.fronts.now now n c.front-item.result c.forget.new.self c.loop-front.invariant within at (subst (λ (f : SearchFront). HasForgotten c.args.over.now f c.forget.new.self) (sym c.front-item.is) (record { locks = c.forget.ensures.locks; taken = c.forget.ensures.taken }))
 
 pub returns-clause-forgot : goal.returns-clause-forgot
 returns-clause-forgot c = each_all (HasForgotten c.args.over.now) c.args.fronts.now c.loop-front.fronts c.loop-front.front-index c.loop-front.invariant c.loop-front-test.false

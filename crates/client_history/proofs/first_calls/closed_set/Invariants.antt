@@ -1,7 +1,7 @@
 use Rattle.std.proofs.Common.{◌≡◌, ◌-◌, [], length}
 use Rattle.lock_table.specs.code.Rows.{held}
 use Rattle.client_history.specs.declared.client_call.ClientCall.{ClientCall}
-use Rattle.client_history.specs.declared.open_call.OpenCall.{OpenCall}
+use Rattle.client_history.specs.declared.open_client_call.OpenClientCall.{OpenClientCall}
 use Rattle.client_history.specs.code.ClosedSets.{IsGrown}
 use Rattle.client_history.specs.code.OpenCalls.{IsIn, IsLeftOf, AreAsked}
 use Rattle.client_history.proofs.SetLaws.{Below, IsServedAt}
@@ -10,14 +10,14 @@ use Rattle.client_history.proofs.first_calls.closed_set.Given as goal
 abbrev pub invariant-loop-call : goal.invariant-loop-call
 invariant-loop-call l = record {
   grown : IsGrown l.«open» [] l.set.items;
-  has : Below (λ (one : OpenCall). one.index ≡ l.end → IsIn l.set.items one.index) l.«open» l.call-index;
+  has : Below (λ (one : OpenClientCall). one.index ≡ l.end → IsIn l.set.items one.index) l.«open» l.call-index;
 }
 
 abbrev pub invariant-loop-place : goal.invariant-loop-place
 invariant-loop-place l = record {
   grown : IsGrown l.«open» [] l.set.items;
   has_end : (call : ClientCall) → IsLeftOf l.«open» l.taken l.end call → IsIn l.set.items l.end;
-  served : AreAsked l.«open» l.taken (held l.table) → Below (λ (one : OpenCall). IsServedAt (held l.table) l.«open» l.taken l.set.items one.index) l.set.items l.place;
+  served : AreAsked l.«open» l.taken (held l.table) → Below (λ (one : OpenClientCall). IsServedAt (held l.table) l.«open» l.taken l.set.items one.index) l.set.items l.place;
 }
 
 abbrev pub decreases-loop-place : goal.decreases-loop-place

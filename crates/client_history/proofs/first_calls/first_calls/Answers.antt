@@ -2,7 +2,7 @@ use Rattle.std.proofs.Common.{◌≡◌, List, [], ◌∷◌, ◌++◌, length, 
 use Rattle.std.proofs.lemmas.Bool.{false≢true}
 use Rattle.std.proofs.lemmas.Option.{slice_get_read}
 use Rattle.lock_table.specs.code.Rows.{held}
-use Rattle.client_history.specs.declared.open_call.OpenCall.{OpenCall}
+use Rattle.client_history.specs.declared.open_client_call.OpenClientCall.{OpenClientCall}
 use Rattle.client_history.proofs.SetLaws.{below_more, below_all, MayBeFirst}
 use Rattle.client_history.proofs.Standing.{has_left, has_last}
 use Rattle.client_history.proofs.first_calls.first_calls.Goals as goal
@@ -37,6 +37,6 @@ returns c =
       closed = closed.closed;
       given = λ k one next there left changes step others first.
           below_all (MayBeFirst (held c.args.table.now) c.args.«open».now c.args.taken.now c.loop-call.first.items) set c.loop-call.call-index c.loop-call.invariant c.loop-call-test.false k one
-          (subst (λ (xs : List OpenCall). slice_get xs k ≡ Some one) (sym same) there) left changes next step others first;
+          (subst (λ (xs : List OpenClientCall). slice_get xs k ≡ Some one) (sym same) there) left changes next step others first;
       members = closed.members;
     }

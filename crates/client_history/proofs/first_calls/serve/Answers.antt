@@ -2,7 +2,7 @@ use Rattle.std.proofs.Common.{◌≡◌, length, refl, sym, ◌∙◌, arith}
 use Rattle.std.proofs.lemmas.Bool.{false≢true}
 use Rattle.std.proofs.lemmas.Option.{slice_get_read}
 use Rattle.lock_table.specs.code.Rows.{held}
-use Rattle.client_history.specs.declared.open_call.OpenCall.{OpenCall}
+use Rattle.client_history.specs.declared.open_client_call.OpenClientCall.{OpenClientCall}
 use Rattle.client_history.specs.code.FirstCalls.{IsServed}
 use Rattle.client_history.specs.code.OpenCalls.{IsLeft, IsIn, IsLeftOf}
 use Rattle.client_history.proofs.SetLaws.{below_more, below_all, grown_more, in_grown, served_more}
@@ -28,14 +28,14 @@ loop-call-preserved c =
           let more = w.add_needed.ensures.grown in
           rw w.set-is (record {
             grown = grown_more running c.args.set.now.items old new c.loop-call.invariant.grown more;
-            served = λ asked. below_more (λ (one : OpenCall). one.index ≡ index → IsLeft one taken → IsServed h (IsLeftOf running taken) (IsIn new) one.call) running n it
+            served = λ asked. below_more (λ (one : OpenClientCall). one.index ≡ index → IsLeft one taken → IsServed h (IsLeftOf running taken) (IsIn new) one.call) running n it
                 (λ k x lt there same left. served_more h (IsLeftOf running taken) old new x.call (λ i. in_grown running old new i more) (c.loop-call.invariant.served asked k x lt there same left))
                 at
                 (λ same left. (w.in_ok-add_needed.ensures {u = tt}).served asked n at left);
           })
       | else-call-index w ↦ rw w.set-is (record {
         grown = c.loop-call.invariant.grown;
-        served = λ asked. below_more (λ (one : OpenCall). one.index ≡ index → IsLeft one taken → IsServed h (IsLeftOf running taken) (IsIn old) one.call) running n it (c.loop-call.invariant.served asked) at
+        served = λ asked. below_more (λ (one : OpenClientCall). one.index ≡ index → IsLeft one taken → IsServed h (IsLeftOf running taken) (IsIn old) one.call) running n it (c.loop-call.invariant.served asked) at
             (λ same left. absurd (elim w.else-call-index.branch [
               | else-call-index-via-then-call-index+else-is_left v ↦ false≢true (sym v.if-is_left.false ∙ v.is_left.ensures.1 left)
               | else-call-index-via-else-call-index v ↦ omega arith
@@ -45,4 +45,4 @@ loop-call-preserved c =
 
 pub returns-clause-served : goal.returns-clause-served
 returns-clause-served c = λ asked.
-    below_all (λ (one : OpenCall). one.index ≡ c.args.index → IsLeft one c.args.taken.now → IsServed (held c.args.table.now) (IsLeftOf c.args.«open».now c.args.taken.now) (IsIn c.loop-call.set.items) one.call) c.args.«open».now c.loop-call.call-index (c.loop-call.invariant.served asked) c.loop-call-test.false
+    below_all (λ (one : OpenClientCall). one.index ≡ c.args.index → IsLeft one c.args.taken.now → IsServed (held c.args.table.now) (IsLeftOf c.args.«open».now c.args.taken.now) (IsIn c.loop-call.set.items) one.call) c.args.«open».now c.loop-call.call-index (c.loop-call.invariant.served asked) c.loop-call-test.false

@@ -1,6 +1,6 @@
 use Rattle.std.proofs.Common.{◌≡◌}
 use Rattle.lock_table.specs.code.Rows.{held}
-use Rattle.client_history.specs.declared.open_call.OpenCall.{OpenCall}
+use Rattle.client_history.specs.declared.open_client_call.OpenClientCall.{OpenClientCall}
 use Rattle.client_history.specs.code.ClosedSets.{IsGrown}
 use Rattle.client_history.specs.code.FirstCalls.{IsServed}
 use Rattle.client_history.specs.code.OpenCalls.{IsLeft, IsIn, IsLeftOf, AreAsked}
@@ -10,5 +10,5 @@ use Rattle.client_history.proofs.first_calls.serve.Given as goal
 abbrev pub invariant-loop-call : goal.invariant-loop-call
 invariant-loop-call l = record {
   grown : IsGrown l.«open» l.fn.set.items l.set.items;
-  served : AreAsked l.«open» l.taken (held l.table) → Below (λ (one : OpenCall). one.index ≡ l.index → IsLeft one l.taken → IsServed (held l.table) (IsLeftOf l.«open» l.taken) (IsIn l.set.items) one.call) l.«open» l.call-index;
+  served : AreAsked l.«open» l.taken (held l.table) → Below (λ (one : OpenClientCall). one.index ≡ l.index → IsLeft one l.taken → IsServed (held l.table) (IsLeftOf l.«open» l.taken) (IsIn l.set.items) one.call) l.«open» l.call-index;
 }

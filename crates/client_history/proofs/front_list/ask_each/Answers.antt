@@ -1,6 +1,6 @@
 use Rattle.std.proofs.Common.{length, refl, sym, subst, ◌<◌}
 use Rattle.std.proofs.lemmas.Option.{slice_get_read}
-use Rattle.client_history.specs.declared.front.Front.{Front}
+use Rattle.client_history.specs.declared.search_front.SearchFront.{SearchFront}
 use Rattle.client_history.specs.code.Asked.{IsAsked}
 use Rattle.client_history.proofs.Standing.{each_none, each_more, each_all}
 use Rattle.client_history.proofs.front_list.ask_each.Goals as goal
@@ -14,7 +14,7 @@ loop-front-preserved c =
     let n = c.loop-front.front-index in
     let within : n < length now = rw c.loop-front.auto.fronts c.loop-front-test.true in
     let at = slice_get_read now (length now) n c.front-item.result refl within c.front-item.is in
-    each_more (IsAsked c.args.call.now) c.args.fronts.now now n c.front-item.result c.ask.new.self c.loop-front.invariant within at (subst (λ (f : Front). IsAsked c.args.call.now f c.ask.new.self) (sym c.front-item.is) (c.in_ok-ask.ensures {u = tt}))
+    each_more (IsAsked c.args.call.now) c.args.fronts.now now n c.front-item.result c.ask.new.self c.loop-front.invariant within at (subst (λ (f : SearchFront). IsAsked c.args.call.now f c.ask.new.self) (sym c.front-item.is) (c.in_ok-ask.ensures {u = tt}))
 
 pub returns-clause-asked : goal.returns-clause-asked
 returns-clause-asked c = each_all (IsAsked c.args.call.now) c.args.fronts.now c.loop-front.fronts c.loop-front.front-index c.loop-front.invariant c.loop-front-test.false

@@ -1,7 +1,7 @@
 use Rattle.std.proofs.Common.{length, refl, sym, ◌∙◌}
 use Rattle.std.proofs.lemmas.Bool.{false≢true}
 use Rattle.std.proofs.lemmas.Option.{slice_get_read}
-use Rattle.client_history.specs.declared.open_call.OpenCall.{OpenCall}
+use Rattle.client_history.specs.declared.open_client_call.OpenClientCall.{OpenClientCall}
 use Rattle.client_history.proofs.SetLaws.{below_more, IsRival, one_rival, no_rival}
 use Rattle.client_history.proofs.needs.has_rival.Goals as goal
 use Rattle.client_history.proofs.needs.has_rival.Goals.{else-is_beside-via-then-is_beside+then-changes+else-is_left, else-is_beside-via-then-is_beside+else-changes, else-is_beside-via-else-is_beside}
@@ -19,7 +19,7 @@ loop-other-preserved c =
     let running = c.args.«open».now in
     let n = c.loop-other.other-index in
     let at = slice_get_read running (length running) n c.other-item.result refl c.loop-other-test.true c.other-item.is in
-    below_more (λ (one : OpenCall). IsRival c.args.taken.now c.args.call.now.index c.args.call.now.call.owner one → ⊥) running n c.other-item.result c.loop-other.invariant at
+    below_more (λ (one : OpenClientCall). IsRival c.args.taken.now c.args.call.now.index c.args.call.now.call.owner one → ⊥) running n c.other-item.result c.loop-other.invariant at
     (λ rival. elim c.else-is_beside.branch [
       | else-is_beside-via-then-is_beside+then-changes+else-is_left w ↦ false≢true (sym w.if-is_left.false ∙ w.is_left.ensures.1 rival.left)
       | else-is_beside-via-then-is_beside+else-changes w ↦ false≢true (sym w.if-changes.false ∙ w.changes.ensures.changes.1 rival.changes)

@@ -1,5 +1,5 @@
 use Rattle.std.proofs.Common.{◌≡◌, List, length, take, drop, ◌++◌, sym, ap, subst, ◌∙◌, arith}
-use Rattle.client_history.specs.declared.front.Front.{Front}
+use Rattle.client_history.specs.declared.search_front.SearchFront.{SearchFront}
 use Rattle.client_history.specs.code.Reached.{GoesPast}
 use Rattle.client_history.proofs.Ended.{goes_past, written_back}
 use Rattle.client_history.proofs.search.end.Goals as goal
@@ -10,7 +10,7 @@ returns c = λ some.
     let settled = c.in_ok-new.new.items in
     let forgot = c.forget_each.new.fronts in
     let back : take c.in_ok-new.new.len (forgot ++ drop (length forgot) settled) ≡ forgot = written_back forgot settled c.in_ok-new.new.len (c.forget_each.ensures.len ∙ ap length c.deref_mut.ensures.value) (omega arith) in
-    subst (λ (fs : List Front). GoesPast c.args.end running c.args.fronts.now.items c.in_ok-still.still.items fs) (sym back)
+    subst (λ (fs : List SearchFront). GoesPast c.args.end running c.args.fronts.now.items c.in_ok-still.still.items fs) (sym back)
     (goes_past c.args.end running c.args.fronts.now.items settled forgot c.in_ok-over.over.items c.in_ok-still.still.items
     (rw (← c.replace-old.ensures.value) ((c.in_ok-new.ensures {u = tt}) some))
     (c.in_ok-over.ensures {u = tt})

@@ -3,7 +3,7 @@ use Rattle.std.proofs.lemmas.Grind.{common_steps}
 use Rattle.std.proofs.lemmas.List.{append-nil}
 use Rattle.model.specs.declared.op.Op.{Op}
 use Rattle.messages.specs.code.Entries.{EntryFields}
-use Rattle.lockscript.specs.declared.script_line.Command.{Command}
+use Rattle.lockscript.specs.declared.script_line.ScriptCommand.{ScriptCommand}
 use Rattle.lockscript.specs.rule.Scripts.{LineFields}
 use Rattle.explorer.specs.rule.Answers.{answer_behind, answers_behind, count_taken}
 use Rattle.explorer.specs.code.ByProcess.{list_in}
@@ -31,7 +31,7 @@ loop-line-preserved c =
       known = λ node pid.
           noted.earlier node pid
           ∙ ap (λ (ops : List Op). ops ++ op_of node pid command) (inv.known node pid)
-          ∙ ap (λ (d : Command). calls_of node pid earlier ++ op_of node pid d) c.command-command.ensures.value
+          ∙ ap (λ (d : ScriptCommand). calls_of node pid earlier ++ op_of node pid d) c.command-command.ensures.value
           ∙ sym (calls-push node pid earlier l.command)
           ∙ sym (ap (calls_of node pid) more);
       counted = λ node pid.
@@ -45,7 +45,7 @@ loop-line-preserved c =
           noted.answer
           ∙ ap (λ (es : List EntryFields). answer_by es taken tried command) c.in_ok-told.ensures
           ∙ answer-here tries known taken earlier command made refused entries knows inv.known inv.counted
-          ∙ ap (λ (d : Command). answer_behind earlier d made refused entries) c.command-command.ensures.value in
+          ∙ ap (λ (d : ScriptCommand). answer_behind earlier d made refused entries) c.command-command.ensures.value in
           let before =
           ap (λ (ls : List LineFields). c.loop-line.answers.items ++ answers_behind earlier ls made refused entries) (sym (drop_here lines i l c.loop-line-test.true c.line-item.is))
           ∙ inv.answered made refused knows in

@@ -2,7 +2,7 @@ use Rattle.std.proofs.Common.{◌≡◌, ◌∙◌, ◌+◌, ◌++◌, List, dro
 use Rattle.std.proofs.lemmas.Grind.{common_steps}
 use Rattle.std.proofs.lemmas.List.Elements.{All-more}
 use Rattle.model.specs.declared.op.Op.{Op}
-use Rattle.lockscript.specs.declared.script_line.Command.{Command}
+use Rattle.lockscript.specs.declared.script_line.ScriptCommand.{ScriptCommand}
 use Rattle.lockscript.specs.rule.Scripts.{IsCommand, LineFields}
 use Rattle.explorer.specs.code.ByProcess.{list_in}
 use Rattle.explorer.specs.rule.Ends.{AreServed}
@@ -20,7 +20,7 @@ loop-line-preserved c =
     record {
       noted = λ node pid.
           let rest = calls_in node pid (drop (i + 1) lines) in
-          let more = c.in_ok-note_call.ensures node pid ∙ ap (λ (d : Command). list_in old node pid ++ op_of node pid d) c.command.ensures.value in
+          let more = c.in_ok-note_call.ensures node pid ∙ ap (λ (d : ScriptCommand). list_in old node pid ++ op_of node pid d) c.command.ensures.value in
           ap (λ (ops : List Op). ops ++ rest) more
           ∙ append_assoc (list_in old node pid) (op_of node pid l.command) rest
           ∙ ap (λ (ls : List LineFields). list_in old node pid ++ calls_in node pid ls) (sym (drop_here lines i l c.loop-line-test.true c.line-item.is))

@@ -2,7 +2,7 @@ use Rattle.std.proofs.Common.{◌≡◌}
 use Rattle.std.specs.Global.{Vec}
 use Rattle.std.proofs.lemmas.Result.{IfOk-weaker}
 use Rattle.player.specs.code.Parts.{state_of}
-use Rattle.explorer.specs.declared.answer.Answer.{Answer}
+use Rattle.explorer.specs.declared.explored_answer.ExploredAnswer.{ExploredAnswer}
 use Rattle.explorer.specs.rule.Answers.{answers_in}
 use Rattle.explorer.specs.rule.Outcomes.{ComesIn}
 use Rattle.explorer.proofs.explore.answers_of.Goals as goal
@@ -12,6 +12,6 @@ returns-clause-answered c =
     let s = c.in_ok-scheduled.scheduled in
     let made = c.in_ok-scheduled.ensures in
     let script = c.args.script.now in
-    IfOk-weaker c.answers_under.result (λ (answers : Vec Answer). answers.items ≡ answers_in script.lines s.commands (state_of s.played)) (λ (answers : Vec Answer). ComesIn c.args.failures script answers.items)
+    IfOk-weaker c.answers_under.result (λ (answers : Vec ExploredAnswer). answers.items ≡ answers_in script.lines s.commands (state_of s.played)) (λ (answers : Vec ExploredAnswer). ComesIn c.args.failures script answers.items)
     (λ answers is. record { commands = s.commands; played = state_of s.played; of_script = made.of_script; comes = made.played; ended = made.ended; answered = is })
     c.answers_under.ensures.answered

@@ -3,7 +3,7 @@ use Rattle.std.proofs.lemmas.Result.{err_from_is_err_and}
 use Rattle.cluster_core.specs.rule.Runs.{Leads}
 use Rattle.cluster_core.specs.rule.World.{first_world}
 use Rattle.player.specs.code.Parts.{progress}
-use Rattle.lockscript.specs.declared.script_line.Command.{Command}
+use Rattle.lockscript.specs.declared.script_line.ScriptCommand.{ScriptCommand}
 use Rattle.lockscript.specs.rule.Scripts.{LineFields}
 use Rattle.player.specs.rule.Played.{PlayedState, played_of}
 use Rattle.player.specs.rule.Progress.{Progress}
@@ -26,7 +26,7 @@ returns-clause-ended c =
     let commands = c.in_ok-commands.commands.items in
     let played = played_of c.shape-shape.result (progress c.choose.new.player) in
     let ended = subst (λ (ls : List LineFields). IsEnded ls commands played) c.lines-lines.ensures (c.in_ok-commands.ensures.ended c.shape-shape.result) in
-    let of_commands = subst (λ (cs : List Command). IsEnded c.args.script.now.lines cs played) (sym c.finished.ensures.commands) ended in
+    let of_commands = subst (λ (cs : List ScriptCommand). IsEnded c.args.script.now.lines cs played) (sym c.finished.ensures.commands) ended in
     subst (λ (p : PlayedState). IsEnded c.args.script.now.lines c.finished.result.commands p) (sym c.finished.ensures.played) of_commands
 
 pub returns-in_err-commands-clause-full : goal.returns-in_err-commands-clause-full

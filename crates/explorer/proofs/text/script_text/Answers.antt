@@ -1,7 +1,7 @@
 use Rattle.std.proofs.Common.{string_bytes}
 use Rattle.model.specs.declared.op.Op.TheVariants.{Process}
 use Rattle.model.specs.declared.op.ProcessCall.TheVariants.{Spawn}
-use Rattle.lockscript.specs.declared.script_line.Command.TheVariants.{Call}
+use Rattle.lockscript.specs.declared.script_line.ScriptCommand.TheVariants.{Call}
 use Rattle.explorer.specs.rule.Texts.{command_line}
 use Rattle.explorer.proofs.Walks.{flat-next}
 use Rattle.explorer.proofs.text.script_text.Goals as goal

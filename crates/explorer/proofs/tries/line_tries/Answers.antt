@@ -1,6 +1,6 @@
 use Rattle.std.proofs.Common.{◌∙◌, ◌+◌, ◌++◌, ◌∷◌, [], List, drop, ap, sym}
 use Rattle.std.specs.Prelude.{if◌then◌else◌}
-use Rattle.lockscript.specs.declared.script_line.Command.{Command}
+use Rattle.lockscript.specs.declared.script_line.ScriptCommand.{ScriptCommand}
 use Rattle.lockscript.specs.rule.Scripts.{LineFields}
 use Rattle.explorer.specs.rule.Answers.{calls_by, refusal_of, tries}
 use Rattle.explorer.specs.code.ByProcess.{list_in}
@@ -16,7 +16,7 @@ loop-line-preserved c node pid =
     let r = c.copied-refusal.result in
     let old = list_in c.loop-line.made node pid in
     let code = c.copied-refusal.ensures ∙ c.get.ensures.value ∙ c.in_ok-refusals.ensures _ ∙ ap (refusal_of refused) (c.from.ensures ∙ c.number.ensures.value) in
-    let noted = c.in_ok-add_try.ensures node pid ∙ ap (λ (d : Command). old ++ (if calls_by node pid d then r ∷ [] else [])) c.command-command.ensures.value in
+    let noted = c.in_ok-add_try.ensures node pid ∙ ap (λ (d : ScriptCommand). old ++ (if calls_by node pid d then r ∷ [] else [])) c.command-command.ensures.value in
     let before =
     ap (λ (ls : List LineFields). old ++ tries refused node pid ls) (sym (drop_here lines i l c.loop-line-test.true c.line-item.is))
     ∙ c.loop-line.invariant node pid in

@@ -2,8 +2,8 @@ use Rattle.std.proofs.Common.{◌∙◌, ◌+◌, ◌++◌, List, get_or, drop, 
 use Rattle.std.specs.List.{enumerate_from}
 use Rattle.model.specs.declared.op.Op.TheVariants.{Process}
 use Rattle.model.specs.declared.op.ProcessCall.TheVariants.{Spawn}
-use Rattle.lockscript.specs.declared.script_line.Command.{Command}
-use Rattle.lockscript.specs.declared.script_line.Command.TheVariants.{Call}
+use Rattle.lockscript.specs.declared.script_line.ScriptCommand.{ScriptCommand}
+use Rattle.lockscript.specs.declared.script_line.ScriptCommand.TheVariants.{Call}
 use Rattle.explorer.specs.rule.Answers.{tries}
 use Rattle.explorer.specs.code.ByProcess.{list_in}
 use Rattle.explorer.specs.rule.Schedules.{line_of}
@@ -18,11 +18,11 @@ loop-command-preserved c = record {
       let commands = c.args.commands.now in
       let i = c.loop-command.command-index in
       let number = c.loop-command.number + 1 in
-      let command : Command = get_or commands i (Call 0 0 (Process Spawn)) in
+      let command : ScriptCommand = get_or commands i (Call 0 0 (Process Spawn)) in
       let old = list_in c.loop-command.made node pid in
       let code = c.copied-refusal.ensures ∙ c.get.ensures.value ∙ c.in_ok-refusals.ensures number in
       let before =
-      ap (λ (cs : List Command). old ++ tries refused node pid (map line_of (enumerate_from number cs))) (sym (drop_at commands i (Call 0 0 (Process Spawn)) c.loop-command-test.true))
+      ap (λ (cs : List ScriptCommand). old ++ tries refused node pid (map line_of (enumerate_from number cs))) (sym (drop_at commands i (Call 0 0 (Process Spawn)) c.loop-command-test.true))
       ∙ c.loop-command.invariant.made node pid in
       let rest = map line_of (enumerate_from (number + 1) (drop (i + 1) commands)) in
       tries-on refused node pid (line_of (number, command)) old (list_in c.add_try.new.tries node pid) c.copied-refusal.result rest _ (c.in_ok-add_try.ensures node pid) code before;

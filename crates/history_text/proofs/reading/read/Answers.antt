@@ -2,8 +2,8 @@ use Rattle.std.proofs.Common.{[], refl}
 use Rattle.std.proofs.lemmas.List.Elements.{All-nil}
 use Rattle.texts.specs.rule.LineFeeds.{line_feed}
 use Rattle.texts.specs.rule.Reads.{Lacks}
-use Rattle.history_text.specs.declared.history.History.{History}
-use Rattle.history_text.specs.declared.reader.Reader.{Reader}
+use Rattle.history_text.specs.declared.written_history.WrittenHistory.{WrittenHistory}
+use Rattle.history_text.specs.declared.history_reader.HistoryReader.{HistoryReader}
 use Rattle.history_text.proofs.HistoryLaws.{is_history}
 use Rattle.history_text.proofs.reading.read.Goals as goal
 
@@ -20,11 +20,11 @@ read_lines-requires c = record {
 
 pub returns : goal.returns
 returns c =
-    let reader : Reader = c.read_lines.new.reader in
+    let reader : HistoryReader = c.read_lines.new.reader in
     let allowed = c.args.allowed in
     let was = c.in_ok-count.ensures in
     let ended = c.in_ok-end_files.ensures in
-    let made : History = record {
+    let made : WrittenHistory = record {
       unit = c.in-Some.unit;
       machines = reader.known.machines;
       owners = reader.known.owners.names;

@@ -1,7 +1,7 @@
 use Rattle.std.proofs.Common.{refl, sym, ap, subst, ◌∙◌}
 use Rattle.std.proofs.lemmas.Result.{err_from_is_err_and}
 use Rattle.messages.specs.declared.version.Version.{Version}
-use Rattle.journal_text.specs.declared.place.Place.{Place}
+use Rattle.journal_text.specs.declared.journal_place.JournalPlace.{JournalPlace}
 use Rattle.journal_text.specs.code.Built.{BuilderFields, built}
 use Rattle.journal_text.specs.code.Places.{IsStuck, StandsNext}
 use Rattle.journal_text.proofs.Standing.{standing-first, standing-line, standing-stuck, standing-whole}
@@ -49,5 +49,5 @@ returns-clause-journal g c =
     let at_loop = c.loop-builder.invariant in
     let b : BuilderFields = at_loop.0 in
     let ended = rw c.in_default.is at c.in_ok-line.ensures.line in
-    let phase = ap (λ (q : Place). q.phase) (sym ended.3) ∙ ended.1 in
+    let phase = ap (λ (q : JournalPlace). q.phase) (sym ended.3) ∙ ended.1 in
     (b.entries, standing-whole c.args.text.now c.in_ok-shape.shape here.rest.now here.taken here.place b at_loop.1 (sym ended.2 ∙ ended.0) phase, at_loop.3)

@@ -6,7 +6,7 @@ use Rattle.replay.proofs.journal_draft.add_from_last.Goals as goal
 
 pub loop-entry-preserved-then-len-eq0 : goal.loop-entry-preserved-then-len-eq0
 loop-entry-preserved-then-len-eq0 g c =
-    let has = g.D.Draft.has in
+    let has = g.D.FileDraft.has in
     let last = ◌∙◌ {A = List Entry} c.in-Some.ensures.items (ap (λ (es : List Entry). es ++ (c.in-Some.entry ∷ [])) (sym c.shrink_to_fit.ensures.items)) in
     let one = ap length last in
     record {
@@ -16,7 +16,7 @@ loop-entry-preserved-then-len-eq0 g c =
 
 pub loop-entry-preserved : goal.loop-entry-preserved
 loop-entry-preserved g c =
-    let has = g.D.Draft.has in
+    let has = g.D.FileDraft.has in
     let last = c.in-Some.ensures.items in
     let one = ap length last in
     record {

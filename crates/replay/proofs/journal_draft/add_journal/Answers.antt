@@ -8,7 +8,7 @@ use Rattle.replay.proofs.journal_draft.add_journal.Goals as goal
 
 pub returns : goal.returns
 returns g c =
-    let has = g.D.Draft.has in
+    let has = g.D.FileDraft.has in
     let shape = c.shape-shape.ensures.value in
     let version = c.version.ensures ∙ ap (λ (s : ShapeFields). s.version) shape in
     let entries = c.into_entries-entries.ensures.value in

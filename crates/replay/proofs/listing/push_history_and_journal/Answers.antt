@@ -8,7 +8,7 @@ use Rattle.replay.proofs.listing.push_history_and_journal.Goals as goal
 
 pub returns-clause-journal : goal.returns-clause-journal
 returns-clause-journal g c =
-    let has = g.D.Draft.has in
+    let has = g.D.FileDraft.has in
     let shape = c.shape-shape.ensures.value ∙ ap (λ (j : JournalFields). j.shape) c.journal.ensures in
     let version = c.version.ensures ∙ ap (λ (s : ShapeFields). s.version) shape in
     let count = ap (λ (es : List Entry). length es) (c.entries-count.ensures.value ∙ ap (λ (j : JournalFields). j.entries) c.journal-2.ensures) in

@@ -9,7 +9,7 @@ use Rattle.replay.proofs.listing.push_items_and_entries.Goals as goal
 
 pub loop-lines-preserved : goal.loop-lines-preserved
 loop-lines-preserved g c =
-    let has = g.D.Draft.has in
+    let has = g.D.FileDraft.has in
     let taken = subst (λ (first : Option (Entry × Option Item)). Takes c.loop-lines.entries first c.next.new.self) c.in-Some.is c.in_ok-entry.ensures.takes in
     let one = ap length taken.0 in
     let written = ap (λ (es : List Entry). entries_text c.args.version (c.loop-lines.position + 1) es) taken.0 in

@@ -9,7 +9,7 @@ abbrev pub invariant-loop-lines : goal.invariant-loop-lines
 invariant-loop-lines g l = record {
   counted : l.position + length l.entries.entries ≡ length l.fn.entries.entries;
   items : string_bytes l.out ++ flat_map history_line (items_in l.entries.standing) ≡ string_bytes l.fn.out ++ flat_map history_line (items_in l.fn.entries.standing);
-  text : Lacks (g.D.Draft.has l.fn.draft) (g.D.Draft.has l.draft) (entries_text l.version 1 l.fn.entries.entries) (entries_text l.version (l.position + 1) l.entries.entries);
+  text : Lacks (g.D.FileDraft.has l.fn.draft) (g.D.FileDraft.has l.draft) (entries_text l.version 1 l.fn.entries.entries) (entries_text l.version (l.position + 1) l.entries.entries);
 }
 
 abbrev pub decreases-loop-lines : goal.decreases-loop-lines

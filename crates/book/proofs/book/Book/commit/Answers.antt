@@ -9,7 +9,7 @@ use Rattle.cluster_core.specs.rule.World.{WorldState}
 use Rattle.cluster_core.specs.rule.Next.{next}
 use Rattle.cluster_core.specs.rule.Parts.{world_state}
 use Rattle.cluster_core.specs.rule.Journals.{RunFields, GoesOn}
-use Rattle.book.specs.declared.edit.Edit.{Edit}
+use Rattle.book.specs.declared.state_edit.StateEdit.{StateEdit}
 use Rattle.book.specs.rule.Fields.{SeatFields, StampFields}
 use Rattle.book.specs.rule.States.{Fits, Becomes}
 use Rattle.book.specs.rule.Commits.{IsStepFrom, Refuses, Commits, seen_at}
@@ -33,7 +33,7 @@ take_next-requires-clause-leads_on g c =
 pub advance-outcome-requires-clause-fits : goal.advance-outcome-requires-clause-fits
 advance-outcome-requires-clause-fits g c =
     let step : IsStepFrom c.args.seat.now c.args.prepared = c.requires c.in_ok-accepts.ensures.tests.0.named in
-    subst (λ (e : Edit). Fits c.args.seat.now.state e) (sym c.into_parts-parts.ensures.edit) step.0
+    subst (λ (e : StateEdit). Fits c.args.seat.now.state e) (sym c.into_parts-parts.ensures.edit) step.0
 
 -- a fact of each good result holds where the result is good
 where_ok : {P : Type 0} (r : Result (Unit {0}) AllocError) → is_ok r ≡ true → OnOk r P → P
@@ -63,7 +63,7 @@ made g c =
     let seen_is = ap (λ (x : StampFields). x.seen) is in
     let is_ok_there = sym c.map_err.ensures.variant ∙ ap is_ok c.in_ok-map_err.was in
     let went = subst (λ (e : Event). GoesOn b e d) parts.ensures.event (where_ok c.take_next.result is_ok_there c.take_next.ensures.ok) in
-    let becomes = subst (λ (e : Edit). Becomes s.state e r.state) parts.ensures.edit c.advance-outcome.ensures.state in
+    let becomes = subst (λ (e : StateEdit). Becomes s.state e r.state) parts.ensures.edit c.advance-outcome.ensures.state in
     let at_mark : Commits b s p c.seen_of-seen.result d r t = committed b d s r p c.seen_of-seen.result t accepted step went becomes c.advance-outcome.ensures.commits position said gave seen_is in
     let seen : Commits b s p (seen_at (option_copied c.args.seen)) d r t = subst (λ (n : ℕ). Commits b s p n d r t) c.seen_of-seen.ensures at_mark in
     subst (λ (x : SeatFields). Commits b s p (seen_at (option_copied c.args.seen)) d x t) (sym c.stand_at.ensures) seen

@@ -1,6 +1,6 @@
 use Rattle.std.proofs.Common.{◌≡◌, ◌∙◌, List, [], sym, ap, subst, arith}
 use Rattle.std.proofs.lemmas.Result.{IfOk-from_err}
-use Rattle.cluster_core.specs.declared.token_run.TokenRun.{TokenRun}
+use Rattle.cluster_core.specs.declared.node_token_run.NodeTokenRun.{NodeTokenRun}
 use Rattle.cluster_core.specs.rule.Listings.{Adds, IsTokenBefore}
 use Rattle.cluster_core.specs.rule.Parts.{WorldParts, world_state}
 use Rattle.cluster_core.proofs.listings.TokenLists.{IsOfFirstNodes, no_nodes, next_node, all_nodes}
@@ -9,7 +9,7 @@ use Rattle.cluster_core.proofs.world.World.tokens.Goals as goal
 pub loop-index-init : goal.loop-index-init
 loop-index-init c =
     let w = world_state c.args.self.now in
-    subst (λ (tokens : List TokenRun). Adds (IsOfFirstNodes w 0) IsTokenBefore [] tokens) (sym c.new-tokens.ensures.items) (no_nodes w [])
+    subst (λ (tokens : List NodeTokenRun). Adds (IsOfFirstNodes w 0) IsTokenBefore [] tokens) (sym c.new-tokens.ensures.items) (no_nodes w [])
 
 pub returns-in_err-push_node_tokens : goal.returns-in_err-push_node_tokens
 returns-in_err-push_node_tokens c = IfOk-from_err c.from_residual.result _ c.from_residual.ensures.0

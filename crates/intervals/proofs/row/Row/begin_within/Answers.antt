@@ -1,6 +1,6 @@
 use Rattle.std.proofs.Common.{◌≡◌, ◌≤◌, ◌+◌, ◌-◌, ◌++◌, ◌∷◌, List, take, drop, length, subst, ap, sym, ◌∙◌, arith}
 use Rattle.std.proofs.lemmas.List.{append_assoc, append-nil, length-append, take_all}
-use Rattle.intervals.specs.declared.run.Run.{Run}
+use Rattle.intervals.specs.declared.byte_run.ByteRun.{ByteRun}
 use Rattle.intervals.specs.rule.Bytes.{greatest, starts_below}
 use Rattle.intervals.specs.code.Runs.{value_at, AreRuns}
 use Rattle.intervals.specs.code.Entries.{BeginAbove}
@@ -79,12 +79,12 @@ loop-part-preserved g c =
     subst (λ l. begin_below l c.args.lo + (c.loop-part.count + c.begin_below-count.result) ≡ begin_below l c.args.hi) all sum
 
 -- the counts of runs are the counts of bytes
-counts : (g : Over) (l : List (Run g.row.V.Denot)) (lo hi count : _) → AreRuns l → begin_below l lo + count ≡ begin_below l hi → starts_below g.V.PartialEq.eq (value_at l) lo + count ≡ starts_below g.V.PartialEq.eq (value_at l) hi
+counts : (g : Over) (l : List (ByteRun g.row.V.Denot)) (lo hi count : _) → AreRuns l → begin_below l lo + count ≡ begin_below l hi → starts_below g.V.PartialEq.eq (value_at l) lo + count ≡ starts_below g.V.PartialEq.eq (value_at l) hi
 counts g l lo hi count runs counted =
     let are = starts_below_are g.V.PartialEq.eq g.met.V.Exact.exact g.met.V.Eq.laws.refl l in
     omega (arith, are lo runs, are hi runs)
 
-few : (g : Over) (l : List (Run g.row.V.Denot)) (hi : _) → AreRuns l → starts_below g.V.PartialEq.eq (value_at l) hi ≤ length l
+few : (g : Over) (l : List (ByteRun g.row.V.Denot)) (hi : _) → AreRuns l → starts_below g.V.PartialEq.eq (value_at l) hi ≤ length l
 few g l hi runs =
     let are = starts_below_are g.V.PartialEq.eq g.met.V.Exact.exact g.met.V.Eq.laws.refl l in
     omega (arith, are hi runs, begin_below-few l hi)

@@ -1,7 +1,7 @@
 use Rattle.std.specs.Prelude.{◌≡◌, IfOk}
 use Rattle.std.proofs.Common.{ap, sym, subst, ◌∙◌}
 use Rattle.messages.specs.declared.message.Message.{Message}
-use Rattle.node_core.specs.declared.command.Command.{Command}
+use Rattle.node_core.specs.declared.token_command.TokenCommand.{TokenCommand}
 use Rattle.node_core.specs.rule.State.{open_call}
 use Rattle.node_core.specs.rule.Try.{tried_if}
 use Rattle.node_core.specs.rule.Commands.{in_epoch, before, granted}
@@ -17,7 +17,7 @@ returns-clause-value c =
     let k = c.args.command.now in
     let t = in_epoch s k.file k.number in
     let does = tried_if (after_grant s k c.args.span) (open_call s k.call.number) in
-    let waits = c.open_call-waiting.ensures.value ∙ ap (λ (k : Command). open_call s k.call.number) c.command.view_is in
+    let waits = c.open_call-waiting.ensures.value ∙ ap (λ (k : TokenCommand). open_call s k.call.number) c.command.view_is in
     let tries = (λ i. tried_if (sym c.in_ok-draft.ensures.state i) (sym waits i)) ∙ c.in_ok-effect.ensures.value in
     let sends = effect-before p does c.message.result c.in_ok-effect.effect c.after.result tries c.after.ensures in
     let made = subst (λ (m : Message). IfOk c.after.result (λ e. before m does ≡ effect_of p e)) (c.message.ensures ∙ c.taken.ensures) sends in

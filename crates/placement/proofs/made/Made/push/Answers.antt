@@ -1,6 +1,6 @@
 use Rattle.std.proofs.Common.{◌≡◌, sym, ◌∙◌, ap, Some, None, Option, List, ℕ, ◌+◌, ◌++◌, ◌∷◌, [], length, arith, refl}
 use Rattle.model.specs.declared.op.Op.{Op}
-use Rattle.placement.specs.declared.made_call.MadeCall.{MadeCall}
+use Rattle.placement.specs.declared.indexed_call.IndexedCall.{IndexedCall}
 use Rattle.placement.specs.code.CallsMade.{called_from}
 use Rattle.placement.proofs.CallsMade.{length-called, more_none, more_some}
 use Rattle.placement.proofs.made.Made.push.Goals.{in-Some+in_ok-push, in_default}
@@ -21,7 +21,7 @@ returns-clause-more c =
     let more = λ (o : Option (ℕ × Op)) (is : c.args.called ≡ o). ap (λ (os : List (Option (ℕ × Op))). os ++ o ∷ []) c.self.view_is ∙ ap (λ (x : Option (ℕ × Op)). c.args.self.now ++ x ∷ []) (sym is) in
     elim c.match-called.branch [
       | in-Some+in_ok-push w ↦
-          let call : MadeCall = record { entry = n; pid = w.in-Some.pid; op = w.in-Some.op } in
-          rw w.self-inside-is (ap (λ (cs : List MadeCall). called_from cs (n + 1)) w.in_ok-push.ensures.items ∙ (more_some call calls n c.self.invariant refl ∙ more (Some (w.in-Some.pid, w.in-Some.op)) w.in-Some.is))
+          let call : IndexedCall = record { entry = n; pid = w.in-Some.pid; op = w.in-Some.op } in
+          rw w.self-inside-is (ap (λ (cs : List IndexedCall). called_from cs (n + 1)) w.in_ok-push.ensures.items ∙ (more_some call calls n c.self.invariant refl ∙ more (Some (w.in-Some.pid, w.in-Some.op)) w.in-Some.is))
       | in_default w ↦ rw w.self-inside-is (more_none calls n c.self.invariant ∙ more None w.in_default.is)
     ]

@@ -1,7 +1,7 @@
 use Rattle.std.specs.Prelude.{◌≡◌, ℕ, ◌+◌, ◌<◌, List, ◌∷◌, [], ◌++◌, length, All, Option}
 use Rattle.std.proofs.Common.{sym, ap, subst, ◌∙◌, take, drop, arith}
 use Rattle.std.proofs.lemmas.List.Elements.{All-drop}
-use Rattle.token_server.specs.declared.token_queue.held.Held.{Held}
+use Rattle.token_server.specs.declared.token_queue.active_request.ActiveRequest.{ActiveRequest}
 use Rattle.token_server.specs.declared.token_queue.token_request.TokenRequest.{TokenRequest}
 use Rattle.token_server.specs.rule.Actives.{waiting_for}
 use Rattle.token_server.specs.rule.Rows.{Row}
@@ -25,15 +25,15 @@ at_after-requires-clause-rows c =
 pub loop-place-preserved : goal.loop-place-preserved
 loop-place-preserved c =
     let i = c.loop-place.place in
-    let held : List Held = c.args.self.now.active.held in
-    let item : Held = c.index-active-place.result in
+    let held : List ActiveRequest = c.args.self.now.active.held in
+    let item : ActiveRequest = c.index-active-place.result in
     let P : TokenRequest → ℕ → Type 0 = λ r a. obstacle (reached c.args.self.now c.args.rows.now) r ≡ a in
     let read : c.as_slice-active.result.now ≡ held = c.as_slice-active.ensures ∙ ap (λ (p : ServerParts). p.active.held) c.self.view_is in
-    let many : length c.as_slice-active.result.now ≡ length held = ap (λ (hs : List Held). length hs) read in
+    let many : length c.as_slice-active.result.now ≡ length held = ap (λ (hs : List ActiveRequest). length hs) read in
     let within : i < length c.as_slice-active.result.now = omega (arith, many, c.freed_up_to-many.ensures.within, c.loop-place-test.true) in
     let next : take (i + 1) held ≡ take i held ++ item ∷ [] = take-next held i item (read-place c.as_slice-active.result.now held i item read within c.index-active-place.is) in (
       omega (arith, c.loop-place-test.true),
-      subst (λ (xs : List Held). Await P xs c.push.new.self.items) (sym next)
+      subst (λ (xs : List ActiveRequest). Await P xs c.push.new.self.items) (sym next)
           (subst (λ (ats : List ℕ). Await P (take i held ++ item ∷ []) ats) (sym c.in_ok-push.ensures.items)
           (await-more P (take i held) c.loop-place.ats.items item c.at_after.result c.loop-place.invariant.1 c.at_after.ensures)),
     )
@@ -42,7 +42,7 @@ pub returns : goal.returns
 returns c =
     let p = c.args.self.now in
     let edit = c.args.rows.now in
-    let held : List Held = p.active.held in
+    let held : List ActiveRequest = p.active.held in
     let n = c.freed_up_to-many.result in
     let P : TokenRequest → ℕ → Type 0 = λ r a. obstacle (reached p edit) r ≡ a in
     let end : c.loop-place.place ≡ n = omega (arith, c.loop-place-test.false, c.loop-place.invariant.0) in

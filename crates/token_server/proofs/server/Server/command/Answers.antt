@@ -3,13 +3,13 @@ use Rattle.std.specs.Option.{option_map}
 use Rattle.std.proofs.Common.{sym, ap, refl, ◌∙◌}
 use Rattle.messages.specs.declared.refusal.StepError.{StepError}
 use Rattle.messages.specs.rule.Epochs.{before_epoch}
-use Rattle.token_server.specs.declared.told.Told.{Told}
+use Rattle.token_server.specs.declared.sent_command.SentCommand.{SentCommand}
 use Rattle.token_server.specs.rule.Rows.{Commands}
 use Rattle.token_server.specs.rule.State.{ServerState, begin}
 use Rattle.token_server.specs.code.Sent.{next_number}
 use Rattle.token_server.specs.rule.Parts.{ServerParts}
 use Rattle.token_server.specs.code.Sketches.{commands_of}
-use Rattle.token_server.specs.declared.known_nodes.command.Order.TheVariants.{Revoke}
+use Rattle.token_server.specs.declared.known_nodes.server_command.Order.TheVariants.{Revoke}
 use Rattle.token_server.specs.rule.Serve.{narrowed}
 use Rattle.token_server.specs.code.Orders.{message_of}
 use Rattle.token_server.specs.code.Told.{with_told}
@@ -26,7 +26,7 @@ pub returns-clause-ok : goal.returns-clause-ok
 returns-clause-ok c =
     let s : ServerState = drafted c.args.self.now c.args.draft.now in
     let commands : Commands = c.in-Some.commands in
-    let t : Told = record { node = c.args.at; commands = c.told.result; command = c.of-command.result } in
+    let t : SentCommand = record { node = c.args.at; commands = c.told.result; command = c.of-command.result } in
     let known : Some commands ≡ option_map commands_of ((with_told c.args.told.now s).rows c.args.at) = sym c.in-Some.is ∙ c.commands_to.ensures.value in
     let next : next_number (begin s) commands ≡ Ok (Some c.in-Some-2.number) = ap (λ (p : ServerParts). next_number (before_epoch p.epoch) commands) (sym c.self.view_is) ∙ sym c.next_number.ensures ∙ c.in_ok-number.was ∙ ap (λ (o : Option ℕ). let x : Result (Option ℕ) StepError = Ok o in x) c.in-Some-2.is in
     let command : t.command ≡ message_of s.file c.order-order.result = c.of-command.ensures ∙ ap (λ (p : ServerParts). message_of p.file c.order-order.result) c.self.view_is in

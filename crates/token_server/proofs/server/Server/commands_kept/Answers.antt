@@ -2,11 +2,11 @@ use Rattle.std.specs.Prelude.{◌≡◌, ◌+◌, ◌≤◌, ℕ, true, false, L
 use Rattle.std.proofs.Common.{refl, sym, ap, subst, ◌∙◌, take, drop, arith}
 use Rattle.std.proofs.lemmas.List.{take_all}
 use Rattle.std.proofs.lemmas.Result.{err_from_is_err_and}
-use Rattle.token_server.specs.declared.token_queue.held.Held.{Held}
+use Rattle.token_server.specs.declared.token_queue.active_request.ActiveRequest.{ActiveRequest}
 use Rattle.token_server.specs.rule.Actives.{waiting_for}
 use Rattle.token_server.proofs.ActiveLaws.{waiting_for-length}
 use Rattle.token_server.specs.declared.lists.Lists.{Lists}
-use Rattle.token_server.specs.declared.told.Told.{Told}
+use Rattle.token_server.specs.declared.sent_command.SentCommand.{SentCommand}
 use Rattle.token_server.specs.rule.State.{ServerState}
 use Rattle.token_server.specs.code.Obstacles.{is_idle}
 use Rattle.token_server.specs.code.Told.{told_to}
@@ -22,14 +22,14 @@ serve_one-requires-clause-waits c =
     let i = c.loop-place.place in
     let s : ServerState = drafted c.args.self.now c.args.draft.now in
     let l : Lists = c.args.draft.now.lists in
-    let held : List Held = c.args.self.now.active.held in
-    let item : Held = c.index-active-place.result in
-    let w : Held = record { request = item.request; at = c.awaited-at.result } in
+    let held : List ActiveRequest = c.args.self.now.active.held in
+    let item : ActiveRequest = c.index-active-place.result in
+    let w : ActiveRequest = record { request = item.request; at = c.awaited-at.result } in
     let read : c.as_slice-active.result.now ≡ held = c.as_slice-active.ensures ∙ ap (λ (p : ServerParts). p.active.held) c.self.view_is in
     let there : slice_get (waiting_for l.ats.items held) i ≡ Some w = waits-place l c.as_slice-active.result.now held i item c.as_slice-ats.result.now c.awaited-at.result read c.as_slice-ats.ensures.value c.loop-place-test.true c.index-active-place.is c.awaited-at.ensures in
     let on : keeps l.gone.dropped l.gone.ended item.request ≡ true = sym c.keeps.ensures ∙ c.if-keeps.true in
-    let done : List Held = kept l (take i (waiting_for l.ats.items held)) in
-    let rest : List Held = kept l (drop (i + 1) (waiting_for l.ats.items held)) ++ l.fresh.items in
+    let done : List ActiveRequest = kept l (take i (waiting_for l.ats.items held)) in
+    let rest : List ActiveRequest = kept l (drop (i + 1) (waiting_for l.ats.items held)) ++ l.fresh.items in
     let split : held_after l held ≡ done ++ w ∷ rest = kept-split l held s c.loop-place.told.items i w there on in
     waits-here s (held_after l held) done rest w c.loop-place.told.items split c.loop-place.invariant
 
@@ -38,14 +38,14 @@ returns-in_err-serve_one-clause-err c =
     let i = c.loop-place.place in
     let s : ServerState = drafted c.args.self.now c.args.draft.now in
     let l : Lists = c.args.draft.now.lists in
-    let held : List Held = c.args.self.now.active.held in
-    let item : Held = c.index-active-place.result in
-    let w : Held = record { request = item.request; at = c.awaited-at.result } in
+    let held : List ActiveRequest = c.args.self.now.active.held in
+    let item : ActiveRequest = c.index-active-place.result in
+    let w : ActiveRequest = record { request = item.request; at = c.awaited-at.result } in
     let read : c.as_slice-active.result.now ≡ held = c.as_slice-active.ensures ∙ ap (λ (p : ServerParts). p.active.held) c.self.view_is in
     let there : slice_get (waiting_for l.ats.items held) i ≡ Some w = waits-place l c.as_slice-active.result.now held i item c.as_slice-ats.result.now c.awaited-at.result read c.as_slice-ats.ensures.value c.loop-place-test.true c.index-active-place.is c.awaited-at.ensures in
     let on : keeps l.gone.dropped l.gone.ended item.request ≡ true = sym c.keeps.ensures ∙ c.if-keeps.true in
-    let done : List Held = kept l (take i (waiting_for l.ats.items held)) in
-    let rest : List Held = kept l (drop (i + 1) (waiting_for l.ats.items held)) ++ l.fresh.items in
+    let done : List ActiveRequest = kept l (take i (waiting_for l.ats.items held)) in
+    let rest : List ActiveRequest = kept l (drop (i + 1) (waiting_for l.ats.items held)) ++ l.fresh.items in
     let split : held_after l held ≡ done ++ w ∷ rest = kept-split l held s c.loop-place.told.items i w there on in
     let p = err_from_is_err_and c.from_residual.result c.from_residual.ensures.1 in
     rw (p.1, p.2) (λ other. turn-spent s (held_after l held) done rest w c.loop-place.told.items _ split refl c.loop-place.invariant (c.in_err-serve_one.ensures.err other))
@@ -55,9 +55,9 @@ loop-place-preserved c =
     let i = c.loop-place.place in
     let s : ServerState = drafted c.args.self.now c.args.draft.now in
     let l : Lists = c.args.draft.now.lists in
-    let held : List Held = c.args.self.now.active.held in
-    let item : Held = c.index-active-place.result in
-    let w : Held = record { request = item.request; at = c.awaited-at.result } in
+    let held : List ActiveRequest = c.args.self.now.active.held in
+    let item : ActiveRequest = c.index-active-place.result in
+    let w : ActiveRequest = record { request = item.request; at = c.awaited-at.result } in
     let read : c.as_slice-active.result.now ≡ held = c.as_slice-active.ensures ∙ ap (λ (p : ServerParts). p.active.held) c.self.view_is in
     let there : slice_get (waiting_for l.ats.items held) i ≡ Some w = waits-place l c.as_slice-active.result.now held i item c.as_slice-ats.result.now c.awaited-at.result read c.as_slice-ats.ensures.value c.loop-place-test.true c.index-active-place.is c.awaited-at.ensures in
     elim c.if-keeps.branch [
@@ -72,12 +72,12 @@ loop-place-preserved-then-not-may_come c =
     let i = c.loop-place.place in
     let s : ServerState = drafted c.args.self.now c.args.draft.now in
     let l : Lists = c.args.draft.now.lists in
-    let held : List Held = c.args.self.now.active.held in
-    let item : Held = c.index-active-place.result in
-    let w : Held = record { request = item.request; at = c.awaited-at.result } in
+    let held : List ActiveRequest = c.args.self.now.active.held in
+    let item : ActiveRequest = c.index-active-place.result in
+    let w : ActiveRequest = record { request = item.request; at = c.awaited-at.result } in
     let read : c.as_slice-active.result.now ≡ held = c.as_slice-active.ensures ∙ ap (λ (p : ServerParts). p.active.held) c.self.view_is in
     let there : slice_get (waiting_for l.ats.items held) i ≡ Some w = waits-place l c.as_slice-active.result.now held i item c.as_slice-ats.result.now c.awaited-at.result read c.as_slice-ats.ensures.value c.loop-place-test.true c.index-active-place.is c.awaited-at.ensures in
-    let told : List Told = c.loop-place.told.items in
+    let told : List SentCommand = c.loop-place.told.items in
     let quiet : All (λ h. is_idle ((server_state c.args.self.now).rows h.at) ≡ false) held =
     subst (λ (p : ServerParts). All (λ h. is_idle ((server_state p).rows h.at) ≡ false) p.active.held) c.self.view_is c.self.invariant.ready.quiet in
     let here : slice_get held i ≡ Some item = read-place c.as_slice-active.result.now held i item read c.loop-place-test.true c.index-active-place.is in
@@ -90,26 +90,26 @@ loop-place-preserved-then-is_some c =
     let i = c.loop-place.place in
     let s : ServerState = drafted c.args.self.now c.args.draft.now in
     let l : Lists = c.args.draft.now.lists in
-    let held : List Held = c.args.self.now.active.held in
-    let item : Held = c.index-active-place.result in
-    let w : Held = record { request = item.request; at = c.awaited-at.result } in
+    let held : List ActiveRequest = c.args.self.now.active.held in
+    let item : ActiveRequest = c.index-active-place.result in
+    let w : ActiveRequest = record { request = item.request; at = c.awaited-at.result } in
     let read : c.as_slice-active.result.now ≡ held = c.as_slice-active.ensures ∙ ap (λ (p : ServerParts). p.active.held) c.self.view_is in
     let there : slice_get (waiting_for l.ats.items held) i ≡ Some w = waits-place l c.as_slice-active.result.now held i item c.as_slice-ats.result.now c.awaited-at.result read c.as_slice-ats.ensures.value c.loop-place-test.true c.index-active-place.is c.awaited-at.ensures in
-    let told : List Told = c.loop-place.told.items in
+    let told : List SentCommand = c.loop-place.told.items in
     let some : is_some (told_to told c.awaited-at.result) ≡ true =
-    ap (λ (ts : List Told). is_some (told_to ts c.awaited-at.result)) (sym c.as_slice.ensures.value) ∙ ap is_some (sym c.told_to.ensures) ∙ sym c.is_some.ensures ∙ c.if-is_some.true in
+    ap (λ (ts : List SentCommand). is_some (told_to ts c.awaited-at.result)) (sym c.as_slice.ensures.value) ∙ ap is_some (sym c.told_to.ensures) ∙ sym c.is_some.ensures ∙ c.if-is_some.true in
     kept-silent l held s told i w there (told-quiet told s c.awaited-at.result some) c.loop-place.invariant
 
 pub returns-then-none_may_come-clause-ok : goal.returns-then-none_may_come-clause-ok
 returns-then-none_may_come-clause-ok c =
     let s : ServerState = drafted c.args.self.now c.args.draft.now in
     let l : Lists = c.args.draft.now.lists in
-    let held : List Held = c.args.self.now.active.held in
+    let held : List ActiveRequest = c.args.self.now.active.held in
     let quiet : All (λ h. is_idle ((server_state c.args.self.now).rows h.at) ≡ false) held =
     subst (λ (p : ServerParts). All (λ h. is_idle ((server_state p).rows h.at) ≡ false) p.active.held) c.self.view_is c.self.invariant.ready.quiet in
     let many : length c.as_slice-ats.result.now ≡ length l.ats.items = ap (λ (xs : List ℕ). length xs) c.as_slice-ats.ensures.value in
     let past : length l.ats.items ≤ 0 = omega (arith, many, c.none_may_come.ensures.same c.if-none_may_come.true) in
-    subst (λ (ts : List Told). AreServed s (held_after l held) (kept_of l held) ts) (sym c.new-told.ensures.items)
+    subst (λ (ts : List SentCommand). AreServed s (held_after l held) (kept_of l held) ts) (sym c.new-told.ensures.items)
     (kept-rest l held s [] (length held) 0 (omega arith) (rest-untouched (server_state c.args.self.now) s l held [] c.args.touched 0 quiet c.requires.untouched past (c.none_may_come.ensures.untouched c.if-none_may_come.true)) (served-start s (held_after l held) c.requires.waits))
 
 pub returns-then-ats-place-clause-ok : goal.returns-then-ats-place-clause-ok
@@ -117,16 +117,16 @@ returns-then-ats-place-clause-ok c =
     let i = c.loop-place.place in
     let s : ServerState = drafted c.args.self.now c.args.draft.now in
     let l : Lists = c.args.draft.now.lists in
-    let held : List Held = c.args.self.now.active.held in
-    let item : Held = c.index-active-place.result in
-    let w : Held = record { request = item.request; at = c.awaited-at.result } in
+    let held : List ActiveRequest = c.args.self.now.active.held in
+    let item : ActiveRequest = c.index-active-place.result in
+    let w : ActiveRequest = record { request = item.request; at = c.awaited-at.result } in
     let read : c.as_slice-active.result.now ≡ held = c.as_slice-active.ensures ∙ ap (λ (p : ServerParts). p.active.held) c.self.view_is in
     let there : slice_get (waiting_for l.ats.items held) i ≡ Some w = waits-place l c.as_slice-active.result.now held i item c.as_slice-ats.result.now c.awaited-at.result read c.as_slice-ats.ensures.value c.loop-place-test.true c.index-active-place.is c.awaited-at.ensures in
-    let told : List Told = c.loop-place.told.items in
+    let told : List SentCommand = c.loop-place.told.items in
     let quiet : All (λ h. is_idle ((server_state c.args.self.now).rows h.at) ≡ false) held =
     subst (λ (p : ServerParts). All (λ h. is_idle ((server_state p).rows h.at) ≡ false) p.active.held) c.self.view_is c.self.invariant.ready.quiet in
     let some : is_some (told_to told c.awaited-at.result) ≡ true =
-    ap (λ (ts : List Told). is_some (told_to ts c.awaited-at.result)) (sym c.as_slice.ensures.value) ∙ ap is_some (sym c.told_to.ensures) ∙ sym c.is_some.ensures ∙ c.if-is_some.true in
+    ap (λ (ts : List SentCommand). is_some (told_to ts c.awaited-at.result)) (sym c.as_slice.ensures.value) ∙ ap is_some (sym c.told_to.ensures) ∙ sym c.is_some.ensures ∙ c.if-is_some.true in
     let many : length c.as_slice-ats.result.now ≡ length l.ats.items = ap (λ (xs : List ℕ). length xs) c.as_slice-ats.ensures.value in
     let past : length l.ats.items ≤ i = omega (arith, many, c.if-ats-place.true) in
     let same : c.awaited-at.result ≡ item.at = c.awaited-at.ensures ∙ ap (λ (xs : List ℕ). slice_index_or xs i item.at) c.as_slice-ats.ensures.value ∙ index-past l.ats.items i item.at past in
@@ -136,14 +136,14 @@ pub returns-clause-ok : goal.returns-clause-ok
 returns-clause-ok c =
     let s : ServerState = drafted c.args.self.now c.args.draft.now in
     let l : Lists = c.args.draft.now.lists in
-    let held : List Held = c.args.self.now.active.held in
+    let held : List ActiveRequest = c.args.self.now.active.held in
     let read : c.as_slice-active.result.now ≡ held = c.as_slice-active.ensures ∙ ap (λ (p : ServerParts). p.active.held) c.self.view_is in
-    let many : length (waiting_for l.ats.items held) ≡ length c.as_slice-active.result.now = waiting_for-length l.ats.items held ∙ ap (λ (hs : List Held). length hs) (sym read) in
+    let many : length (waiting_for l.ats.items held) ≡ length c.as_slice-active.result.now = waiting_for-length l.ats.items held ∙ ap (λ (hs : List ActiveRequest). length hs) (sym read) in
     let past : length (waiting_for l.ats.items held) ≤ c.loop-place.place = omega (arith, many, c.loop-place-test.false) in
-    subst (λ (hs : List Held). AreServed s (held_after l held) (kept l hs) c.loop-place.told.items) (take_all c.loop-place.place (waiting_for l.ats.items held) past) c.loop-place.invariant
+    subst (λ (hs : List ActiveRequest). AreServed s (held_after l held) (kept l hs) c.loop-place.told.items) (take_all c.loop-place.place (waiting_for l.ats.items held) past) c.loop-place.invariant
 
 pub loop-place-init : goal.loop-place-init
 loop-place-init c =
     let s : ServerState = drafted c.args.self.now c.args.draft.now in
-    let all : List Held = held_after c.args.draft.now.lists c.args.self.now.active.held in
-    subst (λ (ts : List Told). AreServed s all [] ts) (sym c.new-told.ensures.items) (served-start s all c.requires.waits)
+    let all : List ActiveRequest = held_after c.args.draft.now.lists c.args.self.now.active.held in
+    subst (λ (ts : List SentCommand). AreServed s all [] ts) (sym c.new-told.ensures.items) (served-start s all c.requires.waits)

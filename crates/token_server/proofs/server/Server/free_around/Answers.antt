@@ -4,7 +4,7 @@ use Rattle.intervals.specs.rule.Bytes.{Range, largest_around}
 use Rattle.token_server.specs.declared.known_nodes.known_node.KnownNode.{KnownNode}
 use Rattle.token_server.specs.rule.Rows.{Row, row_conflicts, row_conflicts_at}
 use Rattle.token_server.specs.rule.Parts.{ServerParts}
-use Rattle.token_server.specs.declared.told.Told.{Told}
+use Rattle.token_server.specs.declared.sent_command.SentCommand.{SentCommand}
 use Rattle.token_server.specs.code.Told.{told_to, row_told}
 use Rattle.token_server.specs.code.RowEdits.{seen, rows_overlaid}
 use Rattle.token_server.proofs.MarkLaws.{row_free}
@@ -37,7 +37,7 @@ returns-in-Some-told_to c =
     let hi = ap (λ (s : Range). s.hi) c.required.view_is in
     let inside = c.required.invariant.0 in
     let order : c.args.required.lo ≤ c.args.required.hi = omega (arith, lo, hi, inside) in
-    let t : Told = c.in-Some-told_to.told in
+    let t : SentCommand = c.in-Some-told_to.told in
     let there : Row = seen c.in-Some.row in
     let row : Option Row = rows_overlaid c.args.self.now.known_nodes c.args.draft.now.rows c.args.node in
     let known_nodes : c.args.self.now.known_nodes ≡ c.self.inside.known_nodes = ap (λ (p : ServerParts). p.known_nodes) (sym c.self.view_is) in

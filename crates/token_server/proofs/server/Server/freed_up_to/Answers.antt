@@ -1,7 +1,7 @@
 use Rattle.std.specs.Prelude.{◌≡◌, ◌+◌, ◌≤◌, List, true, false, All, length, slice_get, Some}
 use Rattle.std.proofs.Common.{ap, subst, ◌∙◌, drop, arith}
 use Rattle.std.proofs.lemmas.List.{take_all}
-use Rattle.token_server.specs.declared.token_queue.held.Held.{Held}
+use Rattle.token_server.specs.declared.token_queue.active_request.ActiveRequest.{ActiveRequest}
 use Rattle.token_server.specs.rule.Actives.{requests_of}
 use Rattle.token_server.specs.code.Obstacles.{are_apart, may_turn}
 use Rattle.token_server.specs.rule.RowParts.{rows_of}
@@ -14,11 +14,11 @@ use Rattle.token_server.proofs.server.Server.freed_up_to.Goals as goal
 pub loop-place-preserved : goal.loop-place-preserved
 loop-place-preserved c =
     let i = c.loop-place.place in
-    let held : List Held = c.args.self.now.active.held in
-    let item : Held = c.index-active-place.result in
-    let P : Held → Type 0 = λ h. may_turn c.args.changed.now (rows_of c.args.self.now.known_nodes c.args.changed.now.node) h ≡ false in
+    let held : List ActiveRequest = c.args.self.now.active.held in
+    let item : ActiveRequest = c.index-active-place.result in
+    let P : ActiveRequest → Type 0 = λ h. may_turn c.args.changed.now (rows_of c.args.self.now.known_nodes c.args.changed.now.node) h ≡ false in
     let read : c.as_slice-active.result.now ≡ held = c.as_slice-active.ensures ∙ ap (λ (p : ServerParts). p.active.held) c.self.view_is in
-    let many : length c.as_slice-active.result.now ≡ length held = ap (λ (hs : List Held). length hs) read in
+    let many : length c.as_slice-active.result.now ≡ length held = ap (λ (hs : List ActiveRequest). length hs) read in
     let there : slice_get held i ≡ Some item = read-place c.as_slice-active.result.now held i item read c.loop-place-test.true c.index-active-place.is in
     elim c.if-may_be_freed.branch [
       | then-may_be_freed+else-takes_all w ↦ rw w.many-is (omega arith, omega (arith, many, c.loop-place-test.true), rest-none P held (i + 1))
@@ -28,14 +28,14 @@ loop-place-preserved c =
 
 pub returns-then-takes_all-clause-within : goal.returns-then-takes_all-clause-within
 returns-then-takes_all-clause-within c =
-    let many : length c.as_slice-active.result.now ≡ length c.args.self.now.active.held = ap (λ (hs : List Held). length hs) (c.as_slice-active.ensures ∙ ap (λ (p : ServerParts). p.active.held) c.self.view_is) in
+    let many : length c.as_slice-active.result.now ≡ length c.args.self.now.active.held = ap (λ (hs : List ActiveRequest). length hs) (c.as_slice-active.ensures ∙ ap (λ (p : ServerParts). p.active.held) c.self.view_is) in
     omega (arith, many, c.loop-place-test.true)
 
 pub returns-then-takes_all-clause-rest : goal.returns-then-takes_all-clause-rest
 returns-then-takes_all-clause-rest c =
     let i = c.loop-place.place in
-    let held : List Held = c.args.self.now.active.held in
-    let item : Held = c.index-active-place.result in
+    let held : List ActiveRequest = c.args.self.now.active.held in
+    let item : ActiveRequest = c.index-active-place.result in
     let row = rows_of c.args.self.now.known_nodes c.args.changed.now.node in
     let read : c.as_slice-active.result.now ≡ held = c.as_slice-active.ensures ∙ ap (λ (p : ServerParts). p.active.held) c.self.view_is in
     let there : slice_get held i ≡ Some item = read-place c.as_slice-active.result.now held i item read c.loop-place-test.true c.index-active-place.is in
@@ -44,8 +44,8 @@ returns-then-takes_all-clause-rest c =
 
 pub returns-clause-rest : goal.returns-clause-rest
 returns-clause-rest c =
-    let held : List Held = c.args.self.now.active.held in
-    let P : Held → Type 0 = λ h. may_turn c.args.changed.now (rows_of c.args.self.now.known_nodes c.args.changed.now.node) h ≡ false in
-    let many : length c.as_slice-active.result.now ≡ length held = ap (λ (xs : List Held). length xs) (c.as_slice-active.ensures ∙ ap (λ (p : ServerParts). p.active.held) c.self.view_is) in
+    let held : List ActiveRequest = c.args.self.now.active.held in
+    let P : ActiveRequest → Type 0 = λ h. may_turn c.args.changed.now (rows_of c.args.self.now.known_nodes c.args.changed.now.node) h ≡ false in
+    let many : length c.as_slice-active.result.now ≡ length held = ap (λ (xs : List ActiveRequest). length xs) (c.as_slice-active.ensures ∙ ap (λ (p : ServerParts). p.active.held) c.self.view_is) in
     let past : length held ≤ c.loop-place.place = omega (arith, c.loop-place-test.false, many) in
-    subst (λ (xs : List Held). All P (drop c.loop-place.many xs)) (take_all c.loop-place.place held past) c.loop-place.invariant.2
+    subst (λ (xs : List ActiveRequest). All P (drop c.loop-place.many xs)) (take_all c.loop-place.place held past) c.loop-place.invariant.2

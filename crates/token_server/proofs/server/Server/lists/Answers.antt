@@ -2,7 +2,7 @@ use Rattle.std.specs.Prelude.{◌≡◌, ℕ, List, [], ◌∷◌, Option}
 use Rattle.std.proofs.Common.{refl, sym, ap, subst, ◌∙◌}
 use Rattle.std.proofs.lemmas.List.Elements.{All-append}
 use Rattle.token_server.specs.declared.token_queue.token_request.TokenRequest.{TokenRequest}
-use Rattle.token_server.specs.declared.token_queue.held.Held.{Held}
+use Rattle.token_server.specs.declared.token_queue.active_request.ActiveRequest.{ActiveRequest}
 use Rattle.token_server.specs.rule.Actives.{requests_of, waiting_for}
 use Rattle.intervals.specs.rule.Search.{some_passes}
 use Rattle.token_server.specs.rule.Rows.{Row, is_awaited}
@@ -15,7 +15,7 @@ use Rattle.token_server.specs.code.Edits.{reached}
 use Rattle.token_server.proofs.ReadyLaws.{distinct-queue, kept-all}
 use Rattle.token_server.proofs.server.Server.lists.Goals as goal
 
-none-of : (held : List Held) → requests_of held ≡ [] → held ≡ []
+none-of : (held : List ActiveRequest) → requests_of held ≡ [] → held ≡ []
 none-of [] is = refl
 none-of (h ∷ held) is = absurd (cc)
 
@@ -35,7 +35,7 @@ returns c =
     let queued : queue_moved k.moved (without d p.queue.requests) (without d p.waiting.requests) ≡ (sketched p k).queue = (λ i. queue_moved k.moved (e.queue i) (e.waiting i)) in
     let fresh : requests_of c.in_ok-hold.field-0.items ≡ c.in_ok-fresh.fresh.items = c.in_ok-hold.ensures.requests ∙ c.as_slice.ensures.value in
     let same : c.args.awaiting ≡ awaits (sketched p k) = c.requires.awaited ∙ ap (λ (f : ℕ → Option Row). some_passes (λ n. is_awaited (f n)) 1 p.shape.nodes) c.requires.rows in
-    let W : Held → Type 0 = λ h. obstacle (reached p c.args.rows.now) h.request ≡ h.at in
+    let W : ActiveRequest → Type 0 = λ h. obstacle (reached p c.args.rows.now) h.request ≡ h.at in
     record {
       served = served;
       queued = queued;

@@ -1,7 +1,7 @@
 use Rattle.std.specs.Prelude.{◌≡◌, List, ◌++◌, All}
 use Rattle.std.proofs.Common.{refl, sym, ap, subst, ◌∙◌}
 use Rattle.intervals.specs.rule.Bytes.{Range}
-use Rattle.token_server.specs.declared.token_queue.held.Held.{Held}
+use Rattle.token_server.specs.declared.token_queue.active_request.ActiveRequest.{ActiveRequest}
 use Rattle.token_server.specs.declared.token_queue.token_request.TokenRequest.{TokenRequest}
 use Rattle.token_server.specs.rule.Actives.{requests_of}
 use Rattle.token_server.specs.declared.lists.Lists.{Lists}
@@ -30,11 +30,11 @@ pub returns-clause-value : goal.returns-clause-value
 returns-clause-value c =
     let r : TokenRequest = c.args.request.now in
     let lists : Lists = c.args.draft.now.lists in
-    let held : List Held = c.args.self.now.active.held in
+    let held : List ActiveRequest = c.args.self.now.active.held in
     let on : List TokenRequest = still_active lists.gone.ended (without lists.gone.dropped (requests_of held)) in
     let fresh : List TokenRequest = requests_of lists.fresh.items in
     let read : c.as_slice.result.now ≡ held = c.as_slice.ensures ∙ ap (λ (p : ServerParts). p.active.held) c.self.view_is in
-    let first : c.cut_by-span.result ≡ narrowed on r = c.cut_by-span.ensures.value ∙ ap (λ (hs : List Held). narrowed (still_active lists.gone.ended (without lists.gone.dropped (requests_of hs))) r) read in
+    let first : c.cut_by-span.result ≡ narrowed on r = c.cut_by-span.ensures.value ∙ ap (λ (hs : List ActiveRequest). narrowed (still_active lists.gone.ended (without lists.gone.dropped (requests_of hs))) r) read in
     let some : IsLeft on r (narrowed on r) = record {
       order = rw (← c.required-required.ensures.value) c.required-required.ensures.ordered;
       starts = rw (← c.desired-desired.ensures.value) c.desired-desired.ensures.starts_before;
@@ -42,7 +42,7 @@ returns-clause-value c =
       value = refl;
     } in
     let all : IsLeft (on ++ fresh) r (cut_all r.wanted.required (narrowed on r) fresh) =
-    left-all on fresh r (narrowed on r) (subst (λ (hs : List Held). All HasByte (requests_of hs)) c.as_slice-2.ensures.value c.cut_by_all.ensures.ordered) some in
+    left-all on fresh r (narrowed on r) (subst (λ (hs : List ActiveRequest). All HasByte (requests_of hs)) c.as_slice-2.ensures.value c.cut_by_all.ensures.ordered) some in
     c.cut_by_all.ensures.value
     ∙ (λ i. cut_all (c.required-required.ensures.value i) (first i) (requests_of (c.as_slice-2.ensures.value i)))
     ∙ all.value

@@ -4,7 +4,7 @@ use Rattle.std.proofs.lemmas.Result.{err_from_is_err_and}
 use Rattle.messages.specs.declared.message.Message.{Message}
 use Rattle.messages.specs.declared.refusal.StepError.{StepError}
 use Rattle.messages.specs.declared.refusal.StepError.TheVariants.{NoMemory}
-use Rattle.token_server.specs.declared.told.Told.{Told}
+use Rattle.token_server.specs.declared.sent_command.SentCommand.{SentCommand}
 use Rattle.token_server.specs.rule.State.{ServerState, awaits}
 use Rattle.token_server.specs.rule.Serve.{serve}
 use Rattle.token_server.specs.code.Told.{with_told, commands_told}
@@ -35,8 +35,8 @@ returns-clause-ok c =
     let p = c.args.self.now in
     let k = c.args.sketch.now in
     let d = c.args.draft.now in
-    let told : List Told = c.in_ok-told.told.items in
-    let given : made_of p d c.in_ok-given.given.items ≡ with_told told (drafted p d) = c.in_ok-given.ensures ∙ ap (λ (ts : List Told). with_told ts (drafted p d)) c.as_slice.ensures.value in
+    let told : List SentCommand = c.in_ok-told.told.items in
+    let given : made_of p d c.in_ok-given.given.items ≡ with_told told (drafted p d) = c.in_ok-given.ensures ∙ ap (λ (ts : List SentCommand). with_told ts (drafted p d)) c.as_slice.ensures.value in
     let sent : c.in_ok-commands_told.field-0 ≡ commands_told told = c.in_ok-commands_told.ensures ∙ ap commands_told c.as_slice-2.ensures.value in
     record {
       comes = drafted-serves p k d c.requires ∙ c.in_ok-told.ensures.ok ∙ sym (λ i. let a : Answer = Ok (given i, sent i) in a);

@@ -1,7 +1,7 @@
 use Rattle.std.specs.Prelude.{◌≡◌, ℕ, false, not, List, [], ◌++◌, filter, is_some, Option, Some, None}
 use Rattle.std.proofs.Common.{refl, sym, ap, subst, ◌∙◌}
 use Rattle.model.specs.declared.call.CallId.{CallId}
-use Rattle.token_server.specs.declared.token_queue.held.Held.{Held}
+use Rattle.token_server.specs.declared.token_queue.active_request.ActiveRequest.{ActiveRequest}
 use Rattle.token_server.specs.declared.token_queue.token_request.TokenRequest.{TokenRequest}
 use Rattle.token_server.specs.rule.Requests.{is_of_call, requests_in}
 use Rattle.token_server.specs.rule.Actives.{requests_of}
@@ -56,5 +56,5 @@ admit_freed-requires-clause-ended c =
     let none : g.dropped ≡ None = none-is g.dropped (sym c.is_some.ensures ∙ c.if-is_some.false) in
     let distinct : AreDistinct queue = subst (λ (d : Option (ℕ × ℕ)). AreDistinct (without d queue)) none c.requires.queued in
     let has : HasEnded active queue call ended = record { few = c.requires.served call; found = sym c.find.ensures ∙ c.in-Some-find.is; settled = c.requires.settled c.if-not-settled.false; distinct = distinct } in
-    subst (λ (held : List Held). HasEnded (requests_of held) (requests_in c.slots-2.result.now) call ended) (sym c.as_slice-2.ensures)
+    subst (λ (held : List ActiveRequest). HasEnded (requests_of held) (requests_in c.slots-2.result.now) call ended) (sym c.as_slice-2.ensures)
     (subst (λ (rs : List TokenRequest). HasEnded active rs call ended) (sym c.slots-2.ensures) has)

@@ -2,7 +2,7 @@ use Rattle.std.specs.Prelude.{◌≡◌, ◌+◌, List, [], ◌∷◌, ◌++◌}
 use Rattle.std.proofs.Common.{sym, ap, subst, ◌∙◌, take, drop}
 use Rattle.std.proofs.lemmas.List.{take_more, take_all}
 use Rattle.intervals.specs.rule.Bytes.{Range}
-use Rattle.token_server.specs.declared.token_queue.held.Held.{Held}
+use Rattle.token_server.specs.declared.token_queue.active_request.ActiveRequest.{ActiveRequest}
 use Rattle.token_server.specs.declared.token_queue.token_request.TokenRequest.{TokenRequest}
 use Rattle.token_server.specs.rule.Actives.{requests_of}
 use Rattle.token_server.specs.declared.lists.Lists.{Lists}
@@ -29,10 +29,10 @@ cut_by_one-span-requires-clause-ends_within c = rw c.required-required.ensures.v
 pub loop-other-preserved : goal.loop-other-preserved
 loop-other-preserved c =
     let i = c.loop-other.other-index in
-    let held : List Held = c.args.held.now in
+    let held : List ActiveRequest = c.args.held.now in
     let lists : Lists = c.args.lists.now in
-    let item : Held = c.other-item.result in
-    let next : take (i + 1) held ≡ take i held ++ item ∷ [] = take_more held i item c.loop-other-test.true ∙ ap (λ (h : Held). take i held ++ h ∷ []) (sym c.other-item.is) in
+    let item : ActiveRequest = c.other-item.result in
+    let next : take (i + 1) held ≡ take i held ++ item ∷ [] = take_more held i item c.loop-other-test.true ∙ ap (λ (h : ActiveRequest). take i held ++ h ∷ []) (sym c.other-item.is) in
     let e = c.cut_by_one-span.ensures in
     left-next lists (take i held) (take (i + 1) held) item c.args.request.now c.loop-other.span c.cut_by_one-span.result next e.ordered
     (λ on. e.kept on ∙ ap (λ (q : Range). cut q c.loop-other.span item.request.wanted.required) c.required-required.ensures.value) e.gone c.loop-other.invariant
@@ -40,7 +40,7 @@ loop-other-preserved c =
 pub returns-then-eq-clause-value : goal.returns-then-eq-clause-value
 returns-then-eq-clause-value c =
     let i = c.loop-other.other-index in
-    let held : List Held = c.args.held.now in
+    let held : List ActiveRequest = c.args.held.now in
     let lists : Lists = c.args.lists.now in
     let r : TokenRequest = c.args.request.now in
     left-least (requests_of (kept lists (take i held))) (requests_of (kept lists (drop i held))) r c.loop-other.span c.loop-other.invariant (one_span c.loop-other.span c.required-required.result _ c.eq.ensures c.if-eq.true ∙ c.required-required.ensures.value)
@@ -54,11 +54,11 @@ returns-then-eq-clause-ends_after c = (left-bounds _ c.args.request.now c.loop-o
 
 pub returns-clause-value : goal.returns-clause-value
 returns-clause-value c =
-    let held : List Held = c.args.held.now in
+    let held : List ActiveRequest = c.args.held.now in
     let lists : Lists = c.args.lists.now in
     let r : TokenRequest = c.args.request.now in
     c.loop-other.invariant.value
-    ∙ ap (λ (hs : List Held). narrowed (requests_of (kept lists hs)) r) (take_all c.loop-other.other-index held c.loop-other-test.false)
+    ∙ ap (λ (hs : List ActiveRequest). narrowed (requests_of (kept lists hs)) r) (take_all c.loop-other.other-index held c.loop-other-test.false)
     ∙ ap (λ (rs : List TokenRequest). narrowed rs r) (kept-requests lists held)
 
 pub returns-clause-starts_before : goal.returns-clause-starts_before

@@ -1,6 +1,6 @@
 use Rattle.std.proofs.Common.{◌≡◌, drop, map}
 use Rattle.indexmap.specs.IndexSet.{insert_all}
-use Rattle.views.specs.contracts.diagrams.track.TrackPartialEq.TheImpl as derived
+use Rattle.views.specs.contracts.diagrams.diagram_track.DiagramTrackPartialEq.TheImpl as derived
 use Rattle.views.specs.rule.TraceRows.{track_of_bar}
 use Rattle.views.proofs.diagrams.tracks.add_of_calls.Given as goal
 

@@ -1,7 +1,7 @@
 use Rattle.std.proofs.Common.{◌≡◌, drop, map}
 use Rattle.indexmap.specs.IndexSet.{insert_all}
 use Rattle.views.specs.rule.Stretches.{PlacedFields}
-use Rattle.views.specs.contracts.diagrams.track.TrackPartialEq.TheImpl as derived
+use Rattle.views.specs.contracts.diagrams.diagram_track.DiagramTrackPartialEq.TheImpl as derived
 use Rattle.views.specs.rule.TraceRows.{track_of}
 use Rattle.views.proofs.diagrams.tracks.add_of_entries.Given as goal
 

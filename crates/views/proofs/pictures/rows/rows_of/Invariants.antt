@@ -1,5 +1,5 @@
 use Rattle.std.proofs.Common.{◌≡◌, ◌++◌, flat_map, map, take}
-use Rattle.views.specs.declared.pictures.row.Row.TheVariants.{Lane}
+use Rattle.views.specs.declared.pictures.picture_row.PictureRow.TheVariants.{Lane}
 use Rattle.views.specs.rule.Rows.{above_its_own, below_its_own}
 use Rattle.views.proofs.pictures.rows.rows_of.Given as goal
 

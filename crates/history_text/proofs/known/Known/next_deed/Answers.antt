@@ -1,5 +1,0 @@
-use Rattle.std.proofs.lemmas.Result.{on_ok_weaker}
-use Rattle.history_text.proofs.known.Known.next_deed.Goals as goal
-
-pub returns-clause-learns : goal.returns-clause-learns
-returns-clause-learns c = on_ok_weaker c.next_asked.result (λ learns. learns c.args.exit.line) c.next_asked.ensures.learns

@@ -1,5 +1,0 @@
-use Rattle.node_core.proofs.PlanLaws.{processes-left}
-use Rattle.node_core.proofs.edit.apply_table.Goals as goal
-
-pub returns-in-OfProcess : goal.returns-in-OfProcess
-returns-in-OfProcess c = rw c.in-OfProcess.is (processes-left c.args.host _ _ _ c.in-OfProcess.edit c.apply.ensures)

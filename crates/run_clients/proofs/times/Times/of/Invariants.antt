@@ -1,5 +1,0 @@
-use Rattle.run_clients.specs.code.Times.{AreTimes}
-use Rattle.run_clients.proofs.times.Times.of.Given as goal
-
-abbrev pub invariant-loop-index : goal.invariant-loop-index
-invariant-loop-index l = AreTimes l.entries l.times l.index
