@@ -1,4 +1,3 @@
-pub mod Awaited
 pub mod Weathers
 pub mod Refusals
 pub mod Distances

@@ -1,6 +1,2 @@
 pub mod Numbers
 pub mod Clients
-pub mod Lines
-pub mod Cuts
-pub mod Denials
-pub mod Runs

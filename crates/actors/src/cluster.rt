@@ -8,25 +8,23 @@ ghost use Rattle.cluster_core.specs.rule.Histories.{HasOneHistory};
 ghost use Rattle.cluster_core.specs.rule.World.{journal_limit};
 ghost use Rattle.actors.specs.code.Refusals.{may_refuse_failure, may_refuse_start};
 
+use crate::begun::{Begun, begin, start_all};
 use crate::call_error::CallError;
 use crate::client::Client;
-use crate::desk::{Desk, Work};
+use crate::desk::Desk;
 use crate::direct::Direct;
 use crate::gate::{Gate, OpenGate};
 use crate::halt::Halt;
 use crate::letter::Letter;
 use crate::node_place::NodePlace;
-use crate::pacer::pace;
 use crate::rebuilt::Rebuilt;
-use crate::shared::{Mailbox, Shared, index_of};
+use crate::shared::{Mailbox, index_of};
 use crate::stuck::is_stuck;
 use crate::weather::Weather;
-use crate::worker::Worker;
 use book::book::Book;
 use book::seat::Seat;
 use book::stamp::Stamp;
 use cluster_core::journal::Journal;
-use crossbeam_channel::{Receiver, unbounded};
 use messages::actor::Actor;
 use messages::refusal::Refused;
 use messages::shape::Shape;
@@ -34,10 +32,9 @@ use model::limits::MOST_PROCESSES;
 use model::process::Process;
 use std::alloc::{AllocError, Global};
 use std::marker::Brand;
-use std::sync::atomic::{AtomicU64, Ordering};
 use std::sync::{Mutex, Wait};
 use std::thread;
-use std::thread::{Scope, Threads};
+use std::thread::Threads;
 use std::time::Clock;
 use trail::name::Name;
 
@@ -60,6 +57,28 @@ pub struct Cluster<'a, J: Name, G: Gate> {
 }
 
 impl<'a, J: Name, G: Gate> Cluster<'a, J, G> {
+    /// The cluster of these parts, which is lent to callers of the nodes. Its gate is told of the steps that clients make
+    /// themselves, which they may if the gate is open to them.
+    pub fn of(
+        begun: &'a Begun<J>,
+        book: &'a Mutex<Book<J>>,
+        gate: &'a G,
+        is_open: bool,
+    ) -> Cluster<'a, J, G> {
+        let desks: &'a [Desk<J>] = if is_open { begun.desks.as_slice() } else { &[] };
+        Cluster {
+            alloc: begun.alloc,
+            nodes: begun.nodes,
+            book,
+            gate,
+            mailboxes: begun.mailboxes.as_slice(),
+            desks,
+            places: begun.places.as_slice(),
+            rebuilt: begun.rebuilt.as_slice(),
+            halt: &begun.halt,
+        }
+    }
+
     // The place of the node, if the cluster has it.
     fn place(&self, node: u8) -> Option<&'a Mutex<NodePlace<J>>> {
         self.places.get(usize::from(node).checked_sub(1)?)
@@ -71,29 +90,29 @@ impl<'a, J: Name, G: Gate> Cluster<'a, J, G> {
     }
 
     /// The allocator from which memory is taken.
-    pub(crate) fn alloc(&self) -> Global {
+    pub fn alloc(&self) -> Global {
         self.alloc
     }
 
     /// Ends the workers before they take another letter. Calls that are open then are answered `Unanswered`, and
     /// later ones `Closed`. (A call that a client is just making itself may still be answered.)
-    pub(crate) fn stop(&self) {
+    pub fn stop(&self) {
         self.halt.set();
     }
 
     /// Whether the workers end, or have ended, because too many requests for memory were refused.
-    pub(crate) fn is_short(&self) -> bool {
+    pub fn is_short(&self) -> bool {
         self.halt.is_short()
     }
 
     /// Whether the open calls of that many processes can't be answered any more, where the token servers of these
     /// files are declared failed.
-    pub(crate) fn is_stuck<R: Wait>(&self, rt: &R, processes: usize, failed: &[u16]) -> bool {
+    pub fn is_stuck<R: Wait>(&self, rt: &R, processes: usize, failed: &[u16]) -> bool {
         is_stuck(self.alloc, self.book.lock(rt).entries(), processes, failed)
     }
 
     /// The number of entries of the journal.
-    pub(crate) fn len<R: Wait>(&self, rt: &R) -> u32 {
+    pub fn len<R: Wait>(&self, rt: &R) -> u32 {
         self.book.lock(rt).len()
     }
 
@@ -277,106 +296,8 @@ pub fn with_cluster<
     Ok((made, journal))
 }
 
-/// The parts of a cluster beside its book and its workers: a mailbox and a desk for each actor, nodes first, a place
-/// for each node, and a place for each token server as it begins again.
-#[derive(Drop)]
-pub(crate) struct Begun<J: Name> {
-    alloc: Global,
-    nodes: u8,
-    mailboxes: Vec<Mailbox>,
-    desks: Vec<Desk<J>>,
-    places: Vec<Mutex<NodePlace<J>>>,
-    rebuilt: Vec<Mutex<Option<Rebuilt<J>>>>,
-    halt: Halt,
-    working: AtomicU64,
-    ghost within: { IsNumber most_nodes nodes },
-    ghost has_mailboxes: { nodes ≤ length mailboxes.items },
-    ghost has_places: { length places.items ≡ nodes },
-}
-
-impl<J: Name> Begun<J> {
-    /// The parts that the threads share.
-    pub(crate) fn shared<'a, G>(
-        &'a self,
-        book: &'a Mutex<Book<J>>,
-        gate: &'a G,
-    ) -> Shared<'a, J, G> {
-        Shared {
-            alloc: self.alloc,
-            book,
-            gate,
-            nodes: self.nodes,
-            mailboxes: self.mailboxes.as_slice(),
-            desks: self.desks.as_slice(),
-            places: self.places.as_slice(),
-            rebuilt: self.rebuilt.as_slice(),
-            halt: &self.halt,
-            working: &self.working,
-        }
-    }
-
-    /// The cluster that is lent to callers of the nodes. Its gate is told of the steps that clients make themselves,
-    /// which they may if the gate is open to them.
-    pub(crate) fn cluster<'a, G: Gate>(
-        &'a self,
-        book: &'a Mutex<Book<J>>,
-        gate: &'a G,
-        is_open: bool,
-    ) -> Cluster<'a, J, G> {
-        let desks: &'a [Desk<J>] = if is_open { self.desks.as_slice() } else { &[] };
-        Cluster {
-            alloc: self.alloc,
-            nodes: self.nodes,
-            book,
-            gate,
-            mailboxes: self.mailboxes.as_slice(),
-            desks,
-            places: self.places.as_slice(),
-            rebuilt: self.rebuilt.as_slice(),
-            halt: &self.halt,
-        }
-    }
-}
-
-/// The parts of a cluster of the shape on these seats, and a worker for each seat.
-///
-/// # Errors
-/// `AllocError` where a request for memory was refused.
-pub(crate) fn begin<J: Name, W: Weather>(
-    alloc: Global,
-    shape: Shape,
-    seats: Vec<Seat<J>>,
-    weathers: Vec<W>,
-) -> Result<(Begun<J>, Vec<Worker<W>>), AllocError>
-    requires { length seats.items ≡ shape.nodes + shape.files }
-{
-    let (mailboxes, inboxes) = mailboxes_of(alloc, seats.len())?;
-    let workers = workers_of(alloc, seats.as_slice(), weathers, inboxes)?;
-    let desks = desks_of(alloc, seats)?;
-    let begun = Begun {
-        alloc,
-        nodes: shape.nodes(),
-        mailboxes,
-        desks,
-        places: places_of(alloc, shape.nodes())?,
-        rebuilt: server_places_of(alloc, shape.files())?,
-        halt: Halt::new(),
-        working: AtomicU64::new(0),
-    };
-    Ok((begun, workers))
-}
-
-// The desks, one for each seat.
-fn desks_of<J: Name>(alloc: Global, seats: Vec<Seat<J>>) -> Result<Vec<Desk<J>>, AllocError> {
-    let mut desks = Vec::new(alloc);
-    for seat in seats {
-        desks.push(Mutex::new(Work::new(seat)))?;
-    }
-    Ok(desks)
-}
-
-// Starts the threads, calls the body and stops the threads. (It does what `run_on` of `threads.rt` does, which takes
-// no body: a bound on a body can't name a trail.)
+// Starts the threads, calls the body and stops the threads. (The runs of scripts do the same without a
+// body: a bound on a body can't name a trail.)
 fn run_body<
     G: Gate + Sync,
     W: Weather + Send,
@@ -398,7 +319,7 @@ fn run_body<
 {
     let (begun, workers) = begin(alloc, shape, seats, weathers)?;
     let shared = begun.shared(book, gate);
-    let cluster = begun.cluster(book, &OpenGate, gate.is_open());
+    let cluster = Cluster::of(&begun, book, &OpenGate, gate.is_open());
     thread::scope(thread::scope_env(), rt, |scope| {
         let all = start_all(scope, rt, &shared, workers);
         let made = if all {
@@ -409,98 +330,4 @@ fn run_body<
         cluster.stop();
         made
     })
-}
-
-/// Starts the pacer and the workers. `false` where a thread can't be made.
-pub(crate) fn start_all<
-    's,
-    'b: 's,
-    E,
-    J: Name + Send + Sync,
-    G: Gate + Sync,
-    W: Weather + Send + 's,
-    R: Threads + Wait + Clock + Sync,
->(scope: &Scope<'s, E>, rt: &'s R, shared: &'s Shared<'b, J, G>, workers: Vec<Worker<W>>) -> bool {
-    if scope.spawn(move || pace(rt, shared)).is_err() {
-        return false;
-    }
-    let mut all = true;
-    for worker in workers {
-        if !start(scope, rt, shared, worker) {
-            all = false;
-        }
-    }
-    all
-}
-
-// Starts a worker. `false` where its thread can't be made.
-fn start<
-    's,
-    'b: 's,
-    E,
-    J: Name + Send + Sync,
-    G: Gate + Sync,
-    W: Weather + Send + 's,
-    R: Threads + Wait + Clock + Sync,
->(scope: &Scope<'s, E>, rt: &'s R, shared: &'s Shared<'b, J, G>, worker: Worker<W>) -> bool {
-    shared.working.fetch_add(1, Ordering::SeqCst);
-    let started = scope.spawn(move || worker.work(rt, shared)).is_ok();
-    if !started {
-        shared.working.fetch_sub(1, Ordering::SeqCst);
-    }
-    started
-}
-
-// That many mailboxes, and the receiving end of each.
-fn mailboxes_of(
-    alloc: Global,
-    count: usize,
-) -> Result<(Vec<Mailbox>, Vec<Receiver<Letter>>), AllocError>
-    ensures { IfOk result (λ made. length made.0.items ≡ count) }
-{
-    let mut mailboxes = Vec::new(alloc);
-    let mut inboxes = Vec::new(alloc);
-    for _ in 0..count {
-        let (letters, inbox) = unbounded(alloc)?;
-        mailboxes.push(Mailbox::new(letters))?;
-        inboxes.push(inbox)?;
-    }
-    Ok((mailboxes, inboxes))
-}
-
-// A worker for the actor of each seat, with its weather and its inbox.
-fn workers_of<J: Name, W: Weather>(
-    alloc: Global,
-    seats: &[Seat<J>],
-    weathers: Vec<W>,
-    inboxes: Vec<Receiver<Letter>>,
-) -> Result<Vec<Worker<W>>, AllocError> {
-    let mut workers = Vec::new(alloc);
-    for ((seat, weather), inbox) in seats.iter().zip(weathers).zip(inboxes) {
-        workers.push(Worker::new(alloc, seat.actor(), weather, inbox))?;
-    }
-    Ok(workers)
-}
-
-// The places of that many nodes, as they begin.
-fn places_of<J: Name>(alloc: Global, nodes: u8) -> Result<Vec<Mutex<NodePlace<J>>>, AllocError>
-    ensures { IfOk result (λ places. length places.items ≡ nodes) }
-{
-    let mut places = Vec::new(alloc);
-    for _ in 0..nodes {
-        places.push(Mutex::new(NodePlace::new(alloc)))?;
-    }
-    Ok(places)
-}
-
-// A place for each of that many token servers, for when it begins again.
-fn server_places_of<J: Name>(
-    alloc: Global,
-    files: u16,
-) -> Result<Vec<Mutex<Option<Rebuilt<J>>>>, AllocError> {
-    let mut places = Vec::new(alloc);
-    for _ in 0..files {
-        places.push(Mutex::new(None))?;
-    }
-    Ok(places)
 }

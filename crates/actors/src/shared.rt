@@ -71,7 +71,7 @@ impl Mailbox {
 /// its mailbox and its desk; for each node its place; for each file its token server that begins again, until its
 /// worker takes that; whether the workers are to end; and how many work.
 #[derive(Drop)]
-pub(crate) struct Shared<'a, J: Name, G> {
+pub struct Shared<'a, J: Name, G> {
     pub(crate) alloc: Global,
     pub(crate) book: &'a Mutex<Book<J>>,
     pub(crate) gate: &'a G,

@@ -41,7 +41,7 @@ const LONGEST_SLEEP: u64 = 250;
 /// way; the mailbox, and whether the last tick has not been given back. For a node it has the channels to its clients
 /// and their open calls; for a token server the time at which it sends again. The seat is at the actor's desk.
 #[derive(Drop)]
-pub(crate) struct Worker<W: Weather> {
+pub struct Worker<W: Weather> {
     actor: Actor,
     over: Option<CallError>,
     outgoing: Outgoing<W>,

@@ -1,5 +1,5 @@
 //! How far long work is, on a terminal.
-use actors::run_watcher::RunWatcher;
+use thread_runs::run_watcher::RunWatcher;
 use player::watcher::Watcher;
 use std::io::Write;
 use std::time::{Clock, Duration, Instant};

@@ -6,10 +6,10 @@ ghost use Rattle.replay.specs.rule.Threads.{HasFullJournal, IsToldOf};
 
 use crate::threaded::Threaded;
 use actors::gate::OpenGate;
-use actors::manner::Manner;
-use actors::run_error::RunError;
-use actors::run_watcher::RunWatcher;
-use actors::threads::run_threads;
+use thread_runs::manner::Manner;
+use thread_runs::run_error::RunError;
+use thread_runs::run_watcher::RunWatcher;
+use thread_runs::threads::run_threads;
 use lockscript::play_error::PlayError;
 use lockscript::script::Script;
 use std::alloc::Global;

@@ -13,7 +13,7 @@ use crate::output::Output;
 use crate::showing::shown_of;
 use crate::shown::Shown;
 use crate::store::Store;
-use actors::run_watcher::RunWatcher;
+use thread_runs::run_watcher::RunWatcher;
 use command_line::command_line::CommandLine;
 use player::watcher::Watcher;
 use std::alloc::Global;

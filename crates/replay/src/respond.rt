@@ -15,7 +15,7 @@ use crate::fault::Fault;
 use crate::output::{Output, put_all, put_line};
 use crate::perform::{perform, report};
 use crate::store::Store;
-use actors::run_watcher::RunWatcher;
+use thread_runs::run_watcher::RunWatcher;
 use command_line::command_line::CommandLine;
 use command_line::refusal::Refusal;
 use player::watcher::Watcher;

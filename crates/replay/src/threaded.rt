@@ -8,7 +8,7 @@ ghost use Rattle.replay.specs.rule.Threads.{ShowsThreads, Tells, ThreadedFields,
 use crate::held_receipts::held_in;
 use crate::listing::listing_of_journal;
 use crate::shown::Shown;
-use actors::thread_run::ThreadRun;
+use thread_runs::thread_run::ThreadRun;
 use cluster_core::journal::Journal;
 use cluster_core::world::World;
 use journal_text::laws::each_journal_is_read;

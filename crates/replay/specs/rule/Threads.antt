@@ -1,7 +1,7 @@
 -- Scripts on threads: which lines they may have, and what is shown of their runs.
 use Rattle.std.specs.Prelude.{◌≡◌, ◌≢◌, ℕ, Bool, List, [], ◌++◌, length, codes, decimal, flat_map, string_bytes, Option}
 use Rattle.model.specs.declared.call.CallId.{CallId}
-use Rattle.actors.specs.rule.Runs.{IsFullJournal, IsOfScript, ThreadRunFields}
+use Rattle.thread_runs.specs.rule.Runs.{IsFullJournal, IsOfScript, ThreadRunFields}
 use Rattle.book.specs.code.Receipts as receipts
 use Rattle.cluster_core.specs.rule.Journals.{JournalFields}
 use Rattle.cluster_core.specs.rule.Runs.{Leads}

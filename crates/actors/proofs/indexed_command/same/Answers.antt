@@ -1,6 +1,0 @@
-use Rattle.std.proofs.lemmas.Slice.Eq.{slice_eq-Decides}
-use Rattle.actors.proofs.SameCommands.{asked_eq-Decides}
-use Rattle.actors.proofs.indexed_command.same.Goals as goal
-
-pub returns : goal.returns
-returns c = slice_eq-Decides asked_eq-Decides _ _ _ c.eq.ensures

@@ -1,0 +1,4 @@
+pub mod Lines
+pub mod Cuts
+pub mod Denials
+pub mod Runs

@@ -1,0 +1,94 @@
+//! The stage on which the threads of a phase play.
+use actors::cluster::Cluster;
+use actors::gate::Gate;
+use crate::phase_calls::PhaseCalls;
+use crate::run_watcher::RunWatcher;
+use lockscript::play_error::PlayError;
+use std::sync::Wait;
+use std::sync::atomic::{AtomicU64, Ordering};
+use std::thread;
+use std::thread::{Scope, Threads};
+use std::time::{Clock, Duration};
+use trail::name::Name;
+
+// The longest pause between two looks, in milliseconds.
+const LONGEST_PAUSE: u64 = 64;
+
+/// The parts of a phase, the cluster on which threads play them, and the number of threads that do.
+#[derive(Drop)]
+pub(crate) struct Stage<'s, 'a, J: Name, G: Gate, R> {
+    pub(crate) rt: &'s R,
+    pub(crate) cluster: &'s Cluster<'a, J, G>,
+    pub(crate) parts: &'s [PhaseCalls<'a, J, G>],
+    pub(crate) playing: &'s AtomicU64,
+}
+
+impl<'s, 'a: 's, J: Name + Send + Sync, G: Gate + Sync, R: Threads + Wait + Clock + Sync> Stage<
+    's,
+    'a,
+    J,
+    G,
+    R,
+> {
+    /// Starts a thread for each part that has calls to make and has no thread.
+    pub(crate) fn start<E>(&self, scope: &Scope<'s, E>) -> Result<(), PlayError> {
+        let (rt, cluster, playing) = (self.rt, self.cluster, self.playing);
+        for part in self.parts {
+            if !part.begin(rt) {
+                continue;
+            }
+            playing.fetch_add(1, Ordering::SeqCst);
+            let started = scope.spawn(move || play(rt, cluster, part, playing));
+            if started.is_err() {
+                return Err(PlayError::NoMemory);
+            }
+        }
+        Ok(())
+    }
+
+    /// Waits until each call is answered; or, if it may stop, until the open calls can't be answered any more, where
+    /// the token servers of these files are declared failed. It looks again and again, at growing distances, and
+    /// tells the watcher. Answers whether calls are still open.
+    pub(crate) fn wait<V: RunWatcher>(
+        &self,
+        may_stop: bool,
+        failed: &[u16],
+        watcher: &mut V,
+    ) -> bool {
+        let mut looks: u64 = 0;
+        for _ in self.rt.forever() {
+            let processes = self.playing.load(Ordering::SeqCst);
+            if processes == 0 {
+                break;
+            }
+            if may_stop && self.cluster.is_stuck(self.rt, processes as usize, failed) {
+                return true;
+            }
+            self.tell(processes, watcher);
+            let pause = (looks / 16).min(LONGEST_PAUSE);
+            thread::sleep(self.rt, Duration::from_millis(pause));
+            looks = looks.saturating_add(1);
+        }
+        false
+    }
+
+    // Tells the watcher, if anybody looks, how far the run is. That many processes have an open call.
+    fn tell<V: RunWatcher>(&self, processes: u64, watcher: &mut V) {
+        if watcher.is_watched() {
+            watcher.tell(processes, u64::from(self.cluster.len(self.rt)));
+        }
+    }
+}
+
+// Plays a part. Where it stops before its end, the cluster ends.
+fn play<J: Name, G: Gate, R: Wait>(
+    rt: &R,
+    cluster: &Cluster<'_, J, G>,
+    part: &PhaseCalls<'_, J, G>,
+    playing: &AtomicU64,
+) {
+    if !part.play(rt) {
+        cluster.stop();
+    }
+    playing.fetch_sub(1, Ordering::SeqCst);
+}
