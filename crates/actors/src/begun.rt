@@ -42,11 +42,7 @@ pub struct Begun<J: Name> {
 
 impl<J: Name> Begun<J> {
     /// The parts that the threads share.
-    pub fn shared<'a, G>(
-        &'a self,
-        book: &'a Mutex<Book<J>>,
-        gate: &'a G,
-    ) -> Shared<'a, J, G> {
+    pub fn shared<'a, G>(&'a self, book: &'a Mutex<Book<J>>, gate: &'a G) -> Shared<'a, J, G> {
         Shared {
             alloc: self.alloc,
             book,

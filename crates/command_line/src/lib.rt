@@ -1,4 +1,5 @@
-//! The command line: what its words ask for, and what is shown where they are refused.
+//! The command line: what its words ask for, and what is shown where they are refused. A tool: it carries out
+//! no command, and knows nothing of files and runs.
 #![tactic(auto)]
 
 pub mod allowed_rule;

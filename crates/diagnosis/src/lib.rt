@@ -1,5 +1,6 @@
 //! What is wrong in a text that is no script, line by line, and what is said of a text that is one; where the text of a
-//! journal goes wrong; and why the entries of one are no run.
+//! journal goes wrong; and why the entries of one are no run. A tool: it knows no rule of a
+//! node or a token server, and nothing of files of the operating system.
 #![tactic(auto)]
 
 mod bad_line;

@@ -29,12 +29,12 @@
 //! once where a lock of its own node goes.
 #![tactic(auto)]
 
-mod cluster;
+mod embedded_cluster;
 mod letter;
 mod names;
+mod node_seat;
 mod office;
 mod pace;
-mod seat;
 mod shown;
 mod wire;
 

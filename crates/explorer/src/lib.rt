@@ -1,5 +1,6 @@
 //! Which schedule breaks an assumption: the calls of a script under many schedules, each of a seed, with
-//! messages that are reordered, lost and repeated, and with failures if asked for.
+//! messages that are reordered, lost and repeated, and with failures if asked for. A tool: it knows no rule of a node or
+//! a token server, and nothing of files of the operating system or of threads.
 #![tactic(auto)]
 
 mod answers;

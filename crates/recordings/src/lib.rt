@@ -1,4 +1,5 @@
-//! Lock scripts and histories of clients from recordings of system calls, as `strace` writes them.
+//! Lock scripts and histories of clients from recordings of system calls, as `strace` writes them. A tool: it knows nothing of
+//! nodes and token servers, of what a call is answered, or of files of the operating system.
 #![tactic(auto)]
 
 mod calls;

@@ -1,4 +1,5 @@
-//! Running scripts: the files, the run and what is printed of it.
+//! The commands of the program: the files, the run and what is printed of it. It stands above all tools, and alone knows files of
+//! the operating system; it knows no rule of a node or a token server.
 #![tactic(auto)]
 
 mod allowing;

@@ -1,8 +1,8 @@
 //! How far long work is, on a terminal.
-use thread_runs::run_watcher::RunWatcher;
 use player::watcher::Watcher;
 use std::io::Write;
 use std::time::{Clock, Duration, Instant};
+use thread_runs::run_watcher::RunWatcher;
 
 // How many parts pass at the most between two looks at the clock.
 const MOST_BETWEEN_LOOKS: u64 = 64;

@@ -6,16 +6,16 @@ ghost use Rattle.replay.specs.rule.Threads.{HasFullJournal, IsToldOf};
 
 use crate::threaded::Threaded;
 use actors::gate::OpenGate;
-use thread_runs::manner::Manner;
-use thread_runs::run_error::RunError;
-use thread_runs::run_watcher::RunWatcher;
-use thread_runs::threads::run_threads;
 use lockscript::play_error::PlayError;
 use lockscript::script::Script;
 use std::alloc::Global;
 use std::sync::Wait;
 use std::thread::Threads;
 use std::time::Clock;
+use thread_runs::manner::Manner;
+use thread_runs::run_error::RunError;
+use thread_runs::run_watcher::RunWatcher;
+use thread_runs::threads::run_threads;
 
 // Runs the script, all of whose lines threads take, on threads that the runtime starts. Messages meet the
 // weather of the seed. The watcher is told how far the run is.

@@ -13,13 +13,13 @@ use crate::output::Output;
 use crate::showing::shown_of;
 use crate::shown::Shown;
 use crate::store::Store;
-use thread_runs::run_watcher::RunWatcher;
 use command_line::command_line::CommandLine;
 use player::watcher::Watcher;
 use std::alloc::Global;
 use std::sync::Wait;
 use std::thread::Threads;
 use std::time::Clock;
+use thread_runs::run_watcher::RunWatcher;
 
 /// Does what the line asks for, and answers the exit status. It is 0 where all was done, 1 where something is wrong or
 /// left out (see below), 3 where the input or the output is at fault, 4 where memory or the journal was too small, 5 where

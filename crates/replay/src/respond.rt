@@ -15,7 +15,6 @@ use crate::fault::Fault;
 use crate::output::{Output, put_all, put_line};
 use crate::perform::{perform, report};
 use crate::store::Store;
-use thread_runs::run_watcher::RunWatcher;
 use command_line::command_line::CommandLine;
 use command_line::refusal::Refusal;
 use player::watcher::Watcher;
@@ -24,6 +23,7 @@ use std::convert::AsStr;
 use std::sync::Wait;
 use std::thread::Threads;
 use std::time::Clock;
+use thread_runs::run_watcher::RunWatcher;
 
 /// Does what the words ask for, the first of them being the program's name, and answers the exit
 /// status: that of `perform`; 0 where they ask for help or for the version, which the first writer

@@ -23,8 +23,6 @@ use crate::shown::Shown;
 use crate::state::state;
 use crate::store::Store;
 use crate::threads::play_on_threads;
-use thread_runs::manner::Manner;
-use thread_runs::run_watcher::RunWatcher;
 use command_line::command_line::CommandLine;
 use command_line::run_line::{RunLine, ThreadsLine};
 use player::watcher::Watcher;
@@ -32,6 +30,8 @@ use std::alloc::Global;
 use std::sync::Wait;
 use std::thread::Threads;
 use std::time::Clock;
+use thread_runs::manner::Manner;
+use thread_runs::run_watcher::RunWatcher;
 
 /// What is shown of the line, once all else that it asks for is done.
 ///

@@ -8,7 +8,6 @@ ghost use Rattle.replay.specs.rule.Threads.{ShowsThreads, Tells, ThreadedFields,
 use crate::held_receipts::held_in;
 use crate::listing::listing_of_journal;
 use crate::shown::Shown;
-use thread_runs::thread_run::ThreadRun;
 use cluster_core::journal::Journal;
 use cluster_core::world::World;
 use journal_text::laws::each_journal_is_read;
@@ -17,6 +16,7 @@ use model::call::CallId;
 use std::alloc::{AllocError, Global};
 use std::fmt::Write;
 use std::marker::Model;
+use thread_runs::thread_run::ThreadRun;
 
 /// What is told of a run on threads: the listing, the journal, which is one of a run, how
 /// many of its calls were answered, of how many of these the journal holds the receipts, and a line for each

@@ -16,13 +16,13 @@ use crate::on_threads::run_on_threads;
 use crate::shown::Shown;
 use crate::store::Store;
 use crate::threaded::Threaded;
-use thread_runs::manner::Manner;
-use thread_runs::run_watcher::RunWatcher;
 use lockscript::script::Script;
 use std::alloc::Global;
 use std::sync::Wait;
 use std::thread::Threads;
 use std::time::Clock;
+use thread_runs::manner::Manner;
+use thread_runs::run_watcher::RunWatcher;
 
 // What is shown of a run of the script of a file, whose journal is written to another, if one is named.
 pub(crate) fn play_on_threads<'a, R: Threads + Wait + Clock + Sync, S: Store, V: RunWatcher>(

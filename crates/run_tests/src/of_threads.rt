@@ -3,15 +3,15 @@ use crate::clusters::holds_all;
 use crate::gates::Holder;
 use crate::under_way::keeps_to_seed;
 use actors::gate::OpenGate;
-use thread_runs::manner::Manner;
-use thread_runs::run_watcher::RunWatcher;
-use thread_runs::threads::run_threads;
 use lockscript::script::Script;
 use std::alloc::Global;
 use std::sync::Wait;
 use std::test::Fail;
 use std::thread::Threads;
 use std::time::Clock;
+use thread_runs::manner::Manner;
+use thread_runs::run_watcher::RunWatcher;
+use thread_runs::threads::run_threads;
 
 // Nobody looks how far a run is.
 #[derive(Drop)]

@@ -1,5 +1,6 @@
 //! What holds in a cluster's world at a moment: of its nodes, its token servers, its tokens, its locks, and the calls
-//! that are open, and why these are.
+//! that are open, and why these are. A tool: it changes no state, and knows nothing of how the world came about, or of files
+//! of the operating system.
 //!
 //! # Errors
 //! All are `AllocError`, where a request for memory was refused.

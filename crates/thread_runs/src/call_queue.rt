@@ -1,8 +1,8 @@
 //! The calls that a process makes in a phase, in order.
+use crate::line_outcome::LineOutcome;
 use actors::call_error::CallError;
 use actors::client::Client;
 use actors::gate::Gate;
-use crate::line_outcome::LineOutcome;
 use book::receipt::Receipt;
 use lockscript::play_error::PlayError;
 use model::op::Op;

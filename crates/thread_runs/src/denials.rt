@@ -14,9 +14,9 @@ ghost use Rattle.messages.specs.rule.Messages.{is_within};
 ghost use Rattle.messages.specs.rule.Versions.{may_rebuild};
 ghost use Rattle.messages.specs.declared.refusal.Refused.TheVariants as refusal;
 
-use actors::call_error::CallError;
 use crate::line_outcome::LineOutcome;
 use crate::played_line::PlayedLine;
+use actors::call_error::CallError;
 use lockscript::script_line::ScriptCommand;
 use members::members::Members;
 use messages::refusal::Refused;

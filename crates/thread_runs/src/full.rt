@@ -5,11 +5,11 @@ ghost use Rattle.thread_runs.specs.rule.Lines.{AreLinesOf};
 ghost use Rattle.thread_runs.specs.rule.Runs.{IsFullJournal};
 ghost use Rattle.cluster_core.specs.rule.Histories.{HasOneHistory};
 
-use actors::call_error::CallError;
 use crate::indexed_command::{IndexedCommand, asked_in, by_asker};
 use crate::line_outcome::LineOutcome;
 use crate::played_line::PlayedLine;
 use crate::thread_run::are_lines_of;
+use actors::call_error::CallError;
 use cluster_core::journal::Journal;
 use cluster_core::world::JOURNAL_LIMIT;
 use lockscript::script::Script;

@@ -3,8 +3,8 @@ ghost use Rattle.std.specs.Prelude.{◌≡◌};
 ghost use Rattle.thread_runs.specs.rule.Cuts.{is_cut, is_open, killed_by, open_by};
 ghost use Rattle.thread_runs.specs.rule.Lines.{begins, code_of, ends, receipt_of};
 
-use actors::call_error::CallError;
 use crate::cut::name_at;
+use actors::call_error::CallError;
 use book::receipt::Receipt;
 use messages::entry::Entry;
 use messages::refusal::Refused;

@@ -1,8 +1,8 @@
 //! The part of a process in a phase: the calls that it makes there.
 use crate::call_queue::{CallQueue, NextCall};
+use crate::line_outcome::LineOutcome;
 use actors::client::Client;
 use actors::gate::Gate;
-use crate::line_outcome::LineOutcome;
 use lockscript::play_error::PlayError;
 use model::op::Op;
 use std::alloc::{AllocError, Global};

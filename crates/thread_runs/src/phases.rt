@@ -1,15 +1,15 @@
 //! The phases of a script, run one after the other on a cluster.
-use actors::call_error::CallError;
 use crate::call_queue::NextCall;
-use actors::client::Client;
-use actors::cluster::Cluster;
-use actors::gate::Gate;
 use crate::line_outcome::LineOutcome;
 use crate::manner::Manner;
 use crate::phase_calls::PhaseCalls;
 use crate::played_line::PlayedLine;
 use crate::run_watcher::RunWatcher;
 use crate::stage::Stage;
+use actors::call_error::CallError;
+use actors::client::Client;
+use actors::cluster::Cluster;
+use actors::gate::Gate;
 use book::receipt::Receipt;
 use lockscript::play_error::PlayError;
 use lockscript::script_line::{ScriptCommand, ScriptLine};

@@ -4,9 +4,9 @@ ghost use Rattle.thread_runs.specs.declared.line_outcome.LineOutcome.TheVariants
 ghost use Rattle.thread_runs.specs.rule.Lines.{Fits, asker, is_call, is_change, made_by, may_be_denied, may_be_refused, parts, receipt_in, refused_in};
 ghost use Rattle.lockscript.specs.declared.script_line.ScriptCommand.TheVariants.{Call, Settle};
 
-use actors::call_error::CallError;
 use crate::indexed_command::{IndexedCommand, asker_of};
 use crate::line_outcome::LineOutcome;
+use actors::call_error::CallError;
 use book::receipt::Receipt;
 use lockscript::refused_line::RefusedLine;
 use lockscript::script_line::{ScriptCommand, ScriptLine};

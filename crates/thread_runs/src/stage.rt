@@ -1,8 +1,8 @@
 //! The stage on which the threads of a phase play.
-use actors::cluster::Cluster;
-use actors::gate::Gate;
 use crate::phase_calls::PhaseCalls;
 use crate::run_watcher::RunWatcher;
+use actors::cluster::Cluster;
+use actors::gate::Gate;
 use lockscript::play_error::PlayError;
 use std::sync::Wait;
 use std::sync::atomic::{AtomicU64, Ordering};
