@@ -1,0 +1,1 @@
+explore SCRIPT --seeds 20

@@ -1,0 +1,1 @@
+run SCRIPT --calm --open

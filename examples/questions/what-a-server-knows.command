@@ -1,0 +1,1 @@
+state JOURNAL --at 20 --file 1
