@@ -100,7 +100,7 @@ fn lack_text(alloc: Global, journal: &Journal, asked: StateLine<'_>) -> Result<S
 
 // The state that is asked for, in words.
 fn told_text(alloc: Global, journal: &Journal, asked: StateLine<'_>) -> Result<String, AllocError>
-    requires { HasThese journal.now asked.entry.at asked.entry.node asked.entry.file }
+    requires { HasThese journal.now asked.at asked.node asked.file }
     ensures { IfOk result (λ text. HasState journal.now asked.entry.at asked.entry.node asked.entry.file) }
 {
     let position = position_in(journal, asked.at);
@@ -116,7 +116,7 @@ fn state_behind(
     position: usize,
     asked: StateLine<'_>,
 ) -> Result<ClusterState, AllocError>
-    requires { HasThese journal.now asked.entry.at asked.entry.node asked.entry.file }
+    requires { HasThese journal.now asked.at asked.node asked.file }
     ensures { IfOk result (IsStateBehind journal.now position asked.entry.node asked.entry.file) }
 {
     let shape = journal.shape();

@@ -3,7 +3,7 @@ use Rattle.player.specs.code.Parts.{state_of}
 use Rattle.replay.specs.rule.Scripts.{Comes}
 use Rattle.replay.proofs.calmed.play_in.Goals as goal
 
-pub returns-then-calm-clause-played : goal.returns-then-calm-clause-played
-returns-then-calm-clause-played g c =
+pub returns-in_ok-played-clause-played : goal.returns-in_ok-played-clause-played
+returns-in_ok-played-clause-played g c =
     let made = c.in_ok-played.ensures.calm in
-    subst (λ (calm : Bool). Comes calm c.args.script.shape c.args.script.lines (state_of c.in_ok-played.played)) (sym c.if-calm.true) (made.0, c.in_ok-played._end, made.1, made.2)
+    subst (λ (calm : Bool). Comes calm c.args.script.shape c.args.script.lines (state_of c.in_ok-played.played)) (sym c.if-calm.true) (made.0, _, made.1, made.2)

@@ -1,10 +1,10 @@
-use Rattle.std.proofs.Common.{◌∙◌, ◌≤◌, List, ap, arith, length, subst, take}
+use Rattle.std.proofs.Common.{◌≡◌, ◌∙◌, ◌<◌, ◌≤◌, List, ap, arith, get_or, length, subst, take}
 use Rattle.messages.specs.declared.entry.Entry.{Entry}
 use Rattle.cluster_core.specs.rule.Parts.{world_state}
 use Rattle.cluster_core.specs.rule.Runs.{Leads}
 use Rattle.cluster_core.specs.rule.World.{first_world}
 use Rattle.cluster_core.proofs.runs.Replayed.{replayed_count, replayed_more, replayed_next, replayed_none}
-use Rattle.views.proofs.pictures.stretch.holdings.Answers.{read}
+use Rattle.views.proofs.HeldStretches.{read-take}
 use Rattle.replay.proofs.Begins.{same-take}
 use Rattle.replay.proofs.world_behind.world_behind.Goals as goal
 
@@ -21,7 +21,8 @@ repeat-requires c =
     let i = c.loop-entry.entry-index in
     let j = c.args.journal.now in
     let e = c.entry-item.result in
-    let here = read c.args.count i c.up_to-entry-items.result.now c.entries.result.now j.entries e c.up_to-entry-items.ensures c.entries.ensures.value c.loop-entry-test.true c.entry-item.is in
+    let cut = c.up_to-entry-items.ensures ∙ ap (take c.args.count) c.entries.ensures.value in
+    let here = read-take c.args.count i j.entries e (subst (λ (es : List Entry). i < length es) cut c.loop-entry-test.true) (subst (λ (es : List Entry). e ≡ get_or es i e) cut c.entry-item.is) in
     let r = c.loop-entry.invariant.replayed in
     let count = replayed_count j.shape j.entries i (world_state c.loop-entry.world) (omega (arith, here.1.0)) r.done in
     record {
@@ -34,7 +35,8 @@ loop-entry-preserved c =
     let i = c.loop-entry.entry-index in
     let j = c.args.journal.now in
     let e = c.entry-item.result in
-    let here = read c.args.count i c.up_to-entry-items.result.now c.entries.result.now j.entries e c.up_to-entry-items.ensures c.entries.ensures.value c.loop-entry-test.true c.entry-item.is in
+    let cut = c.up_to-entry-items.ensures ∙ ap (take c.args.count) c.entries.ensures.value in
+    let here = read-take c.args.count i j.entries e (subst (λ (es : List Entry). i < length es) cut c.loop-entry-test.true) (subst (λ (es : List Entry). e ≡ get_or es i e) cut c.entry-item.is) in
     record {
       within = omega (arith, here.0);
       replayed = replayed_more j.shape j.entries i (world_state c.loop-entry.world) (world_state c.repeat.new.world) e here.1.0 here.1.1 c.loop-entry.invariant.replayed c.in_ok-repeat.ensures;
