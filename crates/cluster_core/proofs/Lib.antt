@@ -4,3 +4,4 @@ pub mod tokens
 pub mod history
 pub mod runs
 pub mod listings
+pub mod rounds

@@ -11,3 +11,7 @@ pub mod Listings
 pub mod Safe
 pub mod Numbers
 pub mod Actors
+pub mod Answers
+pub mod Rests
+pub mod Serving
+pub mod Rounds

@@ -223,7 +223,7 @@ apart-push (q ∷ rs) r apart none =
     and_from (not (meets_some q (rs ++ r ∷ []))) (are_apart (rs ++ r ∷ [])) (ap not clear) (apart-push rs r parts.1 here.1)
 
 -- no two active requests need a byte in common after the admission
-apart-admitted : (active staying queue : List TokenRequest) → are_apart active ≡ true → are_apart (admitted active staying queue).0 ≡ true
+pub apart-admitted : (active staying queue : List TokenRequest) → are_apart active ≡ true → are_apart (admitted active staying queue).0 ≡ true
 apart-admitted active staying [] apart = apart
 apart-admitted active staying (r ∷ rest) apart =
     by (meets_some r active) (meets_some r staying) refl (apart-admitted active (staying ++ r ∷ []) rest apart) (λ none. apart-admitted (active ++ r ∷ []) staying rest (apart-push active r apart none))

@@ -78,7 +78,7 @@ module _ (P : ℕ → Option Row → Type 0) (keeps : (n : ℕ) (row : Row) (tok
           subst (λ (p : ServerState × List Message). Holds p.0) pair (at waits)
       by None false waits h = absurd (cc)
 
-  served-holds : (s t : ServerState) (r : TokenRequest) (out : List Message) → Holds s → served s r ≡ Ok (t, out) → Holds t
+  pub served-holds : (s t : ServerState) (r : TokenRequest) (out : List Message) → Holds s → served s r ≡ Ok (t, out) → Holds t
   served-holds s t r out all is = by (nat_le node s.shape.nodes) is
     where
       node : ℕ
@@ -97,7 +97,7 @@ module _ (P : ℕ → Option Row → Type 0) (keeps : (n : ℕ) (row : Row) (tok
       by false h = granted (s.rows r.call.node) refl h
 
   -- the property holds after requests were served
-  each_served-holds : (rs : List TokenRequest) (s t : ServerState) (out : List Message) → Holds s → each_served rs s ≡ Ok (t, out) → Holds t
+  pub each_served-holds : (rs : List TokenRequest) (s t : ServerState) (out : List Message) → Holds s → each_served rs s ≡ Ok (t, out) → Holds t
   each_served-holds [] s t out all h = silent-holds s t out all h
   each_served-holds (r ∷ rest) s t out all h = by (served s r) refl (λ u v sent. each_served-holds rest u v sent) h
     where

@@ -121,7 +121,7 @@ still-apart e d rs apart = still e (without d rs) (drop d)
     still None xs h = h
     still (Some call) xs h = apart-fewer (λ r. not (is_of_call call r)) xs h
 
-stay-all : (active before queue : List TokenRequest) → Stay active before queue → all_stay active before queue ≡ true
+pub stay-all : (active before queue : List TokenRequest) → Stay active before queue → all_stay active before queue ≡ true
 stay-all active before [] all = refl
 stay-all active before (r ∷ rest) all = and_from (meets_some r active || meets_some r before) (all_stay active (before ++ r ∷ []) rest) all.0 (stay-all active (before ++ r ∷ []) rest all.1)
 

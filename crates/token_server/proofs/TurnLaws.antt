@@ -263,7 +263,7 @@ commanded-busy s t node row token command out there is = by (is_some row.outstan
         subst (λ (x : ServerState). is_idle (x.rows node) ≡ false) (ap (λ (p : ServerState × List Message). p.0) pair) (ap (λ (e : Bool). is_idle (cond e (Some made) (s.rows node))) here)
     by false false b h = absurd (cc)
 
-served-busy : (s t : ServerState) (r : TokenRequest) (at : ℕ) (out : List Message) → obstacle s r ≡ at → served s r ≡ Ok (t, out) → is_idle (t.rows at) ≡ false
+pub served-busy : (s t : ServerState) (r : TokenRequest) (at : ℕ) (out : List Message) → obstacle s r ≡ at → served s r ≡ Ok (t, out) → is_idle (t.rows at) ≡ false
 served-busy s t r at out where_is is = subst (λ (k : ℕ). is_idle (t.rows k) ≡ false) where_is (by (nat_le node s.shape.nodes) is)
   where
     node : ℕ

@@ -30,7 +30,7 @@ use Rattle.token_server.specs.rule.Server.{Change, with_a_row, request_of, enque
 use Rattle.token_server.specs.code.Waiting.{KeepsWhatWaits}
 
 -- the list has a request of the call
-abbrev Has : CallId → List TokenRequest → Type 0
+abbrev pub Has : CallId → List TokenRequest → Type 0
 Has call rs = list_any (is_of_call call) rs ≡ true
 
 -- the call has a request at the server, or its node's incarnation is known to be dead
@@ -52,7 +52,7 @@ or-cases false c h = inr h
 has-either : (call : CallId) (xs ys : List TokenRequest) → Has call (xs ++ ys) → Has call xs ⊎ Has call ys
 has-either call xs ys h = or-cases (list_any (is_of_call call) xs) (list_any (is_of_call call) ys) (sym (list_any-append (is_of_call call) xs ys) ∙ h)
 
-has-front : (call : CallId) (xs ys : List TokenRequest) → Has call xs → Has call (xs ++ ys)
+pub has-front : (call : CallId) (xs ys : List TokenRequest) → Has call xs → Has call (xs ++ ys)
 has-front call xs ys h = list_any-append (is_of_call call) xs ys ∙ or-left (list_any (is_of_call call) xs) (list_any (is_of_call call) ys) h
 
 has-back : (call : CallId) (xs ys : List TokenRequest) → Has call ys → Has call (xs ++ ys)
@@ -65,12 +65,12 @@ waiting-kept : (call : CallId) (s : ServerState) → Has call s.waiting → IsKe
 waiting-kept call s h = inl (has-back call s.active (s.queue ++ s.waiting) (has-back call s.queue s.waiting h))
 
 -- a request passes the test and doesn't stay
-record IsLost (test stays : TokenRequest → Bool) : Type 0 where
-  which : TokenRequest
-  passes : test which ≡ true
-  goes : stays which ≡ false
+pub record IsLost (test stays : TokenRequest → Bool) : Type 0 where
+  pub which : TokenRequest
+  pub passes : test which ≡ true
+  pub goes : stays which ≡ false
 
-kept-or_lost : (test stays : TokenRequest → Bool) (rs : List TokenRequest) → list_any test rs ≡ true → (list_any test (filter stays rs) ≡ true) ⊎ IsLost test stays
+pub kept-or_lost : (test stays : TokenRequest → Bool) (rs : List TokenRequest) → list_any test rs ≡ true → (list_any test (filter stays rs) ≡ true) ⊎ IsLost test stays
 kept-or_lost test stays [] h = absurd (cc)
 kept-or_lost test stays (r ∷ rs) h = by (test r) refl (stays r) refl (kept-or_lost test stays rs) h
   where
@@ -106,7 +106,7 @@ same_call-joins : (lost own asked call : CallId) → same_call lost call ≡ tru
 same_call-joins lost own asked call a b c = grind (arith, common_steps)
 
 -- a request that goes with dead incarnations is of one known to be dead
-lost-dead : (lost call : CallId) (node incarnation : ℕ) (dead : ℕ → ℕ) → same_call lost call ≡ true → not ((lost.node == node) && nat_le lost.incarnation incarnation) ≡ false → call.incarnation ≤ (if call.node == node then max (dead call.node) incarnation else dead call.node)
+pub lost-dead : (lost call : CallId) (node incarnation : ℕ) (dead : ℕ → ℕ) → same_call lost call ≡ true → not ((lost.node == node) && nat_le lost.incarnation incarnation) ≡ false → call.incarnation ≤ (if call.node == node then max (dead call.node) incarnation else dead call.node)
 lost-dead lost call node incarnation dead a b = grind (arith, common_steps)
 
 forgotten-waiting : (call : CallId) (s : ServerState) (node incarnation : ℕ) → Has call s.waiting → Has call (forgotten s node incarnation).waiting ⊎ (call.incarnation ≤ (forgotten s node incarnation).dead call.node)
@@ -263,7 +263,7 @@ each-stays (r ∷ rest) s = by (served s r) (served-stays s r) (each-stays rest)
         more done.0 done.1 (each_served rest done.0) first.0 first.1 (later done.0)
 
 -- admission keeps each active or queued request in one of the two lists
-admitted-has : (call : CallId) (active staying queue : List TokenRequest) → (Has call active ⊎ Has call staying) ⊎ Has call queue → (let next = admitted active staying queue in Has call next.0 ⊎ Has call next.1)
+pub admitted-has : (call : CallId) (active staying queue : List TokenRequest) → (Has call active ⊎ Has call staying) ⊎ Has call queue → (let next = admitted active staying queue in Has call next.0 ⊎ Has call next.1)
 admitted-has call active staying [] (inl here) = here
 admitted-has call active staying [] (inr none) = absurd (cc)
 admitted-has call active staying (r ∷ rest) has =

@@ -30,7 +30,7 @@ lists_map {A} {B} Is Before f g xs each complete rises = record {
       rw (get_or-map f xs i e d (omega arith), get_or-map f xs j e d inside) (rises i j e lt inside);
 }
 
-all_pairs-append : {A : Type 0} (R : A → A → Type 0) (xs ys : List A) → AllPairs R xs → AllPairs R ys → All (λ (x : A). All (R x) ys) xs → AllPairs R (xs ++ ys)
+pub all_pairs-append : {A : Type 0} (R : A → A → Type 0) (xs ys : List A) → AllPairs R xs → AllPairs R ys → All (λ (x : A). All (R x) ys) xs → AllPairs R (xs ++ ys)
 all_pairs-append R [] ys p q h = q
 all_pairs-append R (x ∷ xs) ys p q h =
     AllPairs-cons R x (xs ++ ys)

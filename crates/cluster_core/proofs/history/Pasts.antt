@@ -75,7 +75,7 @@ use Rattle.cluster_core.proofs.steps.Sends.{IsFreely, AsksFor, EntersConflicts, 
 use Rattle.cluster_core.proofs.history.Resting.{union_live, rests_after}
 use Rattle.cluster_core.proofs.history.Slots.{slotted_first, all_slotted_first, slots_fit, slots_legal, slots_at_their_places}
 use Rattle.cluster_core.proofs.history.Plain.{plain_slots, plain_legal, plain_items}
-use Rattle.cluster_core.proofs.history.Witnesses.{asked_ends, IsAskedBy, Denies, Backed, HeldFor, StaysOpen, backed-keeps, called_one, not_blocking}
+use Rattle.cluster_core.proofs.history.Witnesses.{asked_ends, asked_order, IsAskedBy, Denies, Backed, HeldFor, StaysOpen, backed-keeps, called_one, not_blocking}
 use Rattle.cluster_core.proofs.history.Denials.{denies_now}
 use Rattle.cluster_core.proofs.history.Worlds.{Good, replied_named, server_good, servers_good, put_comes, node_good, declared_good, restarted_good, stays, asks, leads_on, union_stays, others_stay}
 
@@ -119,7 +119,7 @@ conflict_is file holder number (Hello f k h) is = absurd (false≢true is)
 conflict_is file holder number (Report f k h runs) is = absurd (false≢true is)
 
 -- the last command done, after the node has heard of the epoch
-entered_last : (s : NodeState) (file number : ℕ) → ((in_epoch s file number).files file).last ≡ max (s.files file).last (begin_of number)
+pub entered_last : (s : NodeState) (file number : ℕ) → ((in_epoch s file number).files file).last ≡ max (s.files file).last (begin_of number)
 entered_last s file number =
     let x = s.files file in
     let first = begin_of number in
@@ -347,7 +347,7 @@ module _ (shape : ShapeFields) (past : List Entry) (w : WorldState) (few : IsNum
     conflicts made_so (Report f number holder runs) is = tt
 
     short : (x : Message) → Backed shape past w x → IsShort x
-    short (Grant f number call mode span) b = b
+    short (Grant f number call mode span) b = b.0
     short (Request f call blocking mode wanted) b = tt
     short (Revoke f number holder call mode wanted) b = tt
     short (Taken f number call) b = tt
@@ -372,7 +372,11 @@ module _ (shape : ShapeFields) (past : List Entry) (w : WorldState) (few : IsNum
   -- a step of a server
   makes : (file : ℕ) → Makes file AnyNumber (HeldFor shape past file) (Backed shape past w)
   makes file = record {
-    grants = λ number r span any held bound. let asked = asked_ends shape past file r.call r.mode r.wanted.required held.0 in let likes = held.2 in omega arith;
+    grants = λ number r span any held bound holds.
+        let asked = asked_ends shape past file r.call r.mode r.wanted.required held.0 in
+        let likes = held.2 in
+        let around = holds (asked_order shape past file r.call r.mode r.wanted.required held.0) held.3.starts held.3.ends in
+        (omega arith, record { required = r.wanted.required; asked = held.0; starts = around.0; ends = around.1 });
     revokes = λ number holder r desired any held other. (held.0, other);
   }
 
@@ -577,6 +581,10 @@ module _ (shape : ShapeFields) (is_shape : IsShape shape) (Q : WorldState → Ty
   -- Q holds after each run
   pub kept_after : (es : List Entry) (w : WorldState) → Leads (first_world shape) es w → Q w
   kept_after es w l = (both_after es w l).present
+
+  -- the facts of a past are those of each run
+  pub good_after : (es : List Entry) (w : WorldState) → Leads (first_world shape) es w → Good shape es w
+  good_after es w l = (both_after es w l).good
 
   -- each denial of a run has its evidence
   pub evidence_after : (es : List Entry) (w : WorldState) (file : ℕ) (call : CallId) (holder : Host) (number : ℕ) (lock : LockInfo) → Leads (first_world shape) es w → IsTold w file call holder number lock → HasEvidence shape es file call holder number lock

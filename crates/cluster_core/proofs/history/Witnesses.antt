@@ -34,10 +34,11 @@ use Rattle.token_server.specs.rule.Requests.{is_of_call}
 use Rattle.cluster_core.specs.rule.World.{WorldState, first_world}
 use Rattle.cluster_core.specs.rule.Union.{union}
 use Rattle.cluster_core.specs.rule.Histories.{caller, EntryAt, IsCalledAt, OneCall}
-use Rattle.cluster_core.specs.rule.Evidence.{IsAbout, IsAsked, IsWorldAfter, IsFirstDone, HasEvidence, may_wait, is_wait}
+use Rattle.cluster_core.specs.rule.Evidence.{IsAbout, IsAsked, IsServedBy, IsWorldAfter, IsFirstDone, HasEvidence, may_wait, is_wait}
 use Rattle.model.proofs.Targets.{IsSpan, target_span}
 use Rattle.cluster_core.proofs.history.Entries.{IsNamed, named_called, entry_at-within, called_at-keeps}
 use Rattle.cluster_core.proofs.steps.Tries.{IsFor, about_finds, about_one}
+use Rattle.cluster_core.proofs.steps.Sends.{IsAround}
 use Rattle.cluster_core.proofs.history.Joined.{is_of_host, target_of_host}
 use Rattle.cluster_core.proofs.history.Prefixes.{leads_one, after-keeps}
 use Rattle.cluster_core.proofs.history.Slots.{entry_at-one, revoked-keeps}
@@ -59,6 +60,10 @@ about_node t p op mode c a = eqb-true c.owner.node p.node (and_parts (c.owner.no
 -- no call asks for bytes after the last of a file
 pub asked_ends : (shape : ShapeFields) (es : List Entry) (file : ℕ) (call : CallId) (mode : Mode) (span : Range) → IsAsked shape es file call mode span → span.hi ≤ greatest
 asked_ends shape es file call mode span a = subst (λ (s : Range). s.hi ≤ greatest) a.span_is (about_span (union a.world) (caller call a.pid) a.op mode a.about a.asks).ends
+
+-- each call asks for some bytes
+pub asked_order : (shape : ShapeFields) (es : List Entry) (file : ℕ) (call : CallId) (mode : Mode) (span : Range) → IsAsked shape es file call mode span → span.lo ≤ span.hi
+asked_order shape es file call mode span a = subst (λ (s : Range). s.lo ≤ s.hi) a.span_is (about_span (union a.world) (caller call a.pid) a.op mode a.about a.asks).ordered
 
 -- a call is made at one entry
 pub record SameCall (at to pid qid : ℕ) (op oq : Op) : Type 0 where
@@ -191,11 +196,11 @@ pub record Denies (shape : ShapeFields) (past : List Entry) (w : WorldState) (fi
 
 -- the reason for a message
 abbrev pub Backed : ShapeFields → List Entry → WorldState → Message → Type 0
-Backed shape past w (Request file call blocking mode wanted) = IsAsked shape past file call mode wanted.required × IsOfBlocking past call blocking × (wanted.desired.hi ≤ greatest)
+Backed shape past w (Request file call blocking mode wanted) = IsAsked shape past file call mode wanted.required × IsOfBlocking past call blocking × (wanted.desired.hi ≤ greatest) × IsAround wanted.required wanted.desired
 Backed shape past w (Revoke file number holder call mode wanted) = IsAsked shape past file call mode wanted.required × (holder.node ≡ call.node → ⊥)
 Backed shape past w (Conflict file number holder call lock) = Denies shape past w file call holder number lock
 Backed shape past w (Deny file call holder number lock) = Denies shape past w file call holder number lock × IsOfBlocking past call No
-Backed shape past w (Grant file number call mode span) = span.hi ≤ greatest
+Backed shape past w (Grant file number call mode span) = (span.hi ≤ greatest) × IsServedBy shape past file call mode span
 Backed shape past w (Taken file number call) = Unit {0}
 Backed shape past w (Released file number holder call span) = Unit {0}
 Backed shape past w (Freed file holder) = Unit {0}
@@ -204,10 +209,10 @@ Backed shape past w (Report file number holder runs) = Unit {0}
 
 -- the reason for a request that a server keeps
 abbrev pub HeldFor : ShapeFields → List Entry → ℕ → TokenRequest → Type 0
-HeldFor shape past file r = IsAsked shape past file r.call r.mode r.wanted.required × IsOfBlocking past r.call r.blocking × (r.wanted.desired.hi ≤ greatest)
+HeldFor shape past file r = IsAsked shape past file r.call r.mode r.wanted.required × IsOfBlocking past r.call r.blocking × (r.wanted.desired.hi ≤ greatest) × IsAround r.wanted.required r.wanted.desired
 
 pub held-keeps : (shape : ShapeFields) (past : List Entry) (e : Entry) (file : ℕ) (r : TokenRequest) → HeldFor shape past file r → HeldFor shape (past ++ e ∷ []) file r
-held-keeps shape past e file r h = (asked-keeps shape past e file r.call r.mode r.wanted.required h.0, blocking-keeps past e r.call r.blocking h.1, h.2)
+held-keeps shape past e file r h = (asked-keeps shape past e file r.call r.mode r.wanted.required h.0, blocking-keeps past e r.call r.blocking h.1, h.2, h.3)
 
 -- each open call was open before under its name, or is new
 abbrev pub StaysOpen : List Entry → NodeState → NodeState → Type 0
@@ -231,11 +236,11 @@ module _ (shape : ShapeFields) (past : List Entry) (e : Entry) (w v : WorldState
       }
 
   pub backed-keeps : (m : Message) → Backed shape past w m → Backed shape (past ++ e ∷ []) v m
-  backed-keeps (Request file call blocking mode wanted) b = (asked-keeps shape past e file call mode wanted.required b.0, blocking-keeps past e call blocking b.1, b.2)
+  backed-keeps (Request file call blocking mode wanted) b = (asked-keeps shape past e file call mode wanted.required b.0, blocking-keeps past e call blocking b.1, b.2, b.3)
   backed-keeps (Revoke file number holder call mode wanted) b = (asked-keeps shape past e file call mode wanted.required b.0, b.1)
   backed-keeps (Conflict file number holder call lock) b = denies-keeps file call holder number lock b
   backed-keeps (Deny file call holder number lock) b = (denies-keeps file call holder number lock b.0, blocking-keeps past e call No b.1)
-  backed-keeps (Grant file number call mode span) b = b
+  backed-keeps (Grant file number call mode span) b = (b.0, record { required = b.1.required; asked = asked-keeps shape past e file call mode b.1.required b.1.asked; starts = b.1.starts; ends = b.1.ends })
   backed-keeps (Taken file number call) b = b
   backed-keeps (Released file number holder call span) b = b
   backed-keeps (Freed file holder) b = b

@@ -46,7 +46,8 @@ use Rattle.cluster_core.proofs.history.Slots.{Slotted, AllSlotted, Stands}
 use Rattle.cluster_core.proofs.history.Placing.{Placed, nothing_placed, gone_placed, answer_placed, denial_placed}
 use Rattle.cluster_core.proofs.history.Quiet.{refusal_names}
 use Rattle.cluster_core.proofs.steps.Requested.{Comes, AnyNumber, comes-weaker}
-use Rattle.cluster_core.proofs.steps.Sends.{AsksFor}
+use Rattle.cluster_core.proofs.steps.Sends.{IsAround, AsksFor}
+use Rattle.intervals.specs.rule.Bytes.{Range}
 use Rattle.cluster_core.proofs.history.Witnesses.{asked_ends, IsAskedBy, MayRefuse, for_blocking, Denies, Backed, HeldFor, StaysOpen, asked-keeps, held-keeps, backed-keeps}
 
 -- each message that an entry sent is among those that were sent
@@ -277,13 +278,14 @@ module _ (shape : ShapeFields) (past : List Entry) (w : WorldState) (n : ℕ) (u
 
   -- there is a reason for each request of the node
   pub asks : AsksFor (Backed shape run later) u
-  asks c wanted there same likes =
+  asks c wanted there same likes around =
       let P : NodeState → Type 0 = λ x. All (IsAskedBy shape run x) x.pending in
       let a = All-contains (IsAskedBy shape run u) u.pending c (subst P after (all_asked n)) there in
       let its = All-contains (IsOpen run u) u.pending c moves.holds.waiting there in (
         subst (IsAsked shape run c.file (id_of u c.number) c.mode) (sym same) a,
         record { at = its.called.at; pid = c.pid; op = its.op; called = its.called.there; waits = for_blocking c.lock_command its.op its.ready.is_for },
         (let last = asked_ends shape run c.file (id_of u c.number) c.mode c.span a in omega arith),
+        subst (λ (s : Range). IsAround s wanted.desired) (sym same) (around (asked_ends shape run c.file (id_of u c.number) c.mode c.span a)),
       )
 
   -- the union makes the step of the node's table

@@ -24,7 +24,7 @@ first_wrong shape es i w e lt is leads other = record {
 }
 
 -- the world between two parts of a run
-between : (w v : WorldState) (before after : List Entry) → Leads w (before ++ after) v → (u : WorldState) × Leads w before u × Leads u after v
+pub between : (w v : WorldState) (before after : List Entry) → Leads w (before ++ after) v → (u : WorldState) × Leads w before u × Leads u after v
 between w v [] after leads = (w, refl, leads)
 between w v (e ∷ es) after leads =
     let there = between leads.0 v es after leads.2 in

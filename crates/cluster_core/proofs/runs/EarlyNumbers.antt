@@ -116,7 +116,7 @@ abbrev AnyRequest : TokenRequest → Type 0
 AnyRequest r = Unit {0}
 
 makes_early : (file : ℕ) → Makes file IsFew AnyRequest IsEarly
-makes_early file = record { grants = λ number r span few held bound. few; revokes = λ number holder r desired few held other. few }
+makes_early file = record { grants = λ number r span few held bound holds. few; revokes = λ number holder r desired few held other. few }
 
 tells_early : (file : ℕ) (m : Message) → IsEarly m → Tells file AnyRequest IsEarly m
 tells_early file (Conflict f number holder call lock) few = λ r held own now. few

@@ -1,7 +1,7 @@
 -- Every run is safe and has a history and a plain one, each denial its evidence, and no call that waits is denied.
 use Rattle.std.proofs.Common.{◌≡◌, ℕ, refl, List, take, Ok}
 use Rattle.messages.specs.rule.Shapes.{ShapeFields, IsShape}
-use Rattle.messages.specs.declared.message.Message.TheVariants.{Conflict}
+use Rattle.messages.specs.declared.message.Message.TheVariants.{Grant, Conflict}
 use Rattle.messages.specs.declared.event.Event.{Event}
 use Rattle.messages.specs.declared.entry.Entry.{Entry}
 use Rattle.node_core.specs.rule.State.{host}
@@ -10,7 +10,7 @@ use Rattle.cluster_core.specs.rule.Next.{next}
 use Rattle.cluster_core.specs.rule.Runs.{Leads}
 use Rattle.cluster_core.specs.rule.Safe.{IsSafe}
 use Rattle.cluster_core.specs.rule.Histories.{HasHistory, EachAtItsPlace, EveryRunHasAHistory}
-use Rattle.cluster_core.specs.rule.Evidence.{EveryDenialHasEvidence, NoWaitIsDenied}
+use Rattle.cluster_core.specs.rule.Evidence.{EveryDenialHasEvidence, EveryGrantServes, NoWaitIsDenied}
 use Rattle.cluster_core.specs.code.Placement.{slots_of, items_in, history_of}
 use Rattle.cluster_core.specs.rule.Plain.{EveryRunHasAPlainHistory}
 use Rattle.cluster_core.proofs.tokens.Covering.{Covered, first_covered}
@@ -22,7 +22,10 @@ use Rattle.cluster_core.proofs.tokens.Epochs.{EndsOf}
 use Rattle.cluster_core.specs.rule.Numbers.{NoNumberIsUsedTwice}
 use Rattle.cluster_core.proofs.tokens.Heard.{IsHeard}
 use Rattle.cluster_core.proofs.history.Plain.{plain_slots}
-use Rattle.cluster_core.proofs.history.Pasts.{AllOwn, kept_after, safe_after, history_after, plain_after, evidence_after, no_wait_after}
+use Rattle.cluster_core.proofs.steps.NodeTokens.{all_among}
+use Rattle.cluster_core.proofs.history.Witnesses.{Backed}
+use Rattle.cluster_core.proofs.history.Worlds.{Good}
+use Rattle.cluster_core.proofs.history.Pasts.{AllOwn, good_after, kept_after, safe_after, history_after, plain_after, evidence_after, no_wait_after}
 
 -- tokens, rows and messages fit, and locks are covered
 pub record IsCovered (w : WorldState) : Type 0 where
@@ -66,3 +69,11 @@ no_wait shape es w file call holder number lock pid op at is l sent called = no_
 -- no number is used for two commands about one file to one incarnation of a node
 pub no_number : NoNumberIsUsedTwice
 no_number shape es is w l = numbers_tell w (kept_after shape is IsCovered (covered_first shape) covered_next covered_heard es w l).present
+
+-- the facts of the past and of the tokens after each run
+pub good_run : (shape : ShapeFields) (es : List Entry) (w : WorldState) → IsShape shape → Leads (first_world shape) es w → Good shape es w × Present w
+good_run shape es w is l = (good_after shape is IsCovered (covered_first shape) covered_next covered_heard es w l, (kept_after shape is IsCovered (covered_first shape) covered_next covered_heard es w l).present)
+
+pub every_grant : EveryGrantServes
+every_grant shape es w file number call mode span is l sent =
+    (all_among (Backed shape es w) w.sent (Grant file number call mode span) (good_run shape es w is l).0.backed sent).1

@@ -36,7 +36,7 @@ use Rattle.cluster_core.proofs.common.Choices.{if_either, at_number}
 use Rattle.cluster_core.proofs.steps.KnownMessages.{sent_either}
 use Rattle.cluster_core.proofs.steps.NodeSteps.{in_order_either, shut_keeps}
 use Rattle.cluster_core.proofs.tokens.Talks.{settled, IsHostOf, IsCommandTo, IsAnswerOf, owing_nothing}
-use Rattle.cluster_core.proofs.tokens.TalkMoves.{done_file, is_answer}
+use Rattle.cluster_core.proofs.tokens.TalkMoves.{done_file, is_answer, IsOfKind}
 
 -- P holds of each of the messages
 abbrev pub Only : (Message → Type 0) → List Message → Type 0
@@ -233,6 +233,7 @@ pub record Does (s : NodeState) (file number : ℕ) (command : Message) (e : Eff
   pub answer : Message
   pub answers_it : is_answer answer ≡ true
   pub of : IsAnswerOf file s.node s.incarnation number answer
+  pub kind : IsOfKind command answer
   pub is_next : number ≡ (s.files file).last + 1
   pub node_is : e.state.node ≡ s.node
   pub incarnation_is : e.state.incarnation ≡ s.incarnation
@@ -260,6 +261,7 @@ granted_does s file number call mode span node incarnation is_next =
       answer = answer;
       answers_it = refl;
       of = (refl, refl, node, incarnation);
+      kind = refl;
       is_next = is_next;
       node_is = asks.node_is;
       incarnation_is = asks.incarnation_is;
@@ -277,6 +279,10 @@ answers_revoke : (file number : ℕ) (h : Host) (call : CallId) (up : GaveUp) �
 answers_revoke file number h call (gives.Released span) = refl
 answers_revoke file number h call (gives.Conflict lock) = refl
 
+kind_is : (file number : ℕ) (holder own : Host) (call : CallId) (mode : Mode) (wanted : Wants) (up : GaveUp) → IsOfKind (Revoke file number holder call mode wanted) (answer_to file number own call up)
+kind_is file number holder own call mode wanted (gives.Released span) = refl
+kind_is file number holder own call mode wanted (gives.Conflict lock) = refl
+
 given_up : (t : Token) (file number : ℕ) (holder own : Host) (call : CallId) (mode : Mode) (wanted : Wants) (up : GaveUp) → after_giving_up t mode up ≡ settled t (Revoke file number holder call mode wanted) (answer_to file number own call up)
 given_up t file number holder own call mode wanted (gives.Released span) = refl
 given_up t file number holder own call mode wanted (gives.Conflict lock) = refl
@@ -289,6 +295,7 @@ revoked_does s file number holder call mode wanted is_next =
       answer = answer;
       answers_it = answers_revoke file number (host s) call up;
       of = answer_is s file number call up;
+      kind = kind_is file number holder (host s) call mode wanted up;
       is_next = is_next;
       node_is = refl;
       incarnation_is = refl;

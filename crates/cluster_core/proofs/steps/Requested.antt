@@ -1,8 +1,8 @@
 -- What a token server keeps and sends follows from what it is sent.
 use Rattle.std.specs.Prelude.{max, pred, IfSome, is_some, nat_le, nat_lt, ◌==◌, filter, filter_map, option_map}
 use Rattle.std.specs.List.{range_with_len, cons_option}
-use Rattle.std.proofs.Common.{◌≡◌, ℕ, ◌+◌, ◌-◌, ◌≤◌, Bool, true, false, not, ◌&&◌, if◌then◌else◌, ◌⊎◌, inl, inr, refl, sym, ◌∙◌, ap, subst, arith, List, [], ◌∷◌, ◌++◌, All, Option, Some, None, Result, Ok, Err}
-use Rattle.std.proofs.lemmas.Bool.{and_parts, both_ways, leb-true, ltb-true, eq-eqb, not-true}
+use Rattle.std.proofs.Common.{◌≡◌, ℕ, ◌+◌, ◌-◌, ◌<◌, ◌≤◌, Bool, true, false, not, ◌&&◌, if◌then◌else◌, ◌⊎◌, inl, inr, refl, sym, ◌∙◌, ap, subst, arith, List, [], ◌∷◌, ◌++◌, All, Option, Some, None, Result, Ok, Err}
+use Rattle.std.proofs.lemmas.Bool.{and_parts, both_ways, leb-true, leb-false, ltb-true, eq-eqb, not-true}
 use Rattle.std.proofs.lemmas.Option.{none-some, same_Some}
 use Rattle.std.proofs.lemmas.List.Elements.{All-nil, All-cons, All-head, All-tail, All-append, All-weaker}
 use Rattle.intervals.specs.rule.Bytes.{Range, largest_around}
@@ -35,6 +35,7 @@ use Rattle.token_server.specs.rule.State.{ServerState, begin, awaits, with_row, 
 use Rattle.token_server.specs.rule.Serve.{is_needed, narrowed, is_taken, conflicting_node, granted_span, commanded, granted_to, revoked_from, served, with_more, and_then, each_served, ready, serve}
 use Rattle.token_server.specs.rule.Resends.{outstanding, sending_first}
 use Rattle.token_server.specs.rule.Server.{Change, with_a_row, request_of, enqueued, asked, acknowledged, ended, put_off, postponed, denial, taken, released, in_conflict, heard, row_of_host, freed, delivered, is_server, change, then_serve, server_rule}
+use Rattle.token_server.proofs.GrantLaws.{narrowed-largest, narrowed-holds}
 use Rattle.token_server.proofs.CareLaws.{find-each, find-passes, requests-parts, active-each, ready-each, requeued-each, freed-each, ended-each, postponed-each, forgotten-each, enqueued-each}
 use Rattle.cluster_core.proofs.common.Choices.{if_either}
 use Rattle.cluster_core.proofs.common.Refusals.{ok_is, if_ours}
@@ -79,6 +80,17 @@ granted_end t r =
     let free = around_end (is_taken t r) r.wanted.required (narrowed t.active r) in
     omega arith
 
+-- the span holds the bytes that the request needs, if these are some, among the desired ones
+abbrev pub HoldsNeeded : TokenRequest → Range → Type 0
+HoldsNeeded r span = r.wanted.required.lo ≤ r.wanted.required.hi → r.wanted.desired.lo ≤ r.wanted.required.lo → r.wanted.required.hi ≤ r.wanted.desired.hi → (span.lo ≤ r.wanted.required.lo) × (r.wanted.required.hi ≤ span.hi)
+
+-- the granted span holds them, where no other node's row conflicts with them
+granted_holds : (t : ServerState) (r : TokenRequest) → nat_le (conflicting_node t r) t.shape.nodes ≡ false → HoldsNeeded r (granted_span t r)
+granted_holds t r free order starts ends =
+    let l = narrowed-largest t.active r order starts ends in
+    let none : t.shape.nodes < conflicting_node t r = leb-false (conflicting_node t r) t.shape.nodes free in
+    narrowed-holds t r t.shape.nodes (granted_span t r) none (omega arith) (record { order = order; starts = l.has_first; ends = l.has_last; value = refl })
+
 -- H holds of the requests that a server keeps, C of its outstanding commands, and K of their numbers
 pub record Comes (file : ℕ) (K : ℕ → Type 0) (H : TokenRequest → Type 0) (C : Message → Type 0) (t : ServerState) : Type 0 where
   pub file_is : t.file ≡ file
@@ -100,7 +112,7 @@ AnyNumber number = Unit {0}
 
 -- the server makes commands of which C holds, of requests of which H does
 pub record Makes (file : ℕ) (K : ℕ → Type 0) (H : TokenRequest → Type 0) (C : Message → Type 0) : Type 0 where
-  pub grants : (number : ℕ) (r : TokenRequest) (span : Range) → K number → H r → span.hi ≤ max r.wanted.required.hi r.wanted.desired.hi → C (Grant file number r.call r.mode span)
+  pub grants : (number : ℕ) (r : TokenRequest) (span : Range) → K number → H r → span.hi ≤ max r.wanted.required.hi r.wanted.desired.hi → HoldsNeeded r span → C (Grant file number r.call r.mode span)
   pub revokes : (number : ℕ) (holder : Host) (r : TokenRequest) (desired : Range) → K number → H r → (holder.node ≡ r.call.node → ⊥) → C (Revoke file number holder r.call r.mode (record { required = r.wanted.required; desired = desired }))
 
 -- the denial of a call whose request the server keeps and which doesn't wait is a message of which C holds
@@ -267,11 +279,11 @@ module _ (file : ℕ) (K : ℕ → Type 0) (H : TokenRequest → Type 0) (C : Me
         | false ↦ λ is. serves_none Spent
       ] refl)
 
-  granted-serves : (t : ServerState) (r : TokenRequest) (o : Option Row) → H r → Comes file K H C t → Serves (granted_to t r o)
-  granted-serves t r None held c = serves_one (t, []) (c, All-nil C)
-  granted-serves t r (Some row) held c =
+  granted-serves : (t : ServerState) (r : TokenRequest) (o : Option Row) → nat_le (conflicting_node t r) t.shape.nodes ≡ false → H r → Comes file K H C t → Serves (granted_to t r o)
+  granted-serves t r None free held c = serves_one (t, []) (c, All-nil C)
+  granted-serves t r (Some row) free held c =
       let span = granted_span t r in
-      commanded-serves t r.call.node row (raised row.token span r.mode) (Grant t.file (row.number + 1) r.call r.mode span) (λ few. subst (λ (f : ℕ). C (Grant f (row.number + 1) r.call r.mode span)) (sym c.file_is) (makes.grants (row.number + 1) r span (c.numbers (row.number + 1) few) held (granted_end t r))) c
+      commanded-serves t r.call.node row (raised row.token span r.mode) (Grant t.file (row.number + 1) r.call r.mode span) (λ few. subst (λ (f : ℕ). C (Grant f (row.number + 1) r.call r.mode span)) (sym c.file_is) (makes.grants (row.number + 1) r span (c.numbers (row.number + 1) few) held (granted_end t r) (granted_holds t r free))) c
 
   revoked-serves : (t : ServerState) (r : TokenRequest) (node : ℕ) (o : Option Row) → H r → (node ≡ r.call.node → ⊥) → Comes file K H C t → Serves (revoked_from t r node o)
   revoked-serves t r node None held other c = serves_one (t, []) (c, All-nil C)
@@ -285,7 +297,7 @@ module _ (file : ℕ) (K : ℕ → Type 0) (H : TokenRequest → Type 0) (C : Me
       let node = conflicting_node t r in
       elim (nat_le node t.shape.nodes) as (λ b. nat_le node t.shape.nodes ≡ b → Serves (if b then revoked_from t r node (t.rows node) else granted_to t r (t.rows r.call.node))) [
         | true ↦ λ h. revoked-serves t r node (t.rows node) held (other_node t r h) c
-        | false ↦ λ h. granted-serves t r (t.rows r.call.node) held c
+        | false ↦ λ h. granted-serves t r (t.rows r.call.node) h held c
       ] refl
 
   -- the facts after serving, with messages before those that it sends

@@ -41,6 +41,18 @@ desired_end : (policy : Policy) (t : Token) (span : Range) → (desired policy t
 desired_end Exact t span = omega arith
 desired_end Wide t span = if_either (λ (s : Range). s.hi ≤ max greatest span.hi) (holds_nothing t) whole (record { lo = span.lo; hi = greatest }) (omega arith) (omega arith)
 
+-- the desired bytes of a node hold the required ones
+pub record IsAround (required desired : Range) : Type 0 where
+  pub starts : desired.lo ≤ required.lo
+  pub ends : required.hi ≤ desired.hi
+
+around_itself : (span : Range) → IsAround span span
+around_itself span = record { starts = omega arith; ends = omega arith }
+
+desired_around : (policy : Policy) (t : Token) (span : Range) → span.hi ≤ greatest → IsAround span (desired policy t span)
+desired_around Exact t span within = around_itself span
+desired_around Wide t span within = if_either (IsAround span) (holds_nothing t) whole (record { lo = span.lo; hi = greatest }) (record { starts = omega arith; ends = within }) (record { starts = omega arith; ends = within })
+
 -- P holds of the messages that need no reason
 pub record IsFreely (P : Message → Type 0) : Type 0 where
   pub taken : (file number : ℕ) (call : CallId) → P (Taken file number call)
@@ -50,7 +62,7 @@ pub record IsFreely (P : Message → Type 0) : Type 0 where
 
 -- P holds of the request for each open call
 abbrev pub AsksFor : (Message → Type 0) → NodeState → Type 0
-AsksFor P u = (c : OpenCall) (wanted : Wants) → Contains u.pending c → wanted.required ≡ c.span → wanted.desired.hi ≤ max greatest c.span.hi → P (Request c.file (id_of u c.number) (blocking_of c.lock_command) c.mode wanted)
+AsksFor P u = (c : OpenCall) (wanted : Wants) → Contains u.pending c → wanted.required ≡ c.span → wanted.desired.hi ≤ max greatest c.span.hi → (c.span.hi ≤ greatest → IsAround c.span wanted.desired) → P (Request c.file (id_of u c.number) (blocking_of c.lock_command) c.mode wanted)
 
 -- P holds of each answer that a node remembers
 abbrev pub Remembers : (Message → Type 0) → NodeState → Type 0
@@ -102,7 +114,7 @@ module _ (P : Message → Type 0) (free : IsFreely P) where
       let wanted : Wants = record { required = c.span; desired = desired s.shape.policy (s.files c.file).token c.span } in
       if_either SendsOnly (covers (s.files c.file).token c.span c.mode) (answered_here s c c.lock_command) (requested s c)
       (answered_here-sends s c c.lock_command)
-      (λ asks. All-cons P (Request c.file (id_of s c.number) (blocking_of c.lock_command) c.mode wanted) [] (asks c wanted there refl (desired_end s.shape.policy (s.files c.file).token c.span)) (All-nil P))
+      (λ asks. All-cons P (Request c.file (id_of s c.number) (blocking_of c.lock_command) c.mode wanted) [] (asks c wanted there refl (desired_end s.shape.policy (s.files c.file).token c.span) (desired_around s.shape.policy (s.files c.file).token c.span)) (All-nil P))
 
   pub tried-sends : (s : NodeState) (c : OpenCall) → Contains s.pending c → SendsOnly (tried s c)
   tried-sends s c there = tried_against-sends s c (lowest_blocker (s.table.locks c.file) c.owner c.span c.mode) there

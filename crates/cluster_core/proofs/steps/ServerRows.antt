@@ -284,7 +284,7 @@ row_found i (Some x) row h =
       | false ↦ λ is h. absurd (none-some row h)
     ] refl h
 
-same_dead : (t : ServerState) (call : CallId) (row : Option Row) → (with_a_row t call row).dead ≡ t.dead
+pub same_dead : (t : ServerState) (call : CallId) (row : Option Row) → (with_a_row t call row).dead ≡ t.dead
 same_dead t call None = refl
 same_dead t call (Some row) = refl
 

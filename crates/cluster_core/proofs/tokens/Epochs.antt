@@ -1,6 +1,6 @@
 -- Numbers of commands by the epochs of their servers.
 use Rattle.std.specs.Prelude.{nat_lt}
-use Rattle.std.proofs.Common.{◌≡◌, ℕ, zero, ◌+◌, ◌-◌, ◌*◌, ◌/◌, ◌<◌, ◌≤◌, if◌then◌else◌, arith, None}
+use Rattle.std.proofs.Common.{◌≡◌, ℕ, zero, ◌+◌, ◌-◌, ◌*◌, ◌/◌, ◌<◌, ◌≤◌, if◌then◌else◌, arith, le-div_iff_mul-le, None}
 use Rattle.std.proofs.Math.Nat.{div-lt_iff_lt-mul}
 use Rattle.messages.specs.rule.Epochs.{before_epoch, begin_of}
 use Rattle.messages.proofs.Reports.{Ends}
@@ -15,6 +15,13 @@ begin_of_upto number epoch under =
     let some : zero < 4294967296 = omega arith in
     let under_all : number < (epoch - 1 + 1) * 4294967296 = omega arith in
     let below : number / 4294967296 < epoch - 1 + 1 = (div-lt_iff_lt-mul some).1 under_all in
+    omega arith
+
+-- the epoch of a number begins no earlier than the one that begins at the number or before it
+pub begin_of_from : (number epoch : ℕ) → before_epoch epoch ≤ number → before_epoch epoch ≤ begin_of number
+begin_of_from number epoch from =
+    let some : zero < 4294967296 = omega arith in
+    let above : epoch - 1 ≤ number / 4294967296 = (le-div_iff_mul-le some).1 from in
     omega arith
 
 -- the next epoch begins where this one ends

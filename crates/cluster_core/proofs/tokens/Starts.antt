@@ -49,6 +49,13 @@ mapped_among f (x ∷ xs) n m place is = by (λ k lt same. mapped_among f xs n m
     by rest zero lt same = here (ap f same ∙ is)
     by rest (suc k) lt same = later (f x) (rest k (omega arith) same)
 
+-- the message for one number from 1 is among those for all
+pub numbered_among : (f : ℕ → Option Message) (nodes n : ℕ) (m : Message) → 1 ≤ n → n ≤ nodes → f n ≡ Some m → is_among (filter_map f (range_with_len 1 nodes)) m ≡ true
+numbered_among f nodes n m least most is =
+    let read = get_or-range_with_len 1 nodes (n - 1) 0 (omega arith) in
+    let place : n - 1 < length (range_with_len 1 nodes) = rw (length-range_with_len 1 nodes) (omega arith) in
+    mapped_among f (range_with_len 1 nodes) n m (n - 1, place, read ∙ pred_next n least) is
+
 module _ (w : WorldState) (p : Present w) (file : ℕ) where
   abbrev t : ServerState
   t = w.servers file
@@ -75,11 +82,7 @@ module _ (w : WorldState) (p : Present w) (file : ℕ) where
   all_asked n alive =
       let within : is_within w.shape.nodes n ≡ true = (and_parts (has_node w n) (w.alive n) alive).0 in
       let bounds = and_parts (nat_le 1 n) (nat_le n w.shape.nodes) within in
-      let least = leb-true 1 n bounds.0 in
-      let most = leb-true n w.shape.nodes bounds.1 in
-      let read = get_or-range_with_len 1 w.shape.nodes (n - 1) 0 (omega arith) in
-      let place : n - 1 < length (range_with_len 1 w.shape.nodes) = rw (length-range_with_len 1 w.shape.nodes) (omega arith) in
-      mapped_among (λ k. outstanding_of (made.rows k)) (range_with_len 1 w.shape.nodes) n (hello_to n) (n - 1, place, read ∙ pred_next n least) (ap (λ (b : Bool). outstanding_of (if b then Some (awaited_row file (begin made) n (w.nodes n).incarnation) else None)) alive)
+      numbered_among (λ k. outstanding_of (made.rows k)) w.shape.nodes n (hello_to n) (leb-true 1 n bounds.0) (leb-true n w.shape.nodes bounds.1) (ap (λ (b : Bool). outstanding_of (if b then Some (awaited_row file (begin made) n (w.nodes n).incarnation) else None)) alive)
 
   module _ (event : Event) (incarnation : ℕ) where
     abbrev later : WorldState

@@ -7,7 +7,7 @@ use Rattle.model.specs.declared.host.Host.{Host}
 use Rattle.token_set.specs.rule.Tokens.{Token}
 use Rattle.messages.specs.declared.token_run.TokenRun.{TokenRun}
 use Rattle.messages.specs.declared.message.Message.{Message}
-use Rattle.messages.specs.declared.message.Message.TheVariants.{Grant, Report}
+use Rattle.messages.specs.declared.message.Message.TheVariants.{Grant, Revoke, Taken, Released, Conflict, Report}
 use Rattle.messages.specs.rule.Epochs.{begin_of}
 use Rattle.messages.specs.rule.Messages.{host_of}
 use Rattle.messages.specs.rule.Reports.{reported}
@@ -194,6 +194,13 @@ done_file f number command answer = record { token = settled (promised f.token c
 abbrev pub is_answer : Message → Bool
 is_answer (Report g k holder runs) = false
 is_answer m = true
+
+-- the answer is of the kind of the command, and names its call: a Taken answers a Grant, a Released or a Conflict a Revoke
+abbrev pub IsOfKind : Message → Message → Type 0
+IsOfKind (Grant f k call mode span) (Taken g l c) = c ≡ call
+IsOfKind (Revoke f k holder call mode wanted) (Released g l h c span) = c ≡ call
+IsOfKind (Revoke f k holder call mode wanted) (Conflict g l h c lock) = c ≡ call
+IsOfKind _ _ = ⊥
 
 -- the answer that is remembered is the last
 last_is : (f : FileState) (m : Message) → is_answer m ≡ true → f.answer ≡ Some m → IsLast f m

@@ -1,5 +1,5 @@
 -- The evidence of each denial.
-use Rattle.std.specs.Prelude.{◌≡◌, ◌⊎◌, ℕ, max, ◌+◌, ◌<◌, Bool, true, false, List, [], ◌∷◌, take, Some, None, Ok}
+use Rattle.std.specs.Prelude.{◌≡◌, ◌⊎◌, ℕ, max, ◌+◌, ◌<◌, ◌≤◌, Bool, true, false, List, [], ◌∷◌, take, Some, None, Ok}
 use Rattle.intervals.specs.rule.Bytes.{Range}
 use Rattle.model.specs.declared.mode.Mode.{Mode}
 use Rattle.model.specs.declared.call.CallId.{CallId}
@@ -14,7 +14,7 @@ use Rattle.model.specs.rule.Locks.{Blocks}
 use Rattle.model.specs.rule.Table.{Table, LockTarget, call_target}
 use Rattle.messages.specs.rule.Shapes.{ShapeFields, IsShape}
 use Rattle.messages.specs.rule.Wants.{Wants}
-use Rattle.messages.specs.declared.message.Message.TheVariants.{Revoke, Conflict, Deny}
+use Rattle.messages.specs.declared.message.Message.TheVariants.{Grant, Revoke, Conflict, Deny}
 use Rattle.messages.specs.declared.event.Event.TheVariants.{Deliver}
 use Rattle.messages.specs.declared.entry.Entry.{Entry}
 use Rattle.messages.specs.rule.Epochs.{begin_of}
@@ -55,6 +55,13 @@ pub record IsAsked (shape : ShapeFields) (es : List Entry) (file : ℕ) (call : 
   pub asks : IsAbout (union world) (caller call pid) op mode about
   pub file_is : about.file ≡ file
   pub span_is : about.span ≡ span
+
+-- the call that a grant names asked for a lock of that mode on bytes that all are granted
+pub record IsServedBy (shape : ShapeFields) (es : List Entry) (file : ℕ) (call : CallId) (mode : Mode) (span : Range) : Type 0 where
+  pub required : Range
+  pub asked : IsAsked shape es file call mode required
+  pub starts : span.lo ≤ required.lo
+  pub ends : required.hi ≤ span.hi
 
 -- before the entry at that position the holder had not done the command of that number about the file: it was the next one of its epoch
 pub record IsFirstDone (shape : ShapeFields) (es : List Entry) (file : ℕ) (holder : Host) (number at : ℕ) : Type 0 where
@@ -113,3 +120,7 @@ NoWaitIsDenied =
     → is_among w.sent (Deny file call holder number lock) ≡ true
     → IsCalledAt es call pid op at
     → is_wait op ≡ false
+
+-- after every run each grant that was sent serves the call that it names
+abbrev pub EveryGrantServes : Type 0
+EveryGrantServes = (shape : ShapeFields) (es : List Entry) (w : WorldState) (file number : ℕ) (call : CallId) (mode : Mode) (span : Range) → IsShape shape → Leads (first_world shape) es w → is_among w.sent (Grant file number call mode span) ≡ true → IsServedBy shape es file call mode span
