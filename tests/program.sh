@@ -118,7 +118,7 @@ try_text 'the help on open' 0 out 'JOURNAL' help open
 try_text 'the help on check' 0 out 'threads no L' help check
 try_text 'runs in the help on check' 0 out 'run no K' help check
 try_text 'the help on state' 0 out 'no entry K, the last is L' help state
-try_text 'the help on stats' 0 out 'Usage: lockreplay stats <JOURNAL>' help stats
+try_text 'the help on stats' 0 out 'Usage: lockreplay stats [OPTIONS] <JOURNAL>' help stats
 for number in -1 4294967296 many ''; do
     try_text "an entry that is none: $number" 2 err '--at' state new.journal --at="$number"
 done

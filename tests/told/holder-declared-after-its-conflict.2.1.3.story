@@ -6,6 +6,7 @@ entry 10: message 4 comes to server 1
 entry 11: message 5 comes to node 1
   sends message 6 to server 1: conflict 1 1 2 1.1 2.1.3 write 0 99 p1@1.1
   in the way: write 0 99 p1@1.1
+entry 12: declare 1.1
 entry 13: message 6 comes to server 1
   sends message 7 to node 2: deny 1 2.1.3 1.1 1 2 write 0 99 p1@1.1
 entry 14: message 7 comes to node 2

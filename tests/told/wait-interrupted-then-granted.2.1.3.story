@@ -17,4 +17,5 @@ entry 17: message 9 comes to server 1
   sends message 10 to node 2: grant 1 1 1 2.1.3 write 0 9223372036854775807
 entry 18: message 10 comes to node 2
   sends message 11 to server 1: taken 1 1 1 2.1.3
+message 11 is not delivered to server 1: taken 1 1 1 2.1.3
 history: at entry 13 (its reply)

@@ -60,13 +60,9 @@ asks_refused words task NoMemory asks is = refl
 abbrev pub Values : Type 0
 Values = Text × List (Option Text)
 
--- the name, the scripts and the file of a check
-abbrev Checked : Type 0
-Checked = Text × Option (List Text) × Option Text
-
--- the name, the recordings and the other values of recordings
-abbrev pub Recorded : Type 0
-Recorded = Text × Option (List Text) × List (Option Text)
+-- the name, the paths and the other values of a check, and of recordings
+abbrev pub Several : Type 0
+Several = Text × Option (List Text) × List (Option Text)
 
 -- the name, the histories, the words of rules and the other values of a judgement
 abbrev pub Judged : Type 0
@@ -81,20 +77,11 @@ text_at place met = unwrap_or (value_at place met) []
 abbrev name_in : Option Values → Text
 name_in met = option_map_or (λ (values : Values). values.0) met []
 
-abbrev checked_name : Option Checked → Text
-checked_name met = option_map_or (λ (values : Checked). values.0) met []
+abbrev pub several_at : Option Several → Option (List Text)
+several_at met = option_and_then (λ (values : Several). values.1) met
 
-abbrev scripts_in : Option Checked → List Text
-scripts_in met = option_map_or (λ (values : Checked). unwrap_or values.1 []) met []
-
-abbrev file_in : Option Checked → Option Text
-file_in met = option_and_then (λ (values : Checked). values.2) met
-
-abbrev pub recordings_at : Option Recorded → Option (List Text)
-recordings_at met = option_and_then (λ (values : Recorded). values.1) met
-
-abbrev pub beside_recordings : Option Recorded → Option Values
-beside_recordings met = option_map (λ (values : Recorded). (values.0, values.2)) met
+abbrev pub beside_several : Option Several → Option Values
+beside_several met = option_map (λ (values : Several). (values.0, values.2)) met
 
 abbrev pub histories_at : Option Judged → Option (List Text)
 histories_at met = option_and_then (λ (values : Judged). values.1) met
@@ -110,15 +97,15 @@ name_of (run s a j x o q k) = codes "run"
 name_of (threads s n h k j) = codes "threads"
 name_of (audit j w) = codes "audit"
 name_of (history j c) = codes "history"
-name_of (explain j c) = codes "explain"
-name_of (open_calls j) = codes "open"
-name_of (state j k n f) = codes "state"
-name_of (check ss j) = codes "check"
+name_of (explain j c s) = codes "explain"
+name_of (open_calls j s) = codes "open"
+name_of (state j k n f s) = codes "state"
+name_of (check ss j s) = codes "check"
 name_of (picture j c a b f) = codes "picture"
-name_of (stats j) = codes "stats"
+name_of (stats j s) = codes "stats"
 name_of (from_strace r n w) = codes "from-strace"
 name_of (recorded_history rs) = codes "from-strace"
-name_of (explore s k n f) = codes "explore"
+name_of (explore s k n f o) = codes "explore"
 name_of (schedule s n f) = codes "schedule"
 name_of (judge t) = codes "judge"
 
@@ -127,15 +114,15 @@ name_is p (run s a j x o q k) met = ap name_in met.0
 name_is p (threads s n h k j) met = ap name_in met.1
 name_is p (audit j w) met = ap name_in met
 name_is p (history j c) met = ap name_in met
-name_is p (explain j c) met = ap name_in met
-name_is p (open_calls j) met = ap name_in met
-name_is p (state j k n f) met = ap name_in met.3
-name_is p (check ss j) met = ap checked_name met.0
+name_is p (explain j c s) met = ap name_in met
+name_is p (open_calls j s) met = ap name_in met
+name_is p (state j k n f s) met = ap name_in met.3
+name_is p (check ss j s) met = ap name_in (ap beside_several met.0)
 name_is p (picture j c a b f) met = ap name_in met.2
-name_is p (stats j) met = ap name_in met
-name_is p (from_strace r n w) met = ap name_in (ap beside_recordings met.1)
-name_is p (recorded_history rs) met = ap name_in (ap beside_recordings met.3)
-name_is p (explore s k n f) met = ap name_in met.2
+name_is p (stats j s) met = ap name_in met
+name_is p (from_strace r n w) met = ap name_in (ap beside_several met.1)
+name_is p (recorded_history rs) met = ap name_in (ap beside_several met.3)
+name_is p (explore s k n f o) met = ap name_in met.2
 name_is p (schedule s n f) met = ap name_in met.1
 name_is p (judge t) met = ap name_in (ap beside_histories met.1)
 
@@ -192,7 +179,7 @@ flag_in id rows = is_given (unwrap_or (one_of id rows) [])
 
 -- the state that is asked for
 abbrev state_of : List Row → Task
-state_of rows = state (path_in (codes "JOURNAL") rows) (number_given (one_of (codes "K") rows)) (number_given (one_of (codes "N") rows)) (number_given (one_of (codes "F") rows))
+state_of rows = state (path_in (codes "JOURNAL") rows) (number_given (one_of (codes "K") rows)) (number_given (one_of (codes "N") rows)) (number_given (one_of (codes "F") rows)) (flag_in (codes "json") rows)
 
 abbrev threads_of : List Row → Task
 threads_of rows = threads (path_in (codes "SCRIPT") rows) (number_in (codes "N") rows) (flag_in (codes "stop-when-stuck") rows) (flag_in (codes "no-join") rows) (first_of (codes "FILE") rows)
@@ -204,10 +191,10 @@ abbrev run_of : List Row → Task
 run_of rows = run (path_in (codes "SCRIPT") rows) (first_of (codes "JOURNAL") rows) (first_of (codes "FILE") rows) (flag_in (codes "expect") rows) (flag_in (codes "open") rows) (flag_in (codes "quiet") rows) (flag_in (codes "calm") rows)
 
 abbrev check_of : List Row → Task
-check_of rows = check (paths_in (codes "SCRIPT") rows) (first_of (codes "FILE") rows)
+check_of rows = check (paths_in (codes "SCRIPT") rows) (first_of (codes "FILE") rows) (flag_in (codes "json") rows)
 
 abbrev explore_of : List Row → Task
-explore_of rows = explore (path_in (codes "SCRIPT") rows) (number_in (codes "COUNT") rows) (number_in (codes "N") rows) (flag_in (codes "failures") rows)
+explore_of rows = explore (path_in (codes "SCRIPT") rows) (number_in (codes "COUNT") rows) (number_in (codes "N") rows) (flag_in (codes "failures") rows) (flag_in (codes "json") rows)
 
 -- what recordings are to be turned into
 abbrev pub script_of : List Row → Task
@@ -237,12 +224,12 @@ task_named name rows =
     (cond (bytes_eq name (codes "threads")) (threads_of rows)
     (cond (bytes_eq name (codes "audit")) (audit (path_in (codes "JOURNAL") rows) (flag_in (codes "why") rows))
     (cond (bytes_eq name (codes "history")) (history (path_in (codes "JOURNAL") rows) (flag_in (codes "as-clients") rows))
-    (cond (bytes_eq name (codes "explain")) (explain (path_in (codes "JOURNAL") rows) (path_in (codes "CALL") rows))
-    (cond (bytes_eq name (codes "open")) (open_calls (path_in (codes "JOURNAL") rows))
+    (cond (bytes_eq name (codes "explain")) (explain (path_in (codes "JOURNAL") rows) (path_in (codes "CALL") rows) (flag_in (codes "json") rows))
+    (cond (bytes_eq name (codes "open")) (open_calls (path_in (codes "JOURNAL") rows) (flag_in (codes "json") rows))
     (cond (bytes_eq name (codes "state")) (state_of rows)
     (cond (bytes_eq name (codes "check")) (check_of rows)
     (cond (bytes_eq name (codes "picture")) (picture_of rows)
-    (cond (bytes_eq name (codes "stats")) (stats (path_in (codes "JOURNAL") rows))
+    (cond (bytes_eq name (codes "stats")) (stats (path_in (codes "JOURNAL") rows) (flag_in (codes "json") rows))
     (cond (bytes_eq name (codes "from-strace")) (strace_of rows)
     (cond (bytes_eq name (codes "explore")) (explore_of rows)
     (cond (bytes_eq name (codes "schedule")) (schedule (path_in (codes "SCRIPT") rows) (number_in (codes "N") rows) (flag_in (codes "failures") rows))
@@ -327,15 +314,28 @@ met_is p (history j c) met =
     let journal = ap (text_at 0) met in
     let flag = flag_there 1 _ _ c met refl in
     named p (history j c) met ∙ (λ i. history (journal i) (flag i))
-met_is p (explain j c) met = named p (explain j c) met ∙ ap (λ (v : Option Values). explain (text_at 0 v) (text_at 1 v)) met
-met_is p (open_calls j) met = named p (open_calls j) met ∙ ap (λ (v : Option Values). open_calls (text_at 0 v)) met
-met_is p (state j k n f) met =
+met_is p (explain j c s) met =
+    let journal = ap (text_at 0) met in
+    let call = ap (text_at 1) met in
+    let json = flag_there 2 _ _ s met refl in
+    named p (explain j c s) met ∙ (λ i. explain (journal i) (call i) (json i))
+met_is p (open_calls j s) met =
+    let journal = ap (text_at 0) met in
+    let json = flag_there 1 _ _ s met refl in
+    named p (open_calls j s) met ∙ (λ i. open_calls (journal i) (json i))
+met_is p (state j k n f s) met =
     let journal = ap (text_at 0) met.3 in
     let at = given_there 1 _ _ 0 greatest_seed met.0 k met.3 refl met.4 in
     let node = given_there 2 _ _ 1 most_nodes met.1 n met.3 refl met.5 in
     let file = given_there 3 _ _ 1 most_files met.2 f met.3 refl met.6 in
-    named p (state j k n f) met ∙ (λ i. state (journal i) (at i) (node i) (file i))
-met_is p (check ss j) met = named p (check ss j) met ∙ ap (λ (v : Option Checked). check (scripts_in v) (file_in v)) met.0
+    let json = flag_there 4 _ _ s met.3 refl in
+    named p (state j k n f s) met ∙ (λ i. state (journal i) (at i) (node i) (file i) (json i))
+met_is p (check ss j s) met =
+    let scripts = ap (λ (v : Option Several). unwrap_or (several_at v) []) met.0 in
+    let others = ap beside_several met.0 in
+    let file = ap (value_at 0) others in
+    let json = flag_there 1 _ _ s others refl in
+    named p (check ss j s) met ∙ (λ i. check (scripts i) (file i) (json i))
 met_is p (picture j c a b f) met =
     let journal = ap (text_at 0) met.2 in
     let call = ap (value_at 1) met.2 in
@@ -343,24 +343,28 @@ met_is p (picture j c a b f) met =
     let last = number_there 3 _ _ 1 greatest_seed met.1 b met.2 refl met.4 in
     let format = ap (λ (v : Option Values). format_named (text_at 4 v)) met.2 ∙ format_is f in
     named p (picture j c a b f) met ∙ (λ i. picture (journal i) (call i) (first i) (last i) (format i))
-met_is p (stats j) met = named p (stats j) met ∙ ap (λ (v : Option Values). stats (text_at 0 v)) met
+met_is p (stats j s) met =
+    let journal = ap (text_at 0) met in
+    let json = flag_there 1 _ _ s met refl in
+    named p (stats j s) met ∙ (λ i. stats (journal i) (json i))
 met_is p (from_strace r n w) met =
-    let recordings = ap (λ (v : Option Recorded). unwrap_or (recordings_at v) []) met.1 in
-    let others = ap beside_recordings met.1 in
+    let recordings = ap (λ (v : Option Several). unwrap_or (several_at v) []) met.1 in
+    let others = ap beside_several met.1 in
     let number = number_there 0 _ _ 1 most_nodes met.0 n others refl met.2 in
     let places = ap (value_at 1) others in
     let flag = flag_there 2 _ _ false others refl in
     named p (from_strace r n w) met ∙ (λ i. cond (flag i) (recorded_history (recordings i)) (from_strace (unwrap_or (slice_get (recordings i) 0) []) (number i) (places i)))
 met_is p (recorded_history rs) met =
-    let recordings = ap (λ (v : Option Recorded). unwrap_or (recordings_at v) []) met.3 in
-    let flag = flag_there 2 _ _ true (ap beside_recordings met.3) refl in
+    let recordings = ap (λ (v : Option Several). unwrap_or (several_at v) []) met.3 in
+    let flag = flag_there 2 _ _ true (ap beside_several met.3) refl in
     named p (recorded_history rs) met ∙ (λ i. cond (flag i) (recorded_history (recordings i)) (script_of p.1))
-met_is p (explore s k n f) met =
+met_is p (explore s k n f o) met =
     let script = ap (text_at 0) met.2 in
     let count = number_there 1 _ _ 1 greatest_seed met.0 k met.2 refl met.3 in
     let number = number_there 2 _ _ 0 greatest_seed met.1 n met.2 refl met.4 in
     let flag = flag_there 3 _ _ f met.2 refl in
-    named p (explore s k n f) met ∙ (λ i. explore (script i) (count i) (number i) (flag i))
+    let json = flag_there 4 _ _ o met.2 refl in
+    named p (explore s k n f o) met ∙ (λ i. explore (script i) (count i) (number i) (flag i) (json i))
 met_is p (schedule s n f) met =
     let script = ap (text_at 0) met.1 in
     let number = number_there 1 _ _ 0 greatest_seed met.0 n met.1 refl met.2 in
@@ -377,15 +381,15 @@ nothing_met (run s a j x o q k) is = unmet _ is.0
 nothing_met (threads s n h k j) is = unmet _ is.1
 nothing_met (audit j w) is = cc
 nothing_met (history j c) is = cc
-nothing_met (explain j c) is = cc
-nothing_met (open_calls j) is = cc
-nothing_met (state j k n f) is = unmet _ is.3
-nothing_met (check ss j) is = unmet _ is.0
+nothing_met (explain j c s) is = cc
+nothing_met (open_calls j s) is = cc
+nothing_met (state j k n f s) is = unmet _ is.3
+nothing_met (check ss j s) is = unmet _ is.0
 nothing_met (picture j c a b f) is = unmet _ is.2
-nothing_met (stats j) is = cc
+nothing_met (stats j s) is = cc
 nothing_met (from_strace r n w) is = unmet _ is.1
 nothing_met (recorded_history rs) is = unmet _ is.3
-nothing_met (explore s k n f) is = unmet _ is.2
+nothing_met (explore s k n f o) is = unmet _ is.2
 nothing_met (schedule s n f) is = unmet _ is.1
 nothing_met (judge t) is = unmet _ is.1
 

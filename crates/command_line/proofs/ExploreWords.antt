@@ -1,9 +1,9 @@
 -- What clap makes of the words of `explore`, word by word.
-use Rattle.std.proofs.Common.{refl, codes, true, false, ℕ, Bool, List, [], ◌∷◌, ◌≡◌, Option, Some}
+use Rattle.std.proofs.Common.{refl, codes, true, false, ℕ, Bool, List, [], ◌∷◌, ◌++◌, ◌≡◌, Option, Some}
 use Rattle.clap.specs.Walk.{Walk}
 use Rattle.clap.specs.Words.{Row, Text}
 use Rattle.clap.proofs.OnLiterals.{clap_on_literals}
-use Rattle.command_line.specs.rule.Program.{explore_app, explore_values_in}
+use Rattle.command_line.specs.rule.Program.{explore_app, explore_values_in, flag_text}
 use Rattle.command_line.specs.rule.Tasks.{explore, flag_words, greatest_seed}
 use Rattle.command_line.specs.rule.Words.{AsksFor}
 use Rattle.command_line.proofs.CommandWords.{asks_after, begin, fault_after, has_flag, has_value, is_path, met_after, none_read, number_row, path_row, read_then, waits_for, IsPath, Reads, ReadsAll}
@@ -23,8 +23,15 @@ module _ (program script count number : Text) (seeds first : ℕ) (p : IsPath sc
   abbrev seeded : Walk
   seeded = has_value (codes "N") number counted_rows
 
-  abbrev failing : Walk
-  failing = has_flag (path_row (codes "SCRIPT") script ∷ number_row (codes "COUNT") count ∷ number_row (codes "N") number ∷ path_row (codes "failures") (codes "true") ∷ [])
+  abbrev seeded_rows : List Row
+  seeded_rows = path_row (codes "SCRIPT") script ∷ number_row (codes "COUNT") count ∷ number_row (codes "N") number ∷ []
+
+  -- behind the flags that are given
+  abbrev flagged : Bool → Bool → Walk
+  flagged false false = seeded
+  flagged true false = has_flag (seeded_rows ++ path_row (codes "failures") (codes "true") ∷ [])
+  flagged false true = has_flag (seeded_rows ++ path_row (codes "json") (codes "true") ∷ [])
+  flagged true true = has_flag (seeded_rows ++ path_row (codes "failures") (codes "true") ∷ path_row (codes "json") (codes "true") ∷ [])
 
   script_read : Reads explore_app begin script (has_value (codes "SCRIPT") script [])
   unfolding clap_on_literals
@@ -50,37 +57,38 @@ module _ (program script count number : Text) (seeds first : ℕ) (p : IsPath sc
       let q = is_path number n.no_option in
       record { step = rw (q.no_dashes, q.no_minus, q.no_minus) refl; fine = rw (q.no_dashes, q.no_minus, q.no_minus) refl }
 
-  flag_read : Reads explore_app seeded (codes "--failures") failing
+  failures_read : Reads explore_app seeded (codes "--failures") (flagged true false)
   unfolding clap_on_literals
-  flag_read = record { step = refl; fine = rw n.fits refl }
+  failures_read = record { step = refl; fine = rw n.fits refl }
 
-  seeded_fine : fault_after explore_app seeded ≡ []
+  json_read : (failures : Bool) → Reads explore_app (flagged failures false) (codes "--json") (flagged failures true)
   unfolding clap_on_literals
-  seeded_fine = rw n.fits refl
+  json_read false = record { step = refl; fine = rw n.fits refl }
+  json_read true = record { step = refl; fine = refl }
 
-  seeded_values : values_after seeded ≡ Some (codes "explore", Some script ∷ Some count ∷ Some number ∷ Some (codes "false") ∷ [])
-  unfolding clap_on_literals
-  seeded_values =
-      let q = is_path count k.no_option in
-      let r = is_path number n.no_option in
-      rw (q.no_minus, r.no_minus) refl
+  json_words_read : (failures json : Bool) → ReadsAll explore_app (flagged failures false) (flag_words (codes "--json") json) (flagged failures json)
+  json_words_read failures false = none_read _ (flagged failures false)
+  json_words_read failures true = read_then _ (json_read failures) (none_read _ (flagged failures true))
 
-  failing_fine : fault_after explore_app failing ≡ []
-  unfolding clap_on_literals
-  failing_fine = refl
+  flags_read : (failures json : Bool) → ReadsAll explore_app seeded (flag_words (codes "--failures") failures ++ flag_words (codes "--json") json) (flagged failures json)
+  flags_read false json = json_words_read false json
+  flags_read true json = read_then _ failures_read (json_words_read true json)
 
-  failing_values : values_after failing ≡ Some (codes "explore", Some script ∷ Some count ∷ Some number ∷ Some (codes "true") ∷ [])
+  -- nothing is wrong at the end, where all is met
+  last_tells : IsPath count → IsPath number → (failures json : Bool) → (fault_after explore_app (flagged failures json) ≡ [])
+      × (values_after (flagged failures json) ≡ Some (codes "explore", Some script ∷ Some count ∷ Some number ∷ Some (flag_text failures) ∷ Some (flag_text json) ∷ []))
   unfolding clap_on_literals
-  failing_values =
-      let q = is_path count k.no_option in
-      let r = is_path number n.no_option in
-      rw (q.no_minus, r.no_minus) refl
+  last_tells q r false false = (rw n.fits refl, rw (q.no_minus, r.no_minus) refl)
+  last_tells q r false true = (refl, rw (q.no_minus, r.no_minus) refl)
+  last_tells q r true false = (refl, rw (q.no_minus, r.no_minus) refl)
+  last_tells q r true true = (refl, rw (q.no_minus, r.no_minus) refl)
 
   numbers_read : (words : List Text) (last : Walk) → ReadsAll explore_app seeded words last → ReadsAll explore_app begin (script ∷ codes "--seeds" ∷ count ∷ codes "--first" ∷ number ∷ words) last
   numbers_read words last more = read_then _ script_read (read_then _ seeds_read (read_then _ count_read (read_then _ first_read (read_then _ number_read more))))
 
-  pub explore_asks : (failures : Bool) → AsksFor (program ∷ codes "explore" ∷ script ∷ codes "--seeds" ∷ count ∷ codes "--first" ∷ number ∷ flag_words (codes "--failures") failures) (explore script seeds first failures)
-  explore_asks false =
-      asks_after explore_app commands.explore program _ seeded (explore script seeds first false) (numbers_read [] seeded (none_read _ seeded)) seeded_fine (count, number, seeded_values, k.writes, n.writes)
-  explore_asks true =
-      asks_after explore_app commands.explore program _ failing (explore script seeds first true) (numbers_read _ failing (read_then _ flag_read (none_read _ failing))) failing_fine (count, number, failing_values, k.writes, n.writes)
+  pub explore_asks : (failures json : Bool)
+      → AsksFor (program ∷ codes "explore" ∷ script ∷ codes "--seeds" ∷ count ∷ codes "--first" ∷ number ∷ flag_words (codes "--failures") failures ++ flag_words (codes "--json") json) (explore script seeds first failures json)
+  explore_asks failures json =
+      let last = flagged failures json in
+      let tells = last_tells (is_path count k.no_option) (is_path number n.no_option) failures json in
+      asks_after explore_app commands.explore program _ last (explore script seeds first failures json) (numbers_read _ last (flags_read failures json)) tells.0 (count, number, tells.1, k.writes, n.writes)

@@ -45,13 +45,15 @@ module _ (program path : Text) (p : IsPath path) where
   history_asks true =
       asks_by history_app commands.history program (path ∷ codes "--as-clients" ∷ []) (history path true) (rw (p.no_dashes, p.no_minus, p.no_minus) refl) (rw (p.no_dashes, p.no_minus, p.no_minus) refl)
 
-  open_asks : AsksFor (program ∷ codes "open" ∷ path ∷ []) (open_calls path)
+  open_asks : (json : Bool) → AsksFor (program ∷ codes "open" ∷ path ∷ flag_words (codes "--json") json) (open_calls path json)
   unfolding clap_on_literals
-  open_asks = asks_by open_app commands.open_calls program (path ∷ []) (open_calls path) (rw (p.no_dashes, p.no_minus, p.no_minus) refl) (rw (p.no_dashes, p.no_minus, p.no_minus) refl)
+  open_asks false = asks_by open_app commands.open_calls program (path ∷ []) (open_calls path false) (rw (p.no_dashes, p.no_minus, p.no_minus) refl) (rw (p.no_dashes, p.no_minus, p.no_minus) refl)
+  open_asks true = asks_by open_app commands.open_calls program (path ∷ codes "--json" ∷ []) (open_calls path true) (rw (p.no_dashes, p.no_minus, p.no_minus) refl) (rw (p.no_dashes, p.no_minus, p.no_minus) refl)
 
-  stats_asks : AsksFor (program ∷ codes "stats" ∷ path ∷ []) (stats path)
+  stats_asks : (json : Bool) → AsksFor (program ∷ codes "stats" ∷ path ∷ flag_words (codes "--json") json) (stats path json)
   unfolding clap_on_literals
-  stats_asks = asks_by stats_app commands.stats program (path ∷ []) (stats path) (rw (p.no_dashes, p.no_minus, p.no_minus) refl) (rw (p.no_dashes, p.no_minus, p.no_minus) refl)
+  stats_asks false = asks_by stats_app commands.stats program (path ∷ []) (stats path false) (rw (p.no_dashes, p.no_minus, p.no_minus) refl) (rw (p.no_dashes, p.no_minus, p.no_minus) refl)
+  stats_asks true = asks_by stats_app commands.stats program (path ∷ codes "--json" ∷ []) (stats path true) (rw (p.no_dashes, p.no_minus, p.no_minus) refl) (rw (p.no_dashes, p.no_minus, p.no_minus) refl)
 
   -- what is left out
   left_threads : AsksFor (program ∷ codes "threads" ∷ path ∷ []) (threads path 1 false false None)
@@ -68,10 +70,10 @@ module _ (program path : Text) (p : IsPath path) where
   unfolding clap_on_literals
   left_strace = asks_by strace_app commands.strace program (path ∷ []) (from_strace path 1 None) (rw (p.no_dashes, p.no_minus, p.no_minus) refl) (codes "1", rw (p.no_dashes, p.no_minus, p.no_minus) refl, one_writes 1 most_nodes (omega arith) (omega arith))
 
-  left_explore : AsksFor (program ∷ codes "explore" ∷ path ∷ []) (explore path 100 1 false)
+  left_explore : AsksFor (program ∷ codes "explore" ∷ path ∷ []) (explore path 100 1 false false)
   unfolding clap_on_literals
   left_explore =
-      asks_by explore_app commands.explore program (path ∷ []) (explore path 100 1 false) (rw (p.no_dashes, p.no_minus, p.no_minus) refl)
+      asks_by explore_app commands.explore program (path ∷ []) (explore path 100 1 false false) (rw (p.no_dashes, p.no_minus, p.no_minus) refl)
       (codes "100", codes "1", rw (p.no_dashes, p.no_minus, p.no_minus) refl, hundred_writes, one_writes 0 greatest_seed (omega arith) (omega arith))
 
   left_schedule : AsksFor (program ∷ codes "schedule" ∷ path ∷ []) (schedule path 1 false)
@@ -95,7 +97,7 @@ module _ (program path : Text) (plain : slice_get path 0 ≢ Some 45) where
   pub bare_strace_asks : AsksFor (program ∷ codes "from-strace" ∷ path ∷ []) (from_strace path 1 None)
   bare_strace_asks = left_strace program path (is_path path plain)
 
-  pub bare_explore_asks : AsksFor (program ∷ codes "explore" ∷ path ∷ []) (explore path 100 1 false)
+  pub bare_explore_asks : AsksFor (program ∷ codes "explore" ∷ path ∷ []) (explore path 100 1 false false)
   bare_explore_asks = left_explore program path (is_path path plain)
 
   pub bare_schedule_asks : AsksFor (program ∷ codes "schedule" ∷ path ∷ []) (schedule path 1 false)
@@ -107,17 +109,20 @@ module _ (program path : Text) (plain : slice_get path 0 ≢ Some 45) where
   pub bare_audit_asks : AsksFor (program ∷ codes "audit" ∷ path ∷ []) (audit path false)
   bare_audit_asks = audit_asks program path (is_path path plain) false
 
-  pub bare_state_asks : AsksFor (program ∷ codes "state" ∷ path ∷ []) (state path None None None)
-  bare_state_asks = state_asks program path (is_path path plain) None tt None tt None tt
+  pub bare_state_asks : AsksFor (program ∷ codes "state" ∷ path ∷ []) (state path None None None false)
+  bare_state_asks = state_asks program path (is_path path plain) None tt None tt None tt false
 
   pub bare_judge_asks : AsksFor (program ∷ codes "judge" ∷ path ∷ []) (judge (plain_judgement path))
   bare_judge_asks = left_judge program path (is_path path plain)
 
--- `explain JOURNAL CALL`
-explain_asks : (program journal call : Text) → IsPath journal → IsPath call → AsksFor (program ∷ codes "explain" ∷ journal ∷ call ∷ []) (explain journal call)
+-- `explain JOURNAL CALL`, with `--json` or without
+explain_asks : (program journal call : Text) → IsPath journal → IsPath call → (json : Bool) → AsksFor (program ∷ codes "explain" ∷ journal ∷ call ∷ flag_words (codes "--json") json) (explain journal call json)
 unfolding clap_on_literals
-explain_asks program journal call p q =
-    asks_by explain_app commands.explain program (journal ∷ call ∷ []) (explain journal call) (rw (p.no_dashes, p.no_minus, p.no_minus, q.no_dashes, q.no_minus, q.no_minus) refl)
+explain_asks program journal call p q false =
+    asks_by explain_app commands.explain program (journal ∷ call ∷ []) (explain journal call false) (rw (p.no_dashes, p.no_minus, p.no_minus, q.no_dashes, q.no_minus, q.no_minus) refl)
+    (rw (p.no_dashes, p.no_minus, p.no_minus, q.no_dashes, q.no_minus, q.no_minus) refl)
+explain_asks program journal call p q true =
+    asks_by explain_app commands.explain program (journal ∷ call ∷ codes "--json" ∷ []) (explain journal call true) (rw (p.no_dashes, p.no_minus, p.no_minus, q.no_dashes, q.no_minus, q.no_minus) refl)
     (rw (p.no_dashes, p.no_minus, p.no_minus, q.no_dashes, q.no_minus, q.no_minus) refl)
 
 -- a word that begins with no `-` is read as no option; so are scripts, and the file behind them
@@ -154,26 +159,26 @@ plain_task program (threads script seed stop no_join (Some file)) plain within =
     (is_path file (plain 1 [] (omega arith))) stop no_join
 plain_task program (audit journal why) plain within = audit_asks program journal (is_path journal (plain 0 [] (omega arith))) why
 plain_task program (history journal as_clients) plain within = history_asks program journal (is_path journal (plain 0 [] (omega arith))) as_clients
-plain_task program (explain journal call) plain within = explain_asks program journal call (is_path journal (plain 0 [] (omega arith))) (is_path call (plain 1 [] (omega arith)))
-plain_task program (open_calls journal) plain within = open_asks program journal (is_path journal (plain 0 [] (omega arith)))
-plain_task program (state journal at of_node of_file) plain within = state_asks program journal (is_path journal (plain 0 [] (omega arith))) at within.0 of_node within.1 of_file within.2
-plain_task program (check scripts journal) plain within = check_asks program scripts journal within (are_paths scripts (given journal) plain) (may_be_path scripts journal plain)
+plain_task program (explain journal call json) plain within = explain_asks program journal call (is_path journal (plain 0 [] (omega arith))) (is_path call (plain 1 [] (omega arith))) json
+plain_task program (open_calls journal json) plain within = open_asks program journal (is_path journal (plain 0 [] (omega arith))) json
+plain_task program (state journal at of_node of_file json) plain within = state_asks program journal (is_path journal (plain 0 [] (omega arith))) at within.0 of_node within.1 of_file within.2 json
+plain_task program (check scripts journal json) plain within = check_asks program scripts journal json within (are_paths scripts (given journal) plain) (may_be_path scripts journal plain)
 plain_task program (picture journal None first last format) plain within =
     picture_asks program journal (decimal first) (decimal last) first last format (is_path journal (plain 0 [] (omega arith)))
     (number_text 1 greatest_seed first (omega arith) within.0 within.1) (number_text 1 greatest_seed last (omega arith) within.2 within.3)
 plain_task program (picture journal (Some call) first last format) plain within =
     around_asks program journal (decimal first) (decimal last) first last format (is_path journal (plain 0 [] (omega arith)))
     (number_text 1 greatest_seed first (omega arith) within.0 within.1) (number_text 1 greatest_seed last (omega arith) within.2 within.3) call (is_path call (plain 1 [] (omega arith)))
-plain_task program (stats journal) plain within = stats_asks program journal (is_path journal (plain 0 [] (omega arith)))
+plain_task program (stats journal json) plain within = stats_asks program journal (is_path journal (plain 0 [] (omega arith))) json
 plain_task program (from_strace recording nodes None) plain within =
     strace_asks program recording (decimal nodes) nodes (is_path recording (plain 0 [] (omega arith))) (number_text 1 most_nodes nodes (omega arith) within.0 within.1) None tt
 plain_task program (from_strace recording nodes (Some places)) plain within =
     strace_asks program recording (decimal nodes) nodes (is_path recording (plain 0 [] (omega arith))) (number_text 1 most_nodes nodes (omega arith) within.0 within.1) (Some places)
     (is_path places (plain 1 [] (omega arith)))
 plain_task program (recorded_history recordings) plain within = recorded_asks program recordings within (are_paths recordings [] (subst ArePlain (sym (append-nil recordings)) plain))
-plain_task program (explore script seeds first failures) plain within =
+plain_task program (explore script seeds first failures json) plain within =
     explore_asks program script (decimal seeds) (decimal first) seeds first (is_path script (plain 0 [] (omega arith)))
-    (number_text 1 greatest_seed seeds (omega arith) within.0 within.1) (number_text 0 greatest_seed first (omega arith) (omega arith) within.2) failures
+    (number_text 1 greatest_seed seeds (omega arith) within.0 within.1) (number_text 0 greatest_seed first (omega arith) (omega arith) within.2) failures json
 plain_task program (schedule script seed failures) plain within =
     schedule_asks program script (decimal seed) seed (is_path script (plain 0 [] (omega arith))) (number_text 0 greatest_seed seed (omega arith) (omega arith) within) failures
 plain_task program (judge t) plain within =

@@ -7,7 +7,7 @@ use Rattle.command_line.specs.rule.Program.{flag_text, judge_values_in, strace_v
 use Rattle.command_line.specs.rule.Tasks.{Task, from_strace, recorded_history, format_text, greatest_seed, most_files, most_nodes, MayBeQuiet, MayRecord}
 use Rattle.command_line.specs.declared.format.Format.{Format}
 use Rattle.command_line.specs.declared.allowed_rule.AllowedRule.{AllowedRule}
-use Rattle.command_line.proofs.CommandLine.{asked_is, beside_histories, beside_recordings, flag_in, flag_there, given_is, histories_at, is_given, met_is, number_of, number_there, recordings_at, rule_words, task_named, unmet, value_at}
+use Rattle.command_line.proofs.CommandLine.{asked_is, beside_histories, beside_several, flag_in, flag_there, given_is, histories_at, is_given, met_is, number_of, number_there, rule_words, several_at, task_named, unmet, value_at}
 
 -- it is met as the task that its name and its values tell
 as_named : (name : Text) (rows : List Row) (task : Task) → IsMet (Some (name, rows)) task → IsMet (Some (name, rows)) (task_named name rows)
@@ -86,8 +86,14 @@ no_explain rows none task met = nowhere _ _ none (ap (value_at 0) (as_named (cod
 pub no_call : (rows : List Row) → first_of (codes "CALL") rows ≡ None → Unmet (codes "explain") rows
 no_call rows none task met = nowhere _ _ none (ap (value_at 1) (as_named (codes "explain") rows task met))
 
+pub no_explain_json : (rows : List Row) → NoFlag (codes "json") rows → Unmet (codes "explain") rows
+no_explain_json rows none task met = none _ (ap (value_at 2) (as_named (codes "explain") rows task met))
+
 pub no_open : (rows : List Row) → first_of (codes "JOURNAL") rows ≡ None → Unmet (codes "open") rows
 no_open rows none task met = nowhere _ _ none (ap (value_at 0) (as_named (codes "open") rows task met))
+
+pub no_open_json : (rows : List Row) → NoFlag (codes "json") rows → Unmet (codes "open") rows
+no_open_json rows none task met = none _ (ap (value_at 1) (as_named (codes "open") rows task met))
 
 pub no_state : (rows : List Row) → first_of (codes "JOURNAL") rows ≡ None → Unmet (codes "state") rows
 no_state rows none task met = nowhere _ _ none (ap (value_at 0) (as_named (codes "state") rows task met).3)
@@ -111,8 +117,14 @@ no_lock_file rows none task met =
     let is = as_named (codes "state") rows task met in
     refuses 1 most_files (codes "F") rows is.2 _ none (ap (value_at 3) is.3) is.6
 
+pub no_state_json : (rows : List Row) → NoFlag (codes "json") rows → Unmet (codes "state") rows
+no_state_json rows none task met = none _ (ap (value_at 4) (as_named (codes "state") rows task met).3)
+
 pub no_check : (rows : List Row) → unwrap_or (all_of (codes "SCRIPT") rows) [] ≡ [] → Unmet (codes "check") rows
 no_check rows none task met = (as_named (codes "check") rows task met).1 none
+
+pub no_check_json : (rows : List Row) → NoFlag (codes "json") rows → Unmet (codes "check") rows
+no_check_json rows none task met = none _ (ap (value_at 1) (ap beside_several (as_named (codes "check") rows task met).0))
 
 pub no_picture : (rows : List Row) → first_of (codes "JOURNAL") rows ≡ None → Unmet (codes "picture") rows
 no_picture rows none task met = nowhere _ _ none (ap (value_at 0) (as_named (codes "picture") rows task met).2)
@@ -132,6 +144,9 @@ no_format rows none task met = none _ (ap (value_at 4) (as_named (codes "picture
 
 pub no_stats : (rows : List Row) → first_of (codes "JOURNAL") rows ≡ None → Unmet (codes "stats") rows
 no_stats rows none task met = nowhere _ _ none (ap (value_at 0) (as_named (codes "stats") rows task met))
+
+pub no_stats_json : (rows : List Row) → NoFlag (codes "json") rows → Unmet (codes "stats") rows
+no_stats_json rows none task met = none _ (ap (value_at 1) (as_named (codes "stats") rows task met))
 
 -- what recordings are to be turned into, and the values that say so
 abbrev MayBecome : Bool → List Text → ℕ → Option Text → Type 0
@@ -159,26 +174,26 @@ becomes : (rows : List Row) (task : Task) → IsMet (Some (codes "from-strace", 
 becomes rows task met = becomes_by rows (flag_in (codes "history") rows) _ _ _ _ (as_named (codes "from-strace") rows task met)
 
 pub no_recordings : (rows : List Row) → all_of (codes "RECORDING") rows ≡ None → Unmet (codes "from-strace") rows
-no_recordings rows none task met = unmet _ (sym none ∙ ap recordings_at (becomes rows task met).values)
+no_recordings rows none task met = unmet _ (sym none ∙ ap several_at (becomes rows task met).values)
 
 pub no_nodes : (rows : List Row) → NoNumber 1 most_nodes (codes "N") rows → Unmet (codes "from-strace") rows
 no_nodes rows none task met =
     let is = becomes rows task met in
-    none is.text is.nodes (ap (value_at 0) (ap beside_recordings is.values)) is.number
+    none is.text is.nodes (ap (value_at 0) (ap beside_several is.values)) is.number
 
 pub no_history_flag : (rows : List Row) → NoFlag (codes "history") rows → Unmet (codes "from-strace") rows
 no_history_flag rows none task met =
     let is = becomes rows task met in
-    none is.history (ap (value_at 2) (ap beside_recordings is.values))
+    none is.history (ap (value_at 2) (ap beside_several is.values))
 
 -- nor where nodes are spoken of beside a history
 pub no_record : (rows : List Row) (recordings : List Text) (nodes : ℕ) (places : Option Text) → one_of (codes "history") rows ≡ Some (flag_text true) → all_of (codes "RECORDING") rows ≡ Some recordings
     → ((text : Text) × (one_of (codes "N") rows ≡ Some text) × IsNumber 1 most_nodes text nodes) → first_of (codes "PLACES") rows ≡ places → (MayRecord recordings nodes places → ⊥) → Unmet (codes "from-strace") rows
 no_record rows recordings nodes places flag all number words may_not task met =
     let is = becomes rows task met in
-    let others = ap beside_recordings is.values in
+    let others = ap beside_several is.values in
     let history_is : is.history ≡ true = sym (flag_there 2 _ _ is.history others refl) ∙ ap (λ (value : Option Text). is_given (unwrap_or value [])) flag in
-    let recordings_are : is.recordings ≡ recordings = ap (λ (found : Option (List Text)). unwrap_or found []) (sym (ap recordings_at is.values) ∙ all) in
+    let recordings_are : is.recordings ≡ recordings = ap (λ (found : Option (List Text)). unwrap_or found []) (sym (ap several_at is.values) ∙ all) in
     let nodes_is : is.nodes ≡ nodes =
     sym (number_there 0 _ _ 1 most_nodes is.text is.nodes others refl is.number) ∙ (ap (λ (value : Option Text). number_of (unwrap_or value [])) number.1 ∙ sym number.2.value) in
     let places_are : is.places ≡ places = sym (ap (value_at 1) others) ∙ words in
@@ -200,6 +215,9 @@ no_first_seed rows none task met =
 
 pub no_explored_flag : (rows : List Row) → NoFlag (codes "failures") rows → Unmet (codes "explore") rows
 no_explored_flag rows none task met = none _ (ap (value_at 3) (as_named (codes "explore") rows task met).2)
+
+pub no_explored_json : (rows : List Row) → NoFlag (codes "json") rows → Unmet (codes "explore") rows
+no_explored_json rows none task met = none _ (ap (value_at 4) (as_named (codes "explore") rows task met).2)
 
 pub no_scheduled_script : (rows : List Row) → first_of (codes "SCRIPT") rows ≡ None → Unmet (codes "schedule") rows
 no_scheduled_script rows none task met = nowhere _ _ none (ap (value_at 0) (as_named (codes "schedule") rows task met).1)

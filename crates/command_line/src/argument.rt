@@ -8,6 +8,12 @@ use clap::builder::ValueParser;
 use clap::{Arg, ArgAction};
 use std::alloc::Global;
 
+/// The flag that asks for JSON in the place of words.
+pub(crate) const JSON: Argument<'static> = Argument::Flag {
+    name: "json",
+    help: "Print the text as JSON",
+};
+
 /// An argument of a command, with what help says of it.
 pub(crate) enum Argument<'a> {
     /// A word that must be there: a path, or the name of a call.

@@ -8,6 +8,7 @@ ghost use Rattle.command_line.specs.rule.Program.{program_app};
 ghost use Rattle.command_line.specs.rule.Tasks.{task_of, MayBeQuiet};
 ghost use Rattle.command_line.specs.rule.Words.{AsksFor, IsRefusal};
 
+use crate::check_words::check_in;
 use crate::commands::program;
 use crate::journal_lines::{
     audit_in, explain_in, history_in, open_in, picture_in, state_in, stats_in,
@@ -42,28 +43,33 @@ pub enum CommandLine<'a> {
         journal: &'a str,
         as_clients: bool,
     },
-    /// `explain JOURNAL CALL`: to tell the story of the call of this name in the journal.
+    /// `explain JOURNAL CALL [--json]`: to tell the story of the call of this name in the journal; here and below as JSON, if that
+    /// is asked for.
     Explain {
         journal: &'a str,
         call: &'a str,
+        json: bool,
     },
-    /// `open JOURNAL`: to list the calls of the journal that have no reply.
+    /// `open JOURNAL [--json]`: to list the calls of the journal that have no reply.
     Open {
         journal: &'a str,
+        json: bool,
     },
     /// `state JOURNAL`, with what else is asked of a state: to show what the cluster of the journal holds.
     State(StateLine<'a>),
-    /// `check SCRIPT.. [--journal FILE]`: to say what is wrong in each script, of which there is at least one,
+    /// `check SCRIPT.. [--journal FILE] [--json]`: to say what is wrong in each script, of which there is at least one,
     /// and whether it can be run on threads, and why a journal can't be written to the file, if there is one.
     Check {
         scripts: Vec<&'a str>,
         journal: Option<&'a str>,
+        json: bool,
     },
     /// `picture JOURNAL`, with what else is asked of a picture: to draw entries of the journal.
     Picture(PictureLine<'a>),
-    /// `stats JOURNAL`: to count what the journal has.
+    /// `stats JOURNAL [--json]`: to count what the journal has.
     Stats {
         journal: &'a str,
+        json: bool,
     },
     /// `from-strace RECORDING [--nodes N] [--place PLACES]`: to turn the recording of the calls of processes
     /// into a script of a cluster of N nodes, from 1 to 64, or of 1, with processes at the places that these
@@ -78,7 +84,7 @@ pub enum CommandLine<'a> {
     RecordedHistory {
         recordings: Vec<&'a str>,
     },
-    /// `explore SCRIPT [--seeds COUNT] [--first N] [--failures]`: to run the script under so many schedules,
+    /// `explore SCRIPT [--seeds COUNT] [--first N] [--failures] [--json]`: to run the script under so many schedules,
     /// from 1 on, or under 100, from the seed N or 1 on, with failures of nodes and servers, if they are asked
     /// for, and to tell what came of them.
     Explore {
@@ -86,6 +92,7 @@ pub enum CommandLine<'a> {
         seeds: u32,
         first: u32,
         failures: bool,
+        json: bool,
     },
     /// `schedule SCRIPT [--seed N] [--failures]`: to print the script of the schedule of this seed, or of 1,
     /// with failures of nodes and servers, if they are asked for.
@@ -243,24 +250,6 @@ fn threads_in<'a>(values: &ArgMatches<'a>) -> Option<CommandLine<'a>>
     }))
 }
 
-fn check_in<'a>(
-    alloc: Global,
-    values: &ArgMatches<'a>,
-) -> Result<Option<CommandLine<'a>>, AllocError>
-    ensures { IfOk result (IsLineOf (Some (codes "check", rows_of (found_of values.now)))) }
-{
-    let Some(paths) = values.get_strs("SCRIPT") else {
-        return Ok(None);
-    };
-    if paths.is_empty() {
-        return Ok(None);
-    }
-    let mut scripts = Vec::new(alloc);
-    scripts.extend_from_slice(paths)?;
-    let journal = values.get_str("FILE");
-    Ok(Some(CommandLine::Check { scripts, journal }))
-}
-
 fn explore_in<'a>(values: &ArgMatches<'a>) -> Option<CommandLine<'a>>
     ensures { IsLineOf (Some (codes "explore", rows_of (found_of values.now))) result }
 {
@@ -268,11 +257,13 @@ fn explore_in<'a>(values: &ArgMatches<'a>) -> Option<CommandLine<'a>>
     let seeds = number_in(values, "COUNT", 1, GREATEST_SEED)?;
     let first = number_in(values, "N", 0, GREATEST_SEED)?;
     let failures = flag_in(values, "failures")?;
+    let json = flag_in(values, "json")?;
     Some(CommandLine::Explore {
         script,
         seeds,
         first,
         failures,
+        json,
     })
 }
 

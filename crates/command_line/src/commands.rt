@@ -4,7 +4,7 @@ ghost use Rattle.clap.specs.Words.{app_of};
 ghost use Rattle.command_line.specs.rule.Program.{bare_app, check_app, explore_app, judge_app, program_app, run_app, schedule_app, strace_app, threads_app};
 ghost use Rattle.command_line.specs.code.Table.{app_given, with_given};
 
-use crate::argument::Argument;
+use crate::argument::{Argument, JSON};
 use crate::journal_commands::{
     audit_command, explain_command, history_command, open_command, picture_command, state_command,
     stats_command,
@@ -44,6 +44,7 @@ const CHECK: &[Argument<'static>] = &[
         long: "journal",
         help: "Say also why a journal can't be written to FILE",
     },
+    JSON,
 ];
 
 const RUN: &[Argument<'static>] = &[
@@ -136,6 +137,7 @@ const EXPLORE: &[Argument<'static>] = &[
         help: "The seed of the first schedule, up to 4294967295",
     },
     FAILURES,
+    JSON,
 ];
 
 const SCHEDULE: &[Argument<'static>] = &[
@@ -186,10 +188,7 @@ const JUDGE: &[Argument<'static>] = &[
         name: "stats",
         help: "Print counts of calls and of tables",
     },
-    Argument::Flag {
-        name: "json",
-        help: "Print the text as JSON",
-    },
+    JSON,
     Argument::Flag {
         name: "picture",
         help: "Draw the first call that fits nowhere, as SVG",

@@ -3,7 +3,7 @@ ghost use Rattle.std.specs.Prelude.{◌≡◌};
 ghost use Rattle.command_line.specs.rule.Program.{audit_app, explain_app, history_app, open_app, picture_app, state_app, stats_app};
 ghost use Rattle.command_line.specs.code.Table.{app_given};
 
-use crate::argument::Argument;
+use crate::argument::{Argument, JSON};
 use crate::journal_notes::{
     AUDIT_NOTES, EXPLAIN_NOTES, HISTORY_NOTES, OPEN_NOTES, PICTURE_NOTES, STATE_NOTES, STATS_NOTES,
 };
@@ -32,7 +32,7 @@ const AUDIT: &[Argument<'static>] = &[
 ];
 
 // What commands have that read a journal alone.
-const OF_JOURNAL: &[Argument<'static>] = &[JOURNAL];
+const OF_JOURNAL: &[Argument<'static>] = &[JOURNAL, JSON];
 
 const EXPLAIN: &[Argument<'static>] = &[
     JOURNAL,
@@ -40,6 +40,7 @@ const EXPLAIN: &[Argument<'static>] = &[
         id: "CALL",
         help: "The call, by its name in replies and history, as 2.1.3",
     },
+    JSON,
 ];
 
 const STATE: &[Argument<'static>] = &[
@@ -65,6 +66,7 @@ const STATE: &[Argument<'static>] = &[
         greatest: MOST_FILES,
         help: "Show file F alone",
     },
+    JSON,
 ];
 
 const PICTURE: &[Argument<'static>] = &[

@@ -34,14 +34,20 @@ pub(crate) fn explain_in<'a>(values: &ArgMatches<'a>) -> Option<CommandLine<'a>>
 {
     let journal = values.get_str("JOURNAL")?;
     let call = values.get_str("CALL")?;
-    Some(CommandLine::Explain { journal, call })
+    let json = flag_in(values, "json")?;
+    Some(CommandLine::Explain {
+        journal,
+        call,
+        json,
+    })
 }
 
 pub(crate) fn open_in<'a>(values: &ArgMatches<'a>) -> Option<CommandLine<'a>>
     ensures { IsLineOf (Some (codes "open", rows_of (found_of values.now))) result }
 {
     let journal = values.get_str("JOURNAL")?;
-    Some(CommandLine::Open { journal })
+    let json = flag_in(values, "json")?;
+    Some(CommandLine::Open { journal, json })
 }
 
 pub(crate) fn state_in<'a>(values: &ArgMatches<'a>) -> Option<CommandLine<'a>>
@@ -51,11 +57,13 @@ pub(crate) fn state_in<'a>(values: &ArgMatches<'a>) -> Option<CommandLine<'a>>
     let at = number_if_given(values, "K", 0, GREATEST_SEED)?;
     let node = number_if_given(values, "N", 1, MOST_NODES)?;
     let file = number_if_given(values, "F", 1, MOST_FILES)?;
+    let json = flag_in(values, "json")?;
     Some(CommandLine::State(StateLine {
         journal,
         at,
         node,
         file,
+        json,
     }))
 }
 
@@ -80,5 +88,6 @@ pub(crate) fn stats_in<'a>(values: &ArgMatches<'a>) -> Option<CommandLine<'a>>
     ensures { IsLineOf (Some (codes "stats", rows_of (found_of values.now))) result }
 {
     let journal = values.get_str("JOURNAL")?;
-    Some(CommandLine::Stats { journal })
+    let json = flag_in(values, "json")?;
+    Some(CommandLine::Stats { journal, json })
 }

@@ -33,9 +33,12 @@ of 'lockreplay audit' (exit status 1).
 CALL is the name of a call as replies and history show it: its node, the incarnation of
 the node and the number of the call there, as 2.1.3. The text tells each entry that has
 to do with the call: who made it; each message about it with its number, as 'deliver K'
-of a script counts, from whom it goes to whom; which lock was in the way; its reply and
-where the history places it, or else which entry ended it (exit status 0). Where the
-journal has no call of that name, the text is 'no call CALL' (exit status 1).";
+of a script counts, from whom it goes to whom; which lock was in the way, and when its
+node told that locks may be gone; where a node or the server on which the call depends
+fails or begins again, and where the server hears that a node failed; its reply, and of
+a close, an exit or an unlock the locks that go by it; which messages about it were not
+delivered; where the history places it, or else which entry ended it (exit status 0).
+Where the journal has no call of that name, the text is 'no call CALL' (exit status 1).";
 
 /// What stands under the options of `open`.
 pub(crate) const OPEN_NOTES: &str = "\
@@ -59,15 +62,16 @@ Else the text is a picture in this format (exit status 0, if it lacks nothing):
   trace      JSON of trace events, which Perfetto and Chrome open
 In SVG, time is entries, from left to right. It has a row for each node, server and
 process that takes part, a bar for each call from its entry to its reply, an arrow for
-each message that comes, a short line for each that is lost, a diamond where the history
-places a call, and a line across where a node or a server fails or begins again. Below
-the rows it shows who held which bytes.
+each message that comes, a short line for each that is not delivered, a diamond where the
+history places a call, and a line across where a node or a server fails or begins again.
+Below the rows it shows who held which bytes.
 
 With --from K and --to L the entries from K to L are drawn, with --around CALL those
 from ten before the first that has to do with the call to ten behind the last; with
-both, those in both. Of these the first 400 are drawn. Where there are more, or none
-though the journal has some, standard error tells so (exit status 1). Where the journal
-has no call of that name, the text is 'no call CALL' (exit status 1).";
+both, those in both. Of these the first 400 are drawn. With none of the three, SVG of
+more than 400 has columns of as many entries each, with counts. Where there are more, or
+none though the journal has some, standard error tells so (exit status 1). Where the
+journal has no call of that name, the text is 'no call CALL' (exit status 1).";
 
 /// What stands under the options of `state`.
 pub(crate) const STATE_NOTES: &str = "\

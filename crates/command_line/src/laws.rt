@@ -9,14 +9,14 @@ ghost use Rattle.command_line.specs.rule.Words.{AsksFor, IsPlain};
 /// `--calm` behind it, or some of them in this order, `--quiet` where `--journal FILE` or `--expect` is one,
 /// `PROGRAM threads SCRIPT --seed N`, with `--stop-when-stuck`, `--no-join` and `--journal FILE`, or some of them in
 /// this order, behind it, `PROGRAM audit JOURNAL`, with `--why` or without, `PROGRAM history JOURNAL`, with `--as-clients` or without,
-/// `PROGRAM explain JOURNAL CALL`, `PROGRAM open JOURNAL`, `PROGRAM state JOURNAL`, with `--at K`, `--node N` and
-/// `--file F` behind it, or some of them in this order, `PROGRAM stats JOURNAL`, `PROGRAM check SCRIPT..`, of one script or more, with
-/// `--journal FILE` or without,
+/// `PROGRAM explain JOURNAL CALL`, `PROGRAM open JOURNAL` and `PROGRAM stats JOURNAL`, with `--json` or without, `PROGRAM state JOURNAL`,
+/// with `--at K`, `--node N`, `--file F` and `--json` behind it, or some of them in this order, `PROGRAM check SCRIPT..`, of one script
+/// or more, with `--journal FILE` and `--json`, or one of them or neither,
 /// `PROGRAM picture JOURNAL`, with `--around CALL` or without, and `--from K --to L --format FORMAT` behind it,
 /// `PROGRAM from-strace RECORDING --nodes N`, with `--place PLACES` or without,
 /// `PROGRAM from-strace RECORDING.. --history`, of one recording or more,
-/// `PROGRAM explore SCRIPT --seeds COUNT --first N` and `PROGRAM schedule SCRIPT --seed N`, with `--failures` or
-/// without, `PROGRAM judge HISTORY.. --steps N`, of one history or more, with `--allow RULE` as often as rules are
+/// `PROGRAM explore SCRIPT --seeds COUNT --first N`, with `--failures` and `--json`, or some of them in this order, `PROGRAM schedule
+/// SCRIPT --seed N`, with `--failures` or without, `PROGRAM judge HISTORY.. --steps N`, of one history or more, with `--allow RULE` as often as rules are
 /// allowed and `--order`, `--go-on`, `--stats`, `--json` and `--picture`, or some of them in this order, behind it,
 /// and `PROGRAM judge HISTORY --steps 10000000 --explains FILE`, with `--allow RULE` as often, and `--stats` and
 /// `--json`, or some of them, ask for just that, by the program's table of arguments, where each number is in its
@@ -36,16 +36,17 @@ pub fn a_seed_left_out_is_1()
 /// without failures; `PROGRAM schedule SCRIPT` for the seed 1, without failures; `PROGRAM judge HISTORY` for a
 /// search among 10000000 tables of a file at most, with no rule allowed, and for nothing else;
 /// `PROGRAM history JOURNAL` for the history, and not for what clients saw; `PROGRAM audit JOURNAL` for no reasons;
-/// and `PROGRAM state JOURNAL` for the state behind the last entry, of all nodes and all files.
+/// and `PROGRAM state JOURNAL` for the state behind the last entry, of all nodes and all files; those of `explore` and of `state` for words,
+/// and not for JSON.
 pub fn what_is_left_out_has_its_default()
     ensures picture { (program journal : List ℕ) → slice_get journal 0 ≢ Some 45 → AsksFor (program ∷ codes "picture" ∷ journal ∷ []) (picture journal None 1 greatest_seed Svg) }
     ensures strace { (program recording : List ℕ) → slice_get recording 0 ≢ Some 45 → AsksFor (program ∷ codes "from-strace" ∷ recording ∷ []) (from_strace recording 1 None) }
-    ensures explore { (program script : List ℕ) → slice_get script 0 ≢ Some 45 → AsksFor (program ∷ codes "explore" ∷ script ∷ []) (explore script 100 1 false) }
+    ensures explore { (program script : List ℕ) → slice_get script 0 ≢ Some 45 → AsksFor (program ∷ codes "explore" ∷ script ∷ []) (explore script 100 1 false false) }
     ensures schedule { (program script : List ℕ) → slice_get script 0 ≢ Some 45 → AsksFor (program ∷ codes "schedule" ∷ script ∷ []) (schedule script 1 false) }
     ensures judge { (program path : List ℕ) → slice_get path 0 ≢ Some 45 → AsksFor (program ∷ codes "judge" ∷ path ∷ []) (judge (plain_judgement path)) }
     ensures history { (program journal : List ℕ) → slice_get journal 0 ≢ Some 45 → AsksFor (program ∷ codes "history" ∷ journal ∷ []) (history journal false) }
     ensures audit { (program journal : List ℕ) → slice_get journal 0 ≢ Some 45 → AsksFor (program ∷ codes "audit" ∷ journal ∷ []) (audit journal false) }
-    ensures state { (program journal : List ℕ) → slice_get journal 0 ≢ Some 45 → AsksFor (program ∷ codes "state" ∷ journal ∷ []) (state journal None None None) }
+    ensures state { (program journal : List ℕ) → slice_get journal 0 ≢ Some 45 → AsksFor (program ∷ codes "state" ∷ journal ∷ []) (state journal None None None false) }
 {}
 
 /// No words ask for two things.

@@ -4,6 +4,7 @@
 
 pub mod allowed_rule;
 mod argument;
+mod check_words;
 pub mod command_line;
 mod commands;
 pub mod format;

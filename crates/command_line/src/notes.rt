@@ -241,9 +241,9 @@ one, the text is 'journal yes' and one of these (exit status 0):
 Else it is told on standard error where its text goes wrong, as that it was cut off (exit
 status 3).
 
-Of several files each line of the text begins with 'SCRIPT: '. Where one can't be read, or
-with --journal FILE no journal could be written to FILE, standard error says why (exit
-status 3); FILE stays as it is.
+Of several files each line of the text begins with 'SCRIPT: ', but with --json, where each
+is told in one line. Where one can't be read, or with --journal FILE no journal could be
+written to FILE, standard error says why (exit status 3); FILE stays as it is.
 
 Standard error also warns of a '# expect' line that counts for nothing, and of a line that
 'lockreplay run' would refuse with 13 or 14, for which a good script is run. That changes

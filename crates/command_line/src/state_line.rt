@@ -1,6 +1,6 @@
 //! What a line asks of a state.
 
-/// `state JOURNAL [--at K] [--node N] [--file F]`: to show what the cluster of the journal holds.
+/// `state JOURNAL [--at K] [--node N] [--file F] [--json]`: to show what the cluster of the journal holds.
 #[derive(Clone, Copy)]
 pub struct StateLine<'a> {
     pub journal: &'a str,
@@ -10,4 +10,6 @@ pub struct StateLine<'a> {
     pub node: Option<u32>,
     /// The one file that is shown, from 1 to 256, if it is not all.
     pub file: Option<u32>,
+    /// Whether it is shown as JSON.
+    pub json: bool,
 }

@@ -1,19 +1,19 @@
 //! Counts as words.
 use crate::kinds::{EventKind, MessageKind};
 use crate::numbers::Numbers;
+use crate::stretch::{Stretch, stretches_of};
 use crate::table::table_of;
 use crate::tallies::{delivered, events, sent, sent_about};
 use crate::touch::Touch;
 use crate::touches::touches_of;
 use cluster_core::journal::Journal;
-use intervals::span::GREATEST;
-use intervals::tree_map::TreeMap;
 use messages::entry::Entry;
 use messages::shape::Shape;
 use std::alloc::{AllocError, Global};
 use std::fmt::Write;
 
-const EVENTS: [(EventKind, &str); 10] = [
+/// The kinds of events, with their words.
+pub(crate) const EVENTS: [(EventKind, &str); 10] = [
     (EventKind::Call, "call"),
     (EventKind::Deliver, "deliver"),
     (EventKind::Interrupt, "interrupt"),
@@ -26,7 +26,8 @@ const EVENTS: [(EventKind, &str); 10] = [
     (EventKind::StartServer, "start-server"),
 ];
 
-const MESSAGES: [(MessageKind, &str); 10] = [
+/// The kinds of messages, with their words.
+pub(crate) const MESSAGES: [(MessageKind, &str); 10] = [
     (MessageKind::Request, "request"),
     (MessageKind::Grant, "grant"),
     (MessageKind::Revoke, "revoke"),
@@ -115,23 +116,15 @@ fn push_file(
     }
     writeln!(out, "file {file} messages {messages}")?;
     out.push_str(COLUMNS)?;
-    push_rows(out, &table)
-}
-
-// Writes a row for each longest stretch of bytes with the same numbers.
-fn push_rows(out: &mut String, table: &TreeMap<Numbers>) -> Result<(), AllocError> {
-    let mut first = 0;
-    while first <= GREATEST {
-        let Some(run) = table.next(first) else {
-            return Ok(());
-        };
-        push_row(out, run.lo, run.hi, &run.value)?;
-        first = run.hi + 1;
+    for stretch in stretches_of(alloc, &table)? {
+        push_row(out, stretch)?;
     }
     Ok(())
 }
 
-fn push_row(out: &mut String, lo: u64, hi: u64, numbers: &Numbers) -> Result<(), AllocError> {
+// Writes the row of a stretch of bytes.
+fn push_row(out: &mut String, stretch: Stretch) -> Result<(), AllocError> {
+    let Stretch { lo, hi, numbers } = stretch;
     let Numbers {
         locks,
         unlocks,
@@ -143,7 +136,7 @@ fn push_row(out: &mut String, lo: u64, hi: u64, numbers: &Numbers) -> Result<(),
         grants,
         revokes,
         released,
-    } = *numbers;
+    } = numbers;
     write!(
         out,
         "{lo:>19} {hi:>19} {locks:>8} {unlocks:>8} {queries:>8}"

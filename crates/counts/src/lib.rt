@@ -3,9 +3,11 @@
 #![tactic(auto)]
 
 pub mod calls;
+pub mod counts_json;
 pub mod counts_text;
 pub mod kinds;
 pub mod numbers;
+mod stretch;
 pub mod table;
 pub mod tallies;
 pub mod touch;

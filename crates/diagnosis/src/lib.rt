@@ -24,5 +24,6 @@ pub mod script_fault;
 mod synonyms;
 mod text_reader;
 pub mod verdict;
+pub mod why_json;
 pub mod why_text;
 pub mod wrong_entry;

@@ -21,8 +21,8 @@ pub(crate) fn push_refusal(
     out.push_str("\n")
 }
 
-// Adds why the event is refused.
-fn push_reason(
+/// Adds why the event is refused.
+pub(crate) fn push_reason(
     out: &mut String,
     shape: Shape,
     event: &Event,

@@ -29,16 +29,16 @@ pub fn why_text(alloc: Global, shape: Shape, wrong: &WrongEntry<'_>) -> Result<S
     Ok(out)
 }
 
-// The lines of an entry in a journal.
+/// The lines of an entry in a journal.
 #[derive(Drop)]
-struct Lines {
+pub(crate) struct Lines {
     text: String,
     is_answered: bool,
 }
 
 impl Lines {
-    // Those of the entry at this position of a journal of this version.
-    fn of(
+    /// Those of the entry at this position of a journal of this version.
+    pub(crate) fn of(
         alloc: Global,
         version: Version,
         position: u64,
@@ -50,8 +50,13 @@ impl Lines {
         Ok(Lines { text, is_answered })
     }
 
-    // How many lines stand before that of the part, or before the place where it would stand.
-    fn count_before(&self, part: Difference) -> u64 {
+    /// All of them, as they stand there.
+    pub(crate) fn text(&self) -> &str {
+        self.text.as_str()
+    }
+
+    /// How many lines stand before that of the part, or before the place where it would stand.
+    pub(crate) fn count_before(&self, part: Difference) -> u64 {
         match part {
             Difference::Name => 0,
             Difference::Answer => 1,
@@ -60,13 +65,18 @@ impl Lines {
         }
     }
 
-    // The line of the part, or that there is none.
-    fn part(&self, part: Difference) -> &str {
+    /// The line of the part; none where there is none.
+    pub(crate) fn line_of(&self, part: Difference) -> Option<&str> {
         if part == Difference::Answer && !self.is_answered {
-            return "nothing";
+            return None;
         }
         let index = self.count_before(part) as usize;
-        self.text.lines().nth(index).unwrap_or("nothing")
+        self.text.lines().nth(index)
+    }
+
+    /// The line of the part, or that there is none.
+    pub(crate) fn part(&self, part: Difference) -> &str {
+        self.line_of(part).unwrap_or("nothing")
     }
 }
 

@@ -18,10 +18,12 @@ use crate::explored_answer::ExploredAnswer;
 use crate::explored_outcome::ExploredOutcome;
 use crate::open_lines::open_in_each;
 use crate::report::report;
+use crate::report_json::report_json;
 use crate::schedule::schedule;
 use crate::scheduled::Scheduled;
 use lockscript::play_error::PlayError;
 use lockscript::script::Script;
+use lockscript::script_line::ScriptLine;
 use player::watcher::Watcher;
 use std::alloc::{AllocError, Global};
 
@@ -33,8 +35,8 @@ use std::alloc::{AllocError, Global};
 /// Those that break what is expected come before the others, and of each kind the more frequent ones first. Of
 /// each the lines are told in which outcomes differ, and those that break what is expected: a comment line
 /// `# expect WORDS` right behind a call line, where the answer's text has to begin with the words. Behind them the
-/// lines are told whose calls are open in each outcome, if there are any. Of each seed that is done the watcher is
-/// told.
+/// lines are told whose calls are open in each outcome, if there are any. All is told as JSON, if that is asked for. Of
+/// each seed that is done the watcher is told.
 ///
 /// # Errors
 /// `JournalFull` where a run needs more entries than a journal may have; `NoMemory` where a request for memory
@@ -46,6 +48,7 @@ pub fn explore<W: Watcher>(
     first: u32,
     count: u32,
     failures: bool,
+    json: bool,
     watcher: &mut W,
 ) -> Result<Explored, PlayError>
     ensures explored { IfOk result (λ explored. Explores failures script.now text.now first count explored) }
@@ -57,9 +60,26 @@ pub fn explore<W: Watcher>(
     let lines = script.lines();
     let open = open_in_each(alloc, lines, outcomes)?;
     Ok(Explored {
-        text: report(alloc, text, lines, outcomes, open.as_slice(), count)?,
+        text: told(alloc, text, lines, outcomes, open.as_slice(), count, json)?,
         breaks: some_breaks(outcomes),
     })
+}
+
+// The outcomes of so many seeds, in words or as JSON, where the calls of the lines of these numbers are open in each.
+fn told(
+    alloc: Global,
+    text: &str,
+    lines: &[ScriptLine],
+    outcomes: &[ExploredOutcome],
+    open: &[u32],
+    seeds: u32,
+    json: bool,
+) -> Result<String, AllocError> {
+    if json {
+        report_json(alloc, text, lines, outcomes, open, seeds)
+    } else {
+        report(alloc, text, lines, outcomes, open, seeds)
+    }
 }
 
 // Whether some outcome breaks what is expected.

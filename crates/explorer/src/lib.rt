@@ -22,6 +22,7 @@ mod open_lines;
 mod ready;
 mod remaining_calls;
 mod report;
+mod report_json;
 pub mod schedule;
 pub mod scheduled;
 mod script_reader;

@@ -82,8 +82,8 @@ pub(crate) fn push_lines(
     Ok(())
 }
 
-// Whether an outcome has another answer at the index.
-fn differs(outcomes: &[ExploredOutcome], index: usize, answer: &ExploredAnswer) -> bool {
+/// Whether an outcome has another answer at the index.
+pub(crate) fn differs(outcomes: &[ExploredOutcome], index: usize, answer: &ExploredAnswer) -> bool {
     outcomes.iter().any(|outcome| {
         let its = outcome.answers().get(index);
         its.is_some_and(|its| *its != *answer)
@@ -118,8 +118,8 @@ fn push_open(out: &mut String, numbers: &[u32]) -> Result<(), AllocError> {
     out.push_str("\n")
 }
 
-// Of how many of the lines it is said what is expected.
-fn count_expected(text: &str, lines: &[ScriptLine]) -> usize {
+/// Of how many of the lines it is said what is expected.
+pub(crate) fn count_expected(text: &str, lines: &[ScriptLine]) -> usize {
     let mut reader = ScriptReader::new(text);
     let mut count = 0usize;
     for line in lines {

@@ -17,19 +17,20 @@ use player::watcher::Watcher;
 use std::alloc::{AllocError, Global};
 
 // That each file writes a script, and whether threads take it, or that it writes a journal; of several files each line of
-// that begins with the path. Where a file is named for a journal, it is tried whether one could be written there.
+// that begins with the path, or each is told as JSON, if that is asked for. Where a file is named for a journal, it is tried whether one could be written there.
 pub(crate) fn check<'a, S: Store, V: Watcher>(
     alloc: Global,
     store: &mut S,
     paths: &[&'a str],
     journal: Option<&'a str>,
+    json: bool,
     watcher: &mut V,
 ) -> Result<Shown, Fault<'a>>
-    ensures done { IfOk result (Does (S.holds store.old) (check (map (λ path. path.now) paths.now) (option_map (λ file. file.now) journal.entry)) (S.holds store.new)) }
+    ensures done { IfOk result (Does (S.holds store.old) (check (map (λ path. path.now) paths.now) (option_map (λ file. file.now) journal.entry) json) (S.holds store.new)) }
     ensures fault { IfErr result (λ fault. (fault ≢ CannotWriteOutput)
-        × IsFault (S.holds store.old) (S.ran_short store.new) (S.refuses store.new) (check (map (λ path. path.now) paths.now) (option_map (λ file. file.now) journal.entry)) (S.holds store.new) fault) }
+        × IsFault (S.holds store.old) (S.ran_short store.new) (S.refuses store.new) (check (map (λ path. path.now) paths.now) (option_map (λ file. file.now) journal.entry) json) (S.holds store.new) fault) }
 {
-    checked_beside_trial(alloc, store, paths, journal, watcher)
+    checked_beside_trial(alloc, store, paths, journal, json, watcher)
 }
 
 // The same, by what is known of the files.
@@ -38,6 +39,7 @@ fn checked_beside_trial<'a, S: Store, V: Watcher>(
     store: &mut S,
     paths: &[&'a str],
     journal: Option<&'a str>,
+    json: bool,
     watcher: &mut V,
 ) -> Result<Shown, Fault<'a>>
     ensures done { IfOk result (AreChecked (S.holds store.old) (map (λ path. path.now) paths.now)) }
@@ -45,7 +47,7 @@ fn checked_beside_trial<'a, S: Store, V: Watcher>(
         (Any (IsAtFault (S.holds store.old)) (map (λ path. path.now) paths.now) ⊎ IsSomeAnd (option_map (λ file. file.now) journal.entry) (S.refuses store.new))) }
     ensures files { SameFiles (S.holds store.old) (S.holds store.new) }
 {
-    match all_checked(alloc, store, paths, watcher) {
+    match all_checked(alloc, store, paths, json, watcher) {
         Ok(shown) => {
             tried(alloc, store, journal, None)?;
             Ok(shown)

@@ -6,26 +6,27 @@ ghost use Rattle.replay.specs.rule.Checks.{IsAtFault, IsFaulty, IsGood, IsGoodTe
 ghost use Rattle.replay.specs.rule.Stores.{SameFiles};
 ghost use Rattle.replay.specs.rule.ToolFaults.{IsReportOf, IsToolFault};
 
+use crate::check_json::{journal_told, script_told};
 use crate::fault::Fault;
 use crate::input::text_of;
-use crate::reasoned::run_verdict;
 use crate::shown::Shown;
 use crate::store::Store;
 use crate::warnings::warnings_of;
 use diagnosis::journal_report::{begins_as_journal, journal_report};
 use diagnosis::report::report;
-use diagnosis::verdict::verdict;
 use lockscript::error::ParseError;
 use lockscript::laws::every_text_has_one_reading;
 use lockscript::script::Script;
 use player::watcher::Watcher;
 use std::alloc::{AllocError, Global};
 
-/// That a file writes a script, and whether threads take it, with warnings beside it, or that it writes a journal.
+/// That a file writes a script, and whether threads take it, with warnings beside it, or that it writes a journal; as JSON, if
+/// that is asked for.
 pub(crate) fn checked_at<'a, S: Store, V: Watcher>(
     alloc: Global,
     store: &mut S,
     path: &'a str,
+    json: bool,
     watcher: &mut V,
 ) -> Result<Shown, Fault<'a>>
     ensures done { IfOk result (λ shown. IsGood (S.holds store.old) path.now × IsTextShown shown) }
@@ -33,7 +34,7 @@ pub(crate) fn checked_at<'a, S: Store, V: Watcher>(
     ensures files { SameFiles (S.holds store.old) (S.holds store.new) }
 {
     let text = text_of(alloc, store, path)?;
-    checked_in(alloc, path, text.as_str(), watcher)
+    checked_in(alloc, path, text.as_str(), json, watcher)
 }
 
 // The same of the text of the file.
@@ -41,20 +42,26 @@ fn checked_in<'a, V: Watcher>(
     alloc: Global,
     path: &'a str,
     text: &str,
+    json: bool,
     watcher: &mut V,
 ) -> Result<Shown, Fault<'a>>
     ensures done { IfOk result (λ shown. IsGoodText text.now × IsTextShown shown) }
     ensures fault { IfErr result (IsReportOf (IsFaulty path.now text.now)) }
 {
     if begins_as_journal(text) {
-        journal_checked(alloc, path, text)
+        journal_checked(alloc, path, text, json)
     } else {
-        script_checked(alloc, path, text, watcher)
+        script_checked(alloc, path, text, json, watcher)
     }
 }
 
 // The same of a text that begins as a journal.
-fn journal_checked<'a>(alloc: Global, path: &'a str, text: &str) -> Result<Shown, Fault<'a>>
+fn journal_checked<'a>(
+    alloc: Global,
+    path: &'a str,
+    text: &str,
+    json: bool,
+) -> Result<Shown, Fault<'a>>
     requires { BeginsAsJournal text.now }
     ensures done { IfOk result (λ shown. IsGoodText text.now × IsTextShown shown) }
     ensures fault { IfErr result (IsReportOf (IsFaulty path.now text.now)) }
@@ -62,9 +69,7 @@ fn journal_checked<'a>(alloc: Global, path: &'a str, text: &str) -> Result<Shown
     if let Some(report) = journal_report(alloc, path, text)? {
         return Err(Fault::Faulty(report));
     }
-    let mut told = String::from_str(alloc, "journal yes\n")?;
-    told.push_str(&run_verdict(alloc, text)?)?;
-    Ok(Shown::Text(told))
+    Ok(Shown::Text(journal_told(alloc, path, text, json)?))
 }
 
 // The same of a text that does not.
@@ -72,6 +77,7 @@ fn script_checked<'a, V: Watcher>(
     alloc: Global,
     path: &'a str,
     text: &str,
+    json: bool,
     watcher: &mut V,
 ) -> Result<Shown, Fault<'a>>
     requires { ¬ (BeginsAsJournal text.now) }
@@ -82,7 +88,7 @@ fn script_checked<'a, V: Watcher>(
         return Err(Fault::Faulty(report));
     }
     let script = script_in(alloc, text)?;
-    let verdict = verdict(alloc, &script)?;
+    let verdict = script_told(alloc, path, &script, json)?;
     let told = warnings_of(alloc, path, text, script, watcher)?;
     if told.is_empty() {
         Ok(Shown::Text(verdict))

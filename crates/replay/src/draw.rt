@@ -1,5 +1,5 @@
 //! The picture of a journal.
-ghost use Rattle.std.specs.Prelude.{◌≢◌, ⊤, IfErr, IfOk, MatchOption, Some, option_map};
+ghost use Rattle.std.specs.Prelude.{◌≢◌, ⊤, ℕ, List, Option, IfErr, IfOk, MatchOption, Some, option_map};
 ghost use Rattle.command_line.specs.rule.Tasks.{picture_task_of};
 ghost use Rattle.replay.specs.declared.fault.Fault.TheVariants.{CannotWriteOutput};
 ghost use Rattle.replay.specs.rule.Commands.{Does, IsFault};
@@ -20,8 +20,10 @@ use std::alloc::{AllocError, Global};
 use views::diagrams::mermaid::sequence;
 use views::diagrams::trace::trace;
 use views::pictures::around::around;
+use views::pictures::overview::column_size;
+use views::pictures::overview_picture::overview;
 use views::pictures::picture::picture;
-use views::pictures::stretch::holdings;
+use views::pictures::stretch::{holdings, holdings_at};
 use views::pictures::window::Window;
 
 // How many entries a picture shows at most.
@@ -59,11 +61,39 @@ fn drawn(alloc: Global, journal: &Journal, asked: PictureLine<'_>) -> Result<Sho
     let Some(wide) = window_of(journal, asked.around, from, to) else {
         return Ok(Shown::Wanting(no_call(alloc, asked.around.unwrap_or(""))?));
     };
+    if is_overview(journal, &asked) {
+        return over(alloc, journal);
+    }
     let text = picture_in(alloc, journal, &narrowed(&wide), asked.format)?;
     match lack_of(alloc, &wide, journal.entries().len() as u64)? {
         Some(told) => Ok(Shown::Partial { text, told }),
         None => Ok(Shown::Text(text)),
     }
+}
+
+// Whether all entries are asked for as SVG, and are more than a picture shows.
+fn is_overview(journal: &Journal, asked: &PictureLine<'_>) -> bool {
+    asked.around.is_none()
+        && asked.from <= 1
+        && asked.to == u32::MAX
+        && matches!(asked.format, Format::Svg)
+        && MOST_DRAWN < journal.entries().len() as u64
+}
+
+// The overview of all entries.
+fn over(alloc: Global, journal: &Journal) -> Result<Shown, AllocError>
+    ensures { IfOk result (λ shown. (name : Option (List ℕ)) → IsDrawn journal.now name shown) }
+{
+    let entries = journal.entries();
+    let count = entries.len();
+    let size = column_size(count);
+    let held = holdings_at(alloc, journal, 1, count as u64, size as u64)?;
+    let shape = journal.shape();
+    let text = overview(alloc, &shape, entries, held.as_slice())?;
+    let told = format!(in alloc;
+        "{count} entries are drawn {size} a column: --around CALL draws those about a call in full\n"
+    )?;
+    Ok(Shown::Partial { text, told })
 }
 
 // What a picture of so many entries lacks of the window that was asked for: entries behind those that it shows, or any

@@ -56,14 +56,15 @@ pub(crate) fn explored<'a, S: Store, V: Watcher>(
     seeds: u32,
     first: u32,
     failures: bool,
+    json: bool,
     watcher: &mut V,
 ) -> Result<Shown, Fault<'a>>
-    ensures done { IfOk result (Does (S.holds store.old) (explore path.now seeds first failures) (S.holds store.new)) }
+    ensures done { IfOk result (Does (S.holds store.old) (explore path.now seeds first failures json) (S.holds store.new)) }
     ensures fault { IfErr result (λ fault. (fault ≢ CannotWriteOutput)
-        × IsFault (S.holds store.old) (S.ran_short store.new) (S.refuses store.new) (explore path.now seeds first failures) (S.holds store.new) fault) }
+        × IsFault (S.holds store.old) (S.ran_short store.new) (S.refuses store.new) (explore path.now seeds first failures json) (S.holds store.new) fault) }
 {
     let text = text_of(alloc, store, path)?;
-    explored_in(alloc, text.as_str(), seeds, first, failures, watcher)
+    explored_in(alloc, text.as_str(), seeds, first, failures, json, watcher)
 }
 
 // The same of the text of a file.
@@ -73,13 +74,14 @@ fn explored_in<'a, V: Watcher>(
     seeds: u32,
     first: u32,
     failures: bool,
+    json: bool,
     watcher: &mut V,
 ) -> Result<Shown, Fault<'a>>
     ensures done { IfOk result (IsExplored failures first seeds text.now) }
     ensures fault { IfErr result (IsExploreTextFault failures text.now) }
 {
     let script = Script::parse_for_threads(alloc, text)?;
-    let explored = explore(alloc, text, &script, first, seeds, failures, watcher)?;
+    let explored = explore(alloc, text, &script, first, seeds, failures, json, watcher)?;
     if explored.breaks {
         Ok(Shown::Wanting(explored.text))
     } else {

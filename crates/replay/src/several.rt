@@ -12,11 +12,12 @@ use crate::store::Store;
 use player::watcher::Watcher;
 use std::alloc::{AllocError, Global};
 
-// What came of the files so far: what is shown of good ones, behind their paths if these are to stand there, their
-// warnings, what is wrong with others, and whether there are any.
+// What came of the files so far: what is shown of good ones, behind their paths if these are to stand there, or as JSON if that is
+// asked for, their warnings, what is wrong with others, and whether there are any.
 #[derive(Drop)]
 pub(crate) struct Looked {
     named: bool,
+    json: bool,
     told: String,
     warnings: String,
     report: String,
@@ -30,11 +31,12 @@ impl Looked {
     ghost use Rattle.replay.specs.rule.Stores.{SameFiles};
     ghost use Rattle.replay.specs.rule.ToolFaults.{IsReportOf};
 
-    fn new(alloc: Global, named: bool) -> Looked
+    fn new(alloc: Global, named: bool, json: bool) -> Looked
         ensures { result.is_bad ≡ false }
     {
         Looked {
             named,
+            json,
             told: String::new(alloc),
             warnings: String::new(alloc),
             report: String::new(alloc),
@@ -55,7 +57,7 @@ impl Looked {
         ensures short { IfErr result (λ fault. fault ≡ NoMemory) }
         ensures files { SameFiles (S.holds store.old) (S.holds store.new) }
     {
-        match checked_at(alloc, store, path, watcher) {
+        match checked_at(alloc, store, path, self.json, watcher) {
             Ok(shown) => Ok(self.add(path, &shown)?),
             Err(fault) => Ok(self.add_fault(&fault)?),
         }
@@ -110,19 +112,20 @@ impl Looked {
     }
 }
 
-/// What is shown of files, of several behind their paths; or what is wrong with those with which something is, one behind
+/// What is shown of files, of several behind their paths, or of each as JSON, if that is asked for; or what is wrong with those with which something is, one behind
 /// the other.
 pub(crate) fn all_checked<'a, S: Store, V: Watcher>(
     alloc: Global,
     store: &mut S,
     paths: &[&'a str],
+    json: bool,
     watcher: &mut V,
 ) -> Result<Shown, Fault<'a>>
     ensures done { IfOk result (AreChecked (S.holds store.old) (map (λ path. path.now) paths.now)) }
     ensures fault { IfErr result (IsToolFault (S.holds store.old) (Contains (map (λ path. path.now) paths.now)) (Any (IsAtFault (S.holds store.old)) (map (λ path. path.now) paths.now))) }
     ensures files { SameFiles (S.holds store.old) (S.holds store.new) }
 {
-    let mut looked = Looked::new(alloc, paths.len() > 1);
+    let mut looked = Looked::new(alloc, paths.len() > 1 && !json, json);
     for path in paths {
         looked.look(alloc, store, *path, watcher)?;
     }

@@ -7,13 +7,16 @@ ghost use Rattle.replay.specs.rule.Tellings.{HasState, HasThese, IsStateBehind, 
 
 use crate::audit::{Audited, checked};
 use crate::fault::Fault;
+use crate::json_line::json_line;
 use crate::shown::Shown;
 use crate::store::Store;
 use crate::world_behind::world_behind;
 use cluster_core::journal::Journal;
 use command_line::state_line::StateLine;
+use messages::version::Version;
 use states::chosen::Chosen;
 use states::cluster_state::ClusterState;
+use states::state_json::state_json;
 use states::state_text::state_text;
 use std::alloc::{AllocError, Global};
 
@@ -98,15 +101,31 @@ fn lack_text(alloc: Global, journal: &Journal, asked: StateLine<'_>) -> Result<S
     format!(in alloc; "no file {file}, the last is {files}\n")
 }
 
-// The state that is asked for, in words.
+// The state that is asked for, in words or as JSON.
 fn told_text(alloc: Global, journal: &Journal, asked: StateLine<'_>) -> Result<String, AllocError>
     requires { HasThese journal.now asked.at asked.node asked.file }
     ensures { IfOk result (λ text. HasState journal.now asked.entry.at asked.entry.node asked.entry.file) }
 {
     let position = position_in(journal, asked.at);
     let told = state_behind(alloc, journal, position, asked)?;
-    let text = state_text(alloc, journal.shape().version(), position as u64, &told)?;
+    let version = journal.shape().version();
+    let text = state_told(alloc, version, position as u64, &told, asked.json)?;
     Ok(text)
+}
+
+// The state behind this position of a journal of this version, in words or as JSON.
+fn state_told(
+    alloc: Global,
+    version: Version,
+    position: u64,
+    state: &ClusterState,
+    json: bool,
+) -> Result<String, AllocError> {
+    if json {
+        json_line(alloc, &state_json(alloc, version, position, state)?)
+    } else {
+        state_text(alloc, version, position, state)
+    }
 }
 
 // The state behind this position, of the node and the file that are given.

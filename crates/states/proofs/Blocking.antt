@@ -17,7 +17,8 @@ use Rattle.cluster_core.specs.rule.Union.{union}
 use Rattle.cluster_core.specs.rule.Listings.{Lists, IsHeld, IsHeldBefore, IsLockListing, held_lock}
 use Rattle.cluster_core.proofs.common.Lists.{All-both, lists_map}
 use Rattle.states.specs.rule.OpenCalls.{IsBlocker}
-use Rattle.states.specs.code.Lists.{blocking_of, is_blocker}
+use Rattle.views.specs.rule.OpenIn.{is_blocker}
+use Rattle.states.specs.code.Lists.{blocking_of}
 use Rattle.states.proofs.Links.{Contains-filter}
 
 -- what passes is of the call's file, and blocks it

@@ -2,5 +2,4 @@ pub mod Links
 pub mod Loops
 pub mod Requests
 pub mod Blocking
-pub mod OpenLists
 pub mod ToldLaws

@@ -13,7 +13,7 @@ use model::call::CallId;
 use model::op::LockCommand;
 use std::alloc::{AllocError, Global};
 use std::fmt::Write;
-use views::stories::lines::{push_addressed, push_calling, push_ended};
+use views::stories::lines::{push_calling, push_ended, push_undelivered};
 use views::stories::numbered_entry::NumberedMessage;
 use views::stories::open_call_story::{OpenCallStory, unanswered};
 
@@ -33,7 +33,7 @@ pub fn open_text(
     for call in &calls {
         push_made(&mut out, call)?;
         match state_of(&states, &call.made().call) {
-            Some(state) => push_state(&mut out, version, state, call.way())?,
+            Some(state) => push_state(&mut out, version, state, call.undelivered())?,
             None => push_end(&mut out, call)?,
         }
     }
@@ -44,8 +44,8 @@ pub fn open_text(
     Ok(out)
 }
 
-// The state of the call of this name, if it is open.
-fn state_of<'a>(states: &'a [OpenState], call: &CallId) -> Option<&'a OpenState> {
+/// The state of the call of this name, if it is open.
+pub(crate) fn state_of<'a>(states: &'a [OpenState], call: &CallId) -> Option<&'a OpenState> {
     for state in states {
         if state.call == *call {
             return Some(state);
@@ -79,18 +79,23 @@ fn push_state(
     out: &mut String,
     version: Version,
     state: &OpenState,
-    way: &[NumberedMessage<'_>],
+    undelivered: &[NumberedMessage<'_>],
 ) -> Result<(), AllocError> {
     for lock in &state.locks {
         out.push_str("  blocked: ")?;
         push_lock(out, lock)?;
         out.push_str("\n")?;
     }
-    if state.asked.lock_command == LockCommand::Wait && !state.locks.is_empty() {
+    if is_blocked(state) {
         return Ok(());
     }
-    push_place(out, version, state, way.is_empty())?;
-    push_way(out, version, way)
+    push_place(out, version, state, undelivered.is_empty())?;
+    push_left(out, version, undelivered)
+}
+
+/// Whether the call is a wait that a lock blocks.
+pub(crate) fn is_blocked(state: &OpenState) -> bool {
+    state.asked.lock_command == LockCommand::Wait && !state.locks.is_empty()
 }
 
 // Writes the line of where the request is; where no message about the call may come, what helps.
@@ -165,15 +170,14 @@ fn push_awaiting(out: &mut String, file: u16, nodes: &[u8]) -> Result<(), AllocE
 }
 
 // Writes the lines of the messages about the call that were sent and did not come since.
-fn push_way(
+fn push_left(
     out: &mut String,
     version: Version,
-    way: &[NumberedMessage<'_>],
+    undelivered: &[NumberedMessage<'_>],
 ) -> Result<(), AllocError> {
-    for numbered in way {
-        let number = numbered.number();
-        write!(out, "  message {number} is not delivered to ")?;
-        push_addressed(out, version, numbered.message())?;
+    for numbered in undelivered {
+        out.push_str("  ")?;
+        push_undelivered(out, version, numbered)?;
     }
     Ok(())
 }

@@ -51,15 +51,24 @@ fn push_request(
     file: FileNumber,
     request: &TokenRequest,
 ) -> Result<(), AllocError> {
-    let message = Message::Request {
+    push_message(out, version, &request_message(file, request))?;
+    out.push_str("\n")
+}
+
+/// The message of a request to the server of the file.
+pub(crate) fn request_message(file: FileNumber, request: &TokenRequest) -> Message {
+    Message::Request {
         file,
         call: request.call,
         blocking: request.blocking,
         mode: request.mode,
         wanted: request.wanted,
-    };
-    push_message(out, version, &message)?;
-    out.push_str("\n")
+    }
+}
+
+/// How many commands the node of the row was given in this epoch.
+pub(crate) fn command_count(row: &ShownRow) -> u64 {
+    row.number % (u64::from(GREATEST_NUMBER) + 1)
 }
 
 // Writes the lines of a row: how many commands the node was given in this epoch, its token, and the command that has
@@ -70,7 +79,7 @@ fn push_row(
     file: FileNumber,
     row: &ShownRow,
 ) -> Result<(), AllocError> {
-    let commands = row.number % (u64::from(GREATEST_NUMBER) + 1); // the count of the epoch alone
+    let commands = command_count(row);
     push_row_name(out, file, row)?;
     writeln!(out, " commands {commands}")?;
     for run in &row.token {

@@ -67,11 +67,7 @@ fn push_epoch(out: &mut String, told: ToldEpoch) -> Result<(), AllocError> {
     if works {
         writeln!(out, "server {file} works in epoch {epoch}")?;
     }
-    let failed = if works {
-        epoch.saturating_sub(1)
-    } else {
-        epoch
-    };
+    let failed = told.failed();
     if failed > 0 {
         writeln!(out, "server {file} failed in epoch {failed}")?;
     }
@@ -131,8 +127,8 @@ fn push_open(
     out.push_str("\n")
 }
 
-// The word of what a call asks about a lock, as in scripts.
-fn word_of(command: LockCommand) -> &'static str {
+/// The word of what a call asks about a lock, as in scripts.
+pub(crate) fn word_of(command: LockCommand) -> &'static str {
     match command {
         LockCommand::Set => "set",
         LockCommand::Wait => "wait",

@@ -25,6 +25,17 @@ pub struct ToldEpoch {
     pub works: bool,
 }
 
+impl ToldEpoch {
+    /// The greatest epoch that failed, as all before it did; 0 where none did.
+    pub(crate) fn failed(self) -> u16 {
+        if self.works {
+            self.epoch.saturating_sub(1)
+        } else {
+            self.epoch
+        }
+    }
+}
+
 /// A node, and the greatest of its incarnations that a server knows to be dead, both from 1.
 #[derive(Clone, Copy, Debug, PartialEq, Eq)]
 pub struct KnownDead {

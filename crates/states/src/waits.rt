@@ -3,15 +3,15 @@ ghost use Rattle.std.specs.Prelude.{◌≡◌, ◌++◌, ℕ, List, All, IfOk, O
 ghost use Rattle.std.specs.List.{list_any};
 ghost use Rattle.model.specs.declared.owner.Kind.TheVariants.{OfProcess};
 ghost use Rattle.model.specs.rule.Owners.{same_kind};
-ghost use Rattle.states.specs.rule.OpenCalls.{is_lock_of, is_wait, waits_for};
+ghost use Rattle.states.specs.rule.OpenCalls.{is_lock_of, waits_for};
 ghost use Rattle.states.specs.rule.Cycles.{IsCycle, Reaches, links_from, waits_among};
 
 use crate::cycle::{Cycle, Link, cycles};
 use crate::open_call::OpenState;
 use model::lock_info::LockInfo;
-use model::op::LockCommand;
 use model::owner::Kind;
 use std::alloc::{AllocError, Global};
+use views::pictures::open_in::is_wait;
 
 /// Cycles of waits among open calls, such that each call of any cycle waits, directly or through others, for one of a
 /// cycle here. Where there is none here, there is none. A call waits for another where a lock that blocks it is of the
@@ -73,16 +73,6 @@ fn has_lock_of(locks: &[LockInfo], state: &OpenState) -> bool
         }
     }
     false
-}
-
-// Whether it is a wait.
-fn is_wait(command: LockCommand) -> bool
-    ensures { result ≡ is_wait command }
-{
-    match command {
-        LockCommand::Wait => true,
-        LockCommand::Set | LockCommand::Query => false,
-    }
 }
 
 // Whether the lock is of the process of the call, or of the description for which it asks.

@@ -19,7 +19,7 @@ use Rattle.views.proofs.Passes.{drop_here}
 use Rattle.views.specs.rule.About.{delivers}
 use Rattle.views.specs.declared.pictures.placed_reply.PlacedReply.{PlacedReply}
 use Rattle.views.specs.code.Indexes.{is_past, last_come}
-use Rattle.views.specs.rule.Places.{answer_at, answer_to, is_lost, last_sent, last_some, position_if}
+use Rattle.views.specs.rule.Places.{answer_at, answer_to, is_undelivered, last_sent, last_some, position_if}
 
 -- an element comes last
 more : {A B : Type 0} (g : ℕ × A → Option B) (o : Option B) (n : ℕ) (xs : List A) (x : A) → last_or o (filter_map g (enumerate_from n (xs ++ x ∷ []))) ≡ option_or (g (n + length xs, x)) (last_or o (filter_map g (enumerate_from n xs)))
@@ -153,7 +153,7 @@ past_from {A} test position (suc k) o n (y ∷ ys) at before = by (test y) (past
     by true rest later = later in_time
     by false rest later = rest
 
--- whether a message is lost, by the last entry at which it comes
-pub is_lost-by_last : (entries : List EntryFields) (position : ℕ) (m : Message) → is_past position (last_come m entries) ≡ is_lost entries position m
-unfolding is_lost
-is_lost-by_last entries position m = past_from (λ (e : EntryFields). delivers (same_message m) e.event) position position None 1 entries (omega arith) refl
+-- whether a message is not delivered, by the last entry at which it comes
+pub is_undelivered-by_last : (entries : List EntryFields) (position : ℕ) (m : Message) → is_past position (last_come m entries) ≡ is_undelivered entries position m
+unfolding is_undelivered
+is_undelivered-by_last entries position m = past_from (λ (e : EntryFields). delivers (same_message m) e.event) position position None 1 entries (omega arith) refl

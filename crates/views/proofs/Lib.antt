@@ -1,5 +1,5 @@
 pub mod Passes
-pub mod Firsts
+pub mod LastNumbers
 pub mod CallParts
 pub mod OpenEnds
 pub mod Lasts
@@ -9,3 +9,7 @@ pub mod Grows
 pub mod LastBars
 pub mod HeldStretches
 pub mod TrackLaws
+pub mod StayLaws
+pub mod OpenLists
+pub mod SheetLaws
+pub mod Columns

@@ -4,5 +4,6 @@
 #![tactic(auto)]
 
 pub mod diagrams;
+pub mod json_names;
 pub mod pictures;
 pub mod stories;

@@ -36,6 +36,10 @@ bounded_rule id long least greatest = record (option_rule id long) { parser = So
 abbrev pub flag_rule : Text → Rule
 flag_rule name = record (option_rule name name) { action = Some SetTrue }
 
+-- `--json`
+abbrev pub json_rule : Rule
+json_rule = flag_rule (codes "json")
+
 -- `--journal FILE`
 abbrev pub file_rule : Rule
 file_rule = option_rule (codes "FILE") (codes "journal")
@@ -110,35 +114,35 @@ abbrev pub history_app : App
 history_app = with_rule (with_rule (new_app (codes "history")) (path_rule (codes "JOURNAL"))) (flag_rule (codes "as-clients"))
 
 abbrev pub explain_app : App
-explain_app = with_rule (with_rule (new_app (codes "explain")) (path_rule (codes "JOURNAL"))) (path_rule (codes "CALL"))
+explain_app = with_rule (with_rule (with_rule (new_app (codes "explain")) (path_rule (codes "JOURNAL"))) (path_rule (codes "CALL"))) json_rule
 
 abbrev pub open_app : App
-open_app = with_rule (new_app (codes "open")) (path_rule (codes "JOURNAL"))
+open_app = with_rule (with_rule (new_app (codes "open")) (path_rule (codes "JOURNAL"))) json_rule
 
 abbrev pub state_app : App
-state_app = with_rule (with_rule (with_rule (with_rule (new_app (codes "state")) (path_rule (codes "JOURNAL"))) at_rule) node_rule) lock_file_rule
+state_app = with_rule (with_rule (with_rule (with_rule (with_rule (new_app (codes "state")) (path_rule (codes "JOURNAL"))) at_rule) node_rule) lock_file_rule) json_rule
 
 abbrev pub check_app : App
-check_app = with_rule (with_rule (new_app (codes "check")) (paths_rule (codes "SCRIPT"))) file_rule
+check_app = with_rule (with_rule (with_rule (new_app (codes "check")) (paths_rule (codes "SCRIPT"))) file_rule) json_rule
 
 abbrev pub picture_app : App
 picture_app = with_rule (with_rule (with_rule (with_rule (with_rule (new_app (codes "picture")) (path_rule (codes "JOURNAL"))) around_rule) from_rule) to_rule) format_rule
 
 abbrev pub stats_app : App
-stats_app = with_rule (new_app (codes "stats")) (path_rule (codes "JOURNAL"))
+stats_app = with_rule (with_rule (new_app (codes "stats")) (path_rule (codes "JOURNAL"))) json_rule
 
 abbrev pub strace_app : App
 strace_app = with_rule (with_rule (with_rule (with_rule (new_app (codes "from-strace")) (paths_rule (codes "RECORDING"))) nodes_rule) places_rule) (flag_rule (codes "history"))
 
 abbrev pub explore_app : App
-explore_app = with_rule (with_rule (with_rule (with_rule (new_app (codes "explore")) (path_rule (codes "SCRIPT"))) seeds_rule) (seed_rule (codes "first"))) (flag_rule (codes "failures"))
+explore_app = with_rule (with_rule (with_rule (with_rule (with_rule (new_app (codes "explore")) (path_rule (codes "SCRIPT"))) seeds_rule) (seed_rule (codes "first"))) (flag_rule (codes "failures"))) json_rule
 
 abbrev pub schedule_app : App
 schedule_app = with_rule (with_rule (with_rule (new_app (codes "schedule")) (path_rule (codes "SCRIPT"))) (seed_rule (codes "seed"))) (flag_rule (codes "failures"))
 
 abbrev pub judge_app : App
 judge_app =
-    with_rule (with_rule (with_rule (with_rule (with_rule (with_rule (with_rule (with_rule (with_rule (new_app (codes "judge")) (paths_rule (codes "HISTORY"))) steps_rule) explains_rule) allow_rule) (flag_rule (codes "order"))) (flag_rule (codes "go-on"))) (flag_rule (codes "stats"))) (flag_rule (codes "json"))) (flag_rule (codes "picture"))
+    with_rule (with_rule (with_rule (with_rule (with_rule (with_rule (with_rule (with_rule (with_rule (new_app (codes "judge")) (paths_rule (codes "HISTORY"))) steps_rule) explains_rule) allow_rule) (flag_rule (codes "order"))) (flag_rule (codes "go-on"))) (flag_rule (codes "stats"))) json_rule) (flag_rule (codes "picture"))
 
 -- no command is no command line
 abbrev pub bare_app : App
@@ -155,10 +159,6 @@ program_app = with_subcommand (with_subcommand (with_subcommand (with_subcommand
 -- the command that is met, with what is read of its arguments
 abbrev pub read_in : List (List Row → Option Text) → Option (Text × List Row) → Option (Text × List (Option Text))
 read_in readers = option_map (λ p. (p.0, map (λ read. read p.1) readers))
-
--- the same with the values of the arguments of these names
-abbrev pub values_in : List Text → Option (Text × List Row) → Option (Text × List (Option Text))
-values_in ids = read_in (map (λ id. first_of id) ids)
 
 -- the text writes this number, which lies between the bounds
 pub record IsNumber (least greatest : ℕ) (text : Text) (number : ℕ) : Type 0 where
@@ -178,7 +178,7 @@ abbrev pub flag_text : Bool → Text
 flag_text true = codes "true"
 flag_text false = codes "false"
 
--- the paths, numbers and flags of the commands that have more than paths
+-- the paths, numbers and flags of the commands
 abbrev pub run_values_in : Option (Text × List Row) → Option (Text × List (Option Text))
 run_values_in = read_in (first_of (codes "SCRIPT") ∷ first_of (codes "JOURNAL") ∷ first_of (codes "FILE") ∷ one_of (codes "expect") ∷ one_of (codes "open") ∷ one_of (codes "quiet") ∷ one_of (codes "calm") ∷ [])
 
@@ -191,8 +191,15 @@ picture_values_in = read_in (first_of (codes "JOURNAL") ∷ first_of (codes "CAL
 abbrev pub audit_values_in : Option (Text × List Row) → Option (Text × List (Option Text))
 audit_values_in = read_in (first_of (codes "JOURNAL") ∷ one_of (codes "why") ∷ [])
 
+abbrev pub explain_values_in : Option (Text × List Row) → Option (Text × List (Option Text))
+explain_values_in = read_in (first_of (codes "JOURNAL") ∷ first_of (codes "CALL") ∷ one_of (codes "json") ∷ [])
+
+-- of the open calls, and of counts
+abbrev pub journal_values_in : Option (Text × List Row) → Option (Text × List (Option Text))
+journal_values_in = read_in (first_of (codes "JOURNAL") ∷ one_of (codes "json") ∷ [])
+
 abbrev pub state_values_in : Option (Text × List Row) → Option (Text × List (Option Text))
-state_values_in = read_in (first_of (codes "JOURNAL") ∷ one_of (codes "K") ∷ one_of (codes "N") ∷ one_of (codes "F") ∷ [])
+state_values_in = read_in (first_of (codes "JOURNAL") ∷ one_of (codes "K") ∷ one_of (codes "N") ∷ one_of (codes "F") ∷ one_of (codes "json") ∷ [])
 
 abbrev pub history_values_in : Option (Text × List Row) → Option (Text × List (Option Text))
 history_values_in = read_in (first_of (codes "JOURNAL") ∷ one_of (codes "as-clients") ∷ [])
@@ -201,12 +208,12 @@ history_values_in = read_in (first_of (codes "JOURNAL") ∷ one_of (codes "as-cl
 abbrev pub strace_values_in : Option (Text × List Row) → Option (Text × Option (List Text) × List (Option Text))
 strace_values_in = option_map (λ p. (p.0, all_of (codes "RECORDING") p.1, map (λ read. read p.1) (one_of (codes "N") ∷ first_of (codes "PLACES") ∷ one_of (codes "history") ∷ [])))
 
--- the scripts of a check, and the file that it names
-abbrev pub check_values_in : Option (Text × List Row) → Option (Text × Option (List Text) × Option Text)
-check_values_in = option_map (λ p. (p.0, all_of (codes "SCRIPT") p.1, first_of (codes "FILE") p.1))
+-- the scripts of a check, and what else it has
+abbrev pub check_values_in : Option (Text × List Row) → Option (Text × Option (List Text) × List (Option Text))
+check_values_in = option_map (λ p. (p.0, all_of (codes "SCRIPT") p.1, map (λ read. read p.1) (first_of (codes "FILE") ∷ one_of (codes "json") ∷ [])))
 
 abbrev pub explore_values_in : Option (Text × List Row) → Option (Text × List (Option Text))
-explore_values_in = read_in (first_of (codes "SCRIPT") ∷ one_of (codes "COUNT") ∷ one_of (codes "N") ∷ one_of (codes "failures") ∷ [])
+explore_values_in = read_in (first_of (codes "SCRIPT") ∷ one_of (codes "COUNT") ∷ one_of (codes "N") ∷ one_of (codes "failures") ∷ one_of (codes "json") ∷ [])
 
 abbrev pub schedule_values_in : Option (Text × List Row) → Option (Text × List (Option Text))
 schedule_values_in = read_in (first_of (codes "SCRIPT") ∷ one_of (codes "N") ∷ one_of (codes "failures") ∷ [])
@@ -229,23 +236,23 @@ IsMet met (threads script seed stop no_join journal) =
     (text : Text) × (threads_values_in met ≡ Some (codes "threads", Some script ∷ Some text ∷ Some (flag_text stop) ∷ Some (flag_text no_join) ∷ journal ∷ [])) × IsNumber 0 greatest_seed text seed
 IsMet met (audit journal why) = audit_values_in met ≡ Some (codes "audit", Some journal ∷ Some (flag_text why) ∷ [])
 IsMet met (history journal as_clients) = history_values_in met ≡ Some (codes "history", Some journal ∷ Some (flag_text as_clients) ∷ [])
-IsMet met (explain journal call) = values_in (codes "JOURNAL" ∷ codes "CALL" ∷ []) met ≡ Some (codes "explain", Some journal ∷ Some call ∷ [])
-IsMet met (open_calls journal) = values_in (codes "JOURNAL" ∷ []) met ≡ Some (codes "open", Some journal ∷ [])
-IsMet met (state journal at of_node of_file) =
-    (k : Option Text) × (n : Option Text) × (f : Option Text) × (state_values_in met ≡ Some (codes "state", Some journal ∷ k ∷ n ∷ f ∷ []))
+IsMet met (explain journal call json) = explain_values_in met ≡ Some (codes "explain", Some journal ∷ Some call ∷ Some (flag_text json) ∷ [])
+IsMet met (open_calls journal json) = journal_values_in met ≡ Some (codes "open", Some journal ∷ Some (flag_text json) ∷ [])
+IsMet met (state journal at of_node of_file json) =
+    (k : Option Text) × (n : Option Text) × (f : Option Text) × (state_values_in met ≡ Some (codes "state", Some journal ∷ k ∷ n ∷ f ∷ Some (flag_text json) ∷ []))
     × MayBeNumber 0 greatest_seed k at × MayBeNumber 1 most_nodes n of_node × MayBeNumber 1 most_files f of_file
-IsMet met (check scripts journal) = (check_values_in met ≡ Some (codes "check", Some scripts, journal)) × (scripts ≢ [])
+IsMet met (check scripts journal json) = (check_values_in met ≡ Some (codes "check", Some scripts, journal ∷ Some (flag_text json) ∷ [])) × (scripts ≢ [])
 IsMet met (picture journal call first last format) =
     (from : Text) × (to : Text) × (picture_values_in met ≡ Some (codes "picture", Some journal ∷ call ∷ Some from ∷ Some to ∷ Some (format_text format) ∷ []))
     × IsNumber 1 greatest_seed from first × IsNumber 1 greatest_seed to last
-IsMet met (stats journal) = values_in (codes "JOURNAL" ∷ []) met ≡ Some (codes "stats", Some journal ∷ [])
+IsMet met (stats journal json) = journal_values_in met ≡ Some (codes "stats", Some journal ∷ Some (flag_text json) ∷ [])
 IsMet met (from_strace recording nodes places) =
     (text : Text) × (strace_values_in met ≡ Some (codes "from-strace", Some (recording ∷ []), Some text ∷ places ∷ Some (flag_text false) ∷ [])) × IsNumber 1 most_nodes text nodes
 IsMet met (recorded_history recordings) =
     (text : Text) × (nodes : ℕ) × (places : Option Text) × (strace_values_in met ≡ Some (codes "from-strace", Some recordings, Some text ∷ places ∷ Some (flag_text true) ∷ []))
     × IsNumber 1 most_nodes text nodes × MayRecord recordings nodes places
-IsMet met (explore script seeds first failures) =
-    (count : Text) × (text : Text) × (explore_values_in met ≡ Some (codes "explore", Some script ∷ Some count ∷ Some text ∷ Some (flag_text failures) ∷ []))
+IsMet met (explore script seeds first failures json) =
+    (count : Text) × (text : Text) × (explore_values_in met ≡ Some (codes "explore", Some script ∷ Some count ∷ Some text ∷ Some (flag_text failures) ∷ Some (flag_text json) ∷ []))
     × IsNumber 1 greatest_seed count seeds × IsNumber 0 greatest_seed text first
 IsMet met (schedule script seed failures) =
     (text : Text) × (schedule_values_in met ≡ Some (codes "schedule", Some script ∷ Some text ∷ Some (flag_text failures) ∷ [])) × IsNumber 0 greatest_seed text seed

@@ -21,24 +21,24 @@ pub data Task : Type 0 where
   audit : Text → Bool → Task
   -- to print the history of the journal, or what its clients saw, if that is asked for
   history : Text → Bool → Task
-  -- to tell the story of the call of this name, the second text, in the journal
-  explain : Text → Text → Task
+  -- to tell the story of the call of this name, the second text, in the journal; here and below as JSON, if the last of them asks for it
+  explain : Text → Text → Bool → Task
   -- to list the calls of the journal that have no reply
-  open_calls : Text → Task
+  open_calls : Text → Bool → Task
   -- to show what the cluster of the journal holds behind this entry, or behind the last, of this node alone and of this file alone, if they are given
-  state : Text → Option ℕ → Option ℕ → Option ℕ → Task
+  state : Text → Option ℕ → Option ℕ → Option ℕ → Bool → Task
   -- to say what is wrong in each script of these paths, and why a journal can't be written to the other, if there is one
-  check : List Text → Option Text → Task
+  check : List Text → Option Text → Bool → Task
   -- to draw the journal, around the call of this name, if there is one, from one entry to another, in this format
   picture : Text → Option Text → ℕ → ℕ → Format → Task
   -- to count what the journal has
-  stats : Text → Task
+  stats : Text → Bool → Task
   -- to turn the recording of calls into a script of a cluster of so many nodes, with processes at the places that the words name, if there are any
   from_strace : Text → ℕ → Option Text → Task
   -- to turn recordings of calls into a history of clients: that of the one path, or those of several machines, each of which is named before its path
   recorded_history : List Text → Task
   -- to run the script under so many schedules, from this seed on, with failures, if they are asked for
-  explore : Text → ℕ → ℕ → Bool → Task
+  explore : Text → ℕ → ℕ → Bool → Bool → Task
   -- to print the script of the schedule of this seed, with failures, if they are asked for
   schedule : Text → ℕ → Bool → Task
   -- to judge histories
@@ -52,7 +52,7 @@ abbrev pub threads_task_of : ThreadsLine → Task
 threads_task_of line = threads line.script.now line.seed line.stop_when_stuck line.no_join (option_map (λ file. file.now) line.journal)
 
 abbrev pub state_task_of : StateLine → Task
-state_task_of line = state line.journal.now line.at line.node line.file
+state_task_of line = state line.journal.now line.at line.node line.file line.json
 
 abbrev pub picture_task_of : PictureLine → Task
 picture_task_of line = picture line.journal.now (option_map (λ name. name.now) line.around) line.from line.to line.format
@@ -62,15 +62,15 @@ task_of (Run line) = run_task_of line
 task_of (Threads line) = threads_task_of line
 task_of (Audit journal why) = audit journal.now why
 task_of (History journal as_clients) = history journal.now as_clients
-task_of (Explain journal call) = explain journal.now call.now
-task_of (Open journal) = open_calls journal.now
+task_of (Explain journal call json) = explain journal.now call.now json
+task_of (Open journal json) = open_calls journal.now json
 task_of (State line) = state_task_of line
-task_of (Check scripts journal) = check (map (λ script. script.now) scripts.items) (option_map (λ file. file.now) journal)
+task_of (Check scripts journal json) = check (map (λ script. script.now) scripts.items) (option_map (λ file. file.now) journal) json
 task_of (Picture line) = picture_task_of line
-task_of (Stats journal) = stats journal.now
+task_of (Stats journal json) = stats journal.now json
 task_of (FromStrace recording nodes places) = from_strace recording.now nodes (option_map (λ words. words.now) places)
 task_of (RecordedHistory recordings) = recorded_history (map (λ recording. recording.now) recordings.items)
-task_of (Explore script seeds first failures) = explore script.now seeds first failures
+task_of (Explore script seeds first failures json) = explore script.now seeds first failures json
 task_of (Schedule script seed failures) = schedule script.now seed failures
 task_of (Judge line) = judge (judge_task_of line)
 
@@ -84,15 +84,15 @@ paths_of (run script after journal expected listed quiet calm) = script ∷ give
 paths_of (threads script seed stop no_join journal) = script ∷ given journal
 paths_of (audit journal why) = journal ∷ []
 paths_of (history journal as_clients) = journal ∷ []
-paths_of (explain journal call) = journal ∷ call ∷ []
-paths_of (open_calls journal) = journal ∷ []
-paths_of (state journal at of_node of_file) = journal ∷ []
-paths_of (check scripts journal) = scripts ++ given journal
+paths_of (explain journal call json) = journal ∷ call ∷ []
+paths_of (open_calls journal json) = journal ∷ []
+paths_of (state journal at of_node of_file json) = journal ∷ []
+paths_of (check scripts journal json) = scripts ++ given journal
 paths_of (picture journal call first last format) = journal ∷ given call
-paths_of (stats journal) = journal ∷ []
+paths_of (stats journal json) = journal ∷ []
 paths_of (from_strace recording nodes places) = recording ∷ given places
 paths_of (recorded_history recordings) = recordings
-paths_of (explore script seeds first failures) = script ∷ []
+paths_of (explore script seeds first failures json) = script ∷ []
 paths_of (schedule script seed failures) = script ∷ []
 paths_of (judge t) = t.histories ++ given t.explains
 
@@ -102,15 +102,15 @@ journal_path (run script after to expected listed quiet calm) = to
 journal_path (threads script seed stop no_join to) = to
 journal_path (audit journal why) = None
 journal_path (history journal as_clients) = None
-journal_path (explain journal call) = None
-journal_path (open_calls journal) = None
-journal_path (state journal at of_node of_file) = None
-journal_path (check scripts journal) = None
+journal_path (explain journal call json) = None
+journal_path (open_calls journal json) = None
+journal_path (state journal at of_node of_file json) = None
+journal_path (check scripts journal json) = None
 journal_path (picture journal call first last format) = None
-journal_path (stats journal) = None
+journal_path (stats journal json) = None
 journal_path (from_strace recording nodes places) = None
 journal_path (recorded_history recordings) = None
-journal_path (explore script seeds first failures) = None
+journal_path (explore script seeds first failures json) = None
 journal_path (schedule script seed failures) = None
 journal_path (judge t) = None
 
@@ -150,16 +150,16 @@ plain_words_of (threads script seed stop no_join journal) =
     codes "threads" ∷ script ∷ number_words (codes "--seed") seed ++ flag_words (codes "--stop-when-stuck") stop ++ flag_words (codes "--no-join") no_join ++ option_words (codes "--journal") journal
 plain_words_of (audit journal why) = codes "audit" ∷ journal ∷ flag_words (codes "--why") why
 plain_words_of (history journal as_clients) = codes "history" ∷ journal ∷ flag_words (codes "--as-clients") as_clients
-plain_words_of (explain journal call) = codes "explain" ∷ journal ∷ call ∷ []
-plain_words_of (open_calls journal) = codes "open" ∷ journal ∷ []
-plain_words_of (state journal at of_node of_file) = codes "state" ∷ journal ∷ (given_number_words (codes "--at") at ++ (given_number_words (codes "--node") of_node ++ given_number_words (codes "--file") of_file))
-plain_words_of (check scripts journal) = codes "check" ∷ scripts ++ option_words (codes "--journal") journal
+plain_words_of (explain journal call json) = codes "explain" ∷ journal ∷ call ∷ flag_words (codes "--json") json
+plain_words_of (open_calls journal json) = codes "open" ∷ journal ∷ flag_words (codes "--json") json
+plain_words_of (state journal at of_node of_file json) = codes "state" ∷ journal ∷ (given_number_words (codes "--at") at ++ (given_number_words (codes "--node") of_node ++ (given_number_words (codes "--file") of_file ++ flag_words (codes "--json") json)))
+plain_words_of (check scripts journal json) = codes "check" ∷ scripts ++ (option_words (codes "--journal") journal ++ flag_words (codes "--json") json)
 plain_words_of (picture journal call first last format) =
     codes "picture" ∷ journal ∷ option_words (codes "--around") call ++ number_words (codes "--from") first ++ number_words (codes "--to") last ++ codes "--format" ∷ format_text format ∷ []
-plain_words_of (stats journal) = codes "stats" ∷ journal ∷ []
+plain_words_of (stats journal json) = codes "stats" ∷ journal ∷ flag_words (codes "--json") json
 plain_words_of (from_strace recording nodes places) = codes "from-strace" ∷ recording ∷ number_words (codes "--nodes") nodes ++ option_words (codes "--place") places
 plain_words_of (recorded_history recordings) = codes "from-strace" ∷ recordings ++ codes "--history" ∷ []
-plain_words_of (explore script seeds first failures) = codes "explore" ∷ script ∷ number_words (codes "--seeds") seeds ++ number_words (codes "--first") first ++ flag_words (codes "--failures") failures
+plain_words_of (explore script seeds first failures json) = codes "explore" ∷ script ∷ number_words (codes "--seeds") seeds ++ number_words (codes "--first") first ++ flag_words (codes "--failures") failures ++ flag_words (codes "--json") json
 plain_words_of (schedule script seed failures) = codes "schedule" ∷ script ∷ number_words (codes "--seed") seed ++ flag_words (codes "--failures") failures
 plain_words_of (judge t) =
     codes "judge" ∷ t.histories ++ (number_words (codes "--steps") t.steps ++ (option_words (codes "--explains") t.explains ++ (allow_words t.allowed
@@ -198,14 +198,14 @@ HasPlainWords (run script after journal expected listed quiet calm) = MayBeQuiet
 HasPlainWords (threads script seed stop no_join journal) = seed ≤ greatest_seed
 HasPlainWords (audit journal why) = ⊤
 HasPlainWords (history journal as_clients) = ⊤
-HasPlainWords (explain journal call) = ⊤
-HasPlainWords (open_calls journal) = ⊤
-HasPlainWords (state journal at of_node of_file) = IsWithin 0 greatest_seed at × IsWithin 1 most_nodes of_node × IsWithin 1 most_files of_file
-HasPlainWords (check scripts journal) = scripts ≢ []
+HasPlainWords (explain journal call json) = ⊤
+HasPlainWords (open_calls journal json) = ⊤
+HasPlainWords (state journal at of_node of_file json) = IsWithin 0 greatest_seed at × IsWithin 1 most_nodes of_node × IsWithin 1 most_files of_file
+HasPlainWords (check scripts journal json) = scripts ≢ []
 HasPlainWords (picture journal call first last format) = (1 ≤ first) × (first ≤ greatest_seed) × (1 ≤ last) × (last ≤ greatest_seed)
-HasPlainWords (stats journal) = ⊤
+HasPlainWords (stats journal json) = ⊤
 HasPlainWords (from_strace recording nodes places) = (1 ≤ nodes) × (nodes ≤ most_nodes)
 HasPlainWords (recorded_history recordings) = recordings ≢ []
-HasPlainWords (explore script seeds first failures) = (1 ≤ seeds) × (seeds ≤ greatest_seed) × (first ≤ greatest_seed)
+HasPlainWords (explore script seeds first failures json) = (1 ≤ seeds) × (seeds ≤ greatest_seed) × (first ≤ greatest_seed)
 HasPlainWords (schedule script seed failures) = seed ≤ greatest_seed
 HasPlainWords (judge t) = (1 ≤ t.steps) × (t.steps ≤ greatest_seed) × MayJudge t

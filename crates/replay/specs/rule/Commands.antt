@@ -66,15 +66,15 @@ Does old (threads script seed may_stop no_join to) new shown = (t : ThreadedFiel
 Does old (audit path false) new shown = (j : JournalFields) × HasJournal (old path) j × IsAudit j shown × SameFiles old new
 Does old (audit path true) new shown = (j : JournalFields) × HasJournal (old path) j × IsReasoned j shown × SameFiles old new
 Does old (history path as_clients) new shown = (j : JournalFields) × HasJournal (old path) j × IsHistory as_clients j shown × SameFiles old new
-Does old (explain path name) new shown = (j : JournalFields) × HasJournal (old path) j × IsExplained j name shown × SameFiles old new
-Does old (open_calls path) new shown = (j : JournalFields) × HasJournal (old path) j × IsOpenTold j shown × SameFiles old new
-Does old (state path at of_node of_file) new shown = (j : JournalFields) × HasJournal (old path) j × IsStateTold j at of_node of_file shown × SameFiles old new
-Does old (check scripts journal) new shown = AreChecked old scripts shown × SameFiles old new
+Does old (explain path name json) new shown = (j : JournalFields) × HasJournal (old path) j × IsExplained j name shown × SameFiles old new
+Does old (open_calls path json) new shown = (j : JournalFields) × HasJournal (old path) j × IsOpenTold j shown × SameFiles old new
+Does old (state path at of_node of_file json) new shown = (j : JournalFields) × HasJournal (old path) j × IsStateTold j at of_node of_file shown × SameFiles old new
+Does old (check scripts journal json) new shown = AreChecked old scripts shown × SameFiles old new
 Does old (picture path name from to format) new shown = (j : JournalFields) × HasJournal (old path) j × IsDrawn j name shown × SameFiles old new
-Does old (stats path) new shown = (j : JournalFields) × HasJournal (old path) j × IsCounted j shown × SameFiles old new
+Does old (stats path json) new shown = (j : JournalFields) × HasJournal (old path) j × IsCounted j shown × SameFiles old new
 Does old (from_strace path nodes places) new shown = HasTextAt old path × IsRecorded nodes places shown × SameFiles old new
 Does old (recorded_history words) new shown = AreRecorded old words × IsRecordedShown shown × SameFiles old new
-Does old (explore path seeds first failures) new shown = HasText (old path) (λ text. IsExplored failures first seeds text shown) × SameFiles old new
+Does old (explore path seeds first failures json) new shown = HasText (old path) (λ text. IsExplored failures first seeds text shown) × SameFiles old new
 Does old (schedule path seed failures) new shown = HasText (old path) (λ text. IsScheduled failures text shown) × SameFiles old new
 Does old (judge t) new shown = AreJudged old (allowed_of t.allowed) t.histories t.explains shown × SameFiles old new
 
@@ -99,15 +99,15 @@ IsInputFault old RanShort Refuses (run script (Some after) to compares with_open
 IsInputFault old RanShort Refuses (threads script seed may_stop no_join to) fault = IsThreadsFault (old script) RanShort script fault
 IsInputFault old RanShort Refuses (audit path why) fault = IsJournalFault (old path) RanShort path fault
 IsInputFault old RanShort Refuses (history path as_clients) fault = IsJournalFault (old path) RanShort path fault
-IsInputFault old RanShort Refuses (explain path name) fault = IsJournalFault (old path) RanShort path fault
-IsInputFault old RanShort Refuses (open_calls path) fault = IsJournalFault (old path) RanShort path fault
-IsInputFault old RanShort Refuses (state path at of_node of_file) fault = IsJournalFault (old path) RanShort path fault
-IsInputFault old RanShort Refuses (check scripts journal) fault = IsToolFault old (Contains scripts) (Any (IsAtFault old) scripts ⊎ IsSomeAnd journal Refuses) fault
+IsInputFault old RanShort Refuses (explain path name json) fault = IsJournalFault (old path) RanShort path fault
+IsInputFault old RanShort Refuses (open_calls path json) fault = IsJournalFault (old path) RanShort path fault
+IsInputFault old RanShort Refuses (state path at of_node of_file json) fault = IsJournalFault (old path) RanShort path fault
+IsInputFault old RanShort Refuses (check scripts journal json) fault = IsToolFault old (Contains scripts) (Any (IsAtFault old) scripts ⊎ IsSomeAnd journal Refuses) fault
 IsInputFault old RanShort Refuses (picture path name from to format) fault = IsJournalFault (old path) RanShort path fault
-IsInputFault old RanShort Refuses (stats path) fault = IsJournalFault (old path) RanShort path fault
+IsInputFault old RanShort Refuses (stats path json) fault = IsJournalFault (old path) RanShort path fault
 IsInputFault old RanShort Refuses (from_strace path nodes places) fault = IsToolFault old (λ file. file ≡ path) ⊤ fault
 IsInputFault old RanShort Refuses (recorded_history words) fault = IsToolFault old (IsRecordingOf words) ⊤ fault
-IsInputFault old RanShort Refuses (explore path seeds first failures) fault = IsExploreFault failures (old path) RanShort path fault
+IsInputFault old RanShort Refuses (explore path seeds first failures json) fault = IsExploreFault failures (old path) RanShort path fault
 IsInputFault old RanShort Refuses (schedule path seed failures) fault = IsExploreFault failures (old path) RanShort path fault
 IsInputFault old RanShort Refuses (judge t) fault = IsToolFault old (IsJudgedWith t.histories t.explains) ⊤ fault
 
@@ -147,7 +147,7 @@ says_why task = true
 
 -- the task is a check, which may tell warnings beside what it shows
 abbrev pub IsCheck : Task → Type 0
-IsCheck (check scripts journal) = ⊤
+IsCheck (check scripts journal json) = ⊤
 IsCheck task = ⊥
 
 -- the task is a judgement, which may not know what was asked

@@ -15,6 +15,6 @@ Numbers = HashMap (Bor Message) ℕ (BuildHasherDefault FoldHasher)
 abbrev pub number_in : Numbers → Bor Message → Option ℕ
 number_in numbers message = get (λ a b. derived.ghosts.eq a.now b.now) numbers message
 
--- the index has the number of the first of equal messages, of these
-abbrev pub KnowsFirsts : Numbers → List NumberedFields → Type 0
-KnowsFirsts numbers sent = (message : Bor Message) → number_in numbers message ≡ number_of sent message.now
+-- the index has the number of the last of equal messages, of these
+abbrev pub KnowsLasts : Numbers → List NumberedFields → Type 0
+KnowsLasts numbers sent = (message : Bor Message) → number_in numbers message ≡ number_of sent message.now

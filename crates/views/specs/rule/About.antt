@@ -1,5 +1,5 @@
 -- What of a journal is about a call.
-use Rattle.std.specs.Prelude.{ℕ, ◌+◌, Bool, false, ◌||◌, List, [], ◌∷◌, filter, find, flat_map, length, Option, Some, None, option_map}
+use Rattle.std.specs.Prelude.{ℕ, ◌+◌, Bool, false, ◌||◌, if◌then◌else◌, List, [], ◌∷◌, filter, fold, length, Option, Some, None}
 use Rattle.std.specs.List.{list_any}
 use Rattle.std.specs.Option.{option_map_or}
 use Rattle.model.specs.declared.call.CallId.{CallId}
@@ -75,10 +75,6 @@ numbered number (m ∷ ms) = record { number = number; message = m } ∷ numbere
 abbrev pub sent_by : CallId → PlacedFields → List NumberedFields
 sent_by call p = filter (λ m. is_about call m.message) (numbered p.number p.entry.sends)
 
--- those that entries send
-abbrev pub sent_about : CallId → List PlacedFields → List NumberedFields
-sent_about call part = flat_map (sent_by call) part
-
--- the number of the first of the messages that equals this one
+-- the number of the last of the messages that equals this one
 abbrev pub number_of : List NumberedFields → Message → Option ℕ
-number_of sent message = option_map (λ m. m.number) (find (λ m. same_message message m.message) sent)
+number_of sent message = fold (λ last m. if same_message message m.message then Some m.number else last) None sent

@@ -14,7 +14,7 @@ use Rattle.messages.specs.code.Entries.{EntryFields}
 use Rattle.messages.specs.rule.Messages.{same_call}
 use Rattle.views.specs.declared.stories.made_call.MadeCall.{MadeCall}
 use Rattle.views.specs.rule.About.{NumberedFields, answers, part_of}
-use Rattle.views.specs.rule.Pending.{under_way}
+use Rattle.views.specs.rule.Undelivered.{undelivered}
 
 -- the call that an event makes, which takes this name, at an entry at this position
 abbrev pub made_by : ℕ → Event → Option CallId → Option MadeCall
@@ -55,16 +55,16 @@ call_made call entries = find (λ made. same_call made.call call) (made_calls en
 abbrev pub ended_by : CallId → List EntryFields → Option (ℕ × EntryFields)
 ended_by call entries = option_and_then (λ made. end_of made entries) (call_made call entries)
 
--- what an open call has: the call, the entry that ended it, and the messages about it that are under way
+-- what an open call has: the call, the entry that ended it, and the messages about it that are not delivered
 pub record OpenFields : Type 0 where
   pub made : MadeCall
   pub end : Option (ℕ × EntryFields)
-  pub way : List NumberedFields
+  pub undelivered : List NumberedFields
 
 -- the open call that entries make
 abbrev pub open_call : List EntryFields → MadeCall → OpenFields
 open_call entries made = record {
   made = made;
   end = end_of made entries;
-  way = under_way made.call (part_of made.call entries);
+  undelivered = undelivered made.call (part_of made.call entries);
 }

@@ -46,7 +46,7 @@ pub record IsLastToPass {A : Type 0} (test : A → Bool) (xs : List A) (position
 abbrev pub EachArrowIsFromTheLastSend : Type 0
 EachArrowIsFromTheLastSend = (before : List EntryFields) (m : Message) → MatchOption (origin_of before (Deliver m)) (list_any (λ e. is_among e.sends m) before ≡ false) (IsLastToPass (λ e. is_among e.sends m) before)
 
--- what comes later in the journal stands no further left, and in the window 60 units further right for each entry
+-- what comes later in the journal stands no further left, and in the window 60 units further right for each entry, or more
 abbrev pub TimeGoesRight : Type 0
 TimeGoesRight = (w : Window) (p q : ℕ) → (p ≤ q → x_of w p ≤ x_of w q) × (w.from ≤ p → p < q → q ≤ w.to → x_of w p + 60 ≤ x_of w q)
 

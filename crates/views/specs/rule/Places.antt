@@ -9,7 +9,7 @@ use Rattle.messages.specs.rule.Messages.{is_among, same_call, same_message}
 use Rattle.views.specs.rule.About.{delivers}
 use Rattle.views.specs.declared.pictures.placed_reply.PlacedReply.{PlacedReply}
 use Rattle.views.specs.declared.pictures.message_fate.MessageFate.{MessageFate}
-use Rattle.views.specs.declared.pictures.message_fate.MessageFate.TheVariants.{Comes, IsLate, IsLost}
+use Rattle.views.specs.declared.pictures.message_fate.MessageFate.TheVariants.{Comes, IsLate, IsUndelivered}
 
 -- the last of what the elements give, each with its position, from 1
 abbrev pub last_some : {A B : Type 0} → (ℕ → A → Option B) → List A → Option B
@@ -24,12 +24,12 @@ abbrev pub last_sent : Message → List EntryFields → Option ℕ
 last_sent m entries = last_some (λ position e. position_if (is_among e.sends m) position) entries
 
 -- a message that the entry at this position sends comes at none behind it
-unfoldable pub is_lost : List EntryFields → ℕ → Message → Bool
-is_lost entries position m = not (list_any (λ e. delivers (same_message m) e.event) (drop position entries))
+unfoldable pub is_undelivered : List EntryFields → ℕ → Message → Bool
+is_undelivered entries position m = not (list_any (λ e. delivers (same_message m) e.event) (drop position entries))
 
 -- what becomes of a message that the entry of these at this position sends, where those up to the window's end are these
 abbrev pub fate_of : List EntryFields → List EntryFields → ℕ → Message → MessageFate
-fate_of entries in_time position m = if is_lost entries position m then IsLost else (if is_lost in_time position m then IsLate else Comes)
+fate_of entries in_time position m = if is_undelivered entries position m then IsUndelivered else (if is_undelivered in_time position m then IsLate else Comes)
 
 -- what an entry at this position answers, where it answers the call
 abbrev pub answer_at : CallId → ℕ → Option (CallId × Reply) → Option PlacedReply

@@ -1,10 +1,7 @@
 //! Sequence diagrams, in Mermaid's text. Each error is `AllocError`: a request for memory was refused.
-ghost use Rattle.std.specs.Prelude.{◌≡◌, filter_map, IfOk};
-ghost use Rattle.views.specs.code.Lanes.{lane_of};
-
 use crate::diagrams::notes::{push_actor_id, push_entry_lines};
 use crate::pictures::drawing::Drawing;
-use crate::pictures::picture_row::PictureRow;
+use crate::pictures::lanes::lanes;
 use crate::pictures::window::Window;
 use crate::stories::lines::push_actor;
 use cluster_core::item::Item;
@@ -18,10 +15,10 @@ use std::collections::HashMap;
 /// first at position 1, and their history, as far as the window shows them.
 ///
 /// The nodes and servers that take part stand side by side, in the order of the rows of a picture. The
-/// lines of each entry are, as far as it has such: a note of its call, or an arrow for the message that
-/// comes, if an entry before sent it, or a note of another event, over all where a node or a server fails
-/// or starts; a note of its reply, which says where the history has the call there too; a note of another
-/// call that the history has there; and an arrow with a cross for each message that is sent and comes at
+/// lines of each entry are, as far as it has such: a note of its call, with the reply where the entry has that
+/// too, or an arrow for the message that comes, if an entry before sent it, or a note of another event, over
+/// all where a node or a server fails or starts; a note of its reply to an earlier call; of both replies
+/// whether the history has the call there; a note of another call that the history has there; and an arrow with a cross for each message that is sent and comes at
 /// no later entry.
 pub fn sequence(
     alloc: Global,
@@ -46,23 +43,6 @@ pub fn sequence(
         push_entry_lines(&mut out, drawing.version, all.as_str(), placed, &call)?;
     }
     Ok(out)
-}
-
-// The nodes and the servers that the rows are about.
-fn lanes(alloc: Global, rows: &[PictureRow]) -> Result<Vec<Actor>, AllocError>
-    ensures { IfOk result (λ actors. actors.items ≡ filter_map lane_of rows.now) }
-{
-    rows.iter().filter_map(|row| lane_of(row)).collect(alloc)
-}
-
-// The node or the server that a row is about.
-fn lane_of(row: &PictureRow) -> Option<Actor>
-    ensures { result ≡ lane_of row.now }
-{
-    match row {
-        PictureRow::Lane(actor) => Some(*actor),
-        PictureRow::Process { .. } => None,
-    }
 }
 
 // All actors, by the first and the last of them.

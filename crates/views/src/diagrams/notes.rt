@@ -3,6 +3,7 @@ use crate::pictures::actors::{actor_of, sender_of};
 use crate::pictures::message_fate::MessageFate;
 use crate::pictures::placed_entry::PlacedEntry;
 use crate::pictures::words::message_word;
+use crate::stories::about::answers;
 use crate::stories::made_call::MadeCall;
 use crate::stories::story::push_plain;
 use lockscript::operations::Operation;
@@ -14,6 +15,7 @@ use messages::event::{Event, NodeInput, ServerInput};
 use messages::message::Message;
 use messages::version::Version;
 use model::call::CallId;
+use model::reply::Reply;
 use std::alloc::AllocError;
 use std::fmt::Write;
 use texts::text::Text;
@@ -34,26 +36,27 @@ pub(crate) fn push_entry_lines(
     placed: &PlacedEntry<'_>,
     call: &Option<CallId>,
 ) -> Result<(), AllocError> {
-    push_event_lines(out, version, all, placed)?;
+    push_event_lines(out, version, all, placed, call)?;
     push_told_lines(out, placed.entry, call)?;
     for (message, fate) in placed.entry.sends().iter().zip(placed.fates.iter()) {
-        if matches!(fate, MessageFate::IsLost) {
+        if matches!(fate, MessageFate::IsUndelivered) {
             push_message_line(out, "-x", message.get())?;
         }
     }
     Ok(())
 }
 
-// Writes what the event of an entry is.
+// Writes what the event of an entry is, at which the history has a call or none.
 fn push_event_lines(
     out: &mut String,
     version: Version,
     all: &str,
     placed: &PlacedEntry<'_>,
+    call: &Option<CallId>,
 ) -> Result<(), AllocError> {
     let event = placed.entry.event();
     match event {
-        Event::AtNode(_, NodeInput::Call { .. }) => push_call_note(out, placed),
+        Event::AtNode(_, NodeInput::Call { .. }) => push_call_note(out, placed, call),
         Event::Deliver(message) => match placed.origin {
             Some(_) => push_message_line(out, "->>", message.get()),
             None => Ok(()),
@@ -88,8 +91,12 @@ fn push_call_start(out: &mut String, call: &CallId) -> Result<(), AllocError> {
     push_call(out, call)
 }
 
-// Writes the note of the call that an entry makes.
-fn push_call_note(out: &mut String, placed: &PlacedEntry<'_>) -> Result<(), AllocError> {
+// Writes the note of the call that an entry makes, and its reply, where the entry has that too.
+fn push_call_note(
+    out: &mut String,
+    placed: &PlacedEntry<'_>,
+    in_history: &Option<CallId>,
+) -> Result<(), AllocError> {
     let Some(made) = MadeCall::of(placed.position, placed.entry) else {
         return Ok(());
     };
@@ -99,7 +106,37 @@ fn push_call_note(out: &mut String, placed: &PlacedEntry<'_>) -> Result<(), Allo
     Operation::write(&made.op, out)?;
     out.push_str(" (")?;
     push_call(out, &made.call)?;
-    out.push_str(")\n")
+    out.push_str(")")?;
+    match own_reply(placed.entry) {
+        Some((call, reply)) => push_told(out, ": ", &call, &reply, in_history),
+        None => out.push_str("\n"),
+    }
+}
+
+// The reply of an entry to the call that it makes.
+fn own_reply(entry: &Entry) -> Option<(CallId, Reply)> {
+    let (answered, reply) = entry.reply()?;
+    if entry.call() == Some(answered) {
+        return Some((answered, reply));
+    }
+    None
+}
+
+// Writes a reply to the call behind this text, and whether the history has the call at that entry too; and ends the line.
+fn push_told(
+    out: &mut String,
+    front: &str,
+    call: &CallId,
+    reply: &Reply,
+    in_history: &Option<CallId>,
+) -> Result<(), AllocError> {
+    out.push_str(front)?;
+    push_reply(out, reply)?;
+    out.push_str(if *in_history == Some(*call) {
+        ", in history\n"
+    } else {
+        "\n"
+    })
 }
 
 // Writes the line of a message, with an arrow of this kind.
@@ -129,24 +166,37 @@ fn push_subject(out: &mut String, message: &Message) -> Result<(), AllocError> {
     }
 }
 
-// Writes the note of the reply of an entry, and that of another call that the history has there.
+// Writes the note of the reply of an entry to a call of another, and that of a call that the history has there without
+// its reply.
 fn push_told_lines(
     out: &mut String,
     entry: &Entry,
-    placed: &Option<CallId>,
+    in_history: &Option<CallId>,
 ) -> Result<(), AllocError> {
-    if let Some((call, reply)) = entry.reply() {
+    if let Some((call, reply)) = late_reply(entry) {
         push_call_start(out, &call)?;
-        out.push_str(" ")?;
-        push_reply(out, &reply)?;
-        if *placed == Some(call) {
-            return out.push_str(", in history\n");
-        }
-        out.push_str("\n")?;
+        push_told(out, " ", &call, &reply, in_history)?;
     }
-    if let Some(call) = placed {
-        push_call_start(out, call)?;
-        out.push_str(" in history\n")?;
+    match in_history {
+        Some(call) => push_unanswered(out, entry, call),
+        None => Ok(()),
     }
-    Ok(())
+}
+
+// The reply of an entry to a call that it does not make.
+fn late_reply(entry: &Entry) -> Option<(CallId, Reply)> {
+    let (answered, reply) = entry.reply()?;
+    if entry.call() == Some(answered) {
+        return None;
+    }
+    Some((answered, reply))
+}
+
+// Writes the note of the call that the history has at the entry, if that is not the one that answers it.
+fn push_unanswered(out: &mut String, entry: &Entry, call: &CallId) -> Result<(), AllocError> {
+    if answers(entry, call) {
+        return Ok(());
+    }
+    push_call_start(out, call)?;
+    out.push_str(" in history\n")
 }

@@ -3,6 +3,7 @@
 ghost use Rattle.std.specs.Prelude.{◌<◌, ◌^◌};
 
 use crate::pictures::drawing::Drawing;
+use crate::pictures::owner_marks::push_owner_marks;
 use crate::pictures::share::Share;
 use crate::pictures::sheet::{right_edge, track_top, x_of};
 use crate::pictures::stay::Stay;
@@ -12,19 +13,23 @@ use intervals::span::GREATEST;
 use message_text::names::{push_host, push_owner};
 use model::level::Level;
 use model::mode::Mode;
-use std::alloc::AllocError;
+use std::alloc::{AllocError, Global};
 use std::fmt::Write;
 use svg::elements::{push_box_end, push_label_start, push_line};
 use svg::point::Point;
 use texts::words::Named;
 
 /// Draws all that stands below the rows.
-pub(crate) fn push_tracks(out: &mut String, drawing: &Drawing<'_>) -> Result<(), AllocError> {
+pub(crate) fn push_tracks(
+    out: &mut String,
+    alloc: Global,
+    drawing: &Drawing<'_>,
+) -> Result<(), AllocError> {
     for (number, track) in drawing.tracks.iter().enumerate() {
         let top = track_top(drawing, number);
         match track {
             Track::File(file) => push_file(out, top, *file)?,
-            Track::Share(share) => push_share(out, drawing, top, share)?,
+            Track::Share(share) => push_share(out, alloc, drawing, top, share)?,
         }
     }
     Ok(())
@@ -41,9 +46,11 @@ fn push_file(out: &mut String, top: u128, file: u64) -> Result<(), AllocError>
     )
 }
 
-// Draws a share: its node; of the first one of a stretch the bytes, under a line; and how long what is held.
+// Draws a share: its node; of the first one of a stretch the bytes, under a line; how long what is held; and the owners of
+// the locks.
 fn push_share(
     out: &mut String,
+    alloc: Global,
     drawing: &Drawing<'_>,
     top: u128,
     share: &Share,
@@ -63,7 +70,7 @@ fn push_share(
     for stay in &share.stays {
         push_stay(out, drawing, top, share, stay)?;
     }
-    Ok(())
+    push_owner_marks(out, alloc, drawing, top, share.stays.as_slice())
 }
 
 // Writes the bytes of a share, of which the greatest is the end of the file.
@@ -137,6 +144,6 @@ fn inset(held: &TokenOrLock) -> u128
 {
     match held {
         TokenOrLock::Token { .. } => 2,
-        TokenOrLock::Lock { .. } => 5,
+        TokenOrLock::Lock { .. } => 3,
     }
 }

@@ -2,6 +2,7 @@
 ghost use Rattle.std.specs.Prelude.{◌<◌, ◌^◌};
 
 use crate::pictures::bar::Bar;
+use crate::pictures::bar_label::{push_bar_label, push_behind};
 use crate::pictures::drawing::Drawing;
 use crate::pictures::outcome::{class_of, push_outcome};
 use crate::pictures::picture_row::PictureRow;
@@ -9,8 +10,8 @@ use crate::pictures::sheet::{point_on, x_of};
 use lockscript::operations::Operation;
 use message_text::names::push_call;
 use std::alloc::{AllocError, Global};
-use svg::elements::{push_box, push_label};
-use texts::text::{Text, split_field};
+use svg::elements::push_box;
+use texts::text::Text;
 
 /// Draws the calls.
 pub(crate) fn push_bars(
@@ -24,8 +25,7 @@ pub(crate) fn push_bars(
     Ok(())
 }
 
-// Draws a call: a box, its operation, of which only the first word where there is no room for more, and as a title what
-// became of it.
+// Draws a call: a box, its label, and as a title what became of it, and behind which lock it waits or did.
 fn push_bar(
     out: &mut String,
     alloc: Global,
@@ -40,14 +40,21 @@ fn push_bar(
     out.push_str(op.as_str())?;
     out.push_str(": ")?;
     push_outcome(out, bar)?;
+    let mut behind = String::new(alloc);
+    push_behind(&mut behind, drawing, bar)?;
+    if !behind.is_empty() {
+        out.push_str(", ")?;
+        out.push_str(behind.as_str())?;
+    }
     out.push_str("</title>")?;
-    push_box_of(out, drawing, bar, op.as_str())?;
+    push_box_of(out, alloc, drawing, bar, op.as_str())?;
     out.push_str("</g>\n")
 }
 
 // Draws the box of a call of this operation.
 fn push_box_of(
     out: &mut String,
+    alloc: Global,
     drawing: &Drawing<'_>,
     bar: &Bar,
     op: &str,
@@ -58,7 +65,7 @@ fn push_box_of(
     let corner = point_on(drawing, position, &row, 0, 8);
     push_box(out, class_of(bar), &corner, width + 8, 18)?;
     let at = point_on(drawing, position, &row, 11, 20);
-    push_label(out, "op", &at, fitting(op, width))
+    push_bar_label(out, alloc, drawing, bar, op, &at)
 }
 
 // How far the bar of a call goes.
@@ -67,15 +74,4 @@ fn width_of(drawing: &Drawing<'_>, bar: &Bar) -> u128
 {
     let start = x_of(&drawing.window, u128::from(bar.made.position));
     x_of(&drawing.window, bar.right_end(&drawing.window)).saturating_sub(start)
-}
-
-// The operation, or its first word where it does not go into this width.
-fn fitting(op: &str, width: u128) -> &str {
-    if op.len() as u128 * 5 <= width {
-        return op;
-    }
-    match split_field(op) {
-        Some((word, _)) => word,
-        None => op,
-    }
 }

@@ -27,7 +27,7 @@ impl<'a> Model for Deliveries<'a> {
 
 impl<'a> Deliveries<'a> {
     ghost use Rattle.std.specs.Prelude.{◌≡◌, IfOk};
-    ghost use Rattle.views.specs.rule.Places.{is_lost};
+    ghost use Rattle.views.specs.rule.Places.{is_undelivered};
 
     /// Those of these entries.
     pub(crate) fn of(alloc: Global, entries: &'a [Entry]) -> Result<Deliveries<'a>, AllocError>
@@ -43,8 +43,8 @@ impl<'a> Deliveries<'a> {
     }
 
     /// Whether a message that the entry at this position sends comes at none behind it.
-    pub(crate) fn is_lost(&self, position: u64, message: &'a Message) -> bool
-        ensures { result ≡ is_lost self.now position message.entry.now }
+    pub(crate) fn is_undelivered(&self, position: u64, message: &'a Message) -> bool
+        ensures { result ≡ is_undelivered self.now position message.entry.now }
     {
         is_past(position, self.places.get(&message).copied())
     }

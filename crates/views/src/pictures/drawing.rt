@@ -1,6 +1,7 @@
 //! What a picture shows. Each error is `AllocError`: a request for memory was refused.
 use crate::pictures::bar::Bar;
 use crate::pictures::bars::bars;
+use crate::pictures::blocked_wait::BlockedWait;
 use crate::pictures::holdings::Holdings;
 use crate::pictures::picture_row::PictureRow;
 use crate::pictures::pieces::pieces;
@@ -9,6 +10,7 @@ use crate::pictures::placed_entry::{PlacedEntry, stretch};
 use crate::pictures::rows::rows;
 use crate::pictures::track::Track;
 use crate::pictures::tracks::tracks;
+use crate::pictures::waits::waits;
 use crate::pictures::window::Window;
 use cluster_core::item::Item;
 use messages::entry::Entry;
@@ -17,8 +19,8 @@ use messages::version::Version;
 use std::alloc::{AllocError, Global};
 use std::marker::Model;
 
-/// What a picture of a run shows: the version of its journal; which entries; the rows; the calls that are drawn; the
-/// entries, with where the message that comes was sent last, and what becomes of those that are sent; where the history
+/// What a picture of a run shows: the version of its journal; which entries; the rows; the calls that are drawn, and
+/// behind which locks they wait; the entries, with where the message that comes was sent last, and what becomes of those that are sent; where the history
 /// has calls; and who holds which bytes how long.
 #[derive(Drop)]
 pub struct Drawing<'a> {
@@ -26,6 +28,7 @@ pub struct Drawing<'a> {
     pub window: Window,
     pub rows: Vec<PictureRow>,
     pub bars: Vec<Bar>,
+    pub(crate) waits: Vec<BlockedWait>,
     pub part: Vec<PlacedEntry<'a>>,
     pub places: Vec<PlacedCall>,
     pub(crate) tracks: Vec<Track>,
@@ -36,7 +39,7 @@ impl<'a> Model for Drawing<'a> {
 
     ghost Value = { DrawingFields };
 
-    ghost view = { λ d. record { version = d.version; window = d.window; rows = d.rows.items; bars = d.bars.items; part = d.part.items; places = d.places.items; tracks = d.tracks.items } };
+    ghost view = { λ d. record { version = d.version; window = d.window; rows = d.rows.items; bars = d.bars.items; waits = d.waits.items; part = d.part.items; places = d.places.items; tracks = d.tracks.items } };
 }
 
 impl<'a> Drawing<'a> {
@@ -60,6 +63,7 @@ impl<'a> Drawing<'a> {
         let bars = bars(alloc, &window, entries)?;
         let rows = rows(alloc, shape, part.as_slice(), bars.as_slice())?;
         let places = places(alloc, &window, entries, history)?;
+        let waits = waits(alloc, holdings, bars.as_slice())?;
         let below = pieces(alloc, holdings)?;
         let tracks = tracks(alloc, below.as_slice())?;
         Ok(Drawing {
@@ -67,6 +71,7 @@ impl<'a> Drawing<'a> {
             window,
             rows,
             bars,
+            waits,
             part,
             places,
             tracks,

@@ -91,7 +91,13 @@ fn push_sends(
         match fate {
             MessageFate::Comes => {}
             MessageFate::IsLate => push_late(out, drawing, position, sender, message.get())?,
-            MessageFate::IsLost => push_lost(out, drawing, position, sender, message.get())?,
+            MessageFate::IsUndelivered => push_undelivered(
+                out,
+                drawing,
+                position,
+                sender,
+                message.get(),
+            )?,
         }
     }
     Ok(())
@@ -116,8 +122,8 @@ fn push_late(
     out.push_str("</g>\n")
 }
 
-// Draws a message that is sent at this position and is lost: a quarter of a line to who should take it.
-fn push_lost(
+// Draws a message that is sent at this position and is not delivered: a quarter of a line to who should take it.
+fn push_undelivered(
     out: &mut String,
     drawing: &Drawing<'_>,
     position: u128,
@@ -128,10 +134,10 @@ fn push_lost(
     let start = middle_of(drawing, sender);
     let y = (3 * start + middle_of(drawing, message.addressee())) / 4;
     let (from, to) = (Point::new(x, start), Point::new(x + 14, y));
-    out.push_str("<g><title>lost: ")?;
+    out.push_str("<g><title>not delivered: ")?;
     push_message(out, drawing.version, message)?;
     out.push_str("</title>")?;
-    push_line(out, "lost", &from, &to)?;
+    push_line(out, "undelivered", &from, &to)?;
     push_label(out, "gone", &Point::new(x + 17, y), message_word(message))?;
     out.push_str("</g>\n")
 }

@@ -53,10 +53,10 @@ impl<'a> Fates<'a> {
     fn of_message(&self, position: u64, message: &'a Message) -> MessageFate
         ensures { result ≡ fate_of self.now.all self.now.in_time position message.entry.now }
     {
-        if self.all.is_lost(position, message) {
-            return MessageFate::IsLost;
+        if self.all.is_undelivered(position, message) {
+            return MessageFate::IsUndelivered;
         }
-        if self.in_time.is_lost(position, message) {
+        if self.in_time.is_undelivered(position, message) {
             return MessageFate::IsLate;
         }
         MessageFate::Comes

@@ -4,7 +4,7 @@ ghost use Rattle.std.specs.Prelude.{◌<◌, ◌^◌};
 use crate::pictures::drawing::Drawing;
 use crate::pictures::outline::push_row_name;
 use crate::pictures::placed_entry::PlacedEntry;
-use crate::pictures::sheet::{foot, top_of, x_of};
+use crate::pictures::sheet::{COLUMN, NAMED, foot, top_of, x_of};
 use crate::pictures::words::is_rule;
 use crate::stories::story::push_plain;
 use std::alloc::AllocError;
@@ -20,7 +20,7 @@ pub(crate) fn push_frames(out: &mut String, drawing: &Drawing<'_>) -> Result<(),
     Ok(())
 }
 
-// Draws the line of an entry from the first row to the last track, and its position above; of each twentieth one the
+// Draws the line of an entry from the first row to the last track, and its position above; behind each twentieth one the
 // names of the rows once more; and of a failure or a start its name, in one of two heights.
 fn push_frame(
     out: &mut String,
@@ -33,8 +33,8 @@ fn push_frame(
     let class = if is_rule { "rule" } else { "column" };
     let (top, foot) = (Point::new(x, top_of(0)), Point::new(x, foot(drawing)));
     push_line(out, class, &top, &foot)?;
-    if position % 20 == 0 {
-        push_names(out, drawing, x)?;
+    if u128::from(position) % NAMED == 0 {
+        push_names(out, drawing, x + COLUMN)?;
     }
     if is_rule {
         let y = 30 + 12 * u128::from(position % 2);
@@ -46,9 +46,9 @@ fn push_frame(
     writeln!(out, "{position}</text>")
 }
 
-// Writes the names of the rows beside the line of an entry.
+// Writes the names of the rows so far from the left edge, where nothing else begins.
 fn push_names(out: &mut String, drawing: &Drawing<'_>, x: u128) -> Result<(), AllocError>
-    requires { x < 2 ^ 72 }
+    requires { x < 2 ^ 73 }
 {
     for (number, row) in drawing.rows.iter().enumerate() {
         push_row_name(out, "again", &Point::new(x + 3, top_of(number) + 6), row)?;

@@ -2,14 +2,16 @@
 ghost use Rattle.std.specs.Prelude.{◌≡◌, IfOk};
 ghost use Rattle.cluster_core.specs.rule.Listings.{IsLockListing, IsTokenListing};
 ghost use Rattle.cluster_core.specs.rule.Parts.{world_state};
+ghost use Rattle.views.specs.rule.OpenIn.{blocked_waits};
 
+use crate::pictures::blocked_wait::{BlockedWait, blocked_waits};
 use cluster_core::held_lock::HeldLock;
 use cluster_core::node_token_run::NodeTokenRun;
 use cluster_core::world::World;
 use std::alloc::{AllocError, Global};
 use std::marker::Model;
 
-/// What the live nodes hold behind an entry.
+/// What the live nodes hold behind an entry, and which of their waits are blocked.
 #[derive(Drop)]
 pub struct Holdings {
     /// The place of the entry in its journal, from 1.
@@ -18,6 +20,8 @@ pub struct Holdings {
     pub tokens: Vec<NodeTokenRun>,
     /// Each region of the live nodes' locks, by file, then first byte, then owner.
     pub locks: Vec<HeldLock>,
+    /// Each open wait of the live nodes that one of these locks blocks, with the first one that does.
+    pub waits: Vec<BlockedWait>,
 }
 
 impl Model for Holdings {
@@ -25,7 +29,7 @@ impl Model for Holdings {
 
     ghost Value = { HoldingsFields };
 
-    ghost view = { λ h. record { position = h.position; tokens = h.tokens.items; locks = h.locks.items } };
+    ghost view = { λ h. record { position = h.position; tokens = h.tokens.items; locks = h.locks.items; waits = h.waits.items } };
 }
 
 impl Holdings {
@@ -34,13 +38,16 @@ impl Holdings {
         ensures position { IfOk result (λ held. held.position ≡ position) }
         ensures tokens { IfOk result (λ held. IsTokenListing (world_state world.now) held.tokens) }
         ensures locks { IfOk result (λ held. IsLockListing (world_state world.now) held.locks) }
+        ensures waits { IfOk result (λ held. held.waits ≡ blocked_waits (world_state world.now) held.locks) }
     {
         let tokens = world.tokens(alloc)?;
         let locks = world.locks(alloc)?;
+        let waits = blocked_waits(alloc, world, locks.as_slice())?;
         Ok(Holdings {
             position,
             tokens,
             locks,
+            waits,
         })
     }
 }

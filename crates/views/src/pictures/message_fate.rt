@@ -7,6 +7,6 @@ pub enum MessageFate {
     Comes,
     /// It comes only behind the window.
     IsLate,
-    /// It comes at no entry behind.
-    IsLost,
+    /// It comes at no entry behind: it is not delivered.
+    IsUndelivered,
 }

@@ -49,7 +49,7 @@ pub fn picture(
     push_frames(&mut out, &drawing)?;
     push_bars(&mut out, alloc, &drawing)?;
     push_entries(&mut out, &drawing)?;
-    push_tracks(&mut out, &drawing)?;
+    push_tracks(&mut out, alloc, &drawing)?;
     for place in &drawing.places {
         push_place(&mut out, &drawing, place)?;
     }

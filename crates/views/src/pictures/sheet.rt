@@ -1,6 +1,6 @@
 //! Where things stand in a picture. Its unit is a pixel at scale 1.
-ghost use Rattle.std.specs.Prelude.{◌≡◌, ◌<◌, ◌^◌};
-ghost use Rattle.views.specs.rule.Drawings.{right_edge, x_of};
+ghost use Rattle.std.specs.Prelude.{◌≡◌, ◌≤◌, ◌<◌, ◌^◌};
+ghost use Rattle.views.specs.rule.Drawings.{breaks, right_edge, x_of};
 
 use crate::pictures::drawing::Drawing;
 use crate::pictures::picture_row::PictureRow;
@@ -11,7 +11,14 @@ use svg::point::Point;
 // The sides of a picture's columns and rows.
 const LEFT: u128 = 130;
 
-const COLUMN: u128 = 60;
+/// The width of an entry.
+pub(crate) const COLUMN: u128 = 60;
+
+/// Behind each entry at a multiple of this position the names of the rows stand again.
+pub(crate) const NAMED: u128 = 20;
+
+// The width of these names.
+const NAMES: u128 = 120;
 
 const TOP: u128 = 56;
 
@@ -27,9 +34,19 @@ pub(crate) fn x_of(window: &Window, position: u128) -> u128
     ensures value { result ≡ x_of window.now position }
     ensures within { result < 2 ^ 72 }
 {
-    let last = u128::from(window.to) + 1;
-    let column = (position.min(last) + 1).saturating_sub(u128::from(window.from));
-    LEFT + COLUMN * column
+    let shown = position.min(u128::from(window.to) + 1);
+    let column = (shown + 1).saturating_sub(u128::from(window.from));
+    LEFT + COLUMN * column + NAMES * breaks(window, shown)
+}
+
+// How many entries of the window before this position have the names of the rows behind them.
+#[tactic(auto, unfolding(crate::specs::rule::Drawings::breaks))]
+fn breaks(window: &Window, position: u128) -> u128
+    ensures value { result ≡ breaks window.now position }
+    ensures within { result ≤ position }
+{
+    let before = u128::from(window.from).saturating_sub(1) / NAMED;
+    (position.saturating_sub(1) / NAMED).saturating_sub(before)
 }
 
 /// The right edge of the rows.

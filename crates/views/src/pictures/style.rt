@@ -16,7 +16,7 @@ text { fill: #1f2430; }
 .word { fill: #4a5163; font-size: 9px; stroke: #ffffff; stroke-width: 3; paint-order: stroke; }
 .arrow { stroke: #7a8194; marker-end: url(#head); }
 .head { fill: #7a8194; }
-.lost { stroke: #c43d3d; }
+.undelivered { stroke: #c43d3d; }
 .gone { fill: #c43d3d; font-size: 9px; stroke: #ffffff; stroke-width: 3; paint-order: stroke; dominant-baseline: middle; }
 .rule { stroke: #c43d3d; stroke-width: 1.5; stroke-dasharray: 6 3; }
 .rule-name { fill: #c43d3d; font-weight: bold; }
@@ -41,6 +41,12 @@ text { fill: #1f2430; }
 .shared { fill-opacity: 0.4; }
 .lock { fill: none; stroke: #1f2430; stroke-width: 1.5; }
 .read { stroke-dasharray: 3 2; }
+.plate { fill: #ffffff; }
+.mark { font-size: 8px; }
+.calls { fill: #2f9e6e; }
+.sent { fill: #3d74b8; }
+.received { fill: #8d5fc2; }
+.held { fill: #b87503; }
 @media (prefers-color-scheme: dark) {
 svg { background: #14171f; }
 text { fill: #e6e8ee; }
@@ -52,7 +58,7 @@ text { fill: #e6e8ee; }
 .word { fill: #b8bfcf; stroke: #14171f; }
 .arrow { stroke: #8f97aa; }
 .head { fill: #8f97aa; }
-.lost { stroke: #ff7b7b; }
+.undelivered { stroke: #ff7b7b; }
 .gone { fill: #ff7b7b; stroke: #14171f; }
 .rule-name { fill: #ff7b7b; }
 .rule { stroke: #ff7b7b; }
@@ -74,6 +80,11 @@ text { fill: #e6e8ee; }
 .n7 { fill: #b8a23f; }
 .n8 { fill: #a8816b; }
 .lock { stroke: #ffffff; }
+.plate { fill: #14171f; }
+.calls { fill: #4fc796; }
+.sent { fill: #5c97e0; }
+.received { fill: #a983dc; }
+.held { fill: #e8aa3a; }
 }
 </style>
 ";
@@ -86,8 +97,8 @@ pub(crate) const DEFINITIONS: &str = "\
 <g id='key'>
 <rect class='n1 shared' x='0' y='2' width='14' height='12' rx='3'/><text x='18' y='12'>shared</text>
 <rect class='n1 exclusive' x='56' y='2' width='14' height='12' rx='3'/><text x='74' y='12'>exclusive</text>
-<rect class='lock read' x='126' y='5' width='14' height='6' rx='3'/><text x='144' y='12'>read lock</text>
-<rect class='lock write' x='196' y='5' width='14' height='6' rx='3'/><text x='214' y='12'>write lock</text>
+<rect class='lock read' x='126' y='3' width='14' height='10' rx='3'/><text x='144' y='12'>read lock</text>
+<rect class='lock write' x='196' y='3' width='14' height='10' rx='3'/><text x='214' y='12'>write lock</text>
 </g>
 </defs>
 ";
@@ -99,5 +110,14 @@ pub(crate) const LEGEND: &str = "\
 <rect class='refused' x='12' y='24' width='10' height='10' rx='2'/><text x='26' y='33'>refused</text>
 <rect class='open' x='68' y='24' width='10' height='10' rx='2'/><text x='82' y='33'>open</text>
 <use class='place' href='#place' x='17' y='45'/><text x='26' y='49'>in history</text>
-<line class='lost' x1='82' y1='45' x2='94' y2='45'/><text class='gone' x='98' y='45'>lost</text>
+<line class='undelivered' x1='82' y1='45' x2='94' y2='45'/><text class='gone' x='98' y='45'>not delivered</text>
+";
+
+/// What the colours of an overview mean.
+pub(crate) const OVERVIEW_LEGEND: &str = "\
+<rect class='calls' x='130' y='26' width='10' height='10'/><text x='144' y='35'>calls</text>
+<rect class='sent' x='184' y='26' width='10' height='10'/><text x='198' y='35'>messages sent</text>
+<rect class='received' x='280' y='26' width='10' height='10'/><text x='294' y='35'>messages received</text>
+<rect class='held' x='396' y='26' width='10' height='10'/><text x='410' y='35'>locks at the end</text>
+<line class='rule' x1='502' y1='26' x2='502' y2='36'/><text x='510' y='35'>a failure or a start</text>
 ";

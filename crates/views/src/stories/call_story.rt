@@ -2,24 +2,31 @@
 use crate::stories::about::makes;
 use crate::stories::end::End;
 use crate::stories::made_call::MadeCall;
-use crate::stories::numbered_entry::{NumberedEntry, part_of};
-use crate::stories::sent_messages::SentMessages;
+use crate::stories::numbered_entry::{NumberedMessage, part_of};
+use crate::stories::telling::told_of;
+use crate::stories::told_entry::ToldEntry;
+use crate::stories::undelivered::undelivered;
 use cluster_core::item::Item;
 use messages::entry::Entry;
 use model::call::CallId;
 use std::alloc::{AllocError, Global};
 use std::marker::Model;
 
-/// The story of a call: the entries that belong to it, the messages about it that they send, where a
+/// The story of a call: what is told of entries, the messages about it that were not delivered, where a
 /// history has it, and the entry that ended it, as the exit of its process or the failure of its node.
 ///
-/// An entry belongs to the call where it makes the call or replies to it, or where a message that names
-/// the call comes there or is sent. Messages have numbers from 1 in the order of sending, over all entries.
+/// An entry is told where it makes the call or replies to it, or where a message that names the call comes
+/// there or is sent. From the call to its reply, or until its server hears that its node failed, these are
+/// told too: a message by which a node that was sent a revoke for the call tells that server that locks may be
+/// gone; the failure of that server, of such a node, of the call's own, or of one whose report the server
+/// awaits, and that it begins again; and that the server hears of the failure of such a node. Messages have
+/// numbers from 1 in the order of sending, over all entries. A message that comes has the number of the last
+/// one that was sent before and equals it.
 #[derive(Drop)]
 pub struct CallStory<'a> {
     pub(crate) call: CallId,
-    pub(crate) part: Vec<NumberedEntry<'a>>,
-    pub(crate) sent: SentMessages<'a>,
+    pub(crate) told: Vec<ToldEntry<'a>>,
+    pub(crate) undelivered: Vec<NumberedMessage<'a>>,
     pub(crate) place: Option<u32>,
     pub(crate) end: Option<End<'a>>,
 }
@@ -29,7 +36,7 @@ impl<'a> Model for CallStory<'a> {
 
     ghost Value = { StoryFields };
 
-    ghost view = { λ s. record { call = s.call; part = s.part.items; sent = s.sent; place = s.place; end = s.end } };
+    ghost view = { λ s. record { call = s.call; told = s.told.items; undelivered = s.undelivered.items; place = s.place; end = s.end } };
 }
 
 impl<'a> CallStory<'a> {
@@ -51,11 +58,10 @@ impl<'a> CallStory<'a> {
             return Ok(None);
         }
         let part = part_of(alloc, entries, call)?;
-        let sent = SentMessages::of(alloc, part.as_slice(), call)?;
         Ok(Some(CallStory {
             call: *call,
-            part,
-            sent,
+            told: told_of(alloc, entries, call)?,
+            undelivered: undelivered(alloc, &part, call)?,
             place: place_in(history, call),
             end: ended_by(entries, call),
         }))

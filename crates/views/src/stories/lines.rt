@@ -1,5 +1,6 @@
 //! Lines that stories and open calls have.
 use crate::stories::end::End;
+use crate::stories::numbered_entry::NumberedMessage;
 use lockscript::operations::Operation;
 use message_text::writing::push_message;
 use messages::actor::Actor;
@@ -35,6 +36,17 @@ pub fn push_addressed(
     out.push_str(": ")?;
     push_message(out, version, message)?;
     out.push_str("\n")
+}
+
+/// Writes that the message is not delivered, and the end of the line.
+pub fn push_undelivered(
+    out: &mut String,
+    version: Version,
+    numbered: &NumberedMessage<'_>,
+) -> Result<(), AllocError> {
+    let number = numbered.number;
+    write!(out, "message {number} is not delivered to ")?;
+    push_addressed(out, version, numbered.message)
 }
 
 /// Writes how a call ended that this entry ended, and the end of the line.

@@ -38,7 +38,7 @@ impl MadeCall {
     }
 
     /// The call of this name that the entries make, of which the first has position 1.
-    pub(crate) fn named(entries: &[Entry], call: &CallId) -> Option<MadeCall>
+    pub fn named(entries: &[Entry], call: &CallId) -> Option<MadeCall>
         ensures { result ≡ call_made call.now entries.now }
     {
         let mut position = 0u64;

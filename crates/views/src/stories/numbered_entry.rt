@@ -94,6 +94,14 @@ impl<'a> NumberedEntry<'a> {
         self.position
     }
 
+    /// The number of the first message that the entry sends.
+    pub(crate) fn number(&self) -> u128
+        ensures value { result ≡ self.now.number }
+        ensures room { result + length self.now.entry.sends < 2 ^ 128 }
+    {
+        self.number
+    }
+
     /// The entry.
     pub(crate) fn entry(&self) -> &'a Entry
         ensures { result.now ≡ self.now.entry }

@@ -4,19 +4,19 @@ use crate::stories::end::End;
 use crate::stories::ends::{Ends, first_end, note_end};
 use crate::stories::made_call::MadeCall;
 use crate::stories::numbered_entry::NumberedMessage;
-use crate::stories::under_way::under_way;
+use crate::stories::undelivered::undelivered;
 use messages::entry::Entry;
 use std::alloc::{AllocError, Global};
 use std::collections::HashMap;
 use std::marker::Model;
 
 /// A call without a reply: the first entry behind it that is an exit of its process or declares its node
-/// failed, and the messages about it that are under way.
+/// failed, and the messages about it that are not delivered.
 #[derive(Drop)]
 pub struct OpenCallStory<'a> {
     made: MadeCall,
     end: Option<End<'a>>,
-    way: Vec<NumberedMessage<'a>>,
+    undelivered: Vec<NumberedMessage<'a>>,
 }
 
 impl<'a> Model for OpenCallStory<'a> {
@@ -24,7 +24,7 @@ impl<'a> Model for OpenCallStory<'a> {
 
     ghost Value = { OpenFields };
 
-    ghost view = { λ o. record { made = o.made; end = o.end; way = o.way.items } };
+    ghost view = { λ o. record { made = o.made; end = o.end; undelivered = o.undelivered.items } };
 }
 
 impl<'a> OpenCallStory<'a> {
@@ -44,11 +44,11 @@ impl<'a> OpenCallStory<'a> {
         self.end.as_ref()
     }
 
-    /// The messages about it that are under way, in the order of sending.
-    pub fn way(&self) -> &[NumberedMessage<'a>]
-        ensures { result.now ≡ self.now.way }
+    /// The messages about it that are not delivered, in the order of sending.
+    pub fn undelivered(&self) -> &[NumberedMessage<'a>]
+        ensures { result.now ≡ self.now.undelivered }
     {
-        self.way.as_slice()
+        self.undelivered.as_slice()
     }
 }
 
@@ -59,8 +59,8 @@ ghost use Rattle.views.specs.code.OpenIndexes.{open_with};
 /// The calls of the entries of a journal, the first at position 1, to which no entry replies, in the order
 /// of their entries.
 ///
-/// A message about a call is under way that was sent and came at no entry behind that which sends it, as
-/// one that was lost; of equal ones the first.
+/// A message about a call is not delivered that was sent and came at no entry behind that which sends it;
+/// of equal ones the first.
 pub fn unanswered<'a>(
     alloc: Global,
     entries: &'a [Entry],
@@ -95,9 +95,13 @@ fn add_open<'a>(
     if let Some(made) = made
         && let Some(part) = parts.of_open(&made.call)
     {
-        let way = under_way(alloc, part, &made.call)?;
+        let left = undelivered(alloc, part, &made.call)?;
         let end = first_end(ends, &made);
-        calls.push(OpenCallStory { made, end, way })?;
+        calls.push(OpenCallStory {
+            made,
+            end,
+            undelivered: left,
+        })?;
     }
     Ok(())
 }

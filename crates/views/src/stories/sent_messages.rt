@@ -1,55 +1,46 @@
-//! The messages about a call.
-use crate::stories::numbered_entry::{NumberedEntry, NumberedMessage};
+//! The messages of a story.
+use crate::stories::numbered_entry::NumberedMessage;
 use messages::message::Message;
-use model::call::CallId;
 use std::alloc::{AllocError, Global};
 use std::collections::HashMap;
 use std::marker::Model;
 
-/// The messages about a call that entries send, with their numbers, in the order of sending.
+/// Messages that entries send, with their numbers, in the order of sending.
 #[derive(Drop)]
 pub(crate) struct SentMessages<'a> {
     messages: Vec<NumberedMessage<'a>>,
-    // The number of the first of equal messages.
+    // The number of the last of equal messages.
     numbers: HashMap<&'a Message, u128>,
 }
 
 impl<'a> Model for SentMessages<'a> {
     ghost use Rattle.std.specs.Prelude.{List};
     ghost use Rattle.views.specs.rule.About.{NumberedFields};
-    ghost use Rattle.views.specs.code.Index.{KnowsFirsts};
+    ghost use Rattle.views.specs.code.Index.{KnowsLasts};
 
     ghost Value = { List NumberedFields };
 
     ghost view = { λ s. s.messages.items };
 
-    ghost invariant = { λ s. KnowsFirsts s.numbers s.messages.items };
+    ghost invariant = { λ s. KnowsLasts s.numbers s.messages.items };
 }
 
 impl<'a> SentMessages<'a> {
-    ghost use Rattle.std.specs.Prelude.{◌≡◌, ◌++◌, ◌∷◌, [], IfOk, OnOk};
-    ghost use Rattle.views.specs.rule.About.{number_of, sent_about};
+    ghost use Rattle.std.specs.Prelude.{◌≡◌, ◌++◌, ◌∷◌, [], OnOk};
+    ghost use Rattle.views.specs.rule.About.{number_of};
 
-    /// Those that the entries send, which belong to the call.
-    pub(crate) fn of(
-        alloc: Global,
-        part: &[NumberedEntry<'a>],
-        call: &CallId,
-    ) -> Result<SentMessages<'a>, AllocError>
-        ensures { IfOk result (λ sent. sent ≡ sent_about call.now part.now) }
+    /// None.
+    pub(crate) fn new(alloc: Global) -> SentMessages<'a>
+        ensures { result ≡ [] }
     {
-        let mut sent = SentMessages {
+        SentMessages {
             messages: Vec::new(alloc),
             numbers: HashMap::new(alloc),
-        };
-        for placed in part {
-            sent.extend(&placed.sent_by(alloc, call)?)?;
         }
-        Ok(sent)
     }
 
-    // These messages come last.
-    fn extend(&mut self, messages: &[NumberedMessage<'a>]) -> Result<(), AllocError>
+    /// These messages come last.
+    pub(crate) fn extend(&mut self, messages: &[NumberedMessage<'a>]) -> Result<(), AllocError>
         ensures { OnOk result (self.new ≡ self.old ++ messages.now) }
     {
         for numbered in messages {
@@ -63,15 +54,13 @@ impl<'a> SentMessages<'a> {
         ensures { OnOk result (self.new ≡ self.old ++ record { number = number; message = message.entry.now } ∷ []) }
     {
         self.messages.reserve(1)?;
-        if !self.numbers.contains_key(&message) {
-            self.numbers.insert(message, number)?;
-        }
+        self.numbers.insert(message, number)?;
         self.messages
             .push_reserved(NumberedMessage { number, message });
         Ok(())
     }
 
-    /// The number of the first message that equals this one.
+    /// The number of the last message that equals this one.
     pub(crate) fn number_of(&self, message: &'a Message) -> Option<u128>
         ensures { result ≡ number_of self.now message.entry.now }
     {

@@ -1,6 +1,6 @@
-use Rattle.std.proofs.Common.{rules, ap, codes, Option, None, Some, [], ◌∷◌, ◌≡◌}
-use Rattle.clap.specs.Words.{Text, found_of, rows_of}
-use Rattle.command_line.proofs.Unmet.{no_open}
+use Rattle.std.proofs.Common.{rules, codes, None, Some, [], ◌∷◌, ◌≡◌}
+use Rattle.clap.specs.Words.{found_of, rows_of}
+use Rattle.command_line.proofs.Unmet.{no_open, no_open_json}
 use Rattle.command_line.proofs.Tables.{no_value, value_is}
 use Rattle.command_line.proofs.journal_lines.open_in.Goals as goal
 
@@ -10,5 +10,13 @@ returns-in_err-journal c =
     let found = found_of c.args.values.now in
     rw none (no_open (rows_of found) (no_value found (codes "JOURNAL") c.get_str.result c.get_str.ensures (search rules)))
 
+pub returns-in_err-json : goal.returns-in_err-json
+returns-in_err-json c =
+    let none : c.from_residual-in_err-json.result ≡ None = search rules in
+    rw none (no_open_json (rows_of (found_of c.args.values.now)) c.in_err-json.ensures)
+
 pub returns : goal.returns
-returns c = ap (λ (value : Option Text). Some (codes "open", value ∷ [])) (value_is (found_of c.args.values.now) (codes "JOURNAL") c.get_str.result c.in_ok-journal.journal c.get_str.ensures (search rules))
+returns c =
+    let journal = value_is (found_of c.args.values.now) (codes "JOURNAL") c.get_str.result c.in_ok-journal.journal c.get_str.ensures (search rules) in
+    let json = c.in_ok-json.ensures in
+    λ i. Some (codes "open", journal i ∷ json i ∷ [])

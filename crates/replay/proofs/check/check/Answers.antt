@@ -13,4 +13,4 @@ returns-clause-fault g c =
     let Refuses = g.S.Store.refuses new in
     let scripts = map (λ path. path.now) c.args.paths.now in
     let journal = option_map (λ file. file.now) c.args.journal in
-    tool-result old (g.S.Store.holds new) (g.S.Store.ran_short new) Refuses (check scripts journal) (Contains scripts) (Any (IsAtFault old) scripts ⊎ IsSomeAnd journal Refuses) c.checked_beside_trial.result c.checked_beside_trial.ensures.files (λ fault is. is) c.checked_beside_trial.ensures.fault
+    tool-result old (g.S.Store.holds new) (g.S.Store.ran_short new) Refuses (check scripts journal c.args.json) (Contains scripts) (Any (IsAtFault old) scripts ⊎ IsSomeAnd journal Refuses) c.checked_beside_trial.result c.checked_beside_trial.ensures.files (λ fault is. is) c.checked_beside_trial.ensures.fault

@@ -15,7 +15,7 @@ returns-clause-fault g c =
     let new = holds c.text_of.new.store in
     let RanShort = g.S.Store.ran_short c.text_of.new.store in
     let Refuses = g.S.Store.refuses c.text_of.new.store in
-    let task = explore c.args.path.now c.args.seeds c.args.first c.args.failures in
+    let task = explore c.args.path.now c.args.seeds c.args.first c.args.failures c.args.json in
     let text = c.as_str.result.now in
     let held = text-held (old c.args.path.now) c.in_ok-text.text c.as_str.result.now c.as_str.ensures.value c.in_ok-text.ensures.text in
     IfErr-weaker c.explored_in.result (IsExploreTextFault c.args.failures text) (λ fault. (fault ≢ CannotWriteOutput) × IsFault old RanShort Refuses task new fault)

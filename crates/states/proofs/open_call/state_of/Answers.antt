@@ -11,6 +11,6 @@ pub returns-clause-state : goal.returns-clause-state
 returns-clause-state c =
     let w = world_state c.args.world.now in
     record {
-      locks = subst (λ (locks : List LockInfo). Lists (IsBlocker w c.args.asked.now) IsBefore locks) (sym c.in_ok-locks.ensures) (lists_blockers w c.args.asked.now c.args.locks.now c.requires);
+      locks = subst (λ (locks : List LockInfo). Lists (IsBlocker w c.args.pending.now.asked) IsBefore locks) (sym c.in_ok-locks.ensures) (lists_blockers w c.args.pending.now.asked c.args.locks.now c.requires);
       place = c.in_ok-place.ensures;
     }
