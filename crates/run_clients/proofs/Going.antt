@@ -1,7 +1,6 @@
 -- A history that is followed item by item, with the calls seen so far.
 use Rattle.std.proofs.Common.{◌≡◌, ℕ, ◌+◌, ◌<◌, ◌≤◌, refl, sym, ◌∙◌, ap, subst, List, [], ◌∷◌, ◌++◌, append-nil, append_assoc, length, drop, get_or, drop-cons, add-one}
 use Rattle.std.specs.Prelude.{map}
-use Rattle.std.specs.List.{AllByRecursion}
 use Rattle.std.proofs.lemmas.List.{drop_all}
 use Rattle.model.specs.rule.Table.{Table}
 use Rattle.messages.specs.declared.version.Version.{Version}
@@ -12,7 +11,7 @@ use Rattle.placement.proofs.Replays.{Follows}
 use Rattle.run_clients.specs.declared.answer_time.AnswerTime.TheVariants.{At}
 use Rattle.run_clients.specs.declared.file_call.FileCall.{FileCall}
 use Rattle.run_clients.specs.code.Times.{IsTimed}
-use Rattle.run_clients.specs.rule.Seen.{op_of, item_deeds, call_of, AreSeen, HasOpened, IsOpenCall}
+use Rattle.run_clients.specs.rule.Seen.{op_of, item_deeds, call_of, AreSeen}
 
 -- the calls seen so far, and those that will be seen from this table on, are all that are seen from the first
 abbrev pub SeenSoFar : List Entry → Table → List Item → Table → List Item → List FileCall → Type 0
@@ -45,15 +44,3 @@ pub seen_whole : (es : List Entry) (first t : Table) (items : List Item) (k : �
 seen_whole es first t items k seen all so_far =
     let whole : AreSeen es first items (seen ++ []) t = so_far [] t (subst (λ (rest : List Item). AreSeen es t rest [] t) (sym (drop_all k items all)) (refl, refl)) in
     subst (λ (ss : List FileCall). AreSeen es first items ss t) (append-nil seen) whole
-
--- one more open call, if there is one
-module _ (es : List Entry) (last : Table) where
-  joined_open : (xs ys : List FileCall) → AllByRecursion (IsOpenCall es last) xs → AllByRecursion (IsOpenCall es last) ys → AllByRecursion (IsOpenCall es last) (xs ++ ys)
-  joined_open [] ys one two = two
-  joined_open (x ∷ xs) ys one two = (one.0, joined_open xs ys one.1 two)
-
-  pub opened_none : (seen : List FileCall) → HasOpened es last seen seen
-  opened_none seen = ([], sym (append-nil seen), tt)
-
-  pub opened_more : (old seen new : List FileCall) → HasOpened es last old seen → HasOpened es last seen new → HasOpened es last old new
-  opened_more old seen new before after = (before.0 ++ after.0, after.1 ∙ (ap (λ (ss : List FileCall). ss ++ after.0) before.1 ∙ append_assoc old before.0 after.0), joined_open before.0 after.0 before.2 after.2)

@@ -1,16 +1,12 @@
 -- The positions of calls, noted entry by entry.
-use Rattle.std.proofs.Common.{◌≡◌, ℕ, ◌+◌, ◌≤◌, Bool, true, false, if◌then◌else◌, inl, inr, refl, sym, ◌∙◌, ap, subst, arith, List, [], ◌++◌, length, slice_get, Option, Some, None}
-use Rattle.std.specs.Prelude.{IsSome, is_some, map}
-use Rattle.std.specs.List.{AllByRecursion}
+use Rattle.std.proofs.Common.{◌≡◌, ℕ, ◌+◌, ◌≤◌, Bool, true, false, if◌then◌else◌, inl, inr, refl, sym, ◌∙◌, ap, subst, arith, List, [], length, Option, Some, None}
+use Rattle.std.specs.Prelude.{IsSome}
 use Rattle.std.proofs.lemmas.Bool.{cases_eq, both_ways}
 use Rattle.std.proofs.lemmas.Option.{same_Some, none-some}
 use Rattle.std.specs.Map.{lookup}
 use Rattle.model.specs.declared.call.CallId.{CallId}
 use Rattle.model.specs.declared.op.Op.{Op}
-use Rattle.model.specs.declared.process.Process.{Process}
 use Rattle.model.specs.declared.reply.Reply.{Reply}
-use Rattle.model.specs.declared.reply.Reply.TheVariants.{Done}
-use Rattle.model.specs.rule.Table.{Table}
 use Rattle.messages.specs.declared.event.Event.{Event}
 use Rattle.messages.specs.declared.event.Event.TheVariants.{AtNode, AtServer, Deliver, Member}
 use Rattle.messages.specs.declared.event.NodeInput.TheVariants.{Call, Interrupt, Retry}
@@ -20,23 +16,11 @@ use Rattle.messages.specs.rule.Messages.{same_call}
 use Rattle.messages.proofs.SameMessages.{call_exact, call_refl}
 use Rattle.cluster_core.specs.declared.item.Item.{Item}
 use Rattle.cluster_core.specs.declared.item.Item.TheVariants.{Answered, Gone}
-use Rattle.cluster_core.specs.rule.Histories.{caller, EntryAt, IsCalledAt, IsRepliedAt, IsOpenAt, IsPlaced, OneCall, OneReply}
-use Rattle.run_clients.specs.declared.deed.Deed.{Deed}
-use Rattle.run_clients.specs.declared.answer_time.AnswerTime.TheVariants.{Never}
-use Rattle.run_clients.specs.declared.file_call.FileCall.{FileCall}
-use Rattle.run_clients.specs.rule.Deeds.{listed, lock_deed}
-use Rattle.run_clients.specs.rule.Seen.{call_of, HasOpened, IsOpenCall}
+use Rattle.cluster_core.specs.rule.Histories.{EntryAt, IsCalledAt, IsRepliedAt, IsOpenAt, IsPlaced, OneCall, OneReply}
+use Rattle.run_clients.proofs.LastCalls.{one_entry, after_first, none_last}
 use Rattle.run_clients.proofs.Runs.{within}
 use Rattle.run_clients.specs.declared.call_times.CallTimes.{CallTimes}
 use Rattle.run_clients.specs.code.Times.{IsTimed, Positions, position_of_call, Notes, IsMade, IsAnswered, AreFound, AreTimes, IsKnown, IsKept}
-
--- a list has one entry at a position
-one_entry : (es : List Entry) (at : ℕ) (e d : Entry) → EntryAt es at e → EntryAt es at d → e ≡ d
-one_entry es at e d one two =
-    let here = one.1 in
-    let there = two.1 in
-    let same : one.0 ≡ two.0 = omega arith in
-    same_Some e d (sym one.2 ∙ (ap (slice_get es) same ∙ two.2))
 
 module _ (IsSo : CallId → ℕ → Type 0) (old : Positions) (before at : ℕ) (next : at ≡ before + 1) (found : AreFound IsSo old before) where
   pub noted : (new : Positions) (id : CallId) → Notes old id at new → IsSo id at → ((x : CallId) → IsSo x at → x ≡ id) → AreFound IsSo new at
@@ -76,15 +60,11 @@ none_found IsSo kept empty first = record {
       absurd (omega arith);
 }
 
-after_first : (es : List Entry) (at : ℕ) (e : Entry) → EntryAt es at e → 1 ≤ at
-after_first es at e there =
-    let is = there.1 in
-    omega arith
-
-pub times_at_first : (es : List Entry) (times : CallTimes) → times.begins.entries ≡ [] → times.ends.entries ≡ [] → AreTimes es times 0
-times_at_first es times begins ends = record {
+pub times_at_first : (es : List Entry) (times : CallTimes) → times.begins.entries ≡ [] → times.ends.entries ≡ [] → times.lasts.entries ≡ [] → AreTimes es times 0
+times_at_first es times begins ends lasts = record {
   begins = none_found (IsMade es) times.begins begins (λ id at is. after_first es at is.2.calling is.2.there);
   ends = none_found (IsAnswered es) times.ends ends (λ id at is. after_first es at is.1.replying is.1.there);
+  lasts = none_last es times.lasts lasts;
 }
 
 module _ (es : List Entry) (at : ℕ) (e : Entry) (there : EntryAt es at e) where
@@ -144,26 +124,3 @@ module _ (es : List Entry) (times : CallTimes) (are : AreTimes es times (length 
       let ends : placed.reply_at ≡ end = one_reply id reply answered.0 placed.reply_at end placed.replied answered.1 in
       (subst (IsCalledAt es id pid op) begins placed.called, subst (IsRepliedAt es id reply) ends placed.replied, subst (λ (n : ℕ). n ≤ at) begins placed.after, subst (λ (n : ℕ). at ≤ n) ends placed.before)
   item_timed one_call one_reply (Gone at node incarnation) begin end placed kept = (placed, kept.0, kept.1)
-
--- a lock call that has no reply
-module _ (es : List Entry) (last : Table) (times : CallTimes) (at : ℕ) (e : Entry) (id : CallId) (node pid : ℕ) (op : Op) (there : EntryAt es at e) (are : AreTimes es times (length es)) (named : e.call ≡ Some id) (its : NamesItsCall e.event (Some id)) (event : e.event ≡ AtNode node (Call pid op)) (none : is_some (position_of_call times.ends id) ≡ false) where
-  one_opened : (d : Deed) → lock_deed last (caller id pid) op Done ≡ Some d → IsOpenCall es last (call_of op at Never d)
-  one_opened d does = record {
-    id = id;
-    pid = pid;
-    called = record { calling = e; there = there; is_call = event ∙ ap (λ (n : ℕ). AtNode n (Call pid op)) (sym (subst (λ (v : Event). NamesItsCall v (Some id)) event its)); named = named };
-    unanswered = λ reply k h. both_ways (is_some (position_of_call times.ends id)) none (are.ends.complete id k (reply, h) (within es k h.replying h.there));
-    deed = d;
-    does = does;
-    is = refl;
-  }
-
-  all_opened : (x : Option Deed) → lock_deed last (caller id pid) op Done ≡ x → AllByRecursion (IsOpenCall es last) (map (call_of op at Never) (listed x))
-  all_opened None does = tt
-  all_opened (Some d) does = (one_opened d does, tt)
-
-  pub opened : (p : Process) (deeds : List Deed) (old new : List FileCall) → p ≡ caller id pid → deeds ≡ [] ++ listed (lock_deed last p op Done) → new ≡ old ++ map (call_of op at Never) deeds → HasOpened es last old new
-  opened p deeds old new is all added =
-      let x = lock_deed last (caller id pid) op Done in
-      let these : deeds ≡ listed x = all ∙ ap (λ (q : Process). listed (lock_deed last q op Done)) is in
-      (map (call_of op at Never) (listed x), added ∙ ap (λ (ds : List Deed). old ++ map (call_of op at Never) ds) these, all_opened x refl)

@@ -1,5 +1,5 @@
 -- What the clients of a run saw is explained.
-use Rattle.std.proofs.Common.{◌≡◌, ℕ, zero, suc, ◌+◌, ◌≤◌, ◌==◌, if◌then◌else◌, true, false, refl, sym, ◌∙◌, ap, subst, arith, List, [], ◌∷◌, ◌++◌, append-nil, length, slice_get, Option, Some, None}
+use Rattle.std.proofs.Common.{◌≡◌, ℕ, zero, suc, ◌+◌, ◌≤◌, ◌==◌, if◌then◌else◌, true, false, refl, sym, ◌∙◌, ap, subst, arith, List, [], ◌∷◌, ◌++◌, length, slice_get, Option, Some, None}
 use Rattle.std.specs.Prelude.{map}
 use Rattle.std.specs.List.{AllByRecursion, cons_option}
 use Rattle.std.proofs.lemmas.List.Elements.{filter_map-append}
@@ -10,10 +10,9 @@ use Rattle.messages.specs.rule.Shapes.{ShapeFields}
 use Rattle.messages.specs.rule.Versions.{most_regions}
 use Rattle.messages.specs.declared.entry.Entry.{Entry}
 use Rattle.cluster_core.specs.rule.World.{journal_limit}
-use Rattle.cluster_core.specs.rule.Union.{union}
 use Rattle.cluster_core.specs.declared.item.Item.{Item}
 use Rattle.cluster_core.specs.declared.item.Item.TheVariants.{Answered, Gone}
-use Rattle.cluster_core.specs.rule.Histories.{caller, position_of, ItemStep, Rising, EntryAt, IsPlaced, IsOpenAt, Legal, HasHistory, EachAtItsPlace}
+use Rattle.cluster_core.specs.rule.Histories.{caller, position_of, ItemStep, Rising, EntryAt, IsPlaced, IsOpenAt, Legal}
 use Rattle.client_history.specs.declared.client_call.ClientCall.{ClientCall}
 use Rattle.client_history.specs.rule.Explained.{IsExplainedBy, always}
 use Rattle.run_clients.specs.code.Anchored.{AreAnchored}
@@ -117,27 +116,9 @@ times_of es (Answered at id pid op reply) placed = (placed.call_at, placed.reply
 times_of es (Gone at node incarnation) placed = (at, at, (placed, refl, refl))
 
 -- each legal history has the calls that its clients saw
-seen_of : (es : List Entry) (t last : Table) (is : List Item) → ((k : ℕ) (i : Item) → slice_get is k ≡ Some i → IsPlaced (IsOpenAt es) es i) → Legal t is last → (seen : List FileCall) × AreSeen es t is seen last
+pub seen_of : (es : List Entry) (t last : Table) (is : List Item) → ((k : ℕ) (i : Item) → slice_get is k ≡ Some i → IsPlaced (IsOpenAt es) es i) → Legal t is last → (seen : List FileCall) × AreSeen es t is seen last
 seen_of es t last [] placed h = ([], (h, refl))
 seen_of es t last (i ∷ is) placed (next, step, more) =
     let times = times_of es i (placed 0 i refl) in
     let rest = seen_of es next last is (λ k j there. placed (suc k) j there) more in
     (map (call_of (op_of i) times.0 (At times.1)) (item_deeds t i) ++ rest.0, (next, times.0, times.1, rest.0, step, times.2, refl, rest.1))
-
--- each run is explained
-pub run_is_explained : (shape : ShapeFields) (es : List Entry) → length es ≤ journal_limit → (h : List Item) → HasHistory shape es h → EachAtItsPlace es h → (seen : List FileCall) × IsSeen shape es seen × AreExplained seen
-run_is_explained shape es few h is_history at_places =
-    let first = empty_table (most_regions shape.version) in
-    let found = seen_of es first (union is_history.world) h is_history.fits.placed is_history.legal in
-    let s : IsSeen shape es found.0 = record {
-      history = h;
-      is_history = is_history;
-      at_places = at_places;
-      answered = found.0;
-      last = union is_history.world;
-      calls = found.1;
-      unanswered = [];
-      open_calls = tt;
-      are = sym (append-nil found.0);
-    } in
-    (found.0, s, seen_is_explained shape es found.0 few s)

@@ -1,3 +1,4 @@
 pub mod Anchored
+pub mod LastCalls
 pub mod References
 pub mod Times

@@ -10,7 +10,7 @@ ghost use Rattle.fcntl_table.specs.rule.Tables.{table_of};
 ghost use Rattle.run_clients.specs.code.Anchored.{AreAnchored};
 ghost use Rattle.run_clients.specs.declared.answer_time.AnswerTime.TheVariants.{At};
 ghost use Rattle.run_clients.specs.code.Times.{AreTimes, IsKept, IsKnown};
-ghost use Rattle.run_clients.specs.rule.Seen.{AreExplained, IsOpenCall, IsSeen, call_of, item_deeds, op_of};
+ghost use Rattle.run_clients.specs.rule.Seen.{AreExplained, IsAllSeen, call_of, item_deeds, op_of};
 
 use crate::answer_time::AnswerTime;
 use crate::call_times::CallTimes;
@@ -30,11 +30,12 @@ use std::alloc::{AllocError, Global};
 /// owner the bytes, an unlock took them, a denial and a query name what blocked. A close drops the locks of the
 /// process in the file, and the last close of a description those of the description. An exit closes each descriptor,
 /// and where a node fails each of its processes exits. Other calls, and those that are refused for another reason,
-/// are left out. Behind them come lock calls that have no reply.
+/// are left out. Behind them come the lock calls that are open: those that have no reply, and whose process neither
+/// exited since nor was on a node that was declared failed.
 ///
 /// One table of record locks explains the calls about each file, in the order in which they stand.
 pub fn clients_of(alloc: Global, journal: &Journal) -> Result<Vec<FileCall>, AllocError>
-    ensures seen { IfOk result (λ seen. IsSeen journal.now.shape journal.now.entries seen.items) }
+    ensures seen { IfOk result (λ seen. IsAllSeen journal.now.shape journal.now.entries seen.items) }
     ensures explained { IfOk result (λ seen. AreExplained seen.items) }
 {
     let history = placed(alloc, journal)?;

@@ -12,6 +12,7 @@ mod deeds;
 pub mod file_call;
 mod follow;
 pub mod laws;
+mod made_call;
 mod open_calls;
 mod references;
 pub mod text;

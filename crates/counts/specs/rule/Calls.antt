@@ -12,7 +12,7 @@ use Rattle.messages.specs.declared.entry.Entry.{Entry}
 use Rattle.run_clients.specs.declared.answer_time.AnswerTime.{AnswerTime}
 use Rattle.run_clients.specs.declared.answer_time.AnswerTime.TheVariants.{At, Never}
 use Rattle.run_clients.specs.declared.file_call.FileCall.{FileCall}
-use Rattle.run_clients.specs.rule.Seen.{IsSeen}
+use Rattle.run_clients.specs.rule.Seen.{IsAllSeen}
 use Rattle.counts.specs.declared.numbers.Numbers.{Numbers}
 use Rattle.counts.specs.declared.touch.Touch.{Touch}
 use Rattle.counts.specs.rule.Touches.{message_touches, no_numbers, touch}
@@ -51,4 +51,4 @@ call_touches calls = filter_map call_touch calls
 
 -- what was done in a run: by its calls, as their clients saw them, and then by its messages
 abbrev pub AreTouches : ShapeFields → List Entry → List Touch → Type 0
-AreTouches shape es ts = (calls : List FileCall) × IsSeen shape es calls × (ts ≡ call_touches calls ++ message_touches es)
+AreTouches shape es ts = (calls : List FileCall) × IsAllSeen shape es calls × (ts ≡ call_touches calls ++ message_touches es)

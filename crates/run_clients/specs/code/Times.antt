@@ -12,6 +12,7 @@ use Rattle.cluster_core.specs.declared.item.Item.{Item}
 use Rattle.cluster_core.specs.declared.item.Item.TheVariants.{Answered, Gone}
 use Rattle.cluster_core.specs.rule.Histories.{IsCalledAt, IsRepliedAt, IsDeclaredAt}
 use Rattle.run_clients.specs.declared.call_times.CallTimes.{CallTimes}
+use Rattle.run_clients.specs.code.LastCalls.{AreLast}
 
 -- the item's call is made at the one position and answered at the other, and the item stands between; of a failed node both are that of the item
 abbrev pub IsTimed : List Entry → Item → ℕ → ℕ → Type 0
@@ -42,10 +43,11 @@ pub record AreFound (IsSo : CallId → ℕ → Type 0) (kept : Positions) (most 
   pub sound : (id : CallId) (at : ℕ) → position_of_call kept id ≡ Some at → IsSo id at
   pub complete : (id : CallId) (at : ℕ) → IsSo id at → at ≤ most → IsSome (position_of_call kept id)
 
--- the positions of the calls and of the replies of the entries up to a position are noted
+-- the positions of the calls and of the replies of the entries up to a position are noted, and of each process that of its last call
 pub record AreTimes (es : List Entry) (times : CallTimes) (most : ℕ) : Type 0 where
   pub begins : AreFound (IsMade es) times.begins most
   pub ends : AreFound (IsAnswered es) times.ends most
+  pub lasts : AreLast es times.lasts most
 
 -- the positions at which the item's call was made and answered are noted
 abbrev pub IsKnown : CallTimes → Item → Type 0

@@ -1,11 +1,12 @@
 -- The calls that the clients of a run saw, and that one table of record locks explains them.
-use Rattle.std.specs.Prelude.{◌≡◌, ℕ, zero, suc, ◌+◌, ◌==◌, ◌≤◌, length, false, if◌then◌else◌, List, [], ◌∷◌, ◌++◌, map, filter_map, Option, Some, None}
+use Rattle.std.specs.Prelude.{◌≡◌, ℕ, zero, suc, ◌+◌, ◌==◌, ◌<◌, ◌≤◌, length, false, if◌then◌else◌, List, [], ◌∷◌, ◌++◌, map, filter_map, Option, Some, None}
 use Rattle.std.specs.List.{AllByRecursion}
 use Rattle.model.specs.declared.call.CallId.{CallId}
 use Rattle.model.specs.declared.reply.Reply.{Reply}
 use Rattle.model.specs.declared.reply.Reply.TheVariants.{Done}
 use Rattle.model.specs.declared.op.Op.{Op}
 use Rattle.model.specs.declared.op.Op.TheVariants.{Exit}
+use Rattle.model.specs.rule.Limits.{IsProcess}
 use Rattle.model.specs.rule.Table.{Table, empty_table}
 use Rattle.messages.specs.rule.Shapes.{ShapeFields, IsShape}
 use Rattle.messages.specs.rule.Versions.{most_regions}
@@ -48,21 +49,37 @@ AreSeen es t (i ∷ is) seen last =
     × (seen ≡ map (call_of (op_of i) begin (At end)) (item_deeds t i) ++ rest)
     × AreSeen es next is rest last
 
--- a lock call that the run has no reply to, with the deed that it would have if it were answered in the last table
+-- the process of the call, which was made at that position, makes none behind it
+abbrev pub IsLastCall : List Entry → CallId → ℕ → ℕ → Type 0
+IsLastCall es id pid at = (later : CallId) (op : Op) (k : ℕ) → caller later pid ≡ caller id pid → IsCalledAt es later pid op k → k ≤ at
+
+-- a lock call that is open: the run has no reply to it, and it has not ended. An exit of its process would be a call behind it, and a process of a node that was declared failed runs no more.
+-- So the last table has the descriptors that its process had when it made the call; the deed is what it would do if it were answered there.
 pub record IsOpenCall (es : List Entry) (last : Table) (s : FileCall) : Type 0 where
   pub id : CallId
   pub pid : ℕ
+  pub process : IsProcess (caller id pid)
   pub called : IsCalledAt es id pid s.op s.begin
   pub unanswered : (reply : Reply) (at : ℕ) → IsRepliedAt es id reply at → ⊥
+  pub last_call : IsLastCall es id pid s.begin
   pub deed : Deed
   pub does : lock_deed last (caller id pid) s.op Done ≡ Some deed
   pub is : s ≡ call_of s.op s.begin Never deed
 
--- open calls come behind the old ones
-abbrev pub HasOpened : List Entry → Table → List FileCall → List FileCall → Type 0
-HasOpened es last old new = (more : List FileCall) × (new ≡ old ++ more) × AllByRecursion (IsOpenCall es last) more
+-- no open call was made behind the one position and before the other
+abbrev pub NoneIsOpen : List Entry → Table → ℕ → ℕ → Type 0
+NoneIsOpen es last from below = (s : FileCall) → IsOpenCall es last s → from < s.begin → s.begin < below → ⊥
 
--- the calls that the clients of a run saw: those of its history, in its order, and behind them calls that have no reply
+-- just these open calls were made behind the one position and before the other, in this order
+abbrev pub AreOpen : List Entry → Table → ℕ → ℕ → List FileCall → Type 0
+AreOpen es last from below [] = NoneIsOpen es last from below
+AreOpen es last from below (s ∷ ss) = IsOpenCall es last s × (from < s.begin) × (s.begin < below) × NoneIsOpen es last from s.begin × AreOpen es last s.begin below ss
+
+-- the open calls between the two positions come behind the old calls
+abbrev pub HasOpened : List Entry → Table → ℕ → ℕ → List FileCall → List FileCall → Type 0
+HasOpened es last from below old new = (more : List FileCall) × (new ≡ old ++ more) × AreOpen es last from below more
+
+-- the calls that the clients of a run saw: those of its history, in its order, and behind them calls that are open
 pub record IsSeen (shape : ShapeFields) (es : List Entry) (seen : List FileCall) : Type 0 where
   pub history : List Item
   pub is_history : HasHistory shape es history
@@ -73,6 +90,10 @@ pub record IsSeen (shape : ShapeFields) (es : List Entry) (seen : List FileCall)
   pub unanswered : List FileCall
   pub open_calls : AllByRecursion (IsOpenCall es last) unanswered
   pub are : seen ≡ answered ++ unanswered
+
+-- all calls that the clients of a run saw: each that is open is there once
+abbrev pub IsAllSeen : ShapeFields → List Entry → List FileCall → Type 0
+IsAllSeen shape es seen = (s : IsSeen shape es seen) × AreOpen es s.last 0 (length es + 1) s.unanswered
 
 abbrev pub end_of : AnswerTime → Option ℕ
 end_of (At position) = Some position
@@ -99,11 +120,11 @@ indexes_from from (suc n) = from ∷ indexes_from (from + 1) n
 abbrev pub AreExplained : List FileCall → Type 0
 AreExplained seen = (file : ℕ) → (count : ℕ) × IsExplainedBy always (calls_about file seen) (indexes_from 0 count)
 
--- one table of record locks explains what the clients of any run saw, if the run is no longer than a journal may be
+-- one table of record locks explains all that the clients of any run saw, if the run is no longer than a journal may be
 abbrev pub EveryRunIsExplained : Type 0
 EveryRunIsExplained =
     (shape : ShapeFields) (es : List Entry) (w : WorldState)
     → IsShape shape
     → length es ≤ journal_limit
     → Leads (first_world shape) es w
-    → (seen : List FileCall) × IsSeen shape es seen × AreExplained seen
+    → (seen : List FileCall) × IsAllSeen shape es seen × AreExplained seen

@@ -1,4 +1,4 @@
-use Rattle.std.proofs.Common.{◌≡◌, refl, sym, ◌∙◌, ap, subst, List, length}
+use Rattle.std.proofs.Common.{◌≡◌, ◌+◌, refl, sym, ◌∙◌, ap, subst, List, length}
 use Rattle.std.proofs.lemmas.Option.{slice_get_read}
 use Rattle.model.specs.rule.Table.{empty_table}
 use Rattle.messages.specs.rule.Versions.{most_regions}
@@ -8,11 +8,12 @@ use Rattle.cluster_core.specs.rule.Histories.{HasHistory, EachAtItsPlace}
 use Rattle.fcntl_table.specs.rule.Tables.{table_of}
 use Rattle.placement.proofs.Replays.{follows_start, follows_more}
 use Rattle.run_clients.specs.code.Anchored.{AreAnchored}
-use Rattle.run_clients.specs.rule.Seen.{HasOpened}
+use Rattle.run_clients.specs.rule.Seen.{HasOpened, IsSeen}
 use Rattle.run_clients.specs.code.Times.{AreTimes}
 use Rattle.run_clients.proofs.Going.{may_follow, seen_start, seen_more, seen_whole}
 use Rattle.run_clients.proofs.Kept.{empty_anchored}
 use Rattle.run_clients.proofs.Noting.{item_known, item_timed}
+use Rattle.run_clients.proofs.OpenCalls.{each_open}
 use Rattle.run_clients.proofs.Runs.{item_keeps, seen_is_explained}
 use Rattle.run_clients.proofs.clients.clients_of.Goals as goal
 
@@ -66,18 +67,20 @@ pub returns-clause-seen : goal.returns-clause-seen
 returns-clause-seen c =
     let es = c.args.journal.now.entries in
     let items = c.items-item-items.result.now in
-    let opened = subst (λ (xs : List Entry). HasOpened xs (table_of c.loop-item.table) c.loop-item.seen.items c.push_open_calls.new.seen.items) c.entries-2.ensures.value c.in_ok-push_open_calls.ensures in
-    record {
+    let last = table_of c.loop-item.table in
+    let opened = subst (λ (xs : List Entry). HasOpened xs last 0 (length xs + 1) c.loop-item.seen.items c.push_open_calls.new.seen.items) c.entries-2.ensures.value c.in_ok-push_open_calls.ensures in
+    let seen : IsSeen c.args.journal.now.shape es c.push_open_calls.new.seen.items = record {
       history = items;
       is_history = subst (HasHistory c.args.journal.now.shape es) (sym c.items-item-items.ensures.value) c.in_ok-history.ensures.history;
       at_places = subst (EachAtItsPlace es) (sym c.items-item-items.ensures.value) c.in_ok-history.ensures.at_places;
       answered = c.loop-item.seen.items;
-      last = table_of c.loop-item.table;
+      last = last;
       calls = seen_whole es (empty_table (most_regions c.args.journal.now.shape.version)) (table_of c.loop-item.table) items c.loop-item.item-index c.loop-item.seen.items c.loop-item-test.false c.loop-item.invariant.seen;
       unanswered = opened.0;
-      open_calls = opened.2;
+      open_calls = each_open es last 0 (length es + 1) opened.0 opened.2;
       are = opened.1;
-    }
+    } in
+    (seen, opened.2)
 
 pub returns-clause-explained : goal.returns-clause-explained
-returns-clause-explained c = seen_is_explained c.args.journal.now.shape c.args.journal.now.entries c.push_open_calls.new.seen.items c.entries.ensures.few (returns-clause-seen c)
+returns-clause-explained c = seen_is_explained c.args.journal.now.shape c.args.journal.now.entries c.push_open_calls.new.seen.items c.entries.ensures.few (returns-clause-seen c).0
