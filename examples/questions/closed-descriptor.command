@@ -1,1 +1,1 @@
-state JOURNAL --file 1
+explain JOURNAL 1.1.8

@@ -1,1 +1,1 @@
-state JOURNAL
+explain JOURNAL 2.1.3
