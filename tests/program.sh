@@ -573,7 +573,13 @@ done
 try 'a journal of 405 entries' 0 none none run spawns.lock --journal spawns.journal --quiet
 for format in svg mermaid trace; do
     echo 'entries 401 to 405 are left out: a picture shows 400 at most' >left-out
-    try_part "the first 400 of its entries as $format" 1 1.1.400 1.1.401 left-out picture spawns.journal --format $format
+    try_part "the first 400 of its entries as $format" 1 1.1.400 1.1.401 left-out picture spawns.journal --format $format --to 405
+    if test $format = svg; then
+        echo '405 entries are drawn 2 a column: --around CALL draws those about a call in full' >columns
+        try_part 'an overview of its entries' 1 'node 1, entries 405 to 405: calls 1,' 1.1.400 columns picture spawns.journal
+    else
+        try_part "all of its entries as $format" 1 1.1.400 1.1.401 left-out picture spawns.journal --format $format
+    fi
     echo 'entries 402 to 404 are left out: a picture shows 400 at most' >left-out
     try_part "400 of them from the second on as $format" 1 1.1.401 1.1.402 left-out picture spawns.journal --format $format --from 2 --to 404
     try_part "the 400 that were asked for as $format" 0 1.1.400 1.1.401 none picture spawns.journal --format $format --to 400
