@@ -16,7 +16,7 @@ def long_script():
     lines = ["cluster nodes 3 files 2 policy exact"]
     for node in (1, 2, 3):
         lines += [f"call {node} 1 spawn", f"call {node} 1 open 1 rw", f"call {node} 1 open 2 rw"]
-    for turn in range(70):
+    for turn in range(120):
         node = turn % 3 + 1
         lines += [f"call {node} 1 set {turn % 2} proc write {10 * (turn % 7)} 5", "settle"]
         if turn == 40:
@@ -43,12 +43,14 @@ def locks_in(nodes, actor):
     return sum(len(regions) for place, regions in runs if place == number)
 
 
-def titles_wanted(count, entries, size):
-    """What the columns of an overview tell, of so many entries each."""
-    model, titles = Nodes(count), []
+def columns_wanted(count, entries, size):
+    """What the columns of an overview tell, of so many entries each, and where their boxes begin, if they have any; and where lines across stand."""
+    model, titles, rules = Nodes(count), [], []
     actors = [f"node {node}" for node in range(1, count + 1)] + ["server 1", "server 2"]
     for first in range(1, len(entries) + 1, size):
-        part = entries[first - 1 : first - 1 + size]
+        part, left = entries[first - 1 : first - 1 + size], LEFT + 4 * ((first - 1) // size)
+        if any(event.split(" ")[0] in RULES and not event.startswith("learn ") for event, _, _ in part):
+            rules.append(left + 2)
         for event, answer, _ in part:
             model.take(Step(event.split(" "), *(answer or (None, None))))
         for actor in actors:
@@ -59,8 +61,15 @@ def titles_wanted(count, entries, size):
             locks = locks_in(model, actor)
             if calls or received or sent or failures or locks:
                 told = f"calls {calls}, sent {sent}, received {received}, failures and starts {failures}, locks {locks}"
-                titles.append((f"{actor}, entries {first} to {first + len(part) - 1}: {told}", LEFT + 4 * ((first - 1) // size)))
-    return collections.Counter(titles)
+                has_box = calls or received or sent or locks
+                titles.append((f"{actor}, entries {first} to {first + len(part) - 1}: {told}", left if has_box else None))
+    return collections.Counter(titles), rules
+
+
+def left_of(group):
+    """Where the boxes of a row in a column begin; None where there are none."""
+    lefts = {int(box.get("x")) for box in group.iter(SVG + "rect")}
+    return lefts.pop() if lefts else None
 
 
 def judge_overview(program, folder):
@@ -77,9 +86,13 @@ def judge_overview(program, folder):
         return [f"the overview of {len(entries)} entries: {drawn.returncode} {drawn.stderr}"]
     root = tree.fromstring(drawn.stdout)
     groups = [group for group in root.iter(SVG + "g") if group.find(SVG + "title") is not None]
-    given = collections.Counter((group.find(SVG + "title").text, int(next(group.iter(SVG + "rect")).get("x"))) for group in groups if group.find(SVG + "rect") is not None)
-    wanted = titles_wanted(count, entries, size)
+    given = collections.Counter((group.find(SVG + "title").text, left_of(group)) for group in groups)
+    wanted, rules = columns_wanted(count, entries, size)
     faults = [f"the overview: {title}" for title in given - wanted] + [f"the overview has no {title}" for title in wanted - given]
+    lines = [line for line in root.iter(SVG + "line") if line.get("class") == "rule"]
+    across = [int(line.get("x1")) for line in lines[1:]]  # the first is of the legend
+    if across != rules or not rules:
+        faults.append(f"the overview has lines across at {across}, and not {rules}")
     texts = [e.text for e in root.iter(SVG + "text") if e.get("class") == "size"]
     if texts != [f"{size} entries a column: --around CALL draws those about a call in full"]:
         faults.append(f"the overview says {texts}")
