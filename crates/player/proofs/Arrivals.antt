@@ -15,9 +15,10 @@ use Rattle.cluster_core.specs.rule.Journals.{RunFields, GoesOn, events_of}
 use Rattle.cluster_core.specs.rule.Next.{is_stopped}
 use Rattle.cluster_core.specs.rule.Parts.{world_state}
 use Rattle.cluster_core.specs.rule.World.{WorldState}
+use Rattle.cluster_core.specs.rule.Rounds.{IsQuiet}
 use Rattle.cluster_core.proofs.runs.JournalRuns.{entry_event}
 use Rattle.cluster_core.proofs.steps.Steps.{kept_taken}
-use Rattle.player.specs.rule.Rounds.{Arrive, IsQuiet}
+use Rattle.player.specs.rule.Rounds.{Arrive}
 use Rattle.player.specs.code.Rounds.{ArriveUpTo, GoesBy, IsSentFrom, Passes, PassesAt}
 use Rattle.player.proofs.QuietRuns.{goes_append, goes_none, goes_one, quiet_stays, stopped_stays}
 

@@ -15,7 +15,8 @@ use Rattle.node_core.specs.declared.open_call.OpenCall.{OpenCall}
 use Rattle.node_core.specs.rule.State.{NodeState}
 use Rattle.cluster_core.specs.rule.Actors.{HasNode}
 use Rattle.cluster_core.specs.rule.World.{WorldState, has_file, has_node, is_alive}
-use Rattle.player.specs.rule.Rounds.{IsDue, IsQuiet, works}
+use Rattle.cluster_core.specs.rule.Rounds.{IsQuiet}
+use Rattle.player.specs.rule.Rounds.{IsDue, works}
 use Rattle.player.specs.code.Due.{Adds, AreDue, IsLearn, IsLearnAt, IsLearnOf, IsResend, IsResendAt, IsRetry, IsRetryAt, IsRetryOf, OfUpTo}
 
 pub adds_none : (Is : Event → Type 0) (old : List Event) → ((event : Event) → Is event → ⊥) → Adds Is old old

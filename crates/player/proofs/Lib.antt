@@ -1,7 +1,9 @@
 pub mod Arrivals
 pub mod Deliveries
 pub mod DueLists
+pub mod FileRounds
 pub mod Marks
+pub mod NoneStuck
 pub mod OneOutcome
 pub mod Progresses
 pub mod QuietRuns

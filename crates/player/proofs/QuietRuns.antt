@@ -24,10 +24,11 @@ use Rattle.cluster_core.specs.rule.Next.{delivered, is_fenced, is_known, is_stop
 use Rattle.cluster_core.specs.rule.Parts.{world_state}
 use Rattle.cluster_core.specs.rule.Runs.{Leads}
 use Rattle.cluster_core.specs.rule.World.{WorldState, journal_limit}
+use Rattle.cluster_core.specs.rule.Rounds.{IsQuiet}
 use Rattle.cluster_core.proofs.runs.JournalRuns.{entry_event}
 use Rattle.cluster_core.proofs.steps.CertainRefusals.{node_refused, server_refused}
 use Rattle.cluster_core.proofs.steps.Steps.{next_step, kept_taken}
-use Rattle.player.specs.rule.Rounds.{IsQuiet, IsQuietRun, Refuses}
+use Rattle.player.specs.rule.Rounds.{IsQuietRun, Refuses}
 use Rattle.player.specs.code.Rounds.{GoesBy, GoesQuietly}
 
 pub leads_append : (w v u : WorldState) (es fs : List Entry) → Leads w es v → Leads v fs u → Leads w (es ++ fs) u

@@ -9,17 +9,19 @@ use Rattle.messages.specs.declared.refusal.Refused.{Refused}
 use Rattle.cluster_core.specs.rule.Journals.{RunFields, events_of}
 use Rattle.cluster_core.specs.rule.Parts.{world_state}
 use Rattle.cluster_core.specs.rule.Runs.{Leads}
-use Rattle.cluster_core.specs.rule.World.{WorldState}
+use Rattle.cluster_core.specs.rule.World.{WorldState, first_world}
+use Rattle.cluster_core.specs.rule.Rounds.{AnswersNone, IsQuiet}
 use Rattle.cluster_core.proofs.runs.JournalRuns.{leads_shape}
-use Rattle.messages.specs.rule.Shapes.{ShapeFields}
+use Rattle.messages.specs.rule.Shapes.{ShapeFields, IsShape}
 use Rattle.player.specs.code.Parts.{PlayerParts, progress}
 use Rattle.player.specs.rule.Played.{PlayedState, played_of}
 use Rattle.player.specs.declared.calm.Calm.{Calm}
 use Rattle.player.specs.declared.calm.Calm.TheVariants as calm
-use Rattle.player.specs.rule.Rounds.{AnswersNone, IsQuiet, NoneOpen, Refuses, EndsAs, EndsCalm}
+use Rattle.player.specs.rule.Rounds.{NoneOpen, Refuses, EndsAs, EndsCalm}
 use Rattle.player.specs.code.Due.{AreDue}
 use Rattle.player.specs.code.Rounds.{Arrives, EndsInRound, GoesByRound, GoesCalm, GoesQuietly, TakesAll}
 use Rattle.player.proofs.QuietRuns.{goes_append, leads_append, quiet_append}
+use Rattle.player.proofs.NoneStuck.{calmed_none_stuck}
 
 -- what is due is taken, and then all arrives
 pub makes_round : (r s t : RunFields) (events : List Event) → AreDue (world_state r.world) events → (took : TakesAll r events s) → Arrives s (length r.world.sent) t → GoesByRound r t
@@ -143,11 +145,12 @@ calm_leads w r s end led calm =
     subst (λ (l : List Entry). Leads w l (world_state s.world)) (sym calm.1) (leads_append w (world_state r.world) (world_state s.world) r.entries calm.0 led calm.2.run.leads)
 
 -- what a script came to, and the rounds behind it
-pub ends_calm : (shape : ShapeFields) (p q : PlayerParts) (end : Calm) (played : PlayedState) → played ≡ played_of shape (progress q) → q.refused ≡ p.refused → GoesCalm p.run q.run end → EndsCalm (played_of shape (progress p)) end played
-ends_calm shape p q end played is refused calm = subst (EndsCalm (played_of shape (progress p)) end) (sym is) (record {
+pub ends_calm : (shape : ShapeFields) → IsShape shape → (p q : PlayerParts) (end : Calm) (played : PlayedState) → Leads (first_world shape) p.run.entries (world_state p.run.world) → played ≡ played_of shape (progress q) → q.refused ≡ p.refused → GoesCalm p.run q.run end → EndsCalm (played_of shape (progress p)) end played
+ends_calm shape served p q end played led is refused calm = subst (EndsCalm (played_of shape (progress p)) end) (sym is) (record {
   later = calm.0;
   shape = refl;
   entries = calm.1;
   refused = refused;
   rounds = calm.2;
+  none_stuck = calmed_none_stuck shape served p.run.entries calm.0 (world_state p.run.world) (world_state q.run.world) end led calm.2;
 })

@@ -7,9 +7,9 @@ use Rattle.messages.specs.declared.event.Event.{Event}
 use Rattle.messages.specs.declared.message.Message.{Message}
 use Rattle.cluster_core.specs.rule.Journals.{RunFields, GoesOn, events_of}
 use Rattle.cluster_core.specs.rule.Parts.{world_state}
+use Rattle.cluster_core.specs.rule.Rounds.{IsQuiet}
 use Rattle.cluster_core.proofs.runs.JournalRuns.{entry_event}
 use Rattle.cluster_core.proofs.steps.Steps.{kept_taken}
-use Rattle.player.specs.rule.Rounds.{IsQuiet}
 use Rattle.player.specs.code.Rounds.{ArriveUpTo, GoesBy, TakesAll}
 use Rattle.player.proofs.Arrivals.{takes_one}
 use Rattle.player.proofs.QuietRuns.{goes_append, goes_none, goes_one, quiet_stays}

@@ -8,7 +8,8 @@ use messages::refusal::Refused;
 pub enum Calm {
     /// No call is open.
     NoneOpen,
-    /// Of the last two rounds the second answered no call.
+    /// Of the last two rounds the second answered no call: each open call of a live node about a file whose server works is
+    /// a wait, and a lock of another owner blocks it.
     Silent,
     /// An event of the last round was refused so: `JournalFull`, or `Spent` where a token server has no number left for a
     /// command.

@@ -75,7 +75,9 @@ pub fn play_after<W: Watcher>(
 }
 
 /// Runs a script as `play` does. Behind its lines what is under way is delivered, and rounds follow until no open call is
-/// answered any more. Gives also how they end: where the journal is full in a round, that is the end.
+/// answered any more. Then no call is stuck: each open call of a live node about a file whose server works is a wait, and a
+/// lock of another owner blocks it. Gives also how the rounds end: where an event of one is refused, as when the journal is
+/// full, that is the end.
 ///
 /// # Errors
 /// The errors of `play`, in the same cases: `JournalFull` where the lines need more entries than a journal may have.
@@ -84,7 +86,8 @@ pub fn play_calm<W: Watcher>(
     script: Script,
     watcher: &mut W,
 ) -> Result<(Played, Calm), PlayError>
-    // The result is what the lines come to, in order, and rounds behind them.
+    // The result is what the lines come to, in order, and rounds behind them. Unless an event of a round is refused, no call
+    // is stuck then.
     ensures calm { IfOk result (λ r. (from : PlayedState) × ComesTo script.shape script.lines from × EndsCalm from r.1 (state_of r.0)) }
     ensures history { IfOk result (λ r. HasOneHistory script.shape r.0.journal.entries) }
     ensures safe { IfOk result (λ r. IsSafe (world_state r.0.world)) }
@@ -154,6 +157,9 @@ fn play_lines_calm<W: Watcher>(
     ensures full { IfErr result (λ error. error ≡ JournalFull → RunsTo (progress player) lines.items None) }
 {
     run_lines(alloc, &mut player, lines, watcher)?;
+
+    // The law that no call is stuck is one of shapes with these numbers of nodes and files.
+    let _ = (shape.nodes(), shape.files());
     let calm = player.calm(alloc, shape)?;
     Ok((player.finish(shape), calm))
 }

@@ -2,8 +2,9 @@
 ghost use Rattle.std.specs.Prelude.{◌≡◌, ◌<◌, ◌≤◌, All, false, true, drop, length, IfErr, IfOk, OnOk};
 ghost use Rattle.cluster_core.specs.rule.Parts.{world_state};
 ghost use Rattle.cluster_core.specs.rule.World.{journal_limit};
+ghost use Rattle.cluster_core.specs.rule.Rounds.{AnswersNone, IsQuiet};
 ghost use Rattle.player.specs.code.Rounds.{Arrives, GoesByRound, GoesCalm, GoesQuietly, PassesAt, Stops, TakesAll};
-ghost use Rattle.player.specs.rule.Rounds.{AnswersNone, IsQuiet, NoneOpen};
+ghost use Rattle.player.specs.rule.Rounds.{NoneOpen};
 
 use crate::calm::Calm;
 use crate::due::due;

@@ -3,3 +3,4 @@ pub mod Loops
 pub mod Requests
 pub mod Blocking
 pub mod ToldLaws
+pub mod OpenLaws

@@ -10,6 +10,7 @@ mod blockers;
 pub mod chosen;
 pub mod cluster_state;
 pub mod cycle;
+pub mod laws;
 pub mod open_call;
 pub mod open_json;
 pub mod open_words;

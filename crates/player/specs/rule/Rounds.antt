@@ -1,5 +1,5 @@
 -- Rounds: stretches of a run in which nothing fails and nothing is lost, and what is open is tried again.
-use Rattle.std.specs.Prelude.{◌≡◌, ◌⊎◌, ℕ, ◌+◌, ◌≤◌, ◌&&◌, Bool, true, List, [], ◌∷◌, ◌++◌, All, Contains, None, Err}
+use Rattle.std.specs.Prelude.{◌≡◌, ◌⊎◌, ℕ, ◌+◌, ◌≤◌, ◌&&◌, Bool, true, List, [], ◌∷◌, ◌++◌, All, Contains, Err}
 use Rattle.messages.specs.declared.entry.Entry.{Entry}
 use Rattle.messages.specs.declared.event.Event.{Event}
 use Rattle.messages.specs.declared.event.Event.TheVariants.{AtNode, AtServer, Deliver}
@@ -11,19 +11,12 @@ use Rattle.messages.specs.rule.Messages.{addressee}
 use Rattle.node_core.specs.declared.open_call.OpenCall.{OpenCall}
 use Rattle.cluster_core.specs.rule.Journals.{events_of}
 use Rattle.cluster_core.specs.rule.Next.{is_stopped, kept_next}
+use Rattle.cluster_core.specs.rule.Rounds.{AnswersNone, IsBlockedWait, IsQuiet}
 use Rattle.cluster_core.specs.rule.Runs.{Leads}
 use Rattle.cluster_core.specs.rule.World.{WorldState, has_file, has_node, is_alive}
 use Rattle.player.specs.rule.Played.{PlayedState}
 use Rattle.player.specs.declared.calm.Calm.{Calm}
 use Rattle.player.specs.declared.calm.Calm.TheVariants as calm
-
--- nothing fails or begins again, nobody calls, and no wait is interrupted
-abbrev pub IsQuiet : Event → Type 0
-IsQuiet (Deliver m) = Unit {0}
-IsQuiet (AtNode n (Retry pid)) = Unit {0}
-IsQuiet (AtServer file Resend) = Unit {0}
-IsQuiet (AtServer file (Learn n incarnation)) = Unit {0}
-IsQuiet _ = ⊥
 
 -- the entries lead from one world to another, and all are of quiet events
 pub record IsQuietRun (w : WorldState) (es : List Entry) (v : WorldState) : Type 0 where
@@ -49,15 +42,11 @@ abbrev pub Arrive : WorldState → (Message → Type 0) → List Entry → Type 
 Arrive w IsLeft [] = Unit {0}
 Arrive w IsLeft (e ∷ es) = All (λ m. (is_stopped w (addressee m) ≡ true) ⊎ (Contains (events_of es) (Deliver m) ⊎ IsLeft m)) e.sends × Arrive w IsLeft es
 
--- a round: what is due at its beginning happens, and what is sent in it arrives in it
+-- a round: what is due at its beginning happens, and what is sent in it arrives in it. So for each file whose server works it is a round about that file
 pub record IsRound (w : WorldState) (es : List Entry) (v : WorldState) : Type 0 where
   pub run : IsQuietRun w es v
   pub due : (event : Event) → IsDue w event → Contains (events_of es) event
   pub arrive : Arrive v (λ m. ⊥) es
-
--- no call is answered there
-abbrev pub AnswersNone : List Entry → Type 0
-AnswersNone es = All (λ e. e.reply ≡ None) es
 
 -- no call of a live node is open
 abbrev pub NoneOpen : WorldState → Type 0
@@ -90,10 +79,21 @@ pub record IsCalmed (w : WorldState) (es : List Entry) (v : WorldState) (end : C
   pub run : IsQuietRun w es v
   pub ends : EndsAs end w es v
 
--- what a script comes to goes on by rounds, which end so
+-- no call is stuck: each open call of a live node about a file whose server works is a wait, and a lock of another owner in the table of all nodes blocks it
+abbrev pub NoneStuck : WorldState → Type 0
+NoneStuck w = (n : ℕ) (c : OpenCall) → is_alive w n ≡ true → Contains (w.nodes n).pending c → works w c.file ≡ true → IsBlockedWait w c
+
+-- where rounds end so, no call is stuck, unless an event was refused
+abbrev pub LeavesNoneStuck : Calm → WorldState → Type 0
+LeavesNoneStuck calm.NoneOpen w = NoneStuck w
+LeavesNoneStuck calm.Silent w = NoneStuck w
+LeavesNoneStuck (calm.Refused refusal) w = Unit {0}
+
+-- what a script comes to goes on by rounds, which end so, and leave no call stuck
 pub record EndsCalm (from : PlayedState) (end : Calm) (to : PlayedState) : Type 0 where
   pub later : List Entry
   pub shape : to.journal.shape ≡ from.journal.shape
   pub entries : to.journal.entries ≡ from.journal.entries ++ later
   pub refused : to.refused ≡ from.refused
   pub rounds : IsCalmed from.world later to.world end
+  pub none_stuck : LeavesNoneStuck end to.world

@@ -1,16 +1,18 @@
 -- The open calls of a cluster, and why they are open.
-use Rattle.std.specs.Prelude.{◌≡◌, Bool, true, ◌||◌, ◌&&◌}
+use Rattle.std.specs.Prelude.{◌≡◌, ℕ, Bool, true, ◌||◌, ◌&&◌, List, Contains, map}
 use Rattle.std.specs.List.{list_any}
 use Rattle.model.specs.declared.lock_info.LockInfo.{LockInfo}
 use Rattle.model.specs.rule.Locks.{Blocks}
 use Rattle.model.specs.rule.Owners.{same_owner, process_owner}
 use Rattle.lock_table.specs.code.Listing.{IsBefore}
+use Rattle.messages.specs.rule.Shapes.{IsShape}
 use Rattle.node_core.specs.declared.open_call.OpenCall.{OpenCall}
-use Rattle.cluster_core.specs.rule.World.{WorldState, has_file}
+use Rattle.cluster_core.specs.rule.World.{WorldState, has_file, is_alive}
 use Rattle.cluster_core.specs.rule.Union.{union}
 use Rattle.cluster_core.specs.rule.Listings.{Lists}
+use Rattle.cluster_core.specs.rule.Rounds.{IsBlockedWait}
 use Rattle.views.specs.declared.pictures.open_in.NamedCall.{NamedCall}
-use Rattle.views.specs.rule.OpenIn.{is_wait}
+use Rattle.views.specs.rule.OpenIn.{is_wait, open_in}
 use Rattle.states.specs.declared.open_call.OpenState.{OpenState}
 use Rattle.states.specs.rule.Places.{IsPlace}
 
@@ -27,6 +29,20 @@ pub record IsOpenState (w : WorldState) (o : OpenState) : Type 0 where
 -- the call with its name
 abbrev pub key_of : OpenState → NamedCall
 key_of o = record { call = o.call; asked = o.asked }
+
+-- the lock by which a wait about a file of the cluster is blocked is among those that are told of it
+abbrev pub EachBlockedIsToldItsLock : Type 0
+EachBlockedIsToldItsLock = (w : WorldState) (o : OpenState) → IsOpenState w o → has_file w o.asked.file ≡ true → (blocked : IsBlockedWait w o.asked) → Contains o.locks.items blocked.lock
+
+-- where the calls that are told are those of the world, each open call of a live node is told
+abbrev pub EachOpenIsTold : Type 0
+EachOpenIsTold =
+    (w : WorldState) (told : List OpenState) (n : ℕ) (c : OpenCall)
+    → IsShape w.shape
+    → map key_of told ≡ open_in w
+    → is_alive w n ≡ true
+    → Contains (w.nodes n).pending c
+    → (o : OpenState) × Contains told o × (o.asked ≡ c)
 
 -- the lock is of the process of the call, or of the description for which it asks
 abbrev pub is_lock_of : OpenState → LockInfo → Bool

@@ -1,4 +1,6 @@
-use Rattle.std.proofs.Common.{refl}
+use Rattle.std.proofs.Common.{refl, subst}
+use Rattle.model.specs.rule.Limits.{IsNumber, most_nodes}
+use Rattle.messages.specs.rule.Shapes.{most_files}
 use Rattle.cluster_core.specs.rule.Parts.{world_state}
 use Rattle.cluster_core.specs.rule.World.{first_world}
 use Rattle.cluster_core.proofs.runs.JournalRuns.{leads_shape}
@@ -19,8 +21,9 @@ finish-requires g c =
     calm_leads (first_world c.args.shape) c.run_lines.new.player.run c.calm.new.self.run _ led c.in_ok-calm.ensures.calm
 
 pub returns-clause-calm : goal.returns-clause-calm
-returns-clause-calm g c = (
-  played_of c.args.shape (progress c.run_lines.new.player),
-  (progress c.run_lines.new.player, c.in_ok-run_lines.ensures.ok, refl),
-  ends_calm c.args.shape c.run_lines.new.player c.calm.new.self _ _ c.finish.ensures.value c.in_ok-calm.ensures.refused c.in_ok-calm.ensures.calm,
-)
+returns-clause-calm g c =
+    let led = lines_lead (first_world c.args.shape) (progress c.args.player) c.args.lines.items (progress c.run_lines.new.player) c.requires c.in_ok-run_lines.ensures.ok in (
+      played_of c.args.shape (progress c.run_lines.new.player),
+      (progress c.run_lines.new.player, c.in_ok-run_lines.ensures.ok, refl),
+      ends_calm c.args.shape (record { nodes_in = subst (IsNumber most_nodes) c.nodes.ensures.value c.nodes.ensures.within; files_in = subst (IsNumber most_files) c.files.ensures.value c.files.ensures.within }) c.run_lines.new.player c.calm.new.self _ _ led c.finish.ensures.value c.in_ok-calm.ensures.refused c.in_ok-calm.ensures.calm,
+    )

@@ -3,7 +3,8 @@ use Rattle.std.proofs.lemmas.List.Elements.{All-weaker}
 use Rattle.std.proofs.lemmas.Result.{IfOk-weaker}
 use Rattle.messages.specs.declared.message.Message.{Message}
 use Rattle.cluster_core.specs.rule.Parts.{WorldParts, world_state}
-use Rattle.player.specs.rule.Rounds.{IsDue, IsQuiet}
+use Rattle.cluster_core.specs.rule.Rounds.{IsQuiet}
+use Rattle.player.specs.rule.Rounds.{IsDue}
 use Rattle.player.specs.code.Due.{AreDue}
 use Rattle.player.specs.code.Rounds.{Arrives}
 use Rattle.player.proofs.DueLists.{due_quiet}

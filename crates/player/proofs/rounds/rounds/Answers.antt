@@ -1,6 +1,7 @@
 use Rattle.std.proofs.Common.{◌∙◌, ℕ, drop, subst}
 use Rattle.cluster_core.specs.rule.Parts.{WorldParts, world_state}
-use Rattle.player.specs.rule.Rounds.{AnswersNone, NoneOpen}
+use Rattle.cluster_core.specs.rule.Rounds.{AnswersNone}
+use Rattle.player.specs.rule.Rounds.{NoneOpen}
 use Rattle.player.proofs.QuietRuns.{quietly_append, quietly_none}
 use Rattle.player.proofs.RoundEnds.{ends_first, ends_next, ends_none_open, ends_quietly, ends_silent, goes_shape}
 use Rattle.player.proofs.rounds.rounds.Goals as goal

@@ -1,5 +1,5 @@
 use Rattle.std.proofs.Common.{subst, sym}
-use Rattle.player.specs.rule.Rounds.{IsQuiet}
+use Rattle.cluster_core.specs.rule.Rounds.{IsQuiet}
 use Rattle.player.proofs.Takes.{takes_all, takes_first, takes_more}
 use Rattle.player.proofs.rounds.take_all.Goals as goal
 
