@@ -1,0 +1,16 @@
+mod Closing
+mod Steps
+mod Counting
+mod Blocking
+mod Chains
+mod Agenda
+mod Shaped
+mod Hosted
+mod Possible
+mod Making
+mod Listed
+mod Left
+mod Weights
+mod Gives
+mod Falls
+mod Rounds
