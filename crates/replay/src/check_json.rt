@@ -56,12 +56,20 @@ fn journal_json(alloc: Global, path: &str, text: &str) -> Result<String, AllocEr
         "journal",
         Value::try_from_str(alloc, path)?,
     )?;
-    match entries_in(alloc, text) {
-        Ok((shape, entries)) => put_verdict(&mut members, alloc, shape, entries.as_slice())?,
-        Err(Fault::JournalFull) => put_full(&mut members, alloc)?,
-        Err(_) => return Err(AllocError),
+    match entries_that_fit(alloc, text)? {
+        Some((shape, entries)) => put_verdict(&mut members, alloc, shape, entries.as_slice())?,
+        None => put_full(&mut members, alloc)?,
     }
     json_line(alloc, &Value::Object(members))
+}
+
+// The shape and the entries of a journal's text. `None` where they are more than a journal may have.
+fn entries_that_fit(alloc: Global, text: &str) -> Result<Option<(Shape, Vec<Entry>)>, AllocError> {
+    match entries_in(alloc, text) {
+        Ok(made) => Ok(Some(made)),
+        Err(Fault::JournalFull) => Ok(None),
+        Err(_) => Err(AllocError),
+    }
 }
 
 // Adds whether these entries of a cluster of this shape are a run, and why they are none.

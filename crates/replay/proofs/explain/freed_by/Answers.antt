@@ -19,7 +19,8 @@ returns-then-not-frees c =
     let some : c.named.result ≡ Some c.in-Some.made = search rules in
     let is : call_made call c.args.journal.now.entries ≡ Some c.in-Some.made = sym made ∙ some in
     let not_frees : frees c.in-Some.made.op ≡ false = search rules in
-    rw (is, not_frees) (c.none.ensures.goes, c.none.ensures.stays)
+    let none = c.none-then-not-frees.ensures in
+    rw (is, not_frees) (none.goes, none.stays)
 
 pub returns : goal.returns
 returns c =
