@@ -5,15 +5,16 @@ use crate::state_text::word_of;
 use crate::told_node::ToldNode;
 use crate::told_server::ToldEpoch;
 use cluster_core::node_token_run::NodeTokenRun;
+use message_text::names::push_host;
 use messages::version::Version;
-use model::call::CallId;
 use model::level::Level;
 use model::lock_info::LockInfo;
 use node_core::open_call::OpenCall;
 use serde_json::{Value, json};
 use std::alloc::{AllocError, Global};
+use std::fmt::Write;
 use texts::words::Named;
-use views::json_names::{call_value, held_values, host_value, lock_value};
+use views::json_names::{held_values, host_value, lock_value};
 
 /// What is told of a cluster of this version after the entry at this position, 0 before the first one: what the words
 /// of `state_text` tell.
@@ -111,12 +112,10 @@ fn asked_value(
     incarnation: u16,
     call: &OpenCall,
 ) -> Result<Value, AllocError> {
-    let id = CallId {
-        node,
-        incarnation,
-        number: call.number,
-    };
-    let name = call_value(alloc, &id)?;
+    let number = call.number;
+    let mut name = String::new(alloc);
+    push_host(&mut name, node, incarnation)?;
+    write!(name, ".{number}")?;
     let lock = LockInfo {
         owner: call.owner,
         mode: call.mode,

@@ -12,7 +12,7 @@ pub loop-pending-init : goal.loop-pending-init
 loop-pending-init c =
     let none = c.new-states.ensures.items in
     record {
-      calls = ap (λ (ss : List OpenState). map key_of ss ++ c.in_ok-calls.calls.items) none;
+      calls = ap (λ (ss : List OpenState). map key_of ss ++ c.deref-pending-items.result.now) none;
       states = subst (All (IsOpenState (world_state c.args.world.now))) (sym none) (All-nil (IsOpenState (world_state c.args.world.now)));
     }
 
@@ -21,7 +21,7 @@ loop-pending-preserved c =
     let w = world_state c.args.world.now in
     let l = c.loop-pending in
     let i = l.pending-index in
-    let calls = c.in_ok-calls.calls.items in
+    let calls = c.deref-pending-items.result.now in
     let o = c.in_ok-state.state in
     let rest = drop (i + 1) calls in
     let old = map key_of l.states.items in
@@ -39,8 +39,9 @@ loop-pending-preserved c =
 pub returns-clause-calls : goal.returns-clause-calls
 returns-clause-calls c =
     let l = c.loop-pending in
-    let calls = c.in_ok-calls.calls.items in
+    let calls = c.deref-pending-items.result.now in
     sym (append-nil (map key_of l.states.items))
     ∙ ap (λ (ks : List NamedCall). map key_of l.states.items ++ ks) (sym (drop_all l.pending-index calls c.loop-pending-test.false))
     ∙ l.invariant.calls
+    ∙ c.deref-pending-items.ensures.value
     ∙ c.in_ok-calls.ensures

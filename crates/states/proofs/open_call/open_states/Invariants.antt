@@ -5,6 +5,6 @@ use Rattle.states.proofs.open_call.open_states.Given as goal
 
 abbrev pub invariant-loop-pending : goal.invariant-loop-pending
 invariant-loop-pending l = record {
-  calls : map key_of l.states.items ++ drop l.pending-index l.calls.items ≡ l.calls.items;
+  calls : map key_of l.states.items ++ drop l.pending-index l.pending-items ≡ l.pending-items;
   states : All (IsOpenState (world_state l.world)) l.states.items;
 }
