@@ -65,23 +65,23 @@ _lockreplay() {
         _lockreplay_rest 1 1 '' '' '--as-clients -h --help'
         ;;
     explain)
-        _lockreplay_rest 2 1 '' '' '-h --help'
+        _lockreplay_rest 2 1 '' '' '--json -h --help'
         ;;
     open)
-        _lockreplay_rest 1 1 '' '' '-h --help'
+        _lockreplay_rest 1 1 '' '' '--json -h --help'
         ;;
     state)
         case $before in
         --at) : ;;
         --node) : ;;
         --file) : ;;
-        *) _lockreplay_rest 1 1 '--at --node --file' '' '--at --node --file -h --help'
+        *) _lockreplay_rest 1 1 '--at --node --file' '' '--at --node --file --json -h --help'
         esac
         ;;
     check)
         case $before in
         --journal) compopt -o default ;;
-        *) _lockreplay_rest 9999 9999 '--journal' '' '--journal -h --help'
+        *) _lockreplay_rest 9999 9999 '--journal' '' '--journal --json -h --help'
         esac
         ;;
     picture)
@@ -94,7 +94,7 @@ _lockreplay() {
         esac
         ;;
     stats)
-        _lockreplay_rest 1 1 '' '' '-h --help'
+        _lockreplay_rest 1 1 '' '' '--json -h --help'
         ;;
     from-strace)
         case $before in
@@ -107,7 +107,7 @@ _lockreplay() {
         case $before in
         --seeds) : ;;
         --first) : ;;
-        *) _lockreplay_rest 1 1 '--seeds --first' '' '--seeds --first --failures -h --help'
+        *) _lockreplay_rest 1 1 '--seeds --first' '' '--seeds --first --failures --json -h --help'
         esac
         ;;
     schedule)

@@ -79,19 +79,23 @@ complete -c lockreplay -n '__lockreplay_is history' -l as-clients -d 'Print what
 complete -c lockreplay -n '__lockreplay_is history' -s h -l help -d 'Print help'
 
 complete -c lockreplay -n '__lockreplay_file explain 1' -F
+complete -c lockreplay -n '__lockreplay_is explain' -l json -d 'Print the text as JSON'
 complete -c lockreplay -n '__lockreplay_is explain' -s h -l help -d 'Print help'
 
 complete -c lockreplay -n '__lockreplay_file open 1' -F
+complete -c lockreplay -n '__lockreplay_is open' -l json -d 'Print the text as JSON'
 complete -c lockreplay -n '__lockreplay_is open' -s h -l help -d 'Print help'
 
 complete -c lockreplay -n '__lockreplay_file state 1 --at --node --file' -F
 complete -c lockreplay -n '__lockreplay_is state' -l at -x -d 'Show the state behind entry K, or with 0 that before the first'
 complete -c lockreplay -n '__lockreplay_is state' -l node -x -d 'Show node N alone'
 complete -c lockreplay -n '__lockreplay_is state' -l file -x -d 'Show file F alone'
+complete -c lockreplay -n '__lockreplay_is state' -l json -d 'Print the text as JSON'
 complete -c lockreplay -n '__lockreplay_is state' -s h -l help -d 'Print help'
 
 complete -c lockreplay -n '__lockreplay_file check 9999 --journal' -F
 complete -c lockreplay -n '__lockreplay_is check' -l journal -r -F -d 'Say also why a journal can'\''t be written to FILE'
+complete -c lockreplay -n '__lockreplay_is check' -l json -d 'Print the text as JSON'
 complete -c lockreplay -n '__lockreplay_is check' -s h -l help -d 'Print help'
 
 complete -c lockreplay -n '__lockreplay_file picture 1 --around --from --to --format' -F
@@ -102,6 +106,7 @@ complete -c lockreplay -n '__lockreplay_is picture' -l format -x -a 'svg mermaid
 complete -c lockreplay -n '__lockreplay_is picture' -s h -l help -d 'Print help'
 
 complete -c lockreplay -n '__lockreplay_file stats 1' -F
+complete -c lockreplay -n '__lockreplay_is stats' -l json -d 'Print the text as JSON'
 complete -c lockreplay -n '__lockreplay_is stats' -s h -l help -d 'Print help'
 
 complete -c lockreplay -n '__lockreplay_file from-strace 9999 --nodes --place' -F
@@ -114,6 +119,7 @@ complete -c lockreplay -n '__lockreplay_file explore 1 --seeds --first' -F
 complete -c lockreplay -n '__lockreplay_is explore' -l seeds -x -d 'How many schedules, up to 4294967295'
 complete -c lockreplay -n '__lockreplay_is explore' -l first -x -d 'The seed of the first schedule, up to 4294967295'
 complete -c lockreplay -n '__lockreplay_is explore' -l failures -d 'Let nodes and servers fail'
+complete -c lockreplay -n '__lockreplay_is explore' -l json -d 'Print the text as JSON'
 complete -c lockreplay -n '__lockreplay_is explore' -s h -l help -d 'Print help'
 
 complete -c lockreplay -n '__lockreplay_file schedule 1 --seed' -F
