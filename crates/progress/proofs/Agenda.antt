@@ -1,8 +1,8 @@
 -- What is still to happen in a round: each event on the agenda happens, and what its entry sends about the file is delivered later.
-use Rattle.std.specs.Prelude.{◌==◌, ◌&&◌, not, if◌then◌else◌, filter, map, length, get_or}
+use Rattle.std.specs.Prelude.{◌==◌, not, if◌then◌else◌, filter, map, length, get_or}
 use Rattle.std.proofs.Common.{◌≡◌, ℕ, zero, suc, ◌<◌, Bool, true, false, inl, inr, refl, sym, ◌∙◌, ap, subst, arith, List, [], ◌∷◌, ◌++◌, Contains, Ok}
 use Rattle.std.proofs.lemmas.Bool.{and_from, or_cases, eq-eqb}
-use Rattle.std.proofs.lemmas.List.Elements.{All-cons, Contains-append_left, Contains-append_right}
+use Rattle.std.proofs.lemmas.List.Elements.{All-cons, Contains-append_left, Contains-append_right, Contains-append_cases}
 use Rattle.messages.proofs.SameMessages.{same_message-is-equality}
 use Rattle.messages.specs.rule.Messages.{addressee, file_of, is_among, same_message}
 use Rattle.messages.specs.declared.message.Message.{Message}
@@ -13,25 +13,18 @@ use Rattle.cluster_core.specs.rule.World.{WorldState}
 use Rattle.cluster_core.specs.rule.Next.{is_stopped, next}
 use Rattle.cluster_core.specs.rule.Runs.{Leads}
 use Rattle.cluster_core.specs.rule.Rounds.{IsQuiet, Happens}
+use Rattle.progress.specs.rule.Agenda.{is_due, deliveries}
 use Rattle.cluster_core.proofs.rounds.Quiet.{SameMembers, quiet-members}
 use Rattle.cluster_core.proofs.rounds.Stretches.{AllQuiet}
 use Rattle.cluster_core.proofs.steps.Steps.{next_step}
 
--- the message is about the file, and its addressee is not stopped
-abbrev pub is_due : ℕ → WorldState → Message → Bool
-is_due file w m = (file_of m == file) && not (is_stopped w (addressee m))
-
--- the deliveries of those of the messages that are due
-abbrev pub deliveries : ℕ → WorldState → List Message → List Event
-deliveries file w ms = map Deliver (filter (is_due file w) ms)
-
--- a message that is due is delivered
-contains_first : {A : Type 0} (x : A) (xs : List A) → Contains (x ∷ xs) x
+pub contains_first : {A : Type 0} (x : A) (xs : List A) → Contains (x ∷ xs) x
 contains_first x xs = (0, omega arith, refl)
 
-contains_later : {A : Type 0} (y : A) (xs : List A) (x : A) → Contains xs x → Contains (y ∷ xs) x
+pub contains_later : {A : Type 0} (y : A) (xs : List A) (x : A) → Contains xs x → Contains (y ∷ xs) x
 contains_later y xs x at = (suc at.0, (let lt = at.1 in omega arith), at.2)
 
+-- a message that is due is delivered
 pub delivery_there : (file : ℕ) (w : WorldState) (ms : List Message) (m : Message) → is_among ms m ≡ true → is_due file w m ≡ true → Contains (deliveries file w ms) (Deliver m)
 delivery_there file w [] m among due = absurd (cc)
 delivery_there file w (x ∷ xs) m among due = elim (or_cases (same_message m x) (is_among xs m) among) [
@@ -77,8 +70,8 @@ nothing_left file w = record {
     no_split e after [] split = absurd (cc)
     no_split e after (x ∷ xs) split = absurd (cc)
 
--- the first event happens, and then the rest with the deliveries that it calls for
-module _ (file : ℕ) (w : WorldState) (event : Event) (rest : List Event) (mid : WorldState) (e : Entry) (step : next w event ≡ Ok (mid, e)) (quiet : IsQuiet event) (es : List Entry) (v : WorldState) (done : Done file (rest ++ deliveries file w e.sends) mid es v) where
+-- an event on the agenda happens, and then the others with the deliveries that it calls for
+module _ (file : ℕ) (w : WorldState) (event : Event) (front rest : List Event) (mid : WorldState) (e : Entry) (step : next w event ≡ Ok (mid, e)) (quiet : IsQuiet event) (es : List Entry) (v : WorldState) (done : Done file ((front ++ rest) ++ deliveries file w e.sends) mid es v) where
   is : e.event ≡ event
   is = entry_event w event (mid, e) step
 
@@ -88,12 +81,19 @@ module _ (file : ℕ) (w : WorldState) (event : Event) (rest : List Event) (mid 
   same : SameMembers w mid
   same = quiet-members w e mid step_of (subst IsQuiet (sym is) quiet)
 
-  all_happen : (x : Event) → Contains (event ∷ rest) x → Happens (e ∷ es) x
-  all_happen x at = by at.0 at.1 at.2
+  -- the others happen after it
+  others_happen : (x : Event) → Contains (front ++ rest) x → Happens (e ∷ es) x
+  others_happen x at = later_happens e es x (done.happens x (Contains-append_left (front ++ rest) (deliveries file w e.sends) x at))
+
+  all_happen : (x : Event) → Contains (front ++ event ∷ rest) x → Happens (e ∷ es) x
+  all_happen x at = elim (Contains-append_cases front (event ∷ rest) x at) [
+    | inl early ↦ others_happen x (Contains-append_left front rest x early)
+    | inr late ↦ by late.0 late.1 late.2
+  ]
     where
       by : (k : ℕ) → k < length (event ∷ rest) → get_or (event ∷ rest) k x ≡ x → Happens (e ∷ es) x
       by zero lt found = record { before = []; happened = e; after = es; split = refl; is = is ∙ found }
-      by (suc k) lt found = later_happens e es x (done.happens x (Contains-append_left rest (deliveries file w e.sends) x (k, omega arith, found)))
+      by (suc k) lt found = others_happen x (Contains-append_right front rest x (k, omega arith, found))
 
   stopped_same : (m : Message) → is_stopped mid (addressee m) ≡ is_stopped w (addressee m)
   stopped_same m = (λ i. is_stopped (record w { alive = same.alive i; working = same.working i }) (addressee m))
@@ -104,13 +104,13 @@ module _ (file : ℕ) (w : WorldState) (event : Event) (rest : List Event) (mid 
       let others : es ≡ after = cc in
       let due : is_due file w m ≡ true = and_from (file_of m == file) (not (is_stopped w (addressee m))) (eq-eqb (file_of m) file of_file) (ap not free) in
       let there = delivery_there file w e.sends m (ap (λ (y : Entry). is_among y.sends m) first ∙ among) due in
-      subst (λ (xs : List Entry). Happens xs (Deliver m)) others (done.happens (Deliver m) (Contains-append_right rest (deliveries file w e.sends) (Deliver m) there))
+      subst (λ (xs : List Entry). Happens xs (Deliver m)) others (done.happens (Deliver m) (Contains-append_right (front ++ rest) (deliveries file w e.sends) (Deliver m) there))
   all_delivered (y ∷ before) after x m split among of_file free =
       let others : es ≡ before ++ x ∷ after = cc in
       done.delivers before after x m others among of_file (stopped_same m ∙ free)
 
-  pub first_done : Done file (event ∷ rest) w (e ∷ es) v
-  first_done = record {
+  pub one_done : Done file (front ++ event ∷ rest) w (e ∷ es) v
+  one_done = record {
     leads = (mid, step_of, done.leads);
     quiet = All-cons (λ (x : Entry). IsQuiet x.event) e es (subst IsQuiet (sym is) quiet) done.quiet;
     happens = all_happen;

@@ -1,7 +1,7 @@
 -- A stretch in which nothing fails and nobody calls answers none, or ends with fewer open calls.
 use Rattle.std.specs.Prelude.{◌==◌, nat_le, length, not}
 use Rattle.std.proofs.Common.{◌≡◌, ℕ, zero, suc, ◌+◌, ◌≤◌, false, ◌⊎◌, inl, inr, refl, sym, ap, subst, arith, List, [], ◌∷◌, Option, Some, None}
-use Rattle.std.proofs.lemmas.Bool.{and_parts, cases_lt, eq-eqb, leb-true}
+use Rattle.std.proofs.lemmas.Bool.{and_parts, eq-eqb, leb-true}
 use Rattle.std.proofs.lemmas.List.Elements.{All-nil, All-cons, All-head, All-tail}
 use Rattle.model.specs.declared.call.CallId.{CallId}
 use Rattle.model.specs.declared.reply.Reply.{Reply}
@@ -17,24 +17,16 @@ use Rattle.cluster_core.proofs.rounds.Quiet.{quiet-rest}
 use Rattle.cluster_core.proofs.rounds.Stretches.{AllQuiet}
 use Rattle.progress.specs.rule.Rounds.{open_up_to, number_of_open_calls}
 use Rattle.progress.proofs.Closing.{fewer}
+use Rattle.progress.proofs.Sums.{add_both, add_first, add_second, not_last}
 use Rattle.progress.proofs.Steps.{Answers, step-answers}
 
 -- no node has more open calls
 abbrev IsNoMore : (ℕ → NodeState) → (ℕ → NodeState) → Type 0
 IsNoMore old new = (n : ℕ) → length (new n).pending ≤ length (old n).pending
 
-both_fewer : (a b c d : ℕ) → a ≤ b → c ≤ d → a + c ≤ b + d
-both_fewer a b c d first second = omega arith
-
-first_less : (a b c d : ℕ) → a + 1 ≤ b → c ≤ d → (a + c) + 1 ≤ b + d
-first_less a b c d first second = omega arith
-
-second_less : (a b c d : ℕ) → a ≤ b → c + 1 ≤ d → (a + c) + 1 ≤ b + d
-second_less a b c d first second = omega arith
-
 no_more : (old new : ℕ → NodeState) (k : ℕ) → IsNoMore old new → open_up_to new k ≤ open_up_to old k
 no_more old new zero few = omega arith
-no_more old new (suc k) few = both_fewer (open_up_to new k) (open_up_to old k) (length (new (suc k)).pending) (length (old (suc k)).pending) (no_more old new k few) (few (suc k))
+no_more old new (suc k) few = add_both (open_up_to new k) (open_up_to old k) (length (new (suc k)).pending) (length (old (suc k)).pending) (no_more old new k few) (few (suc k))
 
 -- one of the nodes has fewer
 one_less : (old new : ℕ → NodeState) (k n : ℕ) → IsNoMore old new → 1 ≤ n → n ≤ k → length (new n).pending + 1 ≤ length (old n).pending → open_up_to new k + 1 ≤ open_up_to old k
@@ -42,11 +34,8 @@ one_less old new zero n few low high less = absurd (omega arith)
 one_less old new (suc k) n few low high less = at_number n (suc k) (λ b. open_up_to new (suc k) + 1 ≤ open_up_to old (suc k))
     (λ same.
     let here : length (new (suc k)).pending + 1 ≤ length (old (suc k)).pending = subst (λ (j : ℕ). length (new j).pending + 1 ≤ length (old j).pending) same less in
-    second_less (open_up_to new k) (open_up_to old k) (length (new (suc k)).pending) (length (old (suc k)).pending) (no_more old new k few) here)
-    (λ other. first_less (open_up_to new k) (open_up_to old k) (length (new (suc k)).pending) (length (old (suc k)).pending) (one_less old new k n few low (not_last n k high other) less) (few (suc k)))
-  where
-    not_last : (n k : ℕ) → n ≤ suc k → (n ≡ suc k → ⊥) → n ≤ k
-    not_last n k high other = elim (cases_lt k n) [ inl more ↦ absurd (other (omega arith)) | inr few ↦ few ]
+    add_second (open_up_to new k) (open_up_to old k) (length (new (suc k)).pending) (length (old (suc k)).pending) 1 (no_more old new k few) here)
+    (λ other. add_first (open_up_to new k) (open_up_to old k) (length (new (suc k)).pending) (length (old (suc k)).pending) 1 (one_less old new k n few low (not_last n k high other) less) (few (suc k)))
 
 module _ (w v : WorldState) (a : Answers w v) where
   abbrev n : ℕ

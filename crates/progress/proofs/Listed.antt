@@ -1,7 +1,7 @@
 -- The agenda of a round about a file: what its server is told and resends, and each open call about the file, which is retried.
 use Rattle.std.specs.Prelude.{◌==◌, ◌&&◌, ◌-◌, nat_le, nat_lt, if◌then◌else◌, get_or, length}
-use Rattle.std.proofs.Common.{◌≡◌, ℕ, zero, suc, ◌+◌, ◌<◌, ◌≤◌, Bool, true, false, inl, inr, refl, sym, ◌∙◌, ap, subst, arith, List, [], ◌∷◌, ◌++◌, All, Contains, Option, Some, None}
-use Rattle.std.proofs.lemmas.Bool.{and_from, and_parts, cases_lt, eq-eqb, le-leb, leb-true, lt-ltb}
+use Rattle.std.proofs.Common.{◌≡◌, ℕ, zero, suc, ◌+◌, ◌<◌, ◌≤◌, Bool, true, false, refl, sym, ◌∙◌, ap, subst, arith, List, [], ◌∷◌, ◌++◌, All, Contains, Option, Some, None}
+use Rattle.std.proofs.lemmas.Bool.{and_from, and_parts, eq-eqb, le-leb, leb-true, lt-ltb}
 use Rattle.std.proofs.lemmas.List.Elements.{All-nil, All-cons, All-head, All-tail, All-append, Contains-append_left, Contains-append_right}
 use Rattle.model.specs.declared.call.CallId.{CallId}
 use Rattle.model.specs.declared.reply.Reply.{Reply}
@@ -18,15 +18,17 @@ use Rattle.node_core.specs.rule.State.{NodeState}
 use Rattle.cluster_core.specs.rule.World.{WorldState, has_node, is_alive, was_declared}
 use Rattle.cluster_core.specs.rule.Next.{is_stopped}
 use Rattle.cluster_core.specs.rule.Runs.{Leads}
-use Rattle.cluster_core.specs.rule.Rounds.{IsQuiet, IsRound}
+use Rattle.cluster_core.specs.rule.Rounds.{IsQuiet, Happens, IsRound}
 use Rattle.cluster_core.proofs.common.Choices.{at_number}
 use Rattle.cluster_core.proofs.history.Nodes.{IsOpen}
 use Rattle.cluster_core.proofs.history.Worlds.{Good}
 use Rattle.cluster_core.proofs.rounds.Quiet.{quiet-rest}
 use Rattle.cluster_core.proofs.rounds.Stretches.{AllQuiet, members_stay}
-use Rattle.progress.proofs.Agenda.{Done}
+use Rattle.progress.specs.rule.Agenda.{learns_of, learns_up_to, retries_in, retries_of, retries_up_to, agenda}
+use Rattle.progress.proofs.Agenda.{contains_first, contains_later, Done}
 use Rattle.progress.proofs.Possible.{IsPossible}
 use Rattle.progress.proofs.Steps.{open_before, step-answers}
+use Rattle.progress.proofs.Sums.{not_last}
 
 -- a call that is open at the end of a stretch was open before it
 pub open_through : (es : List Entry) (w v : WorldState) (n : ℕ) (c : OpenCall) → Leads w es v → AllQuiet es → Contains (v.nodes n).pending c → Contains (w.nodes n).pending c
@@ -43,38 +45,6 @@ open_through (e ∷ es) w v n c leads quiet at = by e.reply refl (open_through e
         subst (λ (cs : List OpenCall). Contains cs c) ((quiet-rest (e ∷ []) w leads.0 (leads.0, leads.1, refl) alone none).nodes n).pending later
     by (Some reply) said later = open_before w leads.0 (step-answers w e leads.0 reply leads.1 own said) n c later
 
--- what the server learns of the n-th node, if the node was declared failed before
-abbrev learns_of : ℕ → ℕ → ℕ → List Event
-learns_of file n incarnation = if nat_le 2 incarnation then AtServer file (Learn n (incarnation - 1)) ∷ [] else []
-
-abbrev learns_up_to : ℕ → (ℕ → NodeState) → ℕ → List Event
-learns_up_to file nodes zero = []
-learns_up_to file nodes (suc n) = learns_up_to file nodes n ++ learns_of file (suc n) (nodes (suc n)).incarnation
-
--- the retries of the calls about the file
-abbrev retries_in : ℕ → ℕ → List OpenCall → List Event
-retries_in file n [] = []
-retries_in file n (c ∷ cs) = if c.file == file then AtNode n (Retry c.pid) ∷ retries_in file n cs else retries_in file n cs
-
-abbrev retries_of : ℕ → WorldState → ℕ → List Event
-retries_of file w n = if w.alive n then retries_in file n (w.nodes n).pending else []
-
-abbrev retries_up_to : ℕ → WorldState → ℕ → List Event
-retries_up_to file w zero = []
-retries_up_to file w (suc n) = retries_up_to file w n ++ retries_of file w (suc n)
-
-abbrev pub agenda : ℕ → WorldState → List Event
-agenda file w = learns_up_to file w.nodes w.shape.nodes ++ AtServer file Resend ∷ retries_up_to file w w.shape.nodes
-
-first_of_all : {A : Type 0} (x : A) (xs : List A) → Contains (x ∷ xs) x
-first_of_all x xs = (0, omega arith, refl)
-
-later_of_all : {A : Type 0} (y : A) (xs : List A) (x : A) → Contains xs x → Contains (y ∷ xs) x
-later_of_all y xs x at = (suc at.0, (let lt = at.1 in omega arith), at.2)
-
-not_last : (n k : ℕ) → n ≤ suc k → (n ≡ suc k → ⊥) → n ≤ k
-not_last n k high other = elim (cases_lt k n) [ inl more ↦ absurd (other (omega arith)) | inr few ↦ few ]
-
 learn_there : (file : ℕ) (nodes : ℕ → NodeState) (k n i : ℕ) → 1 ≤ n → n ≤ k → 1 ≤ i → i + 1 ≡ (nodes n).incarnation → Contains (learns_up_to file nodes k) (AtServer file (Learn n i))
 learn_there file nodes zero n i low high from is = absurd (omega arith)
 learn_there file nodes (suc k) n i low high from is = at_number n (suc k) (λ b. Contains (learns_up_to file nodes (suc k)) (AtServer file (Learn n i)))
@@ -88,21 +58,21 @@ learn_there file nodes (suc k) n i low high from is = at_number n (suc k) (λ b.
         let more : nat_le 2 incarnation ≡ true = le-leb 2 incarnation (omega arith) in
         let back : incarnation - 1 ≡ i = omega arith in
         subst (λ (b : Bool). Contains (if b then AtServer file (Learn (suc k) (incarnation - 1)) ∷ [] else []) (AtServer file (Learn (suc k) i))) (sym more)
-        (subst (λ (j : ℕ). Contains (AtServer file (Learn (suc k) j) ∷ []) (AtServer file (Learn (suc k) i))) (sym back) (first_of_all (AtServer file (Learn (suc k) i)) []))
+        (subst (λ (j : ℕ). Contains (AtServer file (Learn (suc k) j) ∷ []) (AtServer file (Learn (suc k) i))) (sym back) (contains_first (AtServer file (Learn (suc k) i)) []))
 
 retry_in : (file n : ℕ) (cs : List OpenCall) (c : OpenCall) → Contains cs c → c.file ≡ file → Contains (retries_in file n cs) (AtNode n (Retry c.pid))
 retry_in file n [] c at of = absurd (let lt = at.1 in omega arith)
 retry_in file n (x ∷ xs) c at of = by at.0 at.1 at.2 (λ there. retry_in file n xs c there of)
   where
     later : (b : Bool) → Contains (retries_in file n xs) (AtNode n (Retry c.pid)) → Contains (if b then AtNode n (Retry x.pid) ∷ retries_in file n xs else retries_in file n xs) (AtNode n (Retry c.pid))
-    later true rest = later_of_all (AtNode n (Retry x.pid)) (retries_in file n xs) (AtNode n (Retry c.pid)) rest
+    later true rest = contains_later (AtNode n (Retry x.pid)) (retries_in file n xs) (AtNode n (Retry c.pid)) rest
     later false rest = rest
 
     by : (k : ℕ) → k < length (x ∷ xs) → get_or (x ∷ xs) k c ≡ c → (Contains xs c → Contains (retries_in file n xs) (AtNode n (Retry c.pid))) → Contains (retries_in file n (x ∷ xs)) (AtNode n (Retry c.pid))
     by zero lt is others =
         let own : (x.file == file) ≡ true = eq-eqb x.file file (ap (λ (d : OpenCall). d.file) is ∙ of) in
         subst (λ (b : Bool). Contains (if b then AtNode n (Retry x.pid) ∷ retries_in file n xs else retries_in file n xs) (AtNode n (Retry c.pid))) (sym own)
-        (subst (λ (d : OpenCall). Contains (AtNode n (Retry d.pid) ∷ retries_in file n xs) (AtNode n (Retry c.pid))) (sym is) (first_of_all (AtNode n (Retry c.pid)) (retries_in file n xs)))
+        (subst (λ (d : OpenCall). Contains (AtNode n (Retry d.pid) ∷ retries_in file n xs) (AtNode n (Retry c.pid))) (sym is) (contains_first (AtNode n (Retry c.pid)) (retries_in file n xs)))
     by (suc k) lt is others = later (x.file == file) (others (k, omega arith, is))
 
 retry_there : (file : ℕ) (w : WorldState) (k n : ℕ) (c : OpenCall) → 1 ≤ n → n ≤ k → w.alive n ≡ true → Contains (w.nodes n).pending c → c.file ≡ file → Contains (retries_up_to file w k) (AtNode n (Retry c.pid))
@@ -113,25 +83,26 @@ retry_there file w (suc k) n c low high alive at of = at_number n (suc k) (λ b.
     Contains-append_right (retries_up_to file w k) (retries_of file w (suc k)) (AtNode n (Retry c.pid)) (subst (λ (j : ℕ). Contains (retries_of file w j) (AtNode n (Retry c.pid))) same here))
     (λ other. Contains-append_left (retries_up_to file w k) (retries_of file w (suc k)) (AtNode n (Retry c.pid)) (retry_there file w k n c low (not_last n k high other) alive at of))
 
--- when the agenda is done, a round is made
-pub is_round : (file : ℕ) (w : WorldState) (es : List Entry) (v : WorldState) → Done file (agenda file w) w es v → IsRound file w es v
-is_round file w es v done =
+-- when the agenda is done, and what else there is, a round is made
+pub is_round : (file : ℕ) (w : WorldState) (more : List Event) (es : List Entry) (v : WorldState) → Done file (agenda file w ++ more) w es v → IsRound file w es v
+is_round file w more es v done =
     let same = members_stay es w v done.leads done.quiet in
     let tail : List Event = AtServer file Resend ∷ retries_up_to file w w.shape.nodes in
+    let happens : (event : Event) → Contains (agenda file w) event → Happens es event = λ event at. done.happens event (Contains-append_left (agenda file w) more event at) in
     record {
       leads = done.leads;
       quiet = done.quiet;
       learns = λ n i within from is.
           let there : has_node w n ≡ true = ap (λ (s : ShapeFields). is_within s.nodes n) (sym same.shape) ∙ within in
           let parts = and_parts (nat_le 1 n) (nat_le n w.shape.nodes) there in
-          done.happens (AtServer file (Learn n i)) (Contains-append_left (learns_up_to file w.nodes w.shape.nodes) tail (AtServer file (Learn n i)) (learn_there file w.nodes w.shape.nodes n i (leb-true 1 n parts.0) (leb-true n w.shape.nodes parts.1) from (is ∙ same.incarnation n)));
-      resends = done.happens (AtServer file Resend) (Contains-append_right (learns_up_to file w.nodes w.shape.nodes) tail (AtServer file Resend) (first_of_all (AtServer file Resend) (retries_up_to file w w.shape.nodes)));
+          happens (AtServer file (Learn n i)) (Contains-append_left (learns_up_to file w.nodes w.shape.nodes) tail (AtServer file (Learn n i)) (learn_there file w.nodes w.shape.nodes n i (leb-true 1 n parts.0) (leb-true n w.shape.nodes parts.1) from (is ∙ same.incarnation n)));
+      resends = happens (AtServer file Resend) (Contains-append_right (learns_up_to file w.nodes w.shape.nodes) tail (AtServer file Resend) (contains_first (AtServer file Resend) (retries_up_to file w w.shape.nodes)));
       retries = λ n c alive at of.
           let live : is_alive w n ≡ true = (λ i. is_within (sym same.shape i).nodes n && sym same.alive i n) ∙ alive in
           let both = and_parts (has_node w n) (w.alive n) live in
           let parts = and_parts (nat_le 1 n) (nat_le n w.shape.nodes) both.0 in
           let there = retry_there file w w.shape.nodes n c (leb-true 1 n parts.0) (leb-true n w.shape.nodes parts.1) both.1 (open_through es w v n c done.leads done.quiet at) of in
-          done.happens (AtNode n (Retry c.pid)) (Contains-append_right (learns_up_to file w.nodes w.shape.nodes) tail (AtNode n (Retry c.pid)) (later_of_all (AtServer file Resend) (retries_up_to file w w.shape.nodes) (AtNode n (Retry c.pid)) there));
+          happens (AtNode n (Retry c.pid)) (Contains-append_right (learns_up_to file w.nodes w.shape.nodes) tail (AtNode n (Retry c.pid)) (contains_later (AtServer file Resend) (retries_up_to file w w.shape.nodes) (AtNode n (Retry c.pid)) there));
       delivers = λ before after e m split among of free. done.delivers before after e m split among of ((λ i. is_stopped (record w { alive = sym same.alive i; working = sym same.working i }) (addressee m)) ∙ free);
     }
 

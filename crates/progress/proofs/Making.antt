@@ -1,5 +1,5 @@
--- A round is made: its agenda is done step by step, as long as a measure falls.
-use Rattle.std.specs.Prelude.{◌==◌, ◌&&◌, nat_le, nat_lt, not, if◌then◌else◌, filter, map, is_some}
+-- A round is made: its agenda is worked off, in whatever order, while the measure falls.
+use Rattle.std.specs.Prelude.{◌==◌, ◌&&◌, nat_le, nat_lt, not, if◌then◌else◌, filter, map, length, is_some}
 use Rattle.std.proofs.Common.{◌≡◌, ℕ, zero, suc, ◌+◌, ◌≤◌, Bool, true, false, ◌⊎◌, inl, inr, refl, sym, ◌∙◌, ap, subst, arith, List, [], ◌∷◌, ◌++◌, All, Ok, Err}
 use Rattle.std.proofs.lemmas.Bool.{and_parts, or_right, eqb-true, not-true}
 use Rattle.std.proofs.lemmas.List.Elements.{All-nil, All-cons, All-head, All-tail, All-append, All-weaker}
@@ -19,25 +19,21 @@ use Rattle.cluster_core.specs.rule.Next.{is_stopped, is_true, next}
 use Rattle.cluster_core.specs.rule.Runs.{Leads}
 use Rattle.cluster_core.specs.rule.Rounds.{IsQuiet}
 use Rattle.cluster_core.proofs.rounds.Quiet.{SameMembers, quiet-members}
+use Rattle.cluster_core.proofs.rounds.Stretches.{AllQuiet}
 use Rattle.cluster_core.proofs.rounds.Sent.{next-sent, sent-stays}
+use Rattle.token_server.proofs.CareLaws.{All-left, All-right}
 use Rattle.cluster_core.proofs.runs.JournalRuns.{leads_push}
 use Rattle.cluster_core.proofs.runs.Runs.{good_run}
 use Rattle.cluster_core.proofs.steps.KnownMessages.{sent_now}
 use Rattle.cluster_core.proofs.steps.NodeTokens.{first_among}
 use Rattle.cluster_core.proofs.tokens.Present.{Was}
 use Rattle.progress.specs.rule.Making.{IsSpent}
-use Rattle.progress.proofs.Agenda.{is_due, deliveries, entry_event, Done, nothing_left, first_done}
+use Rattle.progress.specs.rule.Agenda.{is_due, deliveries, AreOlder, WorksOff}
+use Rattle.progress.proofs.Agenda.{entry_event, Done, nothing_left, one_done}
+use Rattle.progress.proofs.Falls.{measure, spare, falls, spares_fewer}
 use Rattle.progress.proofs.Hosted.{all_hosted}
-use Rattle.progress.proofs.Possible.{IsPossible, possible_goes}
+use Rattle.progress.proofs.Possible.{IsPossible, possible_quiet, Goes, possible_goes}
 use Rattle.progress.proofs.Shaped.{all_shaped}
-
-pub possible_quiet : (file : ℕ) (w : WorldState) (event : Event) → IsPossible file w event → IsQuiet event
-possible_quiet file w (Deliver m) h = tt
-possible_quiet file w (AtServer f input) h = tt
-possible_quiet file w (AtNode n (Retry pid)) h = tt
-possible_quiet file w (AtNode n (Call pid op)) h = absurd h
-possible_quiet file w (AtNode n (Interrupt pid)) h = absurd h
-possible_quiet file w (Member event) h = absurd h
 
 module _ (file : ℕ) (w : WorldState) (event : Event) (mid : WorldState) (e : Entry) (step : next w event ≡ Ok (mid, e)) (same : SameMembers w mid) where
   still_true : (input : ServerInput) → is_true w input ≡ true → is_true mid input ≡ true
@@ -70,78 +66,166 @@ module _ (file : ℕ) (w : WorldState) (event : Event) (mid : WorldState) (e : E
           (sent m (first_among m ms), eqb-true (file_of m) file parts.0, (λ i. is_stopped (record w { alive = same.alive i; working = same.working i }) (addressee m)) ∙ free) rest
       by false other rest = rest
 
-module _ (shape : ShapeFields) (is : IsShape shape) (file : ℕ) (measure : WorldState → List Event → ℕ) where
-  -- the measure falls in each step of a round
-  abbrev pub IsFalling : Type 0
-  IsFalling = (past : List Entry) (w : WorldState) (event : Event) (rest : List Event) (mid : WorldState) (e : Entry) → Leads (first_world shape) past w → IsPossible file w event → next w event ≡ Ok (mid, e) → measure mid (rest ++ deliveries file w e.sends) + 1 ≤ measure w (event ∷ rest)
+-- the deliveries of older messages may happen
+pub older_possible : (file : ℕ) (w : WorldState) (ms : List Message) → AreOlder w ms → All (IsPossible file w) (deliveries file w ms)
+older_possible file w [] sent = All-nil (IsPossible file w)
+older_possible file w (m ∷ ms) sent = by (is_due file w m) refl (older_possible file w ms (All-tail (Was w) m ms sent))
+  where
+    by : (b : Bool) → is_due file w m ≡ b → All (IsPossible file w) (deliveries file w ms) → All (IsPossible file w) (map Deliver (if b then m ∷ filter (is_due file w) ms else filter (is_due file w) ms))
+    by true due rest =
+        let parts = and_parts (file_of m == file) (not (is_stopped w (addressee m))) due in
+        All-cons (IsPossible file w) (Deliver m) (deliveries file w ms)
+        (All-head (Was w) m ms sent, eqb-true (file_of m) file parts.0, not-true (is_stopped w (addressee m)) parts.1) rest
+    by false other rest = rest
 
-  module _ (falls : IsFalling) where
-    abbrev Outcome : WorldState → List Event → Type 0
-    Outcome w agenda = ((es : List Entry) × (v : WorldState) × Done file agenda w es v) ⊎ IsSpent file w
+module _ (shape : ShapeFields) (is : IsShape shape) (file : ℕ) where
+  -- what comes of events of an agenda, in whatever order they happened
+  pub record Worked (w : WorldState) (events : List Event) (es : List Entry) (v : WorldState) (left : List Event) : Type 0 where
+    pub leads : Leads w es v
+    pub quiet : AllQuiet es
+    pub possible : All (IsPossible file v) left
+    pub falls : length es + measure file v left ≤ measure file w events
+    pub fewer : spare v.shape.nodes file v left ≤ spare w.shape.nodes file w events
+    pub done : left ≡ [] → Done file events w es v
 
-    spent_later : (w : WorldState) (event : Event) (mid : WorldState) (e : Entry) → next w event ≡ Ok (mid, e) → IsQuiet event → IsSpent file mid → IsSpent file w
-    spent_later w event mid e step quiet s =
-        let same = entry_event w event (mid, e) step in
+  -- one event happens, and then the others with the deliveries that it calls for
+  module _ (past : List Entry) (w : WorldState) (events front rest : List Event) (mid : WorldState) (e : Entry) (before : Leads (first_world shape) past w) (possible : All (IsPossible file w) events) (split : events ≡ front ++ e.event ∷ rest) (step : next w e.event ≡ Ok (mid, e)) where
+    abbrev after : List Event
+    after = (front ++ rest) ++ deliveries file w e.sends
+
+    all : All (IsPossible file w) (front ++ e.event ∷ rest)
+    all = subst (All (IsPossible file w)) split possible
+
+    own : IsPossible file w e.event
+    own = All-head (IsPossible file w) e.event rest (All-right (IsPossible file w) front (e.event ∷ rest) all)
+
+    quiet : IsQuiet e.event
+    quiet = possible_quiet file w e.event own
+
+    same : SameMembers w mid
+    same = quiet-members w e mid step quiet
+
+    others : All (IsPossible file w) (front ++ rest)
+    others = All-append (IsPossible file w) front rest (All-left (IsPossible file w) front (e.event ∷ rest) all) (All-tail (IsPossible file w) e.event rest (All-right (IsPossible file w) front (e.event ∷ rest) all))
+
+    pub possible_after : All (IsPossible file mid) after
+    possible_after = All-append (IsPossible file mid) (front ++ rest) (deliveries file w e.sends)
+        (All-weaker (IsPossible file w) (IsPossible file mid) (possible_stays file w e.event mid e step same) (front ++ rest) others)
+        (deliveries_possible file w e.event mid e step same e.sends (λ m sent. ap (λ (ms : List Message). is_among ms m) (next-sent w e.event (mid, e) step) ∙ sent_now w.sent e.sends m sent))
+
+    pub falls_after : measure file mid after + 1 ≤ measure file w events
+    falls_after = subst (λ (xs : List Event). measure file mid after + 1 ≤ measure file w xs) (sym split) (falls shape is file past w e.event front rest mid e before own step)
+
+    pub one_worked : (es : List Entry) (v : WorldState) (left : List Event) → Worked mid after es v left → Worked w events (e ∷ es) v left
+    one_worked es v left more =
+        let less = falls_after in
+        let later = more.falls in
+        let spares = subst (λ (xs : List Event). spare mid.shape.nodes file mid after ≤ spare w.shape.nodes file w xs) (sym split) (spares_fewer shape is file past w e.event front rest mid e before own step) in
+        let fewer_still = more.fewer in
         record {
-          entries = e ∷ s.entries;
-          world = s.world;
-          leads = (mid, subst (λ (x : Event). next w x ≡ Ok (mid, e)) (sym same) step, s.leads);
-          quiet = All-cons (λ (x : Entry). IsQuiet x.event) e s.entries (subst IsQuiet (sym same) quiet) s.quiet;
-          event = s.event;
-          is_quiet = s.is_quiet;
-          at = s.at;
-          refused = s.refused;
+          leads = (mid, step, more.leads);
+          quiet = All-cons (λ (x : Entry). IsQuiet x.event) e es quiet more.quiet;
+          possible = more.possible;
+          falls = omega arith;
+          fewer = omega arith;
+          done = λ none. subst (λ (xs : List Event). Done file xs w (e ∷ es) v) (sym split) (one_done file w e.event front rest mid e step quiet es v (more.done none));
         }
 
-    -- all on the agenda is done, or the server has spent its numbers
-    pub all_done : (k : ℕ) (past : List Entry) (w : WorldState) (agenda : List Event) → Leads (first_world shape) past w → has_file w file ≡ true → w.working file ≡ true → All (IsPossible file w) agenda → measure w agenda ≤ k → Outcome w agenda
-    all_done zero past w [] before there works possible few = inl ([], w, nothing_left file w)
-    all_done (suc k) past w [] before there works possible few = inl ([], w, nothing_left file w)
-    all_done zero past w (event ∷ rest) before there works possible few =
-        elim (possible_goes w (good_run shape past w is before).1 (all_hosted shape past w is before) (all_shaped shape past w is before) file there works event (All-head (IsPossible file w) event rest possible)) [
-          | inl q ↦
-              let falling = falls past w event rest q.0.0 q.0.1 before (All-head (IsPossible file w) event rest possible) q.1 in
-              absurd (omega arith)
-          | inr refused ↦ inr (record { entries = []; world = w; leads = refl; quiet = All-nil (λ (x : Entry). IsQuiet x.event); event = event; is_quiet = possible_quiet file w event (All-head (IsPossible file w) event rest possible); at = refused.1; refused = refused.0 })
-        ]
-    all_done (suc k) past w (event ∷ rest) before there works possible few = by (possible_goes w (good_run shape past w is before).1 (all_hosted shape past w is before) (all_shaped shape past w is before) file there works event own) (all_done k)
-      where
-        own : IsPossible file w event
-        own = All-head (IsPossible file w) event rest possible
+  nothing_worked : (w : WorldState) (events : List Event) → All (IsPossible file w) events → Worked w events [] w events
+  nothing_worked w events possible = record {
+    leads = refl;
+    quiet = All-nil (λ (x : Entry). IsQuiet x.event);
+    possible = possible;
+    falls = omega arith;
+    fewer = omega arith;
+    done = λ none. subst (λ (xs : List Event). Done file xs w [] w) (sym none) (nothing_left file w);
+  }
 
-        quiet : IsQuiet event
-        quiet = possible_quiet file w event own
+  pub all_worked : (es past : List Entry) (w : WorldState) (events : List Event) (v : WorldState) (left : List Event) → Leads (first_world shape) past w → All (IsPossible file w) events → WorksOff file w events es v left → Worked w events es v left
+  all_worked [] past w events v left before possible works =
+      subst (λ (x : WorldState). Worked w events [] x left) works.0 (subst (λ (xs : List Event). Worked w events [] w xs) works.1 (nothing_worked w events possible))
+  all_worked (e ∷ es) past w events v left before possible works =
+      let front = works.0 in
+      let rest = works.1 in
+      let mid = works.2 in
+      let split = works.3 in
+      let step = works.4 in
+      one_worked past w events front rest mid e before possible split step es v left
+      (all_worked es (past ++ e ∷ []) mid ((front ++ rest) ++ deliveries file w e.sends) v left (leads_push (first_world shape) w mid past e before step) (possible_after past w events front rest mid e before possible split step) works.5)
 
-        Others : Type 0
-        Others = (past : List Entry) (w : WorldState) (agenda : List Event) → Leads (first_world shape) past w → has_file w file ≡ true → w.working file ≡ true → All (IsPossible file w) agenda → measure w agenda ≤ k → Outcome w agenda
+  -- an event that may happen goes, or the server has spent its numbers
+  pub goes : (past : List Entry) (w : WorldState) (event : Event) → Leads (first_world shape) past w → has_file w file ≡ true → w.working file ≡ true → IsPossible file w event → Goes file w event
+  goes past w event before there works possible = possible_goes w (good_run shape past w is before).1 (all_hosted shape past w is before) (all_shaped shape past w is before) file there works event possible
 
-        by : ((q : WorldState × Entry) × (next w event ≡ Ok q)) ⊎ ((next w event ≡ Err Spent) × (is_some (server_event file event) ≡ true)) → Others → Outcome w (event ∷ rest)
-        by (inr refused) others = inr (record { entries = []; world = w; leads = refl; quiet = All-nil (λ (x : Entry). IsQuiet x.event); event = event; is_quiet = quiet; at = refused.1; refused = refused.0 })
-        by (inl q) others = after (others (past ++ e ∷ []) mid (rest ++ deliveries file w e.sends) (leads_push (first_world shape) w mid past e before step_of) there_too works_too possible_then (let falling = falls past w event rest mid e before own q.1 in omega arith))
-          where
-            mid : WorldState
-            mid = q.0.0
+  -- all on the agenda happens, or the server has spent its numbers
+  abbrev Outcome : WorldState → List Event → Type 0
+  Outcome w events = ((es : List Entry) × (v : WorldState) × WorksOff file w events es v []) ⊎ IsSpent file w
 
-            e : Entry
-            e = q.0.1
+  spent_here : (w : WorldState) (event : Event) → IsPossible file w event → (next w event ≡ Err Spent) × (is_some (server_event file event) ≡ true) → IsSpent file w
+  spent_here w event possible refused = record { entries = []; world = w; leads = refl; quiet = All-nil (λ (x : Entry). IsQuiet x.event); event = event; is_quiet = possible_quiet file w event possible; at = refused.1; refused = refused.0 }
 
-            step_of : next w e.event ≡ Ok (mid, e)
-            step_of = subst (λ (x : Event). next w x ≡ Ok (mid, e)) (sym (entry_event w event (mid, e) q.1)) q.1
+  spent_later : (w mid : WorldState) (e : Entry) → next w e.event ≡ Ok (mid, e) → IsQuiet e.event → IsSpent file mid → IsSpent file w
+  spent_later w mid e step quiet s = record {
+    entries = e ∷ s.entries;
+    world = s.world;
+    leads = (mid, step, s.leads);
+    quiet = All-cons (λ (x : Entry). IsQuiet x.event) e s.entries quiet s.quiet;
+    event = s.event;
+    is_quiet = s.is_quiet;
+    at = s.at;
+    refused = s.refused;
+  }
 
-            same : SameMembers w mid
-            same = quiet-members w e mid step_of (subst IsQuiet (sym (entry_event w event (mid, e) q.1)) quiet)
+  pub all_done : (k : ℕ) (past : List Entry) (w : WorldState) (events : List Event) → Leads (first_world shape) past w → has_file w file ≡ true → w.working file ≡ true → All (IsPossible file w) events → measure file w events ≤ k → Outcome w events
+  all_done zero past w [] before there works possible few = inl ([], w, (refl, refl))
+  all_done (suc k) past w [] before there works possible few = inl ([], w, (refl, refl))
+  all_done zero past w (event ∷ rest) before there works possible few = elim (goes past w event before there works own) [
+    | inl q ↦
+        let event_is : q.0.1.event ≡ event = entry_event w event q.0 q.1 in
+        let step : next w q.0.1.event ≡ Ok (q.0.0, q.0.1) = subst (λ (x : Event). next w x ≡ Ok q.0) (sym event_is) q.1 in
+        let less = falls_after past w (event ∷ rest) [] rest q.0.0 q.0.1 before possible (ap (λ (x : Event). x ∷ rest) (sym event_is)) step in
+        absurd (omega arith)
+    | inr refused ↦ inr (spent_here w event own refused)
+  ]
+    where
+      own : IsPossible file w event
+      own = All-head (IsPossible file w) event rest possible
+  all_done (suc k) past w (event ∷ rest) before there works possible few = by (goes past w event before there works own) (all_done k)
+    where
+      own : IsPossible file w event
+      own = All-head (IsPossible file w) event rest possible
 
-            there_too : has_file mid file ≡ true
-            there_too = ap (λ (s : ShapeFields). is_within s.files file) same.shape ∙ there
+      Others : Type 0
+      Others = (past : List Entry) (w : WorldState) (events : List Event) → Leads (first_world shape) past w → has_file w file ≡ true → w.working file ≡ true → All (IsPossible file w) events → measure file w events ≤ k → Outcome w events
 
-            works_too : mid.working file ≡ true
-            works_too = ap (λ (f : ℕ → Bool). f file) same.working ∙ works
+      by : Goes file w event → Others → Outcome w (event ∷ rest)
+      by (inr refused) others = inr (spent_here w event own refused)
+      by (inl q) others =
+          more (others (past ++ e ∷ []) mid (rest ++ deliveries file w e.sends) (leads_push (first_world shape) w mid past e before step)
+          (ap (λ (s : ShapeFields). is_within s.files file) same.shape ∙ there) (ap (λ (f : ℕ → Bool). f file) same.working ∙ works)
+          (possible_after past w (event ∷ rest) [] rest mid e before possible split step) (let less = falls_after past w (event ∷ rest) [] rest mid e before possible split step in omega arith))
+        where
+          mid : WorldState
+          mid = q.0.0
 
-            possible_then : All (IsPossible file mid) (rest ++ deliveries file w e.sends)
-            possible_then = All-append (IsPossible file mid) rest (deliveries file w e.sends)
-                (All-weaker (IsPossible file w) (IsPossible file mid) (possible_stays file w event mid e q.1 same) rest (All-tail (IsPossible file w) event rest possible))
-                (deliveries_possible file w event mid e q.1 same e.sends (λ m sent. ap (λ (ms : List Message). is_among ms m) (next-sent w event (mid, e) q.1) ∙ sent_now w.sent e.sends m sent))
+          e : Entry
+          e = q.0.1
 
-            after : Outcome mid (rest ++ deliveries file w e.sends) → Outcome w (event ∷ rest)
-            after (inl done) = inl (e ∷ done.0, done.1, first_done file w event rest mid e q.1 quiet done.0 done.1 done.2)
-            after (inr spent) = inr (spent_later w event mid e q.1 quiet spent)
+          event_is : e.event ≡ event
+          event_is = entry_event w event (mid, e) q.1
+
+          split : event ∷ rest ≡ [] ++ e.event ∷ rest
+          split = ap (λ (x : Event). x ∷ rest) (sym event_is)
+
+          step : next w e.event ≡ Ok (mid, e)
+          step = subst (λ (x : Event). next w x ≡ Ok (mid, e)) (sym event_is) q.1
+
+          quiet : IsQuiet e.event
+          quiet = subst IsQuiet (sym event_is) (possible_quiet file w event own)
+
+          same : SameMembers w mid
+          same = quiet-members w e mid step quiet
+
+          more : Outcome mid (rest ++ deliveries file w e.sends) → Outcome w (event ∷ rest)
+          more (inl done) = inl (e ∷ done.0, done.1, ([], rest, mid, split, step, done.2))
+          more (inr spent) = inr (spent_later w mid e step quiet spent)

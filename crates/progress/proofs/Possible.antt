@@ -32,6 +32,7 @@ use Rattle.token_server.specs.rule.Server.{is_server, server_rule}
 use Rattle.cluster_core.specs.rule.Actors.{server_event}
 use Rattle.cluster_core.specs.rule.World.{WorldState, has_node, has_file, is_alive, was_declared}
 use Rattle.cluster_core.specs.rule.Next.{has_actor, is_true, is_known, is_fenced, is_stopped, after_node, after_server, delivered as routed, taken, next}
+use Rattle.cluster_core.specs.rule.Rounds.{IsQuiet}
 use Rattle.cluster_core.proofs.tokens.Present.{Was, Present}
 use Rattle.progress.proofs.Hosted.{AllHosted}
 
@@ -41,6 +42,15 @@ IsPossible file w (Deliver m) = Was w m × (file_of m ≡ file) × (is_stopped w
 IsPossible file w (AtServer f input) = (f ≡ file) × (is_true w input ≡ true)
 IsPossible file w (AtNode n (Retry pid)) = (is_alive w n ≡ true) × (is_pid pid ≡ true)
 IsPossible file w _ = ⊥
+
+-- nobody calls by it, no wait is interrupted, and no member fails or begins again
+pub possible_quiet : (file : ℕ) (w : WorldState) (event : Event) → IsPossible file w event → IsQuiet event
+possible_quiet file w (Deliver m) h = tt
+possible_quiet file w (AtServer f input) h = tt
+possible_quiet file w (AtNode n (Retry pid)) h = tt
+possible_quiet file w (AtNode n (Call pid op)) h = absurd h
+possible_quiet file w (AtNode n (Interrupt pid)) h = absurd h
+possible_quiet file w (Member event) h = absurd h
 
 -- the event is a step, or it is refused, since the server of the file has spent the numbers of an epoch
 abbrev pub Goes : ℕ → WorldState → Event → Type 0

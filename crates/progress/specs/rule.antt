@@ -1,2 +1,4 @@
 pub mod Rounds
+pub mod Agenda
+pub mod Bounds
 pub mod Making

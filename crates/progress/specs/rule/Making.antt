@@ -1,6 +1,7 @@
--- A round can be made, unless a server spends the numbers of an epoch in it.
-use Rattle.std.specs.Prelude.{◌≡◌, ◌⊎◌, ◌+◌, ℕ, true, List, length, All, is_some, Err}
+-- Rounds are made in whatever order their events happen, within a bound, unless a server spends the numbers of an epoch in them.
+use Rattle.std.specs.Prelude.{◌≡◌, ◌⊎◌, ◌+◌, ◌≤◌, ℕ, true, List, [], ◌∷◌, length, All, Contains, is_some, Ok, Err}
 use Rattle.messages.specs.rule.Shapes.{ShapeFields, IsShape}
+use Rattle.messages.specs.declared.message.Message.{Message}
 use Rattle.messages.specs.declared.event.Event.{Event}
 use Rattle.messages.specs.declared.entry.Entry.{Entry}
 use Rattle.messages.specs.declared.refusal.Refused.TheVariants.{Spent}
@@ -9,6 +10,8 @@ use Rattle.cluster_core.specs.rule.World.{WorldState, first_world, has_file}
 use Rattle.cluster_core.specs.rule.Next.{next}
 use Rattle.cluster_core.specs.rule.Runs.{Leads}
 use Rattle.cluster_core.specs.rule.Rounds.{IsQuiet, IsRound}
+use Rattle.progress.specs.rule.Agenda.{agenda_with, AreOlder, WorksOff}
+use Rattle.progress.specs.rule.Bounds.{number_of_requests, most_entries, rounds_bound, entries_of}
 use Rattle.progress.specs.rule.Rounds.{number_of_open_calls, AllAreBlocked, AreRounds}
 
 -- after a stretch in which nothing fails and nobody calls the server of the file refuses an event: it has spent the numbers of its epoch for a node
@@ -22,11 +25,11 @@ pub record IsSpent (file : ℕ) (w : WorldState) : Type 0 where
   pub at : is_some (server_event file event) ≡ true
   pub refused : next world event ≡ Err Spent
 
--- there is a round about the file that begins in the world
+-- there is a round about the file that begins in the world, and has no more entries than the bound says
 abbrev pub CanBeMade : ℕ → WorldState → Type 0
-CanBeMade file w = (es : List Entry) × (v : WorldState) × IsRound file w es v
+CanBeMade file w = (es : List Entry) × (v : WorldState) × IsRound file w es v × (length es ≤ most_entries w file 0)
 
--- after any run a round about each file whose server works can be made, and ends, unless the server spends the numbers of its epoch in it
+-- after any run a round about each file whose server works can be made within its bound, unless the server spends the numbers of its epoch in it
 abbrev pub ARoundCanBeMade : Type 0
 ARoundCanBeMade =
     (shape : ShapeFields) (past : List Entry) (w : WorldState) (file : ℕ)
@@ -36,7 +39,47 @@ ARoundCanBeMade =
     → w.working file ≡ true
     → CanBeMade file w ⊎ IsSpent file w
 
--- after any run n + 2 rounds about each file whose server works can be made, where n calls are open, and answer each call about it but waits that a lock blocks, unless the server spends the numbers of its epoch in them
+-- After any run, if the server of a file works: in whatever order the events on the agenda of a round about it happen, each once, and whichever older messages come, they are no more than the bound says; once none is left, they are a round; and each that is left can happen next, unless the server refuses it, having spent the numbers of its epoch for a node
+abbrev pub EveryOrderMakesARound : Type 0
+EveryOrderMakesARound =
+    (shape : ShapeFields) (past es : List Entry) (w v : WorldState) (file : ℕ) (older : List Message) (left : List Event)
+    → IsShape shape
+    → Leads (first_world shape) past w
+    → has_file w file ≡ true
+    → w.working file ≡ true
+    → AreOlder w older
+    → WorksOff file w (agenda_with file w older) es v left
+    → (length es ≤ most_entries w file (length older))
+    × (left ≡ [] → IsRound file w es v)
+    × ((event : Event) → Contains left event → ((q : WorldState × Entry) × (next v event ≡ Ok q)) ⊎ ((next v event ≡ Err Spent) × (is_some (server_event file event) ≡ true)))
+
+-- these are rounds about the file, one behind the other, each made by its agenda, in any order, and in each so many older messages come at most
+abbrev pub AreWorkedOff : ℕ → ℕ → WorldState → List (List Entry) → WorldState → Type 0
+AreWorkedOff file most w [] v = w ≡ v
+AreWorkedOff file most w (es ∷ rounds) v =
+    (mid : WorldState) × (older : List Message)
+    × AreOlder w older
+    × (length older ≤ most)
+    × WorksOff file w (agenda_with file w older) es mid []
+    × AreWorkedOff file most mid rounds v
+
+-- the rounds, in each of which so many older messages come at most, are within their bound, and answer each call about the file but waits that a lock blocks
+abbrev pub AnswerOthers : ℕ → ℕ → WorldState → List (List Entry) → WorldState → Type 0
+AnswerOthers file most w rounds v = AllAreBlocked v file × (entries_of rounds ≤ rounds_bound (number_of_open_calls w + 2) w.shape.nodes (number_of_requests w file) (number_of_open_calls w + most))
+
+-- Bounded progress: after any run, if the server of a file works and n calls are open, n + 2 rounds about the file, each made by its agenda in any order, answer each call about it but waits that a lock blocks, within their bound
+abbrev pub AllOthersAreAnswered : Type 0
+AllOthersAreAnswered =
+    (shape : ShapeFields) (past : List Entry) (rounds : List (List Entry)) (w v : WorldState) (file most : ℕ)
+    → IsShape shape
+    → Leads (first_world shape) past w
+    → has_file w file ≡ true
+    → w.working file ≡ true
+    → AreWorkedOff file most w rounds v
+    → length rounds ≡ number_of_open_calls w + 2
+    → AnswerOthers file most w rounds v
+
+-- after any run n + 2 such rounds about each file whose server works can be made, where n calls are open, unless the server spends the numbers of its epoch in them
 abbrev pub AllOthersCanBeAnswered : Type 0
 AllOthersCanBeAnswered =
     (shape : ShapeFields) (past : List Entry) (w : WorldState) (file : ℕ)
@@ -44,4 +87,4 @@ AllOthersCanBeAnswered =
     → Leads (first_world shape) past w
     → has_file w file ≡ true
     → w.working file ≡ true
-    → ((rounds : List (List Entry)) × (v : WorldState) × AreRounds file w rounds v × (length rounds ≡ number_of_open_calls w + 2) × AllAreBlocked v file) ⊎ IsSpent file w
+    → ((rounds : List (List Entry)) × (v : WorldState) × AreRounds file w rounds v × (length rounds ≡ number_of_open_calls w + 2) × AnswerOthers file 0 w rounds v) ⊎ IsSpent file w
