@@ -1,5 +1,5 @@
-"""Reads the words that `state`, `open`, `stats`, `explain`, `explore` and `check` print, by docs/FORMATS.md, into what --json has to say of
-them. For tests/told-json."""
+"""Reads the words that `run`, `state`, `open`, `stats`, `explain`, `explore` and `check` print, by docs/FORMATS.md, into what --json has to
+say of them. For tests/told-json."""
 import re
 
 NUMBERS = ("locks", "unlocks", "queries", "denied", "open", "waited", "requests", "grants", "revokes", "released")
@@ -147,6 +147,41 @@ def open_calls(text):
         if "blocked" not in call:
             call.setdefault("ended", None)
     return told
+
+
+def listed(section, line):
+    """What a line of a section of a listing tells."""
+    if section == "refused":
+        number, code = re.fullmatch(r"line (\d+) code (\d+)", line).groups()
+        return {"line": int(number), "code": int(code)}
+    if section in ("tokens", "locks"):
+        name, file, lo, hi, word = line.split()
+        if section == "tokens":
+            return {"host": name, "file": int(file), "level": word, "lo": int(lo), "hi": int(hi)}
+        return {"file": int(file), "lock": lock_of(f"{word} {lo} {hi} {name}")}
+    entry, name, rest = line.split(maxsplit=2)
+    if section == "replies":
+        return {"entry": int(entry), "call": name, "reply": rest}
+    if name == "gone":
+        return {"entry": int(entry), "gone": rest}
+    process, op, reply = re.fullmatch(r"(\d+) (.*?) -> (.*)", rest).groups()
+    return {"entry": int(entry), "call": name, "process": int(process), "op": op, "reply": reply}
+
+
+def listing(text):
+    """A listing, with the open calls behind it, if they were asked for."""
+    told, section = {}, None
+    sections = ["refused", "replies", "tokens", "locks", "history"]
+    body, heading, behind = text.partition("\nopen\n")
+    for line in body.splitlines():
+        if len(told) < len(sections) and line == sections[len(told)]:
+            section = told[line] = []
+            name = line
+        else:
+            section.append(listed(name, line))
+    if len(told) != len(sections):
+        raise ValueError(f"only the sections {list(told)}")
+    return {**told, **open_calls(behind)} if heading else told
 
 
 def stats(text):

@@ -11,10 +11,12 @@ use Rattle.clap.specs.declared.error.kind.ErrorKind.TheVariants.{OutOfMemory, Va
 use Rattle.command_line.specs.rule.Kinds.{IsKindOf, IsOfKind}
 use Rattle.command_line.specs.rule.JudgeTasks.{JudgeTask, rule_text}
 use Rattle.command_line.specs.rule.Program.{program_app, flag_text, judge_values_in, IsMet, IsNumber, MayBeNumber}
-use Rattle.command_line.specs.rule.Tasks.{Task, run, threads, audit, history, explain, open_calls, state, check, picture, stats, from_strace, recorded_history, explore, schedule, judge, format_text, greatest_seed, most_files, most_nodes}
+use Rattle.command_line.specs.rule.Tasks.{Task, run, threads, audit, history, explain, open_calls, state, check, picture, stats, from_strace, recorded_history, explore, schedule, judge, format_text, is_json, is_quiet, greatest_seed, most_files, most_nodes}
 use Rattle.command_line.specs.rule.Words.{AsksFor, IsRefusal, IsShown}
 use Rattle.command_line.specs.declared.format.Format.{Format}
 use Rattle.command_line.specs.declared.format.Format.TheVariants.{Svg, Mermaid, Trace}
+use Rattle.command_line.specs.declared.listing_form.ListingForm.{ListingForm}
+use Rattle.command_line.specs.declared.listing_form.ListingForm.TheVariants.{Words, Json, LeftAway}
 use Rattle.command_line.specs.declared.allowed_rule.AllowedRule.{AllowedRule}
 use Rattle.command_line.specs.declared.allowed_rule.AllowedRule.TheVariants.{WaitDrops, CloseOwnDescriptor, NoQuery, StaleReadDenial, LostAt}
 use Rattle.command_line.specs.declared.refusal.Refusal.{Refusal}
@@ -177,6 +179,20 @@ number_in id rows = number_of (unwrap_or (one_of id rows) [])
 abbrev pub flag_in : Text → List Row → Bool
 flag_in id rows = is_given (unwrap_or (one_of id rows) [])
 
+-- the form of a listing by its two flags
+abbrev pub form_named : Bool → Bool → ListingForm
+form_named false false = Words
+form_named false true = Json
+form_named true json = LeftAway
+
+pub form_is : (form : ListingForm) → form_named (is_quiet form) (is_json form) ≡ form
+form_is Words = refl
+form_is Json = refl
+form_is LeftAway = refl
+
+abbrev pub form_in : List Row → ListingForm
+form_in rows = form_named (flag_in (codes "quiet") rows) (flag_in (codes "json") rows)
+
 -- the state that is asked for
 abbrev state_of : List Row → Task
 state_of rows = state (path_in (codes "JOURNAL") rows) (number_given (one_of (codes "K") rows)) (number_given (one_of (codes "N") rows)) (number_given (one_of (codes "F") rows)) (flag_in (codes "json") rows)
@@ -188,7 +204,7 @@ abbrev picture_of : List Row → Task
 picture_of rows = picture (path_in (codes "JOURNAL") rows) (first_of (codes "CALL") rows) (number_in (codes "K") rows) (number_in (codes "L") rows) (format_named (path_in (codes "FORMAT") rows))
 
 abbrev run_of : List Row → Task
-run_of rows = run (path_in (codes "SCRIPT") rows) (first_of (codes "JOURNAL") rows) (first_of (codes "FILE") rows) (flag_in (codes "expect") rows) (flag_in (codes "open") rows) (flag_in (codes "quiet") rows) (flag_in (codes "calm") rows)
+run_of rows = run (path_in (codes "SCRIPT") rows) (first_of (codes "JOURNAL") rows) (first_of (codes "FILE") rows) (flag_in (codes "expect") rows) (flag_in (codes "open") rows) (form_in rows) (flag_in (codes "calm") rows)
 
 abbrev check_of : List Row → Task
 check_of rows = check (paths_in (codes "SCRIPT") rows) (first_of (codes "FILE") rows) (flag_in (codes "json") rows)
@@ -296,9 +312,11 @@ met_is p (run s a j x o q k) met =
     let file = ap (value_at 2) met.0 in
     let expect_flag = flag_there 3 _ _ x met.0 refl in
     let open_flag = flag_there 4 _ _ o met.0 refl in
-    let quiet_flag = flag_there 5 _ _ q met.0 refl in
+    let quiet_flag = flag_there 5 _ _ (is_quiet q) met.0 refl in
     let calm_flag = flag_there 6 _ _ k met.0 refl in
-    named p (run s a j x o q k) met ∙ (λ i. run (script i) (after i) (file i) (expect_flag i) (open_flag i) (quiet_flag i) (calm_flag i))
+    let json_flag = flag_there 7 _ _ (is_json q) met.0 refl in
+    let form = ◌∙◌ {A = ListingForm} (λ i. form_named (quiet_flag i) (json_flag i)) (form_is q) in
+    named p (run s a j x o q k) met ∙ (λ i. run (script i) (after i) (file i) (expect_flag i) (open_flag i) (form i) (calm_flag i))
 met_is p (threads s n h k j) met =
     let script = ap (text_at 0) met.1 in
     let number = number_there 1 _ _ 0 greatest_seed met.0 n met.1 refl met.2 in

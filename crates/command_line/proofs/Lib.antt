@@ -13,6 +13,7 @@ pub mod ExploreWords
 pub mod JudgeReads
 pub mod JudgeWords
 pub mod PictureWords
+pub mod RunFlags
 pub mod RunWords
 pub mod ScheduleWords
 pub mod StateWords

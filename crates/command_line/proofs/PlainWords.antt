@@ -145,13 +145,13 @@ abbrev words_of : Text → Task → List Text
 words_of program task = program ∷ plain_words_of task
 
 plain_task : (program : Text) (task : Task) → All (λ path. slice_get path 0 ≢ Some 45) (paths_of task) → HasPlainWords task → AsksFor (words_of program task) task
-plain_task program (run script None None expected listed quiet calm) plain within = run_asks program script (is_path script (plain 0 [] (omega arith))) None tt None tt expected listed quiet calm within
-plain_task program (run script None (Some file) expected listed quiet calm) plain within =
-    run_asks program script (is_path script (plain 0 [] (omega arith))) None tt (Some file) (is_path file (plain 1 [] (omega arith))) expected listed quiet calm within
-plain_task program (run script (Some after) None expected listed quiet calm) plain within =
-    run_asks program script (is_path script (plain 0 [] (omega arith))) (Some after) (is_path after (plain 1 [] (omega arith))) None tt expected listed quiet calm within
-plain_task program (run script (Some after) (Some file) expected listed quiet calm) plain within =
-    run_asks program script (is_path script (plain 0 [] (omega arith))) (Some after) (is_path after (plain 1 [] (omega arith))) (Some file) (is_path file (plain 2 [] (omega arith))) expected listed quiet calm within
+plain_task program (run script None None expected listed form calm) plain within = run_asks program script (is_path script (plain 0 [] (omega arith))) None tt None tt expected listed form calm within
+plain_task program (run script None (Some file) expected listed form calm) plain within =
+    run_asks program script (is_path script (plain 0 [] (omega arith))) None tt (Some file) (is_path file (plain 1 [] (omega arith))) expected listed form calm within
+plain_task program (run script (Some after) None expected listed form calm) plain within =
+    run_asks program script (is_path script (plain 0 [] (omega arith))) (Some after) (is_path after (plain 1 [] (omega arith))) None tt expected listed form calm within
+plain_task program (run script (Some after) (Some file) expected listed form calm) plain within =
+    run_asks program script (is_path script (plain 0 [] (omega arith))) (Some after) (is_path after (plain 1 [] (omega arith))) (Some file) (is_path file (plain 2 [] (omega arith))) expected listed form calm within
 plain_task program (threads script seed stop no_join None) plain within =
     threads_asks program script (decimal seed) seed (is_path script (plain 0 [] (omega arith))) (number_text 0 greatest_seed seed (omega arith) (omega arith) within) None tt stop no_join
 plain_task program (threads script seed stop no_join (Some file)) plain within =

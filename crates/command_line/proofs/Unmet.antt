@@ -4,10 +4,11 @@ use Rattle.std.proofs.Common.{ℕ, Bool, true, false, cond, length, map, refl, s
 use Rattle.clap.specs.Words.{Row, Text, all_of, first_of, one_of}
 use Rattle.command_line.specs.rule.JudgeTasks.{JudgeTask, MayJudge, rule_text}
 use Rattle.command_line.specs.rule.Program.{flag_text, judge_values_in, strace_values_in, IsMet, IsNumber, MayBeNumber}
-use Rattle.command_line.specs.rule.Tasks.{Task, from_strace, recorded_history, format_text, greatest_seed, most_files, most_nodes, MayBeQuiet, MayRecord}
+use Rattle.command_line.specs.rule.Tasks.{Task, from_strace, recorded_history, format_text, greatest_seed, most_files, most_nodes, is_json, is_quiet, MayBeQuiet, MayRecord}
 use Rattle.command_line.specs.declared.format.Format.{Format}
+use Rattle.command_line.specs.declared.listing_form.ListingForm.{ListingForm}
 use Rattle.command_line.specs.declared.allowed_rule.AllowedRule.{AllowedRule}
-use Rattle.command_line.proofs.CommandLine.{asked_is, beside_histories, beside_several, flag_in, flag_there, given_is, histories_at, is_given, met_is, number_of, number_there, rule_words, several_at, task_named, unmet, value_at}
+use Rattle.command_line.proofs.CommandLine.{asked_is, beside_histories, beside_several, flag_in, flag_there, form_in, form_is, form_named, given_is, histories_at, is_given, met_is, number_of, number_there, rule_words, several_at, task_named, unmet, value_at}
 
 -- it is met as the task that its name and its values tell
 as_named : (name : Text) (rows : List Row) (task : Task) → IsMet (Some (name, rows)) task → IsMet (Some (name, rows)) (task_named name rows)
@@ -38,21 +39,25 @@ no_expect_flag rows none task met = none _ (ap (value_at 3) (as_named (codes "ru
 pub no_run_flag : (rows : List Row) → NoFlag (codes "open") rows → Unmet (codes "run") rows
 no_run_flag rows none task met = none _ (ap (value_at 4) (as_named (codes "run") rows task met).0)
 
-pub no_quiet_flag : (rows : List Row) → NoFlag (codes "quiet") rows → Unmet (codes "run") rows
-no_quiet_flag rows none task met = none _ (ap (value_at 5) (as_named (codes "run") rows task met).0)
+pub no_form : (rows : List Row) → ((form : ListingForm) → one_of (codes "quiet") rows ≡ Some (flag_text (is_quiet form)) → one_of (codes "json") rows ≡ Some (flag_text (is_json form)) → ⊥) → Unmet (codes "run") rows
+no_form rows none task met =
+    let same = (as_named (codes "run") rows task met).0 in
+    none (form_in rows) (ap (value_at 5) same) (ap (value_at 7) same)
 
 pub no_calm_flag : (rows : List Row) → NoFlag (codes "calm") rows → Unmet (codes "run") rows
 no_calm_flag rows none task met = none _ (ap (value_at 6) (as_named (codes "run") rows task met).0)
 
 -- nor where the listing may not be left away
-pub no_quiet : (rows : List Row) (journal : Option Text) (expected quiet : Bool) → first_of (codes "FILE") rows ≡ journal → one_of (codes "expect") rows ≡ Some (flag_text expected)
-    → one_of (codes "quiet") rows ≡ Some (flag_text quiet) → (MayBeQuiet journal expected quiet → ⊥) → Unmet (codes "run") rows
-no_quiet rows journal expected quiet file first last may_not task met =
+pub no_quiet : (rows : List Row) (journal : Option Text) (expected : Bool) (form : ListingForm) → first_of (codes "FILE") rows ≡ journal → one_of (codes "expect") rows ≡ Some (flag_text expected)
+    → one_of (codes "quiet") rows ≡ Some (flag_text (is_quiet form)) → one_of (codes "json") rows ≡ Some (flag_text (is_json form)) → (MayBeQuiet journal expected form → ⊥) → Unmet (codes "run") rows
+no_quiet rows journal expected form file first quiet json may_not task met =
     let same = as_named (codes "run") rows task met in
     let expect_is : flag_in (codes "expect") rows ≡ expected = ap (λ (value : Option Text). is_given (unwrap_or value [])) first ∙ given_is expected in
-    let quiet_is : flag_in (codes "quiet") rows ≡ quiet = ap (λ (value : Option Text). is_given (unwrap_or value [])) last ∙ given_is quiet in
-    let P : Option Text × Bool × Bool → Type 0 = λ given. MayBeQuiet given.0 given.1 given.2 in
-    may_not (subst P (λ i. (file i, expect_is i, quiet_is i)) same.1)
+    let quiet_is : flag_in (codes "quiet") rows ≡ is_quiet form = ap (λ (value : Option Text). is_given (unwrap_or value [])) quiet ∙ given_is (is_quiet form) in
+    let json_is : flag_in (codes "json") rows ≡ is_json form = ap (λ (value : Option Text). is_given (unwrap_or value [])) json ∙ given_is (is_json form) in
+    let named : form_in rows ≡ form = ◌∙◌ {A = ListingForm} (λ i. form_named (quiet_is i) (json_is i)) (form_is form) in
+    let P : Option Text × Bool × ListingForm → Type 0 = λ given. MayBeQuiet given.0 given.1 given.2 in
+    may_not (subst P (λ i. (file i, expect_is i, named i)) same.1)
 
 pub no_threads_script : (rows : List Row) → first_of (codes "SCRIPT") rows ≡ None → Unmet (codes "threads") rows
 no_threads_script rows none task met = nowhere _ _ none (ap (value_at 0) (as_named (codes "threads") rows task met).1)

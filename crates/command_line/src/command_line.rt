@@ -15,6 +15,7 @@ use crate::journal_lines::{
 };
 use crate::judge_line::JudgeLine;
 use crate::judge_words::{judge_complaint, judge_in};
+use crate::listing_form::{ListingForm, form_in};
 use crate::picture_line::PictureLine;
 use crate::refusal::Refusal;
 use crate::run_line::{RunLine, ThreadsLine};
@@ -164,7 +165,7 @@ fn complaint(matches: &ArgMatches<'_>) -> &'static str {
     match matches.subcommand() {
         Some(("picture", _)) =>
             "invalid value for '--format <FORMAT>': it is svg, mermaid or trace",
-        Some(("run", _)) => "the argument '--quiet' needs '--journal <FILE>' or '--expect'",
+        Some(("run", values)) => run_complaint(values),
         Some(("judge", values)) => judge_complaint(values),
         Some(("from-strace", _)) =>
             "there is one RECORDING, or with '--history' several, and no '--nodes' or '--place'",
@@ -209,9 +210,9 @@ fn run_in<'a>(values: &ArgMatches<'a>) -> Option<CommandLine<'a>>
     let journal = values.get_str("FILE");
     let expect = flag_in(values, "expect")?;
     let open = flag_in(values, "open")?;
-    let quiet = flag_in(values, "quiet")?;
+    let form = form_in(values)?;
     let calm = flag_in(values, "calm")?;
-    if !may_be_quiet(journal, expect, quiet) {
+    if !may_be_quiet(journal, expect, form) {
         return None;
     }
     Some(CommandLine::Run(RunLine {
@@ -220,17 +221,28 @@ fn run_in<'a>(values: &ArgMatches<'a>) -> Option<CommandLine<'a>>
         journal,
         expect,
         open,
-        quiet,
+        form,
         calm,
     }))
 }
 
 // Whether the listing of a run is made, or may be left away.
-fn may_be_quiet(journal: Option<&str>, expect: bool, quiet: bool) -> bool
-    ensures may { result ≡ true → MayBeQuiet (option_map (λ file. file.now) journal.entry) expect quiet }
-    ensures may_not { result ≡ false → MayBeQuiet (option_map (λ file. file.now) journal.entry) expect quiet → ⊥ }
+fn may_be_quiet(journal: Option<&str>, expect: bool, form: ListingForm) -> bool
+    ensures may { result ≡ true → MayBeQuiet (option_map (λ file. file.now) journal.entry) expect form }
+    ensures may_not { result ≡ false → MayBeQuiet (option_map (λ file. file.now) journal.entry) expect form → ⊥ }
 {
-    !quiet || expect || journal.is_some()
+    match form {
+        ListingForm::Words | ListingForm::Json => true,
+        ListingForm::LeftAway => expect || journal.is_some(),
+    }
+}
+
+// What is said where the values of `run` come to no line.
+fn run_complaint(values: &ArgMatches<'_>) -> &'static str {
+    match flag_in(values, "json") {
+        Some(true) => "the argument '--quiet' cannot be used with '--json'",
+        _ => "the argument '--quiet' needs '--journal <FILE>' or '--expect'",
+    }
 }
 
 fn threads_in<'a>(values: &ArgMatches<'a>) -> Option<CommandLine<'a>>

@@ -71,6 +71,7 @@ const RUN: &[Argument<'static>] = &[
         name: "calm",
         help: "Go on behind SCRIPT until the run is calm",
     },
+    JSON,
 ];
 
 const THREADS: &[Argument<'static>] = &[

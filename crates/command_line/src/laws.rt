@@ -5,7 +5,7 @@ ghost use Rattle.command_line.specs.rule.JudgeTasks.{plain_judgement};
 ghost use Rattle.command_line.specs.rule.Tasks.{Task, audit, explore, from_strace, greatest_seed, history, judge, picture, schedule, state, threads};
 ghost use Rattle.command_line.specs.rule.Words.{AsksFor, IsPlain};
 
-/// The words `PROGRAM run SCRIPT`, with `--after JOURNAL`, `--journal FILE`, `--expect`, `--open`, `--quiet` and
+/// The words `PROGRAM run SCRIPT`, with `--after JOURNAL`, `--journal FILE`, `--expect`, `--open`, `--quiet` or `--json`, and
 /// `--calm` behind it, or some of them in this order, `--quiet` where `--journal FILE` or `--expect` is one,
 /// `PROGRAM threads SCRIPT --seed N`, with `--stop-when-stuck`, `--no-join` and `--journal FILE`, or some of them in
 /// this order, behind it, `PROGRAM audit JOURNAL`, with `--why` or without, `PROGRAM history JOURNAL`, with `--as-clients` or without,

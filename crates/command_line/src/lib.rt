@@ -14,6 +14,7 @@ mod journal_notes;
 pub mod judge_line;
 mod judge_words;
 pub mod laws;
+pub mod listing_form;
 mod notes;
 pub mod picture_line;
 pub mod refusal;

@@ -132,6 +132,9 @@ With --quiet, which needs --journal FILE or --expect, no listing is made, and th
 the memory for it are spared: nothing is printed, or with --open those calls alone. Which
 lines were refused is not told then.
 
+With --json, which can't be used with --quiet, the listing is one line of JSON, and with
+--open the calls are members of it, as 'lockreplay open --json' has them.
+
 With --calm the run goes on behind the lines of SCRIPT. What is under way is delivered,
 and then rounds follow until no call is open, or a round answers none. In a round each
 server learns which incarnation of each node failed last, each open call is tried again,

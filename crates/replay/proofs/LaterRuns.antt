@@ -2,6 +2,7 @@
 use Rattle.std.proofs.Common.{◌≡◌, ℕ, true, false, List, Option, Some, inl, inr, refl, subst}
 use Rattle.std.specs.Prelude.{Bool, IsUtf8}
 use Rattle.cluster_core.specs.rule.Journals.{JournalFields}
+use Rattle.command_line.specs.declared.listing_form.ListingForm.{ListingForm}
 use Rattle.messages.specs.declared.version.Version.{Version}
 use Rattle.messages.specs.declared.version.Version.TheVariants.{First, Second}
 use Rattle.journal_text.specs.rule.Readings.{IsOld, WritesJournal}
@@ -76,11 +77,11 @@ going-fault old new RanShort script after journal j fault has same run files is 
     inr (j, has, run, had-fault old new RanShort script j fault files (subst (λ (k : JournalFields). IsBehindFault k (new script) RanShort script fault) same is))
 
 -- what is shown of the whole run
-pub goes-on : (old new : Files) (script : List ℕ) (j : JournalFields) (to : Option (List ℕ)) (compares with_open quiet calm : Bool) (shown : Shown) → IsRun j.shape j.entries → WentOn old script j to compares with_open quiet calm new shown → GoesOn old script j to compares with_open quiet calm new shown
-goes-on old new script j to compares with_open quiet calm (Text text) run went = (run, went)
-goes-on old new script j to compares with_open quiet calm (Partial text told) run went = (run, went)
-goes-on old new script j to compares with_open quiet calm (Wanting text) run went = absurd went.3
-goes-on old new script j to compares with_open quiet calm (Noted text told) run went = absurd went.3
-goes-on old new script j to compares with_open quiet calm (Undecided text) run went = absurd went.3
-goes-on old new script j to compares with_open quiet calm Yes run went = absurd went.3
-goes-on old new script j to compares with_open quiet calm (No position) run went = absurd went.3
+pub goes-on : (old new : Files) (script : List ℕ) (j : JournalFields) (to : Option (List ℕ)) (compares with_open : Bool) (form : ListingForm) (calm : Bool) (shown : Shown) → IsRun j.shape j.entries → WentOn old script j to compares with_open form calm new shown → GoesOn old script j to compares with_open form calm new shown
+goes-on old new script j to compares with_open form calm (Text text) run went = (run, went)
+goes-on old new script j to compares with_open form calm (Partial text told) run went = (run, went)
+goes-on old new script j to compares with_open form calm (Wanting text) run went = absurd went.3
+goes-on old new script j to compares with_open form calm (Noted text told) run went = absurd went.3
+goes-on old new script j to compares with_open form calm (Undecided text) run went = absurd went.3
+goes-on old new script j to compares with_open form calm Yes run went = absurd went.3
+goes-on old new script j to compares with_open form calm (No position) run went = absurd went.3

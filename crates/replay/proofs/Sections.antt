@@ -7,6 +7,7 @@ use Rattle.cluster_core.specs.declared.held_lock.HeldLock.{HeldLock}
 use Rattle.cluster_core.specs.declared.item.Item.{Item}
 use Rattle.cluster_core.specs.declared.node_token_run.NodeTokenRun.{NodeTokenRun}
 use Rattle.cluster_core.specs.rule.Journals.{JournalFields}
+use Rattle.command_line.specs.declared.listing_form.ListingForm.TheVariants.{Words}
 use Rattle.cluster_core.specs.code.Placement.{items_in}
 use Rattle.lockscript.specs.declared.refused_line.RefusedLine.{RefusedLine}
 use Rattle.lockscript.specs.rule.Listing.{listing_text, listing_start, history_line, history_text}
@@ -31,7 +32,7 @@ listing_goes_on played start told text begun h is = record {
 }
 
 -- so is it with what is told of open calls behind it
-pub run_shown : (played : PlayedState) (with_open : Bool) (j : JournalFields) (start told text behind whole : List ℕ) → IsListingBegun played start → j ≡ played.journal → IsHistoryText j told → text ≡ start ++ told → (with_open ≡ false → behind ≡ []) → whole ≡ text ++ behind → IsRunText played with_open false whole
+pub run_shown : (played : PlayedState) (with_open : Bool) (j : JournalFields) (start told text behind whole : List ℕ) → IsListingBegun played start → j ≡ played.journal → IsHistoryText j told → text ≡ start ++ told → (with_open ≡ false → behind ≡ []) → whole ≡ text ++ behind → IsRunText played with_open Words whole
 run_shown played with_open j start told text behind whole begun same h text_is none is =
     (text, listing_goes_on played start told text begun (subst (λ (i : JournalFields). IsHistoryText i told) same h) text_is, (behind, none, is))
 

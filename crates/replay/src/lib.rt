@@ -39,6 +39,7 @@ mod recorded;
 mod recorded_history;
 pub mod respond;
 mod run;
+mod run_json;
 mod several;
 mod showing;
 pub mod shown;

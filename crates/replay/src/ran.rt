@@ -1,6 +1,7 @@
 //! What scripts come to whose replies may be compared with what they expect.
 ghost use Rattle.std.specs.Prelude.{◌≡◌, ◌&&◌, ℕ, List, drop, Bool, string_bytes, IfErr, IfOk};
 ghost use Rattle.std.specs.Option.{option_map};
+ghost use Rattle.command_line.specs.declared.listing_form.ListingForm.{ListingForm};
 ghost use Rattle.explorer.specs.rule.Comparisons.{breaks_behind, IsCompared};
 ghost use Rattle.lockscript.specs.rule.Scripts.{LineFields};
 ghost use Rattle.messages.specs.declared.version.Version.TheVariants.{Second};
@@ -136,8 +137,8 @@ fn entries_behind(entries: &[Entry], earlier: usize) -> &[Entry]
 
 // What is shown of a run of this text.
 pub(crate) fn shown_beside(text: String, told: Option<String>) -> Shown
-    ensures { (played : PlayedState) (breaking with_open quiet : Bool) → IsCompared breaking (option_map (λ t. string_bytes t) told)
-        → IsRunText played with_open quiet (string_bytes text) → ShowsRun played breaking with_open quiet result }
+    ensures { (played : PlayedState) (breaking with_open : Bool) (form : ListingForm) → IsCompared breaking (option_map (λ t. string_bytes t) told)
+        → IsRunText played with_open form (string_bytes text) → ShowsRun played breaking with_open form result }
 {
     match told {
         None => Shown::Text(text),

@@ -1,5 +1,6 @@
 //! Running the script of a file.
-ghost use Rattle.std.specs.Prelude.{◌≡◌, ◌≢◌, [], List, None, Some, true, false, string_bytes, IfErr, IfOk, OnOk};
+ghost use Rattle.std.specs.Prelude.{◌≡◌, ◌≢◌, [], List, None, Some, false, string_bytes, IfErr, IfOk, OnOk};
+ghost use Rattle.command_line.specs.declared.listing_form.ListingForm.TheVariants.{LeftAway, Words};
 ghost use Rattle.command_line.specs.rule.Tasks.{run};
 ghost use Rattle.journal_text.specs.rule.Journals.{journal_text};
 ghost use Rattle.journal_text.specs.rule.Readings.{WritesJournal};
@@ -17,9 +18,11 @@ use crate::journal_draft::add_journal;
 use crate::listing::{listing_begun, push_history_and_journal, push_history_of};
 use crate::listing_options::ListingOptions;
 use crate::ran::{Ran, run_of, shown_beside};
+use crate::run_json::{json_and_journal, json_of};
 use crate::shown::Shown;
 use crate::store::Store;
 use cluster_core::journal::Journal;
+use command_line::listing_form::ListingForm;
 use journal_text::laws::each_journal_is_read;
 use placement::placed_run::PlacedRun;
 use player::played::Played;
@@ -34,9 +37,9 @@ pub(crate) fn run_script<'a, S: Store, V: Watcher>(
     wanted: ListingOptions,
     watcher: &mut V,
 ) -> Result<Shown, Fault<'a>>
-    ensures done { IfOk result (Does (S.holds store.old) (run path.now None None wanted.expect wanted.open wanted.quiet wanted.calm) (S.holds store.new)) }
+    ensures done { IfOk result (Does (S.holds store.old) (run path.now None None wanted.expect wanted.open wanted.form wanted.calm) (S.holds store.new)) }
     ensures fault { IfErr result (λ fault. (fault ≢ CannotWriteOutput)
-        × IsFault (S.holds store.old) (S.ran_short store.new) (S.refuses store.new) (run path.now None None wanted.expect wanted.open wanted.quiet wanted.calm) (S.holds store.new) fault) }
+        × IsFault (S.holds store.old) (S.ran_short store.new) (S.refuses store.new) (run path.now None None wanted.expect wanted.open wanted.form wanted.calm) (S.holds store.new) fault) }
 {
     let Ran { played, told } = run_of(alloc, store, path, wanted.expect, wanted.calm, watcher)?;
     Ok(shown_beside(run_text(alloc, played, wanted)?, told))
@@ -52,9 +55,9 @@ pub(crate) fn run_with_journal<'a, S: Store, V: Watcher>(
     wanted: ListingOptions,
     watcher: &mut V,
 ) -> Result<Shown, Fault<'a>>
-    ensures done { IfOk result (Does (S.holds store.old) (run path.now None (Some file.now) wanted.expect wanted.open wanted.quiet wanted.calm) (S.holds store.new)) }
+    ensures done { IfOk result (Does (S.holds store.old) (run path.now None (Some file.now) wanted.expect wanted.open wanted.form wanted.calm) (S.holds store.new)) }
     ensures fault { IfErr result (λ fault. (fault ≢ CannotWriteOutput)
-        × IsFault (S.holds store.old) (S.ran_short store.new) (S.refuses store.new) (run path.now None (Some file.now) wanted.expect wanted.open wanted.quiet wanted.calm) (S.holds store.new) fault) }
+        × IsFault (S.holds store.old) (S.ran_short store.new) (S.refuses store.new) (run path.now None (Some file.now) wanted.expect wanted.open wanted.form wanted.calm) (S.holds store.new) fault) }
 {
     let Ran { played, told } = run_of(alloc, store, path, wanted.expect, wanted.calm, watcher)?;
     let mut draft = store.begin(file);
@@ -68,12 +71,12 @@ pub(crate) fn run_text(
     played: Played,
     wanted: ListingOptions,
 ) -> Result<String, AllocError>
-    ensures { IfOk result (λ text. IsRunText (state_of played) wanted.open wanted.quiet (string_bytes text)) }
+    ensures { IfOk result (λ text. IsRunText (state_of played) wanted.open wanted.form (string_bytes text)) }
 {
-    if wanted.quiet {
-        open_of(alloc, played, wanted.open)
-    } else {
-        listing_of(alloc, played, wanted.open)
+    match wanted.form {
+        ListingForm::Words => listing_of(alloc, played, wanted.open),
+        ListingForm::Json => json_of(alloc, played, wanted.open),
+        ListingForm::LeftAway => open_of(alloc, played, wanted.open),
     }
 }
 
@@ -84,21 +87,21 @@ pub(crate) fn text_and_journal<D: FileDraft>(
     played: Played,
     wanted: ListingOptions,
 ) -> Result<String, AllocError>
-    ensures shown { IfOk result (λ text. IsRunText (state_of played) wanted.open wanted.quiet (string_bytes text)) }
+    ensures shown { IfOk result (λ text. IsRunText (state_of played) wanted.open wanted.form (string_bytes text)) }
     ensures journal { OnOk result (Adds (D.has draft.old) (D.has draft.new) (journal_text played.journal.shape played.journal.entries)) }
     ensures read { OnOk result (WritesJournal (journal_text played.journal.shape played.journal.entries) played.journal.shape played.journal.entries) }
 {
-    if wanted.quiet {
-        open_and_journal(draft, alloc, played, wanted.open)
-    } else {
-        listing_and_journal(draft, alloc, played, wanted.open)
+    match wanted.form {
+        ListingForm::Words => listing_and_journal(draft, alloc, played, wanted.open),
+        ListingForm::Json => json_and_journal(draft, alloc, played, wanted.open),
+        ListingForm::LeftAway => open_and_journal(draft, alloc, played, wanted.open),
     }
 }
 
 // The listing of a run, with the calls without a reply behind it, if that is asked for. What is no longer needed
 // goes as soon as it can: each entry once what stands there is written.
 fn listing_of(alloc: Global, played: Played, with_open: bool) -> Result<String, AllocError>
-    ensures { IfOk result (λ text. IsRunText (state_of played) with_open false (string_bytes text)) }
+    ensures { IfOk result (λ text. IsRunText (state_of played) with_open Words (string_bytes text)) }
 {
     let (mut text, run) = listing_of_played(alloc, played)?;
     let open = open_section(alloc, run.journal(), with_open)?;
@@ -114,7 +117,7 @@ fn listing_and_journal<D: FileDraft>(
     played: Played,
     with_open: bool,
 ) -> Result<String, AllocError>
-    ensures listing { IfOk result (λ text. IsRunText (state_of played) with_open false (string_bytes text)) }
+    ensures listing { IfOk result (λ text. IsRunText (state_of played) with_open Words (string_bytes text)) }
     ensures journal { OnOk result (Adds (D.has draft.old) (D.has draft.new) (journal_text played.journal.shape played.journal.entries)) }
     ensures read { OnOk result (WritesJournal (journal_text played.journal.shape played.journal.entries) played.journal.shape played.journal.entries) }
 {
@@ -128,7 +131,7 @@ fn listing_and_journal<D: FileDraft>(
 
 // What is shown of a run without its listing: the calls without a reply, if that is asked for.
 fn open_of(alloc: Global, played: Played, with_open: bool) -> Result<String, AllocError>
-    ensures { IfOk result (λ text. IsRunText (state_of played) with_open true (string_bytes text)) }
+    ensures { IfOk result (λ text. IsRunText (state_of played) with_open LeftAway (string_bytes text)) }
 {
     let journal = journal_of(played);
     open_section(alloc, &journal, with_open)
@@ -141,7 +144,7 @@ fn open_and_journal<D: FileDraft>(
     played: Played,
     with_open: bool,
 ) -> Result<String, AllocError>
-    ensures open { IfOk result (λ text. IsRunText (state_of played) with_open true (string_bytes text)) }
+    ensures open { IfOk result (λ text. IsRunText (state_of played) with_open LeftAway (string_bytes text)) }
     ensures journal { OnOk result (Adds (D.has draft.old) (D.has draft.new) (journal_text played.journal.shape played.journal.entries)) }
     ensures read { OnOk result (WritesJournal (journal_text played.journal.shape played.journal.entries) played.journal.shape played.journal.entries) }
 {

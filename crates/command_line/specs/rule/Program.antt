@@ -6,7 +6,7 @@ use Rattle.clap.specs.Simple.{on_top}
 use Rattle.clap.specs.declared.builder.action.ArgAction.TheVariants.{Append, SetTrue}
 use Rattle.clap.specs.declared.builder.value_parser.ValueParser.TheVariants.{Signed}
 use Rattle.command_line.specs.rule.JudgeTasks.{MayJudge, rule_text}
-use Rattle.command_line.specs.rule.Tasks.{Task, run, threads, audit, history, explain, open_calls, state, check, picture, stats, from_strace, recorded_history, explore, schedule, judge, format_text, greatest_seed, most_files, most_nodes, MayBeQuiet, MayRecord}
+use Rattle.command_line.specs.rule.Tasks.{Task, run, threads, audit, history, explain, open_calls, state, check, picture, stats, from_strace, recorded_history, explore, schedule, judge, format_text, is_json, is_quiet, greatest_seed, most_files, most_nodes, MayBeQuiet, MayRecord}
 
 -- a word that must be there: a path, or the name of a call
 abbrev pub path_rule : Text → Rule
@@ -102,7 +102,8 @@ abbrev pub nodes_rule : Rule
 nodes_rule = number_rule (codes "N") (codes "nodes") (codes "1") 1 most_nodes
 
 abbrev pub run_app : App
-run_app = with_rule (with_rule (with_rule (with_rule (with_rule (with_rule (with_rule (new_app (codes "run")) (path_rule (codes "SCRIPT"))) after_rule) file_rule) (flag_rule (codes "expect"))) (flag_rule (codes "open"))) (flag_rule (codes "quiet"))) (flag_rule (codes "calm"))
+run_app =
+    with_rule (with_rule (with_rule (with_rule (with_rule (with_rule (with_rule (with_rule (new_app (codes "run")) (path_rule (codes "SCRIPT"))) after_rule) file_rule) (flag_rule (codes "expect"))) (flag_rule (codes "open"))) (flag_rule (codes "quiet"))) (flag_rule (codes "calm"))) json_rule
 
 abbrev pub threads_app : App
 threads_app = with_rule (with_rule (with_rule (with_rule (with_rule (new_app (codes "threads")) (path_rule (codes "SCRIPT"))) (seed_rule (codes "seed"))) (flag_rule (codes "stop-when-stuck"))) (flag_rule (codes "no-join"))) file_rule
@@ -180,7 +181,7 @@ flag_text false = codes "false"
 
 -- the paths, numbers and flags of the commands
 abbrev pub run_values_in : Option (Text × List Row) → Option (Text × List (Option Text))
-run_values_in = read_in (first_of (codes "SCRIPT") ∷ first_of (codes "JOURNAL") ∷ first_of (codes "FILE") ∷ one_of (codes "expect") ∷ one_of (codes "open") ∷ one_of (codes "quiet") ∷ one_of (codes "calm") ∷ [])
+run_values_in = read_in (first_of (codes "SCRIPT") ∷ first_of (codes "JOURNAL") ∷ first_of (codes "FILE") ∷ one_of (codes "expect") ∷ one_of (codes "open") ∷ one_of (codes "quiet") ∷ one_of (codes "calm") ∷ one_of (codes "json") ∷ [])
 
 abbrev pub threads_values_in : Option (Text × List Row) → Option (Text × List (Option Text))
 threads_values_in = read_in (first_of (codes "SCRIPT") ∷ one_of (codes "N") ∷ one_of (codes "stop-when-stuck") ∷ one_of (codes "no-join") ∷ first_of (codes "FILE") ∷ [])
@@ -230,8 +231,9 @@ judge_values_in =
 
 -- it is the command of the task, with its paths, its numbers, its flags, its format, the name of its call and the words that place processes
 abbrev pub IsMet : Option (Text × List Row) → Task → Type 0
-IsMet met (run script after journal expected listed quiet calm) =
-    (run_values_in met ≡ Some (codes "run", Some script ∷ after ∷ journal ∷ Some (flag_text expected) ∷ Some (flag_text listed) ∷ Some (flag_text quiet) ∷ Some (flag_text calm) ∷ [])) × MayBeQuiet journal expected quiet
+IsMet met (run script after journal expected listed form calm) =
+    (run_values_in met ≡ Some (codes "run", Some script ∷ after ∷ journal ∷ Some (flag_text expected) ∷ Some (flag_text listed) ∷ Some (flag_text (is_quiet form)) ∷ Some (flag_text calm) ∷ Some (flag_text (is_json form)) ∷ []))
+    × MayBeQuiet journal expected form
 IsMet met (threads script seed stop no_join journal) =
     (text : Text) × (threads_values_in met ≡ Some (codes "threads", Some script ∷ Some text ∷ Some (flag_text stop) ∷ Some (flag_text no_join) ∷ journal ∷ [])) × IsNumber 0 greatest_seed text seed
 IsMet met (audit journal why) = audit_values_in met ≡ Some (codes "audit", Some journal ∷ Some (flag_text why) ∷ [])

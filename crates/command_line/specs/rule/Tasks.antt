@@ -6,6 +6,8 @@ use Rattle.command_line.specs.declared.format.Format.{Format}
 use Rattle.command_line.specs.declared.format.Format.TheVariants.{Svg, Mermaid, Trace}
 use Rattle.command_line.specs.declared.command_line.CommandLine.{CommandLine}
 use Rattle.command_line.specs.declared.picture_line.PictureLine.{PictureLine}
+use Rattle.command_line.specs.declared.listing_form.ListingForm.{ListingForm}
+use Rattle.command_line.specs.declared.listing_form.ListingForm.TheVariants.{Words, Json, LeftAway}
 use Rattle.command_line.specs.declared.run_line.RunLine.{RunLine}
 use Rattle.command_line.specs.declared.run_line.ThreadsLine.{ThreadsLine}
 use Rattle.command_line.specs.declared.state_line.StateLine.{StateLine}
@@ -13,8 +15,8 @@ use Rattle.command_line.specs.declared.command_line.CommandLine.TheVariants.{Run
 
 -- what is to be done, with the paths of the files that are named, the name of a call, and the words that place processes
 pub data Task : Type 0 where
-  -- to run the script of the first path, behind the journal of the second, if there is one, to write the journal to the third, if there is one, to compare the replies with what the script expects, if that is asked for, to list the calls without a reply, if that is, to leave the listing away, if that is, and to go on behind the script until the run is calm, if that is
-  run : Text → Option Text → Option Text → Bool → Bool → Bool → Bool → Task
+  -- to run the script of the first path, behind the journal of the second, if there is one, to write the journal to the third, if there is one, to compare the replies with what the script expects, if that is asked for, to list the calls without a reply, if that is, to show the listing in this form, and to go on behind the script until the run is calm, if that is asked for
+  run : Text → Option Text → Option Text → Bool → Bool → ListingForm → Bool → Task
   -- to run the script of the first path on threads, with this seed, to end the run where it is stuck and to make lines of failures and starts beside open calls, if that is asked for, and to write the journal to the second, if there is one
   threads : Text → ℕ → Bool → Bool → Option Text → Task
   -- to say whether the journal is one of a run, and why it is none, if that is asked for
@@ -46,7 +48,7 @@ pub data Task : Type 0 where
 
 -- of a run, also on threads, of a state, and of a picture
 abbrev pub run_task_of : RunLine → Task
-run_task_of line = run line.script.now (option_map (λ file. file.now) line.after) (option_map (λ file. file.now) line.journal) line.expect line.«open» line.quiet line.calm
+run_task_of line = run line.script.now (option_map (λ file. file.now) line.after) (option_map (λ file. file.now) line.journal) line.expect line.«open» line.form line.calm
 
 abbrev pub threads_task_of : ThreadsLine → Task
 threads_task_of line = threads line.script.now line.seed line.stop_when_stuck line.no_join (option_map (λ file. file.now) line.journal)
@@ -80,7 +82,7 @@ given (Some text) = text ∷ []
 
 -- the paths, also with the name of a machine before it, the name of a call, and the words that place processes
 abbrev pub paths_of : Task → List Text
-paths_of (run script after journal expected listed quiet calm) = script ∷ given after ++ given journal
+paths_of (run script after journal expected listed form calm) = script ∷ given after ++ given journal
 paths_of (threads script seed stop no_join journal) = script ∷ given journal
 paths_of (audit journal why) = journal ∷ []
 paths_of (history journal as_clients) = journal ∷ []
@@ -98,7 +100,7 @@ paths_of (judge t) = t.histories ++ given t.explains
 
 -- the path of the file to which the journal of a run is written; of a check none is
 abbrev pub journal_path : Task → Option Text
-journal_path (run script after to expected listed quiet calm) = to
+journal_path (run script after to expected listed form calm) = to
 journal_path (threads script seed stop no_join to) = to
 journal_path (audit journal why) = None
 journal_path (history journal as_clients) = None
@@ -142,10 +144,26 @@ format_text Svg = codes "svg"
 format_text Mermaid = codes "mermaid"
 format_text Trace = codes "trace"
 
+-- the form of a listing is asked for by one of two flags, or by neither
+abbrev pub is_quiet : ListingForm → Bool
+is_quiet Words = false
+is_quiet Json = false
+is_quiet LeftAway = true
+
+abbrev pub is_json : ListingForm → Bool
+is_json Words = false
+is_json Json = true
+is_json LeftAway = false
+
+abbrev pub form_words : ListingForm → List Text
+form_words Words = []
+form_words Json = codes "--json" ∷ []
+form_words LeftAway = codes "--quiet" ∷ []
+
 -- the words that ask for it, in their usual order
 abbrev pub plain_words_of : Task → List Text
-plain_words_of (run script after journal expected listed quiet calm) =
-    codes "run" ∷ script ∷ option_words (codes "--after") after ++ option_words (codes "--journal") journal ++ flag_words (codes "--expect") expected ++ flag_words (codes "--open") listed ++ flag_words (codes "--quiet") quiet ++ flag_words (codes "--calm") calm
+plain_words_of (run script after journal expected listed form calm) =
+    codes "run" ∷ script ∷ option_words (codes "--after") after ++ option_words (codes "--journal") journal ++ flag_words (codes "--expect") expected ++ flag_words (codes "--open") listed ++ form_words form ++ flag_words (codes "--calm") calm
 plain_words_of (threads script seed stop no_join journal) =
     codes "threads" ∷ script ∷ number_words (codes "--seed") seed ++ flag_words (codes "--stop-when-stuck") stop ++ flag_words (codes "--no-join") no_join ++ option_words (codes "--journal") journal
 plain_words_of (audit journal why) = codes "audit" ∷ journal ∷ flag_words (codes "--why") why
@@ -182,11 +200,12 @@ IsWithin least greatest None = ⊤
 IsWithin least greatest (Some number) = (least ≤ number) × (number ≤ greatest)
 
 -- the listing of a run may be left away where its journal is kept, or its replies are compared with what is expected
-abbrev pub MayBeQuiet : Option Text → Bool → Bool → Type 0
-MayBeQuiet journal expected false = ⊤
-MayBeQuiet None false true = ⊥
-MayBeQuiet None true true = ⊤
-MayBeQuiet (Some path) expected true = ⊤
+abbrev pub MayBeQuiet : Option Text → Bool → ListingForm → Type 0
+MayBeQuiet journal expected Words = ⊤
+MayBeQuiet journal expected Json = ⊤
+MayBeQuiet None false LeftAway = ⊥
+MayBeQuiet None true LeftAway = ⊤
+MayBeQuiet (Some path) expected LeftAway = ⊤
 
 -- of a history of recordings nothing is said of nodes
 abbrev pub MayRecord : List Text → ℕ → Option Text → Type 0
@@ -194,7 +213,7 @@ MayRecord recordings nodes places = (recordings ≢ []) × (nodes ≡ 1) × (pla
 
 -- the words are those of numbers in their range, a run that leaves its listing away keeps its journal or compares its replies, a check has a script, and a history of clients a recording; and what a judgement is asked for goes together
 abbrev pub HasPlainWords : Task → Type 0
-HasPlainWords (run script after journal expected listed quiet calm) = MayBeQuiet journal expected quiet
+HasPlainWords (run script after journal expected listed form calm) = MayBeQuiet journal expected form
 HasPlainWords (threads script seed stop no_join journal) = seed ≤ greatest_seed
 HasPlainWords (audit journal why) = ⊤
 HasPlainWords (history journal as_clients) = ⊤

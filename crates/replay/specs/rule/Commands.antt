@@ -3,6 +3,8 @@ use Rattle.std.specs.Prelude.{◌≡◌, ℕ, ⊤, ◌⊎◌, Bool, true, false,
 use Rattle.std.specs.Io.KnownBytes.{Appends}
 use Rattle.cluster_core.specs.rule.Journals.{JournalFields, IsFirstWrong}
 use Rattle.cluster_core.specs.rule.Runs.{IsRun}
+use Rattle.command_line.specs.declared.listing_form.ListingForm.{ListingForm}
+use Rattle.command_line.specs.declared.listing_form.ListingForm.TheVariants.{Words, Json, LeftAway}
 use Rattle.command_line.specs.rule.Tasks.{Task, run, threads, audit, history, explain, open_calls, state, check, picture, stats, from_strace, recorded_history, explore, schedule, judge, journal_path}
 use Rattle.journal_text.specs.rule.Journals.{journal_text}
 use Rattle.journal_text.specs.rule.Readings.{WritesJournal}
@@ -37,31 +39,32 @@ abbrev pub IsReadFrom : Option (List ℕ) → JournalFields → Type 0
 IsReadFrom None j = ⊤
 IsReadFrom (Some path) j = WritesJournal (journal_text j.shape j.entries) j.shape j.entries
 
--- the text is the listing of a run, and behind it what is told of open calls, nothing where they are not asked for; or that alone, where the listing is left away
-abbrev pub IsRunText : PlayedState → Bool → Bool → List ℕ → Type 0
-IsRunText played with_open true text = with_open ≡ false → text ≡ []
-IsRunText played with_open false text = (listing : List ℕ) × IsListing played listing × ((behind : List ℕ) × (with_open ≡ false → behind ≡ []) × (text ≡ listing ++ behind))
+-- the text is the listing of a run, and behind it what is told of open calls, nothing where they are not asked for; or that alone, where the listing is left away; JSON is only shown, and nothing is said of it
+abbrev pub IsRunText : PlayedState → Bool → ListingForm → List ℕ → Type 0
+IsRunText played with_open LeftAway text = with_open ≡ false → text ≡ []
+IsRunText played with_open Json text = ⊤
+IsRunText played with_open Words text = (listing : List ℕ) × IsListing played listing × ((behind : List ℕ) × (with_open ≡ false → behind ≡ []) × (text ≡ listing ++ behind))
 
 -- what is shown of a run is this text, and something is told beside it where a reply begins otherwise than expected
-abbrev pub ShowsRun : PlayedState → Bool → Bool → Bool → Shown → Type 0
-ShowsRun played breaking with_open quiet (Text text) = (breaking ≡ false) × IsRunText played with_open quiet (string_bytes text)
-ShowsRun played breaking with_open quiet (Partial text told) = (breaking ≡ true) × IsRunText played with_open quiet (string_bytes text)
-ShowsRun played breaking with_open quiet shown = ⊥
+abbrev pub ShowsRun : PlayedState → Bool → Bool → ListingForm → Shown → Type 0
+ShowsRun played breaking with_open form (Text text) = (breaking ≡ false) × IsRunText played with_open form (string_bytes text)
+ShowsRun played breaking with_open form (Partial text told) = (breaking ≡ true) × IsRunText played with_open form (string_bytes text)
+ShowsRun played breaking with_open form shown = ⊥
 
 -- the run of a journal went on by the script: what is shown is of the whole, whose journal is kept
-abbrev pub WentOn : Files → List ℕ → JournalFields → Option (List ℕ) → Bool → Bool → Bool → Bool → Files → Shown → Type 0
-WentOn old script j to compares with_open quiet calm new shown =
-    (played : PlayedState) × (breaking : Bool) × HasComparedRunBehind (old script) j compares calm played breaking × ShowsRun played breaking with_open quiet shown × KeepsJournal old to (journal_text played.journal.shape played.journal.entries) new × IsReadFrom to played.journal
+abbrev pub WentOn : Files → List ℕ → JournalFields → Option (List ℕ) → Bool → Bool → ListingForm → Bool → Files → Shown → Type 0
+WentOn old script j to compares with_open form calm new shown =
+    (played : PlayedState) × (breaking : Bool) × HasComparedRunBehind (old script) j compares calm played breaking × ShowsRun played breaking with_open form shown × KeepsJournal old to (journal_text played.journal.shape played.journal.entries) new × IsReadFrom to played.journal
 
 -- what is shown where a script goes on behind a journal: the first wrong entry of one that is no run, and no file changes, else what it came to
-abbrev pub GoesOn : Files → List ℕ → JournalFields → Option (List ℕ) → Bool → Bool → Bool → Bool → Files → Shown → Type 0
-GoesOn old script j to compares with_open quiet calm new (No position) = IsFirstWrong j.shape j.entries position × SameFiles old new
-GoesOn old script j to compares with_open quiet calm new shown = IsRun j.shape j.entries × WentOn old script j to compares with_open quiet calm new shown
+abbrev pub GoesOn : Files → List ℕ → JournalFields → Option (List ℕ) → Bool → Bool → ListingForm → Bool → Files → Shown → Type 0
+GoesOn old script j to compares with_open form calm new (No position) = IsFirstWrong j.shape j.entries position × SameFiles old new
+GoesOn old script j to compares with_open form calm new shown = IsRun j.shape j.entries × WentOn old script j to compares with_open form calm new shown
 
 -- what is shown of a task that is done, by the file that it reads, and the files that it leaves
 abbrev pub Does : Files → Task → Files → Shown → Type 0
-Does old (run script None to compares with_open quiet calm) new shown = (played : PlayedState) × (breaking : Bool) × HasComparedRun (old script) compares calm played breaking × ShowsRun played breaking with_open quiet shown × KeepsJournal old to (journal_text played.journal.shape played.journal.entries) new × IsReadFrom to played.journal
-Does old (run script (Some after) to compares with_open quiet calm) new shown = (j : JournalFields) × HasNewJournal (old after) j × GoesOn old script j to compares with_open quiet calm new shown
+Does old (run script None to compares with_open form calm) new shown = (played : PlayedState) × (breaking : Bool) × HasComparedRun (old script) compares calm played breaking × ShowsRun played breaking with_open form shown × KeepsJournal old to (journal_text played.journal.shape played.journal.entries) new × IsReadFrom to played.journal
+Does old (run script (Some after) to compares with_open form calm) new shown = (j : JournalFields) × HasNewJournal (old after) j × GoesOn old script j to compares with_open form calm new shown
 Does old (threads script seed may_stop no_join to) new shown = (t : ThreadedFields) × IsTold (old script) no_join may_stop t × ShowsThreads t shown × KeepsJournal old to t.journal new
 Does old (audit path false) new shown = (j : JournalFields) × HasJournal (old path) j × IsAudit j shown × SameFiles old new
 Does old (audit path true) new shown = (j : JournalFields) × HasJournal (old path) j × IsReasoned j shown × SameFiles old new
@@ -94,8 +97,8 @@ IsGoingFault old RanShort script after fault =
 
 -- the fault is in a file that the task reads, or memory is short where `RanShort` says it or for what the file holds; of tools that report it is looser (`IsToolFault`), and of a check it may be that a journal's file refuses to be written
 abbrev pub IsInputFault : Files → Type 0 → (List ℕ → Type 0) → Task → Fault → Type 0
-IsInputFault old RanShort Refuses (run script None to compares with_open quiet calm) fault = IsScriptFault (old script) RanShort script fault
-IsInputFault old RanShort Refuses (run script (Some after) to compares with_open quiet calm) fault = IsGoingFault old RanShort script after fault
+IsInputFault old RanShort Refuses (run script None to compares with_open form calm) fault = IsScriptFault (old script) RanShort script fault
+IsInputFault old RanShort Refuses (run script (Some after) to compares with_open form calm) fault = IsGoingFault old RanShort script after fault
 IsInputFault old RanShort Refuses (threads script seed may_stop no_join to) fault = IsThreadsFault (old script) RanShort script fault
 IsInputFault old RanShort Refuses (audit path why) fault = IsJournalFault (old path) RanShort path fault
 IsInputFault old RanShort Refuses (history path as_clients) fault = IsJournalFault (old path) RanShort path fault
@@ -113,8 +116,8 @@ IsInputFault old RanShort Refuses (judge t) fault = IsToolFault old (IsJudgedWit
 
 -- there is a run of the task
 abbrev pub HasRunOf : Files → Task → Type 0
-HasRunOf old (run script None to compares with_open quiet calm) = (played : PlayedState) × HasRun (old script) played
-HasRunOf old (run script (Some after) to compares with_open quiet calm) = (j : JournalFields) × HasNewJournal (old after) j × ((played : PlayedState) × HasRunBehind (old script) j played)
+HasRunOf old (run script None to compares with_open form calm) = (played : PlayedState) × HasRun (old script) played
+HasRunOf old (run script (Some after) to compares with_open form calm) = (j : JournalFields) × HasNewJournal (old after) j × ((played : PlayedState) × HasRunBehind (old script) j played)
 HasRunOf old (threads script seed may_stop no_join to) = IsTaken (old script)
 HasRunOf old task = ⊥
 
@@ -139,7 +142,7 @@ TellsFault IsThere LeavesThis IsTold status = (fault : Fault) × IsThere fault �
 
 -- the lines that tell of faults are fixed, but for commands that say reasons; what those say is not said
 abbrev pub says_why : Task → Bool
-says_why (run script after to compares with_open quiet calm) = false
+says_why (run script after to compares with_open form calm) = false
 says_why (threads script seed may_stop no_join to) = false
 says_why (audit path why) = why
 says_why (history path as_clients) = false
