@@ -390,6 +390,20 @@ call 1 1 set 0 proc write 0 100
 END
 try_stuck 'a call that needs a server that failed' waits-for-failed.lock \
     '1.1.1 done\n1.1.2 fd 0\n1.1.3 fd 1\n1.1.4 done\n' 'p1@1.1 2 0 99 write\n' 'open 1.1.5\n'
+# What the weather loses is tried again before such a run is ended: behind its journal rounds in which nothing is lost answer no call.
+held=0
+for script in mailbox cycle own waits-for-failed; do
+    grep '^cluster ' $script.lock >rounds.lock
+    for seed in $(seq 20); do
+        timeout 120 "$program" threads $script.lock --seed "$seed" --stop-when-stuck --journal stuck.journal >threads.out 2>came.err </dev/null
+        came=$?
+        timeout 120 "$program" run rounds.lock --after stuck.journal --calm --quiet --journal calm.journal </dev/null
+        [ "$came $?" = '1 0' ] && grep -q '^open ' came.err && ! grep -q -v '^open ' came.err &&
+            [ "$(wc -l <calm.journal)" -gt "$(wc -l <stuck.journal)" ] &&
+            [ "$(grep -c '^reply ' calm.journal)" = "$(grep -c '^reply ' stuck.journal)" ] && held=$((held + 1))
+    done
+done
+judge 'what rounds answer behind runs that are stuck under weathers' 80 "$held" none none none none
 sed '/^call 1 1 set 0/d' waits-for-failed.lock >not-stuck.lock
 for script in waits.lock failures.lock rebuilt.lock not-stuck.lock two.lock; do
     timeout 120 "$program" threads "$script" --stop-when-stuck >threads.out 2>came.err </dev/null

@@ -18,7 +18,8 @@ Exit status:
      is too old to go on from, PLACES places no process, or FILE or the text can't be
      written; check: a file has bad lines
   4  no memory, or more entries than a journal may have (1048576)
-  5  judge: whether a history is contradicted is not known
+  5  judge: whether a history is contradicted is not known; threads: a run was stopped
+     where a call could still be answered, for all that is known
 Standard error says which, of 2 to 4: at 3 and 4 in one line, but of check in one for each
 of the first hundred bad lines of a script, and one for how many more there are. Where run
 or threads says 'bad line L', 'lockreplay check SCRIPT' tells why, and where audit or

@@ -8,7 +8,7 @@ use Rattle.history_text.specs.declared.rule.Allowed.{Allowed}
 use Rattle.judgements.specs.declared.judgement_outcome.JudgementOutcome.{JudgementOutcome}
 use Rattle.judgements.specs.declared.judgement_outcome.JudgementOutcome.TheVariants as outcome
 use Rattle.replay.specs.declared.shown.Shown.{Shown}
-use Rattle.replay.specs.declared.shown.Shown.TheVariants.{Text, Wanting, Partial, Noted, Undecided, Yes, No}
+use Rattle.replay.specs.declared.shown.Shown.TheVariants.{Text, Wanting, Partial, Noted, Undecided, CutShort, Yes, No}
 use Rattle.replay.specs.rule.Judging.{AreJudged, HasHistoryAt, IsSaidIn, IsSaidOf, shown_of}
 use Rattle.replay.specs.rule.Stores.{Files, SameFiles}
 use Rattle.replay.proofs.Stores.{had-text, same-after}
@@ -63,6 +63,7 @@ had-judged allowed orders old new paths (Wanting text) same is = (
   any-had (IsSaidOf allowed orders new outcome.No) (IsSaidOf allowed orders old outcome.No) paths (λ path said. had-said allowed orders old new outcome.No path same said) is.1,
 )
 had-judged allowed orders old new paths (Undecided text) same is = All-weaker (HasHistoryAt allowed new) (HasHistoryAt allowed old) (λ path has. had-text old new path _ same has) paths is
+had-judged allowed orders old new paths (CutShort text) same is = is
 had-judged allowed orders old new paths (Partial text told) same is = is
 had-judged allowed orders old new paths (Noted text told) same is = is
 had-judged allowed orders old new paths Yes same is = is

@@ -18,7 +18,7 @@ use Rattle.replay.specs.declared.fault.Fault.TheVariants.{BadLine, CannotRead, C
 use Rattle.cluster_core.specs.rule.Runs.{IsRun}
 use Rattle.replay.specs.rule.Audits.{HasNewJournal}
 use Rattle.replay.specs.declared.shown.Shown.{Shown}
-use Rattle.replay.specs.declared.shown.Shown.TheVariants.{Text, Wanting, Partial, Noted, Undecided, Yes, No}
+use Rattle.replay.specs.declared.shown.Shown.TheVariants.{Text, Wanting, Partial, Noted, Undecided, CutShort, Yes, No}
 use Rattle.replay.specs.rule.Commands.{GoesOn, IsGoingFault, WentOn}
 use Rattle.replay.specs.rule.Faults.{IsBehindFault, IsOldFault, IsTextFault, fault_of_parse, fault_of_play}
 use Rattle.player.specs.rule.Played.{FillsBehind, PlayedState}
@@ -83,5 +83,6 @@ goes-on old new script j to compares with_open form calm (Partial text told) run
 goes-on old new script j to compares with_open form calm (Wanting text) run went = absurd went.3
 goes-on old new script j to compares with_open form calm (Noted text told) run went = absurd went.3
 goes-on old new script j to compares with_open form calm (Undecided text) run went = absurd went.3
+goes-on old new script j to compares with_open form calm (CutShort text) run went = absurd went.3
 goes-on old new script j to compares with_open form calm Yes run went = absurd went.3
 goes-on old new script j to compares with_open form calm (No position) run went = absurd went.3

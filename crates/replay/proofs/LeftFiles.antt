@@ -6,7 +6,7 @@ use Rattle.command_line.specs.rule.Tasks.{Task, run, threads, audit, history, ex
 use Rattle.replay.specs.declared.fault.Fault.{Fault}
 use Rattle.replay.specs.declared.fault.Fault.TheVariants.{BadLine, CannotRead, CannotWrite, CannotWriteOutput, NoMemory, JournalFull, OldJournal, Faulty}
 use Rattle.replay.specs.declared.shown.Shown.{Shown}
-use Rattle.replay.specs.declared.shown.Shown.TheVariants.{Text, Wanting, Partial, Noted, Undecided, Yes, No}
+use Rattle.replay.specs.declared.shown.Shown.TheVariants.{Text, Wanting, Partial, Noted, Undecided, CutShort, Yes, No}
 use Rattle.replay.specs.rule.Commands.{Does, GoesOn, IsFault, KeepsJournal, SameBut}
 use Rattle.replay.specs.rule.Stores.{Files, SameFiles}
 
@@ -26,6 +26,7 @@ gone-on old new script to compares with_open form calm j (Wanting text) is = abs
 gone-on old new script to compares with_open form calm j (Partial text told) is = kept-but old new to _ is.1.4
 gone-on old new script to compares with_open form calm j (Noted text told) is = absurd is.1.3
 gone-on old new script to compares with_open form calm j (Undecided text) is = absurd is.1.3
+gone-on old new script to compares with_open form calm j (CutShort text) is = absurd is.1.3
 gone-on old new script to compares with_open form calm j Yes is = absurd is.1.3
 gone-on old new script to compares with_open form calm j (No position) is = same-but old new to is.1
 

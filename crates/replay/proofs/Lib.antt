@@ -18,3 +18,4 @@ pub mod Judging
 pub mod RecordedHistories
 pub mod AllowedRules
 pub mod Tools
+pub mod NoneStuck

@@ -47,6 +47,7 @@ mod state;
 pub mod store;
 pub mod threaded;
 mod threads;
+mod unstuck;
 mod warnings;
 pub mod words;
 mod world_behind;

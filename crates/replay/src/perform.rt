@@ -2,7 +2,7 @@
 ghost use Rattle.std.specs.Prelude.{◌≡◌, ◌≢◌, ◌≤◌, ◌<◌, ◌⊎◌, false, IfErr, IfOk, OnOk};
 ghost use Rattle.std.specs.Io.KnownBytes.{Appends};
 ghost use Rattle.command_line.specs.rule.Tasks.{journal_path, task_of};
-ghost use Rattle.replay.specs.rule.Commands.{Does, IsCheck, IsFault, IsJudge, Leaves, SameBut, Shows, TellsFault, says_why};
+ghost use Rattle.replay.specs.rule.Commands.{Does, IsCheck, IsFault, Leaves, MayNotKnow, SameBut, Shows, TellsFault, says_why};
 ghost use Rattle.replay.specs.rule.Faults.{fault_line};
 ghost use Rattle.replay.specs.rule.Outputs.{WritesOrFails};
 ghost use Rattle.replay.specs.rule.Showing.{TellsBeside, shown_text};
@@ -23,7 +23,7 @@ use thread_runs::run_watcher::RunWatcher;
 
 /// Does what the line asks for, and answers the exit status. It is 0 where all was done, 1 where something is wrong or
 /// left out (see below), 3 where the input or the output is at fault, 4 where memory or the journal was too small, 5 where
-/// it is not known whether histories are contradicted.
+/// it is not known whether histories are contradicted, or a run on threads was ended and a call could still be answered.
 ///
 /// It is 1 where the journal that the line names is none of a run, or has no call of the name, or not the entry, the node
 /// or the file that is asked for. So it is where a run on
@@ -68,8 +68,9 @@ pub fn perform<
         (TellsBeside E.taken E.has_failed err.old err.new) result }
     ensures flushed { result ≤ 1 → O.is_flushed out.new }
 
-    // So is what a judgement comes to that doesn't know; no other command ends so.
-    ensures undecided { result ≡ 5 → IsJudge (task_of line.now) × O.is_flushed out.new × Shows (Does (S.holds store.old) (task_of line.now) (S.holds store.new)) (O.taken out.old) (O.taken out.new)
+    // So is what a judgement comes to that doesn't know, and a run on threads of which it is not known whether it was ended
+    // too early; no other command ends so.
+    ensures undecided { result ≡ 5 → MayNotKnow (task_of line.now) × O.is_flushed out.new × Shows (Does (S.holds store.old) (task_of line.now) (S.holds store.new)) (O.taken out.old) (O.taken out.new)
         (TellsBeside E.taken E.has_failed err.old err.new) result }
     ensures quiet { result ≡ 0 → (err.new ≡ err.old) ⊎ IsCheck (task_of line.now) }
 

@@ -4,7 +4,7 @@ ghost use Rattle.std.specs.Io.KnownBytes.{Appends};
 ghost use Rattle.command_line.specs.rule.Tasks.{journal_path, Task};
 ghost use Rattle.command_line.specs.rule.Words.{AreWrong, AsksFor, AsksForHelp};
 ghost use Rattle.replay.specs.declared.fault.Fault.TheVariants.{CannotWriteOutput, NoMemory};
-ghost use Rattle.replay.specs.rule.Commands.{Does, IsCheck, IsFaultOrShort, IsJudge, Leaves, Shows, TellsFault, says_why};
+ghost use Rattle.replay.specs.rule.Commands.{Does, IsCheck, IsFaultOrShort, Leaves, MayNotKnow, Shows, TellsFault, says_why};
 ghost use Rattle.replay.specs.rule.Faults.{fault_line};
 ghost use Rattle.replay.specs.rule.Outputs.{AppendsPart, WritesOrFails};
 ghost use Rattle.replay.specs.rule.Showing.{TellsBeside};
@@ -52,7 +52,7 @@ pub fn respond<
     ensures done { (task : Task) → AsksFor (map W.text words.now) task
         → result ≤ 1 → Shows (Does (S.holds store.old) task (S.holds store.new)) (O.taken out.old) (O.taken out.new)
         (TellsBeside E.taken E.has_failed err.old err.new) result }
-    ensures undecided { result ≡ 5 → (task : Task) × AsksFor (map W.text words.now) task × IsJudge task × O.is_flushed out.new
+    ensures undecided { result ≡ 5 → (task : Task) × AsksFor (map W.text words.now) task × MayNotKnow task × O.is_flushed out.new
         × Shows (Does (S.holds store.old) task (S.holds store.new)) (O.taken out.old) (O.taken out.new) (TellsBeside E.taken E.has_failed err.old err.new) result }
     ensures fault { (task : Task) → AsksFor (map W.text words.now) task
         → 2 < result → result ≢ 5 → TellsFault (IsFaultOrShort (S.holds store.old) (S.ran_short store.new) (S.refuses store.new) task (S.holds store.new))

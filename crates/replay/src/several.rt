@@ -76,6 +76,7 @@ impl Looked {
             Shown::Wanting(_)
             | Shown::Partial { .. }
             | Shown::Undecided(_)
+            | Shown::CutShort(_)
             | Shown::Yes
             | Shown::No(_) => Ok(()),
         }

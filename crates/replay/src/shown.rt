@@ -23,6 +23,9 @@ pub enum Shown {
     Noted { text: String, told: String },
     /// A text that says that what was asked is not known, as of histories that were judged.
     Undecided(String),
+    /// A text of a run on threads that was ended, though of a call that is open then it is not known that it could not be
+    /// answered. A line beside it says so.
+    CutShort(String),
     /// `audit yes`: the entries of the journal are a run.
     Yes,
     /// `audit no K`: the entry at this position, from 1, is the first that is not the next step.
@@ -37,7 +40,7 @@ impl Shown {
         match self {
             Shown::Text(_) | Shown::Noted { .. } | Shown::Yes => 0,
             Shown::Wanting(_) | Shown::Partial { .. } | Shown::No(_) => 1,
-            Shown::Undecided(_) => 5,
+            Shown::Undecided(_) | Shown::CutShort(_) => 5,
         }
     }
 
@@ -62,6 +65,9 @@ impl Shown {
             Shown::Partial { told, .. } | Shown::Noted { told, .. } => {
                 let _ = err.put(told.as_bytes());
             }
+            Shown::CutShort(_) => {
+                let _ = put_line(err, "not known: a call could still be answered", "");
+            }
             Shown::Text(_) | Shown::Wanting(_) | Shown::Undecided(_) | Shown::Yes | Shown::No(_) =>
                 {}
         }
@@ -71,9 +77,10 @@ impl Shown {
         ensures { Writes (O.taken out.old) (O.taken out.new) (O.has_failed out.new) (shown_text self.now) result }
     {
         match self {
-            Shown::Text(text) | Shown::Wanting(text) | Shown::Undecided(text) => {
-                out.put(text.as_bytes())
-            }
+            Shown::Text(text)
+            | Shown::Wanting(text)
+            | Shown::Undecided(text)
+            | Shown::CutShort(text) => out.put(text.as_bytes()),
             Shown::Partial { text, .. } | Shown::Noted { text, .. } => out.put(text.as_bytes()),
             Shown::Yes => put_line(out, "audit yes", ""),
             Shown::No(position) => put_line(out, "audit no ", Buffer::new().format(*position)),

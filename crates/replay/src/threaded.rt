@@ -1,13 +1,17 @@
 //! What came of a script on threads.
-ghost use Rattle.std.specs.Prelude.{◌≡◌, ◌++◌, codes, decimal, flat_map, string_bytes, IfOk, OnOk};
+ghost use Rattle.std.specs.Prelude.{◌≡◌, ◌≢◌, ◌++◌, [], false, codes, decimal, flat_map, string_bytes, IfOk, OnOk};
 ghost use Rattle.cluster_core.specs.rule.Parts.{world_state};
+ghost use Rattle.cluster_core.specs.rule.Runs.{Leads};
+ghost use Rattle.cluster_core.specs.rule.World.{first_world};
 ghost use Rattle.journal_text.specs.rule.Journals.{journal_text};
 ghost use Rattle.player.specs.rule.Played.{EndsIn};
+ghost use Rattle.player.specs.rule.Rounds.{NoneStuck};
 ghost use Rattle.replay.specs.rule.Threads.{ShowsThreads, Tells, ThreadedFields, open_line};
 
 use crate::held_receipts::held_in;
 use crate::listing::listing_of_journal;
 use crate::shown::Shown;
+use crate::unstuck::is_none_stuck;
 use cluster_core::journal::Journal;
 use cluster_core::world::World;
 use journal_text::laws::each_journal_is_read;
@@ -19,8 +23,9 @@ use std::marker::Model;
 use thread_runs::thread_run::ThreadRun;
 
 /// What is told of a run on threads: the listing, the journal, which is one of a run, how
-/// many of its calls were answered, of how many of these the journal holds the receipts, and a line for each
-/// call that is open where it was ended as stuck. Contracts see the journal's text.
+/// many of its calls were answered, of how many of these the journal holds the receipts, a line for each
+/// call that is open where it was ended, and whether one of these may be answered if it goes on. Contracts see the
+/// journal's text.
 #[derive(Drop)]
 pub struct Threaded {
     listing: String,
@@ -28,6 +33,7 @@ pub struct Threaded {
     answered: u64,
     held: u64,
     stuck: String,
+    may_go_on: bool,
 }
 
 impl Model for Threaded {
@@ -37,9 +43,9 @@ impl Model for Threaded {
 
     ghost Value = { ThreadedFields };
 
-    ghost view = { λ t. record { listing = string_bytes t.listing; journal = journal_text t.journal.shape t.journal.entries; answered = t.answered; held = t.held; stuck = string_bytes t.stuck } };
+    ghost view = { λ t. record { listing = string_bytes t.listing; journal = journal_text t.journal.shape t.journal.entries; answered = t.answered; held = t.held; stuck = string_bytes t.stuck; may_go_on = t.may_go_on } };
 
-    ghost invariant = { λ t. IsThreaded (record { listing = string_bytes t.listing; journal = journal_text t.journal.shape t.journal.entries; answered = t.answered; held = t.held; stuck = string_bytes t.stuck }) };
+    ghost invariant = { λ t. IsThreaded (record { listing = string_bytes t.listing; journal = journal_text t.journal.shape t.journal.entries; answered = t.answered; held = t.held; stuck = string_bytes t.stuck; may_go_on = t.may_go_on }) };
 }
 
 impl Threaded {
@@ -53,6 +59,7 @@ impl Threaded {
     {
         let journal = run.journal();
         each_journal_is_read(journal);
+        let may_go_on = may_answer(alloc, run.open_calls(), journal, &world)?;
         let listing = listing_of_journal(alloc, journal, world, run.refused())?;
         let receipts = run.receipts();
         let held = held_in(journal, receipts);
@@ -64,6 +71,7 @@ impl Threaded {
             answered,
             held,
             stuck,
+            may_go_on,
         })
     }
 
@@ -81,17 +89,40 @@ impl Threaded {
             answered,
             held,
             stuck,
+            may_go_on,
         } = self;
         let text = with_counts(listing, held)?;
-        if !stuck.is_empty() {
-            return Ok((Shown::Partial { text, told: stuck }, journal));
-        }
-        if held == answered {
-            Ok((Shown::Text(text), journal))
+        let shown = if stuck.is_empty() {
+            if held == answered {
+                Shown::Text(text)
+            } else {
+                Shown::Wanting(text)
+            }
+        } else if may_go_on {
+            Shown::CutShort(text)
         } else {
-            Ok((Shown::Wanting(text), journal))
-        }
+            Shown::Partial { text, told: stuck }
+        };
+        Ok((shown, journal))
     }
+}
+
+// Whether one of these calls, which are open, may be answered behind this journal, which ends in this world. Contracts know
+// nothing of what threads do, so it is tested where they ended.
+fn may_answer(
+    alloc: Global,
+    open_calls: &[CallId],
+    journal: &Journal,
+    world: &World,
+) -> Result<bool, AllocError>
+    requires { Leads (first_world journal.now.shape) journal.now.entries (world_state world.now) }
+    ensures { IfOk result (λ may. open_calls.now ≢ [] → may ≡ false → NoneStuck (world_state world.now)) }
+{
+    let _ = journal.shape(); // tells the proof that the shape is one that is served
+    if open_calls.is_empty() {
+        return Ok(false);
+    }
+    Ok(!is_none_stuck(alloc, world)?)
 }
 
 // The listing, how many receipts the journal holds, and that it is one of a run.

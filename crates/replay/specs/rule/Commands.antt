@@ -153,7 +153,8 @@ abbrev pub IsCheck : Task → Type 0
 IsCheck (check scripts journal json) = ⊤
 IsCheck task = ⊥
 
--- the task is a judgement, which may not know what was asked
-abbrev pub IsJudge : Task → Type 0
-IsJudge (judge t) = ⊤
-IsJudge task = ⊥
+-- what the task asks for may not be known in the end: a judgement, or a run on threads, whether it was ended too early
+abbrev pub MayNotKnow : Task → Type 0
+MayNotKnow (judge t) = ⊤
+MayNotKnow (threads script seed may_stop no_join to) = ⊤
+MayNotKnow task = ⊥
