@@ -48,7 +48,7 @@ _lockreplay() {
         case $before in
         --after) compopt -o default ;;
         --journal) compopt -o default ;;
-        *) _lockreplay_rest 1 1 '--after --journal' '' '--after --journal --expect --open --quiet --calm -h --help'
+        *) _lockreplay_rest 1 1 '--after --journal' '' '--after --journal --expect --open --quiet --calm --json -h --help'
         esac
         ;;
     threads)

@@ -61,6 +61,7 @@ complete -c lockreplay -n '__lockreplay_is run' -l expect -d 'Compare the replie
 complete -c lockreplay -n '__lockreplay_is run' -l open -d 'List the calls without a reply behind the listing'
 complete -c lockreplay -n '__lockreplay_is run' -l quiet -d 'Make no listing, which needs --journal or --expect'
 complete -c lockreplay -n '__lockreplay_is run' -l calm -d 'Go on behind SCRIPT until the run is calm'
+complete -c lockreplay -n '__lockreplay_is run' -l json -d 'Print the text as JSON'
 complete -c lockreplay -n '__lockreplay_is run' -s h -l help -d 'Print help'
 
 complete -c lockreplay -n '__lockreplay_file threads 1 --seed --journal' -F
